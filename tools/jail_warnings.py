@@ -108,12 +108,18 @@ WARNED = {
         ["value-outside-mask"], "dword", {"masked_eq": 3}, 4, [0, 4, 8, 16], [1, 2, 5, 7]),
     "no bit outside the mask": on_yield([], "dword", {"masked_eq": 7}, 4, [4, 12], [0, 1, 8, 16]),
     "at most the greatest dword": on_yield(["always-holds"], "dword", "le", LOW, [0, 1, LOW, LOW + 1, WHOLE], []),
-    "at most that of a qword": on_yield([], "qword", "le", LOW, [0, 1, LOW], [LOW + 1, WHOLE]),
+    "at most that of a qword": on_yield(["high-half-evades"], "qword", "le", LOW, [0, 1, LOW], [LOW + 1, WHOLE]),
     "less than 0": on_yield(["never-holds", "unreachable-entry"], "qword", "lt", 0, [], [0, 1, LOW, LOW + 1, WHOLE]),
-    "less than 1": on_yield([], "qword", "lt", 1, [0], [1, LOW, LOW + 1, WHOLE]),
+    "less than 1": on_yield(["high-half-evades"], "qword", "lt", 1, [0], [1, LOW, LOW + 1, WHOLE]),
     "TIOCSTI as a qword": on_terminal(["high-half-evades"], "qword", "eq", NO_TERMINAL),
     "TIOCSTI under a mask": on_terminal(["high-half-evades"], "qword", {"masked_eq": WHOLE}, NO_TERMINAL),
     "TIOCSTI under a mask of its half": on_terminal([], "qword", {"masked_eq": LOW}, DENIED),
+    "all but TIOCSTI as a qword": Shown(["high-half-evades"] + ["redundant-entry"] * 2, allowing(when("ioctl", (1, "qword", "ne", TIOCSTI))), [
+        ("ioctl 0 0x5412", DENIED), ("ioctl 0 0x5413", NO_TERMINAL), ("ioctl 0 0x100005412", NO_TERMINAL)]),
+    "all but TIOCSTI as a dword": Shown(["redundant-entry"] * 2, allowing(when("ioctl", (1, "dword", "ne", TIOCSTI))), [
+        ("ioctl 0 0x5412", DENIED), ("ioctl 0 0x5413", NO_TERMINAL), ("ioctl 0 0x100005412", DENIED)]),
+    "at most 16 as a qword": on_yield(["high-half-evades"], "qword", "le", 16, [0, 16], [17, LOW + 1, LOW + 17]),
+    "at most 16 as a dword": on_yield([], "dword", "le", 16, [0, 16, LOW + 1, LOW + 17], [17]),
     "TIOCSTI as a dword": on_terminal([], "dword", "eq", DENIED),
     "kills at the end": Shown(["kills-exit"] * 2, filter_of("kill_process", "allow", "exit", "exit_group"), [
         ("exit 0", KILLED), ("exit_group 0", KILLED)]),
@@ -124,6 +130,8 @@ WARNED = {
         ["kills-exit"] * 3, filter_of("allow", "kill_process", *(it for it in NAMES if it not in EXITS)),
         [("exit 0", KILLED), ("exit_group 0", KILLED)]),
     "allows all": Shown([], filter_of("allow", "kill_process", *NAMES), ENDED),
+    "fails at the end": Shown(["kills-exit"] * 2, filter_of({"errno": 1}, "allow", "exit_group", "rt_sigreturn"), []),
+    "lists no execve": Shown(["no-execve"], {**CAT, "filter": [it for it in CAT["filter"] if it["syscall"] != "execve"]}, []),
     "denies clone": Shown(["clone-by-clone3"], denying("clone"), [(CLONE, DENIED), (CLONE3, INVALID)]),
     "denies clone and clone3": Shown([], denying("clone", "clone3"), [(CLONE, DENIED), (CLONE3, DENIED)]),
     "allows clone3": Shown(["clone-by-clone3"], allowing("clone3"), [(CLONE, DENIED), (CLONE3, INVALID)]),
@@ -134,10 +142,11 @@ WARNED = {
         [("sched_yield 5", DENIED), ("sched_yield 4", DENIED)]),
     "with args": on_yield([], "dword", "eq", 5, [5], [4]),
     "more than 9 and less than 10": Shown(
-        ["unreachable-entry"], denying(when("sched_yield", (0, "qword", "gt", 9), (0, "qword", "lt", 10))),
+        ["unreachable-entry", "high-half-evades"],
+        denying(when("sched_yield", (0, "qword", "gt", 9), (0, "qword", "lt", 10))),
         [("sched_yield 9", MADE), ("sched_yield 10", MADE)]),
     "more than 9 and less than 11": Shown(
-        [], denying(when("sched_yield", (0, "qword", "gt", 9), (0, "qword", "lt", 11))),
+        ["high-half-evades"], denying(when("sched_yield", (0, "qword", "gt", 9), (0, "qword", "lt", 11))),
         [("sched_yield 9", MADE), ("sched_yield 10", DENIED), ("sched_yield 11", MADE)]),
     "one of three is covered": Shown(
         ["redundant-entry"], denying(*(when("sched_yield", (0, "dword", it, at)) for it, at in [("le", 4), ("ge", 9), ("eq", 3)])),

@@ -15,6 +15,7 @@ DOC = "share/doc/seccompiler"
 # Where what pages link to lies in a package, if not below DOC.
 ELSEWHERE = {
     "include/": "include/", "docs/policy.schema.json": "share/seccompiler/policy.schema.json",
+    "docs/answers.schema.json": "share/seccompiler/answers.schema.json",
     "rust/": "share/seccompiler/rust/", "examples/jail/jailed.service": f"{DOC}/examples/jailed.service",
 }
 

@@ -15,7 +15,7 @@ ASKED = [condition("dword", "eq", 7)]
 
 # How many filters come by chance, how many a policy has of them, and the most entries of one.
 BY_CHANCE, FILTERS, ENTRIES = 960, 48, 6
-NAMES = (*EXITS, "clone", "clone3", "fork", "rt_sigaction")
+NAMES = (*EXITS, "clone", "clone3", "execve", "set_tid_address", "fork", "rt_sigaction")
 ACTIONS = ("allow", "log", "kill_process", "kill_thread", "trap", {"errno": 38})
 
 
@@ -35,11 +35,11 @@ def of_calls(mismatch, match, entries, warnings):
     entries = [entry(it) if isinstance(it, str) else it for it in entries]
     filters = {"a": {"mismatch_action": mismatch, "match_action": match, "filter": entries}}
     default = [("mismatch_action", "allows-by-default")] if mismatch in PERMITS else []
-    return warned(filters, *(line(f"a.{place}", code) for place, code in [*default, *warnings]))
+    return warned(filters, *(line(f"a.{place}", code) for place, code in [*default, *warnings]), allowed=ALLOWED)
 
 
 def killed(*calls):
-    """Returns the warnings of calls at which the mismatch action kills."""
+    """Returns the warnings of calls that the mismatch action denies."""
     return [(f"mismatch_action ({it})", "kills-exit") for it in calls]
 
 
@@ -55,20 +55,37 @@ KILLS_EXIT = [
     ("kill_thread", "log", ["execve", "rt_sigprocmask"], killed("exit", "exit_group", "rt_sigreturn")),
     ("kill_process", "allow", ["rt_sigreturn", "exit"], killed("exit_group")),
     ("kill_thread", "allow", ["exit_group", "exit"], killed("rt_sigreturn")),
-    ("kill_process", "trap", ["exit_group", "rt_sigreturn"], killed("exit")),
+    ("kill_process", "trap", ["exit_group", "rt_sigreturn"], [*killed("exit"), *at("kills-exit", 0, 1)]),
     ("kill_process", "allow", ["exit_group", "rt_sigreturn", "exit"], []),
     # An entry with args names its call too.
     ("kill_process", "allow", ["exit_group", "rt_sigreturn", asking("exit")], []),
     # If both kill, each of the calls is killed by one of them.
     ("kill_process", "kill_thread", ["exit"], [*killed("exit_group", "rt_sigreturn"), *at("kills-exit", 0)]),
-    ("trap", "allow", [], []),
-    ({"errno": 1}, "allow", ["read"], []),
+    ("trap", "allow", [], killed("exit", "exit_group", "rt_sigreturn")),
+    ({"errno": 1}, "allow", ["read", "exit"], killed("exit_group", "rt_sigreturn")),
+    ({"trace": 1}, "allow", ["exit_group", "rt_sigreturn", "exit"], [("mismatch_action", "trace-without-tracer")]),
+    ("log", "allow", [], []),
     ("allow", "kill_process", [], []),
     ("allow", "kill_process", ["read", "exit"], at("kills-exit", 1)),
     ("log", "kill_thread", ["rt_sigreturn", "exit_group", "exit", "exit"], at("kills-exit", 0, 1, 2, 3)),
     ("allow", "kill_process", [asking("exit_group"), "rt_sigaction"], []),
-    ("allow", "trap", ["exit", "exit_group", "rt_sigreturn"], []),
+    ("allow", "trap", ["exit", "exit_group", "rt_sigreturn"], at("kills-exit", 0, 1, 2)),
+    ("allow", {"errno": 1}, ["exit_group", asking("exit")], at("kills-exit", 0)),
+    ("allow", "log", ["exit", "exit_group", "rt_sigreturn"], []),
     ("kill_process", "allow", ["exit", "exit_group", "rt_sigreturn", "exit"], []),
+]
+
+NO_EXECVE = [
+    ("trap", "allow", ["set_tid_address", *EXITS], [("mismatch_action (execve)", "no-execve")]),
+    ({"errno": 1}, "log", [asking("set_tid_address"), *EXITS], [("mismatch_action (execve)", "no-execve")]),
+    ("trap", "allow", ["set_tid_address", "execve", *EXITS], []),
+    ("trap", "allow", ["set_tid_address", "execveat", *EXITS], []),
+    ("trap", "allow", ["set_tid_address", asking("execve"), *EXITS], []),
+    # A filter that a running program installs doesn't list the call by which programs start.
+    ("trap", "allow", ["read", *EXITS], []),
+    ("allow", {"errno": 1}, ["set_tid_address"], []),
+    ("log", "allow", ["set_tid_address"], []),
+    ("trap", "kill_process", ["set_tid_address"], killed(*EXITS)),
 ]
 
 CLONE_BY_CLONE3 = [
@@ -81,29 +98,29 @@ CLONE_BY_CLONE3 = [
     ("allow", {"errno": 1}, ["fork", "vfork"], []),
     # If the calls that an entry names are let through as well, or none is, clone isn't denied alone.
     ("allow", "log", ["clone"], []),
-    ("trap", {"errno": 1}, ["clone"], []),
-    ("trap", "allow", ["clone3"], at("clone-by-clone3", 0)),
-    ({"errno": 1}, "log", ["read", asking("clone"), "clone3", "clone3"], at("clone-by-clone3", 2, 3)),
-    ("trap", "allow", ["clone3", "clone"], []),
-    ("trap", "allow", ["clone", asking("clone3")], []),
-    ("trap", "allow", [asking("clone"), asking("clone3")], []),
-    ("trap", "allow", ["clone", "read"], []),
+    ("trap", {"errno": 1}, ["clone"], killed(*EXITS)),
+    ("trap", "allow", ["clone3", *EXITS], at("clone-by-clone3", 0)),
+    ({"errno": 1}, "log", ["read", asking("clone"), "clone3", "clone3", *EXITS], at("clone-by-clone3", 2, 3)),
+    ("trap", "allow", ["clone3", "clone", *EXITS], []),
+    ("trap", "allow", ["clone", asking("clone3"), *EXITS], []),
+    ("trap", "allow", [asking("clone"), asking("clone3"), *EXITS], []),
+    ("trap", "allow", ["clone", "read", *EXITS], []),
     ("log", "allow", ["clone3"], []),
-    ("trap", "kill_process", ["clone3"], []),
+    ("trap", "kill_process", ["clone3"], killed(*EXITS)),
 ]
 
 CRATE_DIFFERS = [
-    ("trap", "allow", ["read", asking("read")], at("crate-differs", 0)),
+    ("trap", "allow", ["read", asking("read"), *EXITS], at("crate-differs", 0)),
     ("allow", {"errno": 1}, [asking("read"), "write", "read", "read"], at("crate-differs", 2, 3)),
-    ("trap", "kill_process", ["read", asking("write"), asking("read"), "write"], at("crate-differs", 0, 3)),
-    ("trap", "allow", [{"syscall": "read", "args": None}, asking("read")], at("crate-differs", 0)),
-    ("trap", "allow", ["read", "read"], []),
-    ("trap", "allow", [asking("read"), asking("read")], []),
-    ("trap", "allow", ["read", asking("readv"), asking("write")], []),
+    ("trap", "kill_process", ["read", asking("write"), asking("read"), "write"], [*killed(*EXITS), *at("crate-differs", 0, 3)]),
+    ("trap", "allow", [{"syscall": "read", "args": None}, asking("read"), *EXITS], at("crate-differs", 0)),
+    ("trap", "allow", ["read", "read", *EXITS], []),
+    ("trap", "allow", [asking("read"), asking("read"), *EXITS], []),
+    ("trap", "allow", ["read", asking("readv"), asking("write"), *EXITS], []),
     # Beside it an entry may have the other codes of entries, in their order.
     ("allow", "kill_process", ["exit", asking("exit")], [*at("kills-exit", 0), *at("crate-differs", 0)]),
-    ("trap", "allow", [asking("clone3"), "clone3"], [*at("clone-by-clone3", 1), *at("crate-differs", 1)]),
-    ("trap", "allow", [asking("clone"), "clone", "clone3"], at("crate-differs", 1)),
+    ("trap", "allow", [asking("clone3"), "clone3", *EXITS], [*at("clone-by-clone3", 1), *at("crate-differs", 1)]),
+    ("trap", "allow", [asking("clone"), "clone", "clone3", *EXITS], at("crate-differs", 1)),
 ]
 
 
@@ -123,6 +140,6 @@ def policies_by_chance():
 
 
 CASES = [
-    *(it for row in (*KILLS_EXIT, *CLONE_BY_CLONE3, *CRATE_DIFFERS) for it in of_calls(*row)),
+    *(it for row in (*KILLS_EXIT, *NO_EXECVE, *CLONE_BY_CLONE3, *CRATE_DIFFERS) for it in of_calls(*row)),
     *(writes(f"check {ALLOWED}", it, lines_of(it)) for it in policies_by_chance()),
 ]

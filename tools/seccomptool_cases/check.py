@@ -1,5 +1,7 @@
 """What `check` has to do: the faults of policies with their places, and policies without one."""
 
+import json
+
 from program_cases import FRONTEND
 
 from .forms import FOLDER, FULL, INPUT, MISSING, OUTPUT, RESET, TOOL, Case, Failing, rejects, writes
@@ -239,7 +241,9 @@ OF_SEVERAL = [
 ]
 
 # Codes that are allowed: of each policy those of all others are printed.
-TWO_CODES = mismatch('{"errno":65536}')
+# Of the action alone, since each call that a process or thread ends by is listed.
+TWO_CODES = json.dumps({"a": {"mismatch_action": {"errno": 65536}, "match_action": "log",
+                              "filter": [{"syscall": it} for it in ("exit", "exit_group", "rt_sigreturn")]}})
 OF_ALLOWED = [
     writes("check --allow allows-by-default logs.json", "", ""),
     writes("check --allow allows-by-default --deny-warnings logs.json", "", ""),

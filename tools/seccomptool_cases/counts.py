@@ -13,14 +13,15 @@ def filter_of(mismatch, match, *calls):
     return {"mismatch_action": mismatch, "match_action": match, "filter": [{"syscall": it} for it in calls]}
 
 
-# Nothing is to be said of a filter that answers what it doesn't list with an errno.
-NONE = filter_of({"errno": 1}, "allow", "read")
+# Nothing is to be said of a filter that lists the three calls by which processes end or handlers return.
+EXITS = ("exit", "exit_group", "rt_sigreturn")
+NONE = filter_of({"errno": 1}, "allow", "read", *EXITS)
 # What isn't listed is let through: allows-by-default.
 ONE = filter_of("log", "allow")
-# None of the three calls by which processes end or handlers return is listed, and so each is killed: kills-exit.
+# None of these is listed, and so each is denied: kills-exit.
 THREE = filter_of("kill_process", "allow", "read")
 # The same entry twice: each is redundant beside the other.
-TWO = filter_of({"errno": 1}, "allow", "read", "read")
+TWO = filter_of({"errno": 1}, "allow", "read", "read", *EXITS)
 # An errno of 0 beside what is let through: fake-success, allows-by-default.
 FAKED = filter_of("allow", {"errno": 0}, "read")
 

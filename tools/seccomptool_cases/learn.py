@@ -243,7 +243,7 @@ DENIES = '{"a":{"mismatch_action":"allow","match_action":{"errno":1},"filter":[]
 ALLOWS = DENIES.replace('{"errno":1}', '"allow"')
 NOT_ALLOW = "The filter's match_action isn't allow, so it doesn't list what is allowed."
 
-NO_ACTION = "error: the value of --otherwise isn't allow, kill_process, kill_thread, log, trap, errno:N or trace:N\n.."
+NO_ACTION = "error: the value of --otherwise isn't kill_process, kill_thread, log, trap, errno:N or trace:N\n.."
 NO_ARGS = "error: the value of --args isn't CALL or CALL:INDEX,.. with indices from 0 to 5\n.."
 NO_VALUES = "error: the value of --values isn't a number from 0 to 18446744073709551615, decimal or hexadecimal after 0x\n.."
 BOTH = "error: TRACE and POLICY can't both be read from standard input\n.."
@@ -440,7 +440,7 @@ CASES = [
     misused("--profile --into logs.json short.trace", "error: --profile can't be given with --into\n.."),
     misused("--profile --name a short.trace", "error: --profile can't be given with --name\n.."),
     *[misused(f"--otherwise={it} short.trace", NO_ACTION) for it in (
-        "deny", "errno", "errno:", "errno:a", "errno:-1", "errno:4294967296", "trace", "log:1", "Log", "errno 1", "1", "''")],
+        "allow", "deny", "errno", "errno:", "errno:a", "errno:-1", "errno:4294967296", "trace", "log:1", "Log", "errno 1", "1", "''")],
     *[misused(f"--args={it} short.trace", NO_ARGS) for it in (
         "close:6", "close:", "close:a", "close:1,", "close:,1", "close:1,,2", "close:-1", "close:256", "close:0,6")],
     *[misused(f"--values={it} short.trace", NO_VALUES) for it in ("", "-1", "ten", "18446744073709551616", "0x", "1.0")],

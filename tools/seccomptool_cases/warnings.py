@@ -34,6 +34,8 @@ SAID = {
     "exit_group and rt_sigreturn through",
     "clone-by-clone3": "clone is denied or restricted, and clone3, whose flags no filter sees, is let through; deny "
     "clone3 with errno 38 in a separate filter",
+    "no-execve": "a jailer can't start the program, which the filter lets make set_tid_address; let execve through, or leave out "
+    "set_tid_address if the program installs the filter",
     "crate-differs": "the call also has entries with args, and matches here whatever its arguments are; the Rust crate "
     "checks these args: leave out those entries or this one",
     "unreachable-entry": "no call meets all of its conditions; correct them, or leave the entry out",
@@ -45,6 +47,9 @@ SAID = {
 # The codes of an entry beside others, and the options that allow them.
 BESIDE = ("unreachable-entry", "redundant-entry", "undecided-entry")
 ALLOWED = " ".join(f"--allow {it}" for it in BESIDE)
+
+# The same, for filters of one call or none, under which nothing ends: calls.py has the warnings of that.
+OF_PARTS = f"{ALLOWED} --allow kills-exit"
 
 # The key of an action or a condition that a code is about, after its place.
 KEYS = {
@@ -83,11 +88,11 @@ def filter_of(conditions, mismatch="trap", match="allow"):
     return {"mismatch_action": mismatch, "match_action": match, "filter": entries}
 
 
-def warned(filters, *lines):
+def warned(filters, *lines, allowed=OF_PARTS):
     """Returns the cases of a policy that has exactly these warnings, if they are denied and if they aren't."""
     text, output = json.dumps(filters), "".join(lines)
-    denied = Case(f"check {ALLOWED} --deny-warnings", 1 if lines else 0, output, "", text)
-    return [writes(f"check {ALLOWED}", text, output), denied]
+    denied = Case(f"check {allowed} --deny-warnings", 1 if lines else 0, output, "", text)
+    return [writes(f"check {allowed}", text, output), denied]
 
 
 def of_action(action, codes):
@@ -160,7 +165,7 @@ CONDITIONS = [
     ("qword", "lt", 0, ["never-holds"]),
     ("dword", "gt", LOW, ["never-holds"]),
     ("dword", "gt", LOW - 1, []),
-    ("qword", "gt", LOW, []),
+    ("qword", "gt", LOW, ["high-half-evades"]),
     ("qword", "gt", WHOLE, ["never-holds"]),
     ("qword", "gt", WHOLE - 1, []),
     ("dword", "gt", 2**33 - 1, ["high-half-ignored", "never-holds"]),
@@ -179,11 +184,33 @@ EVADED = [
     ("qword", masked(LOW), 0x5412, []),
     ("qword", masked(WHOLE), LOW + 1, []),
     ("qword", masked(2**33 + 1), 2**32 + 1, ["value-outside-mask", "high-half-evades"]),
+    ("qword", "le", 16, ["high-half-evades"]),
+    ("qword", "le", LOW + 1, []),
+    ("dword", "le", 16, []),
+    ("qword", "lt", 1, ["high-half-evades"]),
+    ("qword", "lt", LOW, ["high-half-evades"]),
+    ("qword", "lt", LOW + 1, []),
+    ("qword", "gt", 16, []),
+]
+
+# The same, if a filter allows what it lists.
+EVADED_LIST = [
+    ("qword", "ne", 0x5412, ["high-half-evades"]),
+    ("qword", "ne", LOW + 1, []),
+    ("dword", "ne", 0x5412, []),
+    ("qword", "gt", LOW, ["high-half-evades"]),
+    ("qword", "gt", LOW + 1, []),
+    ("qword", "ge", 1, ["high-half-evades"]),
+    ("qword", "ge", LOW + 1, []),
+    ("dword", "ge", 1, []),
+    ("qword", "eq", 0x5412, []),
+    ("qword", "le", 16, []),
+    ("qword", "lt", 16, []),
+    ("qword", masked(WHOLE), 0x5412, []),
 ]
 
 # The actions that let a call through, and some that don't.
 PERMITS = ("allow", "log")
-KILLS = ("kill_process", "kill_thread")
 DENIES = ("kill_process", "kill_thread", "trap", {"errno": 1})
 
 DEFAULTS = [
@@ -249,12 +276,14 @@ def tries(it):
     return borders | SOME | {2**bit for bit in range(64)}
 
 
-def is_evaded(it):
-    """Returns whether `eq` or `masked_eq` of all 64 bits holds for some number of 32 bits, and not with a high half."""
-    if it["type"] != "qword" or (it["op"] != "eq" and mask_of(it["op"]) is None):
+def is_evaded(it, mismatch, match):
+    """Returns whether a condition with a number of 32 bits denies some argument of 32 bits, and not with a high half."""
+    if it["val"] & (WHOLE if mask_of(it["op"]) is None else mask_of(it["op"])) > LOW:
         return False
     low = [argument for argument in tries(it) | {it["val"] & (mask_of(it["op"]) or 0)} if argument <= LOW]
-    return any(holds(it, x) and not holds(it, x | 2**bit) for x in low for bit in range(32, 64))
+    denies = {True: match not in PERMITS, False: mismatch not in PERMITS}
+    passed = [2**bit for bit in range(32, 64)] + [it["val"] & ~LOW]
+    return any(denies[holds(it, x)] and not denies[holds(it, x | high)] for x in low for high in passed)
 
 
 def codes_of(it, mismatch, match):
@@ -266,7 +295,7 @@ def codes_of(it, mismatch, match):
         "value-outside-mask": mask is not None and it["val"] & ~(mask & cut) != 0,
         "always-holds": all(holds(it, argument) for argument in tries(it)),
         "never-holds": not any(holds(it, argument) for argument in tries(it)),
-        "high-half-evades": mismatch in PERMITS and match not in PERMITS and is_evaded(it),
+        "high-half-evades": is_evaded(it, mismatch, match),
     }
     return [code for code, so in found.items() if so]
 
@@ -293,7 +322,10 @@ def asked_of(entries, name):
 
 def codes_of_unlisted(entries, mismatch, match):
     """Returns the calls that no entry names of which something is so, each with its code, in their order."""
-    killed = [(name, "kills-exit") for name in EXITS if mismatch in KILLS and not asked_of(entries, name)]
+    killed = [(name, "kills-exit") for name in EXITS if mismatch not in PERMITS and not asked_of(entries, name)]
+    starts = match in PERMITS and mismatch not in PERMITS and asked_of(entries, "set_tid_address")
+    if starts and not asked_of(entries, "execve") and not asked_of(entries, "execveat"):
+        killed.append(("execve", "no-execve"))
     is_list_of_denied = mismatch in PERMITS and match not in PERMITS
     if is_list_of_denied and asked_of(entries, "clone") and not asked_of(entries, "clone3"):
         return [*killed, ("clone3", "clone-by-clone3")]
@@ -307,7 +339,7 @@ def codes_of_entry(entry, entries, mismatch, match):
     name = entry["syscall"]
     is_list_of_allowed = match in PERMITS and mismatch not in PERMITS
     found = {
-        "kills-exit": match in KILLS and name in EXITS,
+        "kills-exit": match not in PERMITS and name in EXITS,
         "clone-by-clone3": is_list_of_allowed and name == "clone3" and None not in asked_of(entries, "clone"),
         "crate-differs": any(args is not None for args in asked_of(entries, name)),
     }
@@ -346,6 +378,7 @@ CASES = [
     *(it for action, codes in ACTIONS for it in of_action(action, codes)),
     *(it for row in CONDITIONS for it in of_condition(*row)),
     *(it for row in EVADED for it in of_condition(*row, "allow", {"errno": 1})),
+    *(it for row in EVADED_LIST for it in of_condition(*row, {"errno": 1}, "allow")),
     *DEFAULTS,
     *warned(SEVERAL, *IN_ORDER),
     *warned({}),

@@ -1,5 +1,5 @@
 -- For `check`, `place` and `placed`: what is answered, from what the library answers and from what is found.
-use Rattle.std.proofs.Common.{◌≡◌, ℕ, List, Option, Some, None, IfOk, IfSome, Result, Ok, Err, String, Vec, Global, string_bytes, subst}
+use Rattle.std.proofs.Common.{◌≡◌, ℕ, List, Option, Some, Vec, Global}
 use Rattle.serde_json.specs.Data.{Data}
 use Rattle.seccompiler.specs.declared.backend.BackendError.TheVariants as backend
 use Rattle.seccompiler.specs.declared.backend.TargetArch.{TargetArch}
@@ -12,10 +12,7 @@ use Rattle.seccompiler.specs.Errors.{IsNoMemoryInside}
 use Rattle.seccompiler.specs.JsonAnswers.{IsReadAs, IsValueOf, OfValue, TellsFrontendFault}
 use Rattle.seccompiler.specs.JsonPrograms.{AreProgramsOf, IsProgramOf, TellsFirstFault}
 use Rattle.seccomp_check.specs.Checks.{AreAllCompiled, IsPlaced, IsRejection, TellsFaultOf, cause_told, frontend_cause, from_library}
-use Rattle.seccomp_check.specs.Faults.{IsFaultIn}
-use Rattle.seccomp_check.specs.Texts.{fault_text}
 use Rattle.seccomp_check.specs.declared.fault.Cause.{Cause}
-use Rattle.seccomp_check.specs.declared.fault.Fault.{Fault}
 use Rattle.seccomp_command_line.proofs.Found.{all_values}
 
 -- Values that have programs are all compiled.
@@ -53,11 +50,3 @@ module _ (target : TargetArch) (text : List ℕ) where
   pub is_plain : (e : Error) → IsNoMemoryInside e → TellsFirstFault target text e → IsRejection target text (from_library e)
   is_plain library.OutOfMemory memory first = tt
   is_plain e memory first = ((λ same. cc), memory, first)
-
--- The text of a fault that was found, if it is one.
-pub told_of : {E : Type 0} (r : Result (Option (String Global)) E) (cause : Cause) (d : Data) (fault : Fault)
-    → IfOk r (λ found. IfSome found (λ told. string_bytes told ≡ fault_text fault)) → IsFaultIn cause d fault
-    → IfOk r (λ found. IfSome found (λ told. TellsFaultOf cause d (string_bytes told)))
-told_of (Ok (Some told)) cause d fault same there = (fault, there, same)
-told_of (Ok None) cause d fault same there = tt
-told_of (Err e) cause d fault same there = tt

@@ -56,7 +56,7 @@ AreAllCompiled target d = AreAll (λ value. (program : List sock_filter) × IsPr
 -- The first fault is reported: with its place, or as the library reports it. Lack of memory may come in place of both.
 abbrev pub IsRejection : TargetArch → List ℕ → Rejection → Type 0
 IsRejection target text (Library e) = (e ≢ library.OutOfMemory) × IsNoMemoryInside e × TellsFirstFault target text e
-IsRejection target text (Placed told) = IsPlaced target text (string_bytes told)
+IsRejection target text (Placed told fault) = IsPlaced target text (string_bytes told) × (string_bytes told ≡ fault_text fault)
 IsRejection target text OutOfMemory = ⊤
 
 -- The library's refusal, as a rejection without a place.

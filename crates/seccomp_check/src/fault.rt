@@ -14,7 +14,7 @@ use seccompiler::TargetArch;
 use std::alloc::{AllocError, AllocFailed, Global};
 
 /// A step from a value to one inside it.
-#[derive(Drop)]
+#[derive(Debug, Drop)]
 pub enum Step {
     /// To what is under this name of an object.
     Key(String),
@@ -23,7 +23,7 @@ pub enum Step {
 }
 
 /// What may stand at a place.
-#[derive(Clone, Copy)]
+#[derive(Clone, Copy, Debug)]
 pub enum Expected {
     /// A value of this part's form.
     Form(Part),
@@ -36,7 +36,7 @@ pub enum Expected {
 }
 
 /// What is wrong with a value.
-#[derive(Drop)]
+#[derive(Debug, Drop)]
 pub enum Problem {
     /// It is shown as this text, and something else may stand there, such as this name, if one is like it.
     Stands(String, Expected, Option<&'static str>),
@@ -75,9 +75,11 @@ pub enum Cause {
 }
 
 /// A fault: the way from the policy's value to the place, and what is wrong there.
-#[derive(Drop)]
+#[derive(Debug, Drop)]
 pub struct Fault {
+    /// The way to the value that is at fault.
     pub path: Vec<Step>,
+    /// What is wrong with it.
     pub problem: Problem,
 }
 

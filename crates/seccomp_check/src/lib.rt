@@ -41,6 +41,7 @@ pub use crate::near::near_name;
 pub use crate::part::{Kind, Part};
 pub use crate::rejection::Rejection;
 use crate::text::fault_text;
+pub use crate::text::push_problem;
 use crate::walk::in_policy;
 use seccompiler::json::JsonFrontendError;
 use seccompiler::{BackendError, Error, TargetArch, programs_of};
@@ -61,7 +62,7 @@ use std::alloc::{AllocError, Global};
 ///
 /// # Errors
 ///
-/// `Placed` with the text of a fault of the kind that `compile_from_json` reports, if it has a place. `Library`
+/// `Placed` with a fault of the kind that `compile_from_json` reports, and its text, if it has a place. `Library`
 /// with the error of `compile_from_json`, if it has no place: the bytes are no JSON, or a name is repeated.
 /// `OutOfMemory` in place of both, if memory runs out.
 ///
@@ -89,10 +90,10 @@ pub fn check(alloc: Global, target: TargetArch, text: &[u8]) -> Result<(), Rejec
 pub fn place(alloc: Global, cause: Cause, text: &[u8]) -> Result<Option<String>, AllocError>
     ensures told { (d : Data) → IsReadAs text.now d → IfOk result (λ found. IfSome found (λ told. TellsFaultOf cause d (string_bytes told))) }
 {
-    match search(alloc, cause, text) {
-        Ok(()) => Ok(None),
-        Err(Finding::OutOfMemory) => Err(AllocError),
-        Err(Finding::Fault(fault)) => told(alloc, &fault),
+    match found(alloc, cause, text) {
+        Ok(Some((told, _))) => Ok(Some(told)),
+        Ok(None) => Ok(None),
+        Err(error) => Err(error),
     }
 }
 
@@ -129,10 +130,27 @@ fn placed(alloc: Global, target: TargetArch, text: &[u8], refusal: Error) -> Rej
     let Some(cause) = cause_of(target, &refusal) else {
         return refusal.into();
     };
-    match place(alloc, cause, text) {
-        Ok(Some(told)) => Rejection::Placed(told),
+    match found(alloc, cause, text) {
+        Ok(Some((told, fault))) => Rejection::Placed(told, fault),
         Ok(None) => refusal.into(),
         Err(_) => Rejection::OutOfMemory,
+    }
+}
+
+// The first fault of this kind in a text, behind its own text.
+fn found(alloc: Global, cause: Cause, text: &[u8]) -> Result<Option<(String, Fault)>, AllocError>
+    ensures told { (d : Data) → IsReadAs text.now d → IfOk result (λ found. IfSome found (λ both. TellsFaultOf cause d (string_bytes both.0))) }
+    ensures text { IfOk result (λ found. IfSome found (λ both. string_bytes both.0 ≡ spec.fault_text both.1)) }
+{
+    let fault = match search(alloc, cause, text) {
+        Ok(()) => return Ok(None),
+        Err(Finding::OutOfMemory) => return Err(AllocError),
+        Err(Finding::Fault(fault)) => fault,
+    };
+    match told(alloc, &fault) {
+        Ok(Some(told)) => Ok(Some((told, fault))),
+        Ok(None) => Ok(None),
+        Err(error) => Err(error),
     }
 }
 

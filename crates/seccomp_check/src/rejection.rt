@@ -1,5 +1,6 @@
 // Why a policy isn't taken.
 
+use crate::fault::Fault;
 use std::alloc::AllocError;
 
 /// Why a policy isn't taken.
@@ -9,8 +10,8 @@ use std::alloc::AllocError;
 pub enum Rejection {
     /// The library rejects the policy, and the fault has no place: the text is no JSON, or repeats a name.
     Library(seccompiler::Error),
-    /// The policy has a fault that has a place; the text names the place, what is there and what may.
-    Placed(String),
+    /// The policy has this fault, which has a place. The text, which is the fault's, names the place, what is there and what may.
+    Placed(String, Fault),
     /// Memory ran out.
     OutOfMemory,
 }

@@ -232,8 +232,12 @@ fn push_tree(text: &mut Vec<u8>, alloc: Global, tree: Option<usize>) -> Result<(
     }
 }
 
-// Adds what is wrong.
-fn push_problem(text: &mut Vec<u8>, alloc: Global, problem: &Problem) -> Result<(), AllocError>
+/// Adds the text of what is wrong with a value, without the way to it.
+///
+/// # Errors
+///
+/// `AllocError` if memory runs out; a part of the text may then be added.
+pub fn push_problem(text: &mut Vec<u8>, alloc: Global, problem: &Problem) -> Result<(), AllocError>
     ensures { OnOk result (text.new.items ≡ text.old.items ++ spec.problem_text problem.now) }
 {
     match problem {

@@ -9,11 +9,12 @@ use Rattle.seccomp_learn.specs.declared.observation.Observation.{Observation}
 use Rattle.seccomp_learn.specs.declared.policy.Lesson.{Lesson}
 use Rattle.seccomp_learn.specs.Observed.{HasMoreValues, IsAsNamed}
 
--- The policy matches what the old one matches, each call as it was observed, and nothing else; it has the old one's actions. It
--- keeps each argument that is wanted, unless its call was observed with more different values than the limit.
+-- The old policy is one. The new policy matches what it matches, each call as it was observed, and nothing else; it has its actions.
+-- It keeps each argument that is wanted, unless its call was observed with more different values than the limit.
 pub record IsLearnedWithin (arch : TargetArch) (limit : ℕ) (wanted : List Kept) (observed : List Observation) (old : JsonFilter)
     (lesson : Lesson) : Type 0 where
   pub policy : IsPolicyOf arch lesson.learned.json lesson.learned.filter
+  pub before : (before : Filter) × IsPolicyOf arch old before
   pub mismatch_action : lesson.learned.json.mismatch_action ≡ old.mismatch_action
   pub match_action : lesson.learned.json.match_action ≡ old.match_action
   pub matches : (before : Filter) → IsPolicyOf arch old before → (r : List ℕ)

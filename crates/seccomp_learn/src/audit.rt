@@ -60,17 +60,11 @@ fn returned(line: &str) -> Option<u32> {
 
 // The arguments that a line has: the audit system writes four, in hexadecimal digits.
 fn arguments(line: &str) -> [Option<u64>; 6] {
-    [
-        argument(line, "a0="),
-        argument(line, "a1="),
-        argument(line, "a2="),
-        argument(line, "a3="),
-        None,
-        None,
-    ]
-}
-
-// An argument that a line has.
-fn argument(line: &str, mark: &str) -> Option<u64> {
-    u64::from_str_radix(field(line, mark)?, 16).ok()
+    let mut arguments = [None; 6];
+    for (argument, mark) in arguments.iter_mut().zip(&["a0=", "a1=", "a2=", "a3="]) {
+        if let Some(digits) = field(line, mark) {
+            *argument = u64::from_str_radix(digits, 16).ok();
+        }
+    }
+    arguments
 }

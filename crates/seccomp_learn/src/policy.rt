@@ -41,12 +41,15 @@ pub fn learn(
 ) -> Result<Learned, JsonFrontendError>
     ensures policy { IfOk result (λ learned. IsPolicyOf arch learned.json learned.filter) }
     ensures actions { IfOk result (λ learned. (learned.json.mismatch_action ≡ old.mismatch_action) × (learned.json.match_action ≡ old.match_action)) }
+    // The old policy is one.
+    ensures before { IfOk result (λ _. (before : Filter) × IsPolicyOf arch old before) }
     // It matches what the old policy matches, and what is as it was observed, and nothing else.
     ensures matches { IfOk result (λ learned. (before : Filter) → IsPolicyOf arch old before → (r : List ℕ) → Matches learned.filter r ↔ (Matches before r ⊎ Any (IsAsNamed arch kept.now r) observed.now)) }
     ensures refused { IfErr result (IsPolicyRefusal arch old) }
 {
     let compiler = JsonCompiler::new(arch);
-    drop(compiler.make_seccomp_filter(alloc, &old)?);
+    let before = compiler.make_seccomp_filter(alloc, &old)?;
+    drop(before);
     let JsonFilter {
         mismatch_action,
         match_action,

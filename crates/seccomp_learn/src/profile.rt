@@ -33,8 +33,7 @@ pub fn profile_text(
         TargetArch::riscv64 => b"SCMP_ARCH_RISCV64",
     })?;
     text.extend_from_slice(b"\"],\n    \"syscalls\": [")?;
-    push_whole(&mut text, &filter.rules)?;
-    let mut mark = mark_behind(&filter.rules);
+    let mut mark = push_whole(&mut text, &filter.rules)?;
     for rule in &filter.rules {
         if let Some(conditions) = &rule.conditions {
             text.extend_from_slice(mark)?;
@@ -46,18 +45,8 @@ pub fn profile_text(
     Ok(text)
 }
 
-// What stands between the entry of calls that are allowed with any arguments and the next one.
-fn mark_behind(rules: &[JsonRule]) -> &'static [u8] {
-    for rule in rules {
-        if rule.conditions.is_none() {
-            return b",\n        ";
-        }
-    }
-    b"\n        "
-}
-
-// Adds the entry of the calls that are allowed with any arguments, if there are any.
-fn push_whole(text: &mut Vec<u8>, rules: &[JsonRule]) -> Result<(), AllocError> {
+// Adds the entry of the calls that are allowed with any arguments, if there are any, and gives what stands in front of the next.
+fn push_whole(text: &mut Vec<u8>, rules: &[JsonRule]) -> Result<&'static [u8], AllocError> {
     let mut mark: &[u8] = b"\n        {\n            \"names\": [\n                ";
     let mut some = false;
     for rule in rules {
@@ -68,12 +57,13 @@ fn push_whole(text: &mut Vec<u8>, rules: &[JsonRule]) -> Result<(), AllocError> 
             some = true;
         }
     }
-    if some {
-        text.extend_from_slice(
-            b"\n            ],\n            \"action\": \"SCMP_ACT_ALLOW\"\n        }",
-        )?;
+    if !some {
+        return Ok(b"\n        ");
     }
-    Ok(())
+    text.extend_from_slice(
+        b"\n            ],\n            \"action\": \"SCMP_ACT_ALLOW\"\n        }",
+    )?;
+    Ok(b",\n        ")
 }
 
 // Adds the entry of a call that is allowed under conditions.

@@ -39,18 +39,10 @@ pub(crate) fn push_records(
 
 // The six arguments of a record.
 fn arguments(record: &[u8; RECORD]) -> [Option<u64>; 6] {
-    [
-        argument(record, 16),
-        argument(record, 24),
-        argument(record, 32),
-        argument(record, 40),
-        argument(record, 48),
-        argument(record, 56),
-    ]
-}
-
-// The argument at an offset of a record.
-fn argument(record: &[u8; RECORD], offset: usize) -> Option<u64> {
-    let bytes = record.get(offset..)?.first_chunk()?;
-    Some(u64::from_le_bytes(*bytes))
+    let mut arguments = [None; 6];
+    let (numbers, _) = record[16..].as_chunks::<8>();
+    for (argument, number) in arguments.iter_mut().zip(numbers) {
+        *argument = Some(u64::from_le_bytes(*number));
+    }
+    arguments
 }

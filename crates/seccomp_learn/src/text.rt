@@ -153,15 +153,10 @@ fn push_character(text: &mut Vec<u8>, character: char) -> Result<(), AllocError>
         ' '..='~' => text.extend_from_slice(character.encode_utf8(&mut [0; 4]).as_bytes()),
         _ => {
             for unit in character.encode_utf16(&mut [0; 2]) {
-                push_unit(text, *unit)?;
+                text.extend_from_slice(b"\\u")?;
+                text.extend_from_slice(&four_digits(*unit))?;
             }
             Ok(())
         }
     }
-}
-
-// Adds 16 bits of a character by their number.
-fn push_unit(text: &mut Vec<u8>, unit: u16) -> Result<(), AllocError> {
-    text.extend_from_slice(b"\\u")?;
-    text.extend_from_slice(&four_digits(unit))
 }

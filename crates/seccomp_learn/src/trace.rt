@@ -42,27 +42,16 @@ pub fn read_trace(alloc: Global, arch: TargetArch, text: &[u8]) -> Result<Trace,
         return Ok(trace);
     }
     for (index, line) in text.split(|byte| *byte == b'\n').enumerate() {
-        if !push_line(alloc, arch, &mut trace, line)? {
-            trace.strange = trace.strange.saturating_add(1);
-            trace.first_strange = trace.first_strange.or(Some(index.saturating_add(1)));
+        match line_of(arch, line) {
+            Line::Call(told) => push_call(alloc, arch, &mut trace, &told)?,
+            Line::Passed => {}
+            Line::Strange => {
+                trace.strange = trace.strange.saturating_add(1);
+                trace.first_strange = trace.first_strange.or(Some(index.saturating_add(1)));
+            }
         }
     }
     Ok(trace)
-}
-
-// Adds the call of a line, if it has one. Answers whether the line was understood.
-fn push_line(
-    alloc: Global,
-    arch: TargetArch,
-    trace: &mut Trace,
-    line: &[u8],
-) -> Result<bool, AllocError> {
-    match line_of(arch, line) {
-        Line::Call(told) => push_call(alloc, arch, trace, &told)?,
-        Line::Passed => {}
-        Line::Strange => return Ok(false),
-    }
-    Ok(true)
 }
 
 // Adds a call that a line tells of.

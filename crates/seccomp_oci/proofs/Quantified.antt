@@ -1,8 +1,8 @@
 -- For the functions of `concerns`, `decisions` and `decide`: what holds of each, or of some, of a list's elements, as the list grows.
 use Rattle.std.proofs.Common.{◌≡◌, ◌↔◌, ℕ, zero, suc, ◌+◌, ◌<◌, List, [], ◌∷◌, ◌++◌, length, get_or, take, refl, subst, sym}
-use Rattle.std.proofs.Common.{◌∙◌, ap, ◌⊎◌, inl, inr, arith}
-use Rattle.std.specs.Prelude.{All, Any, Contains, map}
-use Rattle.std.proofs.lemmas.List.{take_more}
+use Rattle.std.proofs.Common.{◌∙◌, ap, ◌⊎◌, inl, inr, arith, map, String, Global, string_bytes}
+use Rattle.std.specs.Prelude.{All, Any}
+use Rattle.std.proofs.lemmas.List.{map_push, take_more}
 use Rattle.std.proofs.lemmas.List.Elements.{All-nil, All-cons, All-head, All-tail, All-append}
 
 module _ {X : Type 0} (P : X → Type 0) where
@@ -22,20 +22,23 @@ module _ {X : Type 0} (P : X → Type 0) where
   pub none_is_any : (xs : List X) → All (λ x. P x → ⊥) xs → Any P xs → ⊥
   none_is_any xs none (k, x, within, is, has) = none k x within (subst P (sym is) has)
 
-  -- Some element of two lists is in the first or in the second.
-  pub any_append : (xs ys : List X) → Any P (xs ++ ys) ↔ (Any P xs ⊎ Any P ys)
-  any_append [] ys = (inr, λ either. elim either [ inl none ↦ absurd (any_nil none) | inr there ↦ there ])
-  any_append (x ∷ xs) ys = let rest = any_append xs ys in (
-    λ any. elim (any_cases x (xs ++ ys) any) [
-      | inl here ↦ inl (any_head x xs here)
-      | inr later ↦ elim (rest.0 later) [ inl left ↦ inl (any_tail x xs left) | inr right ↦ inr right ]
+  -- Some element of a list with one more is in the list, or is this one.
+  pub any_last : (xs : List X) (x : X) → Any P (xs ++ x ∷ []) ↔ (Any P xs ⊎ P x)
+  any_last [] x = (
+    λ any. elim (any_cases x [] any) [ inl here ↦ inr here | inr none ↦ absurd (any_nil none) ],
+    λ either. elim either [ inl none ↦ absurd (any_nil none) | inr here ↦ any_head x [] here ],
+  )
+  any_last (y ∷ xs) x = let rest = any_last xs x in (
+    λ any. elim (any_cases y (xs ++ x ∷ []) any) [
+      | inl here ↦ inl (any_head y xs here)
+      | inr later ↦ elim (rest.0 later) [ inl left ↦ inl (any_tail y xs left) | inr last ↦ inr last ]
     ],
     λ either. elim either [
-      | inl left ↦ elim (any_cases x xs left) [
-        | inl here ↦ any_head x (xs ++ ys) here
-        | inr later ↦ any_tail x (xs ++ ys) (rest.1 (inl later))
+      | inl left ↦ elim (any_cases y xs left) [
+        | inl here ↦ any_head y (xs ++ x ∷ []) here
+        | inr later ↦ any_tail y (xs ++ x ∷ []) (rest.1 (inl later))
       ]
-      | inr right ↦ any_tail x (xs ++ ys) (rest.1 (inr right))
+      | inr last ↦ any_tail y (xs ++ x ∷ []) (rest.1 (inr last))
     ],
   )
 
@@ -61,6 +64,11 @@ module _ {X : Type 0} (P : X → Type 0) where
 pub more_read : {X : Type 0} (xs : List X) (i : ℕ) (x : X) → i < length xs → x ≡ get_or xs i x → take (i + 1) xs ≡ take i xs ++ x ∷ []
 more_read xs i x within is = take_more xs i x within ∙ ap (λ y. take i xs ++ y ∷ []) (sym is)
 
+-- The texts so far and that of the name that was read are those of one name more.
+pub more_texts : (names : List (String Global)) (i : ℕ) (name : String Global) → i < length names → name ≡ get_or names i name
+    → map string_bytes (take (i + 1) names) ≡ map string_bytes (take i names) ++ string_bytes name ∷ []
+more_texts names i name within is = ap (map string_bytes) (more_read names i name within is) ∙ map_push string_bytes (take i names) name
+
 module _ {X Y : Type 0} (P : X → Type 0) (Q : Y → Type 0) where
   -- Each of some things has a property where each of others has one, and so with one more of both.
   pub all_more : (xs : List X) (ys : List Y) (x : X) (y : Y) → (All P xs ↔ All Q ys) → (P x ↔ Q y)
@@ -75,35 +83,7 @@ module _ {X Y : Type 0} (P : X → Type 0) (Q : Y → Type 0) where
   -- Some of some things has a property where some of others has one, and so with one more of both.
   pub any_more : (xs : List X) (ys : List Y) (x : X) (y : Y) → (Any P xs ↔ Any Q ys) → (P x ↔ Q y)
       → Any P (xs ++ x ∷ []) ↔ Any Q (ys ++ y ∷ [])
-  any_more xs ys x y so_far here =
-      let left = any_append P xs (x ∷ []) in
-      let right = any_append Q ys (y ∷ []) in (
-        λ any. right.1 (elim (left.0 any) [
-          | inl before ↦ inl (so_far.0 before)
-          | inr last ↦ inr ((any_one Q y).1 (here.0 ((any_one P x).0 last)))
-        ]),
-        λ any. left.1 (elim (right.0 any) [
-          | inl before ↦ inl (so_far.1 before)
-          | inr last ↦ inr ((any_one P x).1 (here.1 ((any_one Q y).0 last)))
-        ]),
-      )
-
--- What each has and what some has, some one has both.
-pub at_any : {X : Type 0} (P Q : X → Type 0) (xs : List X) → All P xs → Any Q xs → (x : X) × P x × Q x
-at_any P Q xs all (k, x, within, is, has) = (x, subst P is (all k x within), has)
-
--- What holds of what f makes of one element holds of some of what it makes of all.
-pub any_at : {X Y : Type 0} (f : X → Y) (Q : Y → Type 0) (xs : List X) (i : ℕ) (d : X) → i < length xs → Q (f (get_or xs i d))
-    → Any Q (map f xs)
-any_at f Q [] i d within has = absurd (omega arith)
-any_at f Q (x ∷ xs) zero d within has = any_head Q (f x) (map f xs) has
-any_at f Q (x ∷ xs) (suc i) d within has = any_tail Q (f x) (map f xs) (any_at f Q xs i d (omega arith) has)
-
--- What f makes of one element is among what it makes of all.
-pub contains_at : {X Y : Type 0} (f : X → Y) (xs : List X) (i : ℕ) (d : X) → i < length xs → Contains (map f xs) (f (get_or xs i d))
-contains_at f [] i d within = absurd (omega arith)
-contains_at f (x ∷ xs) zero d within = (zero, omega arith, refl)
-contains_at f (x ∷ xs) (suc i) d within =
-    let rest = contains_at f xs i d (omega arith) in
-    let less = rest.1 in
-    (suc rest.0, omega arith, rest.2)
+  any_more xs ys x y so_far here = (
+    λ any. (any_last Q ys y).1 (elim ((any_last P xs x).0 any) [ inl before ↦ inl (so_far.0 before) | inr last ↦ inr (here.0 last) ]),
+    λ any. (any_last P xs x).1 (elim ((any_last Q ys y).0 any) [ inl before ↦ inl (so_far.1 before) | inr last ↦ inr (here.1 last) ]),
+  )

@@ -8,12 +8,12 @@ use Rattle.seccomp_tree.specs.TreeProgram.{AreRanges, EndsWithin, length_by}
 use Rattle.seccomp_oci.specs.declared.compiled.CompiledProfile.{CompiledProfile}
 use Rattle.seccomp_oci.specs.declared.compiled.CompileError.{CompileError}
 use Rattle.seccomp_oci.specs.declared.compiled.CompileError.TheVariants as compile_error
-use Rattle.seccomp_oci.specs.declared.error.ProfileError.{ProfileError}
-use Rattle.seccomp_oci.specs.declared.error.ProfileError.TheVariants as profile_error
+use Rattle.seccomp_profiles.specs.declared.error.ProfileError.{ProfileError}
+use Rattle.seccomp_profiles.specs.declared.error.ProfileError.TheVariants as profile_error
 use Rattle.seccomp_oci.specs.LeftOut.{AreLeftOut}
 use Rattle.seccomp_oci.specs.ProfileDecisions.{DecideAs, IsProfileWord}
-use Rattle.seccomp_oci.specs.ProfileText.{IsProfileFault, IsProfileText}
-use Rattle.seccomp_oci.specs.Types.{Container, Profile}
+use Rattle.seccomp_profiles.specs.ProfileText.{IsProfileFault, IsProfileText}
+use Rattle.seccomp_profiles.specs.Types.{Container, Profile}
 
 -- The program returns the profile's word for the record, within as many steps as it has instructions.
 pub record EndsAsProfile (arch : TargetArch) (container : Container) (p : Profile) (program : List sock_filter) (r : List ℕ) : Type 0 where

@@ -3,9 +3,9 @@ use Rattle.std.specs.Prelude.{◌≡◌, ◌↔◌, ◌<◌, ℕ, List, All, Any
 use Rattle.seccompiler.specs.declared.backend.SeccompAction.{SeccompAction}
 use Rattle.seccompiler.specs.declared.backend.TargetArch.{TargetArch}
 use Rattle.seccompiler.specs.Policy.{Condition, RuleHolds}
-use Rattle.seccomp_oci.specs.declared.types.Argument.{Argument}
+use Rattle.seccomp_profiles.specs.declared.types.Argument.{Argument}
 use Rattle.seccomp_oci.specs.Decision.{AreMet, Concerns, rank}
-use Rattle.seccomp_oci.specs.Types.{Container, Entry}
+use Rattle.seccomp_profiles.specs.Types.{Container, Entry}
 
 -- What an entry says: of which calls, its action, how soon it is asked, and lists of conditions, one of which holds if the
 -- entry's are met.

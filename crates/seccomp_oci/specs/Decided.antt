@@ -2,7 +2,7 @@
 use Rattle.std.specs.Prelude.{◌≡◌, ℕ, List, MatchOption, Option}
 use Rattle.seccomp_oci.specs.declared.decide.Found.{Found}
 use Rattle.seccomp_oci.specs.Decision.{IsFirstLeast, NoneOf, rank}
-use Rattle.seccomp_oci.specs.Types.{Entry}
+use Rattle.seccomp_profiles.specs.Types.{Entry}
 
 -- Of the first n entries this one is asked first of those that match the record.
 pub record IsFound (P : Entry → Type 0) (entries : List Entry) (n : ℕ) (f : Found) : Type 0 where

@@ -8,12 +8,12 @@ use Rattle.seccompiler.specs.declared.backend.TargetArch.TheVariants.{x86_64, aa
 use Rattle.seccompiler.specs.Architecture.{table_of}
 use Rattle.seccompiler.specs.Machine.{argument_at, word_at}
 use Rattle.seccompiler.specs.SyscallTable.{number_of}
-use Rattle.seccomp_oci.specs.declared.types.Argument.{Argument}
-use Rattle.seccomp_oci.specs.declared.types.Kernel.{Kernel}
-use Rattle.seccomp_oci.specs.declared.types.Operator.{Operator}
-use Rattle.seccomp_oci.specs.declared.types.Operator.TheVariants.{Ne, Lt, Le, Eq, Ge, Gt, MaskedEq}
-use Rattle.seccomp_oci.specs.declared.types.Runtime.TheVariants.{Runc}
-use Rattle.seccomp_oci.specs.Types.{Container, Entry, Profile}
+use Rattle.seccomp_profiles.specs.declared.types.Argument.{Argument}
+use Rattle.seccomp_profiles.specs.declared.types.Kernel.{Kernel}
+use Rattle.seccomp_profiles.specs.declared.types.Operator.{Operator}
+use Rattle.seccomp_profiles.specs.declared.types.Operator.TheVariants.{Ne, Lt, Le, Eq, Ge, Gt, MaskedEq}
+use Rattle.seccomp_profiles.specs.declared.types.Runtime.TheVariants.{Runc}
+use Rattle.seccomp_profiles.specs.Types.{Container, Entry, Profile}
 
 -- ---- when an entry applies
 

@@ -7,7 +7,7 @@ use Rattle.seccompiler.specs.Machine.{word_at}
 use Rattle.seccompiler.specs.Policy.{word_of}
 use Rattle.seccomp_tree.specs.Decided.{DecisionSet, IsDecided}
 use Rattle.seccomp_oci.specs.Decision.{IsProfileDecision}
-use Rattle.seccomp_oci.specs.Types.{Container, Profile}
+use Rattle.seccomp_profiles.specs.Types.{Container, Profile}
 
 -- The word is that of the profile's decision; it is that of killing the process on another architecture.
 pub data IsProfileWord (arch : TargetArch) (container : Container) (p : Profile) (r : List ℕ) (w : ℕ) : Type 0 where

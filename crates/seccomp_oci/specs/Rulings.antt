@@ -8,7 +8,7 @@ use Rattle.seccompiler.specs.Policy.{Condition, RuleHolds, word_of}
 use Rattle.seccomp_tree.specs.Decisions.{Ruling}
 use Rattle.seccomp_oci.specs.Concerns.{Concern, IsConcernOf}
 use Rattle.seccomp_oci.specs.Decision.{IsFirstLeast, Matches, rank}
-use Rattle.seccomp_oci.specs.Types.{Container, Entry}
+use Rattle.seccomp_profiles.specs.Types.{Container, Entry}
 
 -- Of the calls of number n this is what the entry says: it has the property if one of the lists of conditions holds.
 pub record IsSaid (P : Entry → Type 0) (n : ℕ) (r : List ℕ) (e : Entry) (c : Concern) : Type 0 where

@@ -3,13 +3,11 @@
 ghost use Rattle.std.specs.Prelude.{◌≡◌, [], IfErr, IfOk, map, string_bytes, true};
 ghost use Rattle.seccomp_oci.specs.CompiledProfile.{IsCompileFault, IsCompiledProfile, IsNamesFault, IsProfileProgram, IsProgramFault};
 ghost use Rattle.seccomp_oci.specs.LeftOut.{AreLeftOut};
-ghost use Rattle.seccomp_oci.specs.Types.{AllOnArguments};
+ghost use Rattle.seccomp_profiles.specs.Types.{AllOnArguments};
 
 use crate::decisions::decisions_of_profile;
-use crate::error::ProfileError;
-use crate::profile::profile_of;
-use crate::types::{Container, Flag, Profile};
 use crate::unknown::unknown_names;
+use seccomp_profiles::{Container, Flag, Profile, ProfileError, profile_of};
 use seccomp_tree::TreeError;
 use seccompiler::{BpfProgram, TargetArch};
 use std::alloc::{AllocError, Global};

@@ -7,10 +7,10 @@ ghost use Rattle.seccompiler.specs.SyscallTable.{number_of};
 ghost use Rattle.seccompiler.specs.Policy.{Compares, Holds, RuleHolds};
 ghost use Rattle.seccomp_oci.specs.Concerns.{AreAlternatives, AreCallsOf, IsConcernOf};
 ghost use Rattle.seccomp_oci.specs.Decision.{AreMet, Concerns, IsMet, IsNameOf, Meets, ShareArgument, rank_by, strictness};
-ghost use Rattle.seccomp_oci.specs.Types.{AllOnArguments, AreOnArguments};
+ghost use Rattle.seccomp_profiles.specs.Types.{AllOnArguments, AreOnArguments};
 
 use crate::scope::applies;
-use crate::types::{Argument, Container, Entry, Operator};
+use seccomp_profiles::{Argument, Container, Entry, Operator};
 use seccompiler::{
     SeccompAction, SeccompCmpArgLen, SeccompCmpOp, SeccompCondition, SyscallTable, TargetArch,
 };
@@ -212,8 +212,8 @@ pub(crate) fn condition_of(argument: &Argument) -> SeccompCondition
     }
 }
 
-/// The operator of a condition, and what it compares with.
-pub(crate) fn comparison(argument: &Argument) -> (SeccompCmpOp, u64)
+/// The operator of a condition, and what it compares with. It takes no memory.
+pub fn comparison(argument: &Argument) -> (SeccompCmpOp, u64)
     ensures { (x : ℕ) → Compares result.0 x result.1 ↔ Meets argument.now.operator x argument.now.value argument.now.value_two }
 {
     let (value, value_two) = (argument.value, argument.value_two);
@@ -228,8 +228,8 @@ pub(crate) fn comparison(argument: &Argument) -> (SeccompCmpOp, u64)
     }
 }
 
-/// Whether two of the conditions are on one argument.
-pub(crate) fn share_argument(args: &[Argument]) -> bool
+/// Whether two of the conditions are on one argument. It takes no memory.
+pub fn share_argument(args: &[Argument]) -> bool
     ensures { IsTrue result ↔ ShareArgument args.now }
 {
     let mut rest = args;

@@ -1,16 +1,16 @@
 // What a profile decides of a call.
 
-ghost use Rattle.std.specs.Prelude.{◌≡◌, ◌<◌, ◌≤◌, ◌+◌, ◌↔◌, List, length, map, slice_index_or, string_bytes, All, Any, IfSome, IsSomeAnd, IsTrue};
+ghost use Rattle.std.specs.Prelude.{◌≡◌, ◌≤◌, ◌↔◌, length, map, string_bytes, All, Any, IfSome, IsSomeAnd, IsTrue};
 ghost use Rattle.seccompiler.specs.declared.backend.SeccompAction.{SeccompAction};
 ghost use Rattle.seccompiler.specs.Machine.{word_at};
 ghost use Rattle.seccomp_oci.specs.Decided.{AreFound};
 ghost use Rattle.seccomp_oci.specs.Decision.{AreMet, Concerns, IsByEntry, IsMet, IsNameOf, IsProfileDecision, Matches, rank};
-ghost use Rattle.seccomp_oci.specs.Types.{AllOnArguments, AreOnArguments, Entry};
+ghost use Rattle.seccomp_profiles.specs.Types.{AllOnArguments, AreOnArguments};
 
 use crate::concerns::{condition_of, is_same, rank, share_argument};
 use crate::defaults::default_for;
 use crate::scope::applies;
-use crate::types::{Argument, Container, Entry, Profile};
+use seccomp_profiles::{Argument, Container, Entry, Profile};
 use seccompiler::{SeccompAction, SyscallTable, TargetArch};
 
 /// What a profile decides of a call, and by which of its entries.
@@ -40,7 +40,7 @@ pub(crate) struct Found {
 /// entry without conditions that concerns the call decides it, whatever other entries there are. Without such
 /// an entry, those whose conditions are met decide. If they name several actions, the profile leaves the answer
 /// open, and it is the strictest, of equally strict ones the first entry's. If there are none, it is the
-/// default action; but on `x86_64` a number of x32 kills the thread, and [runc](crate::Runtime::Runc) answers
+/// default action; but on `x86_64` a number of x32 kills the thread, and [runc](seccomp_profiles::Runtime::Runc) answers
 /// numbers above all that the profile names with `ENOSYS`.
 ///
 /// The conditions of an entry are met if all of them are; but if two of them are on one argument, it is enough
@@ -50,7 +50,7 @@ pub(crate) struct Found {
 /// `call` is the record of a call, a `struct seccomp_data`. Only its number and its arguments are read: a
 /// record of another architecture is decided as one of this.
 ///
-/// Each condition is on an argument from 0 to 5, as in every profile that [`profile_of`](crate::profile_of)
+/// Each condition is on an argument from 0 to 5, as in every profile that [`profile_of`](seccomp_profiles::profile_of)
 /// gives. It takes no memory.
 pub fn decision_of_profile(
     arch: TargetArch,
@@ -96,39 +96,26 @@ fn found_in(
 {
     let mut found = None;
     for (place, entry) in entries.iter().enumerate() {
-        found = with_entry(arch, container, default, call, found, place, entry);
+        if !matches(arch, container, default, call, entry) {
+            continue;
+        }
+        let (action, rank) = (action_of(entry), rank_of(entry));
+        if keeps(found, rank) {
+            continue;
+        }
+        found = Some(Found {
+            place,
+            action,
+            rank,
+        });
     }
     found
 }
 
-// What is found of some entries, with one more behind them, at this place.
-fn with_entry(
-    arch: TargetArch,
-    container: &Container,
-    default: SeccompAction,
-    call: &[u8; 64],
-    found: Option<Found>,
-    place: usize,
-    entry: &Entry,
-) -> Option<Found>
-    requires { AreOnArguments entry.now.args }
-    ensures { (entries : List Entry) → place < length entries → entry.now ≡ slice_index_or entries place entry.now
-        → AreFound (Matches arch container.now default call.now) entries place found
-        → AreFound (Matches arch container.now default call.now) entries (place + 1) result }
+fn action_of(entry: &Entry) -> SeccompAction
+    ensures { result ≡ entry.now.action }
 {
-    if !matches(arch, container, default, call, entry) {
-        return found;
-    }
-    let rank = rank_of(entry);
-    if keeps(found, rank) {
-        return found;
-    }
-    let action = entry.action;
-    Some(Found {
-        place,
-        action,
-        rank,
-    })
+    entry.action
 }
 
 // How soon an entry is asked.
@@ -149,7 +136,9 @@ fn keeps(found: Option<Found>, rank: u8) -> bool
 }
 
 /// Whether an entry concerns a call, and the call meets its conditions.
-pub(crate) fn matches(
+///
+/// It takes no memory. `call` and the conditions are as [`decision_of_profile`] has them.
+pub fn matches(
     arch: TargetArch,
     container: &Container,
     default: SeccompAction,
@@ -159,14 +148,16 @@ pub(crate) fn matches(
     requires { AreOnArguments entry.now.args }
     ensures { IsTrue result ↔ Matches arch container.now default call.now entry.now }
 {
-    if !concerns(arch, container, default, called_number(call), entry) {
+    if !concerns_call(arch, container, default, called_number(call), entry) {
         return false;
     }
     are_met(call, entry.args.as_slice())
 }
 
-/// Whether an entry concerns the calls of this number.
-pub(crate) fn concerns(
+/// Whether an entry concerns the calls of this number, as [`decision_of_profile`] says.
+///
+/// `default` is the profile's default action. It takes no memory.
+pub fn concerns_call(
     arch: TargetArch,
     container: &Container,
     default: SeccompAction,

@@ -6,11 +6,11 @@ ghost use Rattle.seccomp_tree.specs.Decided.{calls_of, rulings_for};
 ghost use Rattle.seccomp_oci.specs.Concerns.{Concern};
 ghost use Rattle.seccomp_oci.specs.ProfileDecisions.{DecideAs};
 ghost use Rattle.seccomp_oci.specs.Rulings.{AreRulingsFor, AreRulingsTo, IsPushed, each_with};
-ghost use Rattle.seccomp_oci.specs.Types.{AllOnArguments};
+ghost use Rattle.seccomp_profiles.specs.Types.{AllOnArguments};
 
 use crate::concerns::{Concern, concerns_of};
 use crate::defaults::defaults_of;
-use crate::types::{Container, Profile};
+use seccomp_profiles::{Container, Profile};
 use seccomp_tree::{Decision, Decisions};
 use seccompiler::{SeccompAction, SeccompCondition, TargetArch};
 use std::alloc::{AllocError, Global};

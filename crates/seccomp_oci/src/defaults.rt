@@ -4,12 +4,12 @@ ghost use Rattle.std.specs.Prelude.{◌≡◌, ◌↔◌, ◌<◌, ◌≤◌, �
 ghost use Rattle.seccompiler.specs.Policy.{word_of};
 ghost use Rattle.seccomp_tree.specs.Decided.{AscendFromZero, default_for};
 ghost use Rattle.seccomp_oci.specs.Decision.{Applies, IsAbove, IsDefault, IsNameOf, IsNamed, default_of, lets};
-ghost use Rattle.seccomp_oci.specs.declared.types.Runtime.TheVariants.{Runc};
+ghost use Rattle.seccomp_profiles.specs.declared.types.Runtime.TheVariants.{Runc};
 ghost use Rattle.seccomp_oci.specs.Defaults.{IsGreatest, is_above};
 
 use crate::concerns::number_of;
 use crate::scope::applies;
-use crate::types::{Container, Entry, Profile, Runtime};
+use seccomp_profiles::{Container, Entry, Profile, Runtime};
 use seccomp_tree::DefaultValue;
 use seccompiler::{SeccompAction, TargetArch};
 use std::alloc::{AllocError, Global};

@@ -5,7 +5,7 @@ ghost use Rattle.std.specs.List.{list_all, list_any};
 ghost use Rattle.std.specs.Str.{bytes_eq};
 ghost use Rattle.seccomp_oci.specs.Decision.{go_name, Applies, IsAtLeast};
 
-use crate::types::{Container, Entry, Kernel};
+use seccomp_profiles::{Container, Entry, Kernel};
 use seccompiler::TargetArch;
 
 // The name of the architecture as Go has it.

@@ -1,13 +1,12 @@
 // The names of a profile that no system call has.
 
-ghost use Rattle.std.specs.Prelude.{◌≡◌, ◌↔◌, ℕ, List, [], ◌∷◌, ◌++◌, IsSome, IsTrue, IfOk, map, string_bytes};
+ghost use Rattle.std.specs.Prelude.{◌↔◌, IsSome, IsTrue, IfOk, map, string_bytes};
 ghost use Rattle.seccompiler.specs.Architecture.{table_of};
 ghost use Rattle.seccompiler.specs.SyscallTable.{number_of};
 ghost use Rattle.seccomp_oci.specs.LeftOut.{AreLeftOut, AreUnknown};
-ghost use Rattle.seccomp_oci.specs.Types.{Entry};
 
 use crate::scope::applies;
-use crate::types::{Container, Entry, Profile};
+use seccomp_profiles::{Container, Entry, Profile};
 use seccompiler::{SyscallTable, TargetArch};
 use std::alloc::{AllocError, Global};
 
@@ -18,36 +17,16 @@ fn is_known(arch: TargetArch, name: &str) -> bool
     SyscallTable::new(arch).get_syscall_nr(name).is_some()
 }
 
-// The names with one more at their end.
-fn pushed(mut names: Vec<String>, name: String) -> Result<Vec<String>, AllocError>
-    ensures { IfOk result (λ all. all.items ≡ names.items ++ name ∷ []) }
-{
-    names.push(name)?;
-    Ok(names)
-}
-
-// The unknown ones of some names, with one name more.
-fn with_name(
-    alloc: Global,
-    arch: TargetArch,
-    unknown: Vec<String>,
-    name: &str,
-) -> Result<Vec<String>, AllocError>
-    ensures { IfOk result (λ all. (done : List (List ℕ)) → AreUnknown arch done (map string_bytes unknown.items) → AreUnknown arch (done ++ name.now ∷ []) (map string_bytes all.items)) }
-{
-    if is_known(arch, name) {
-        return Ok(unknown);
-    }
-    pushed(unknown, String::from_str(alloc, name)?)
-}
-
 // Of the names, those that no call of the architecture has.
 fn unknown_of(alloc: Global, arch: TargetArch, names: &[String]) -> Result<Vec<String>, AllocError>
     ensures { IfOk result (λ all. AreUnknown arch (map string_bytes names.now) (map string_bytes all.items)) }
 {
     let mut unknown = Vec::new(alloc);
     for name in names {
-        unknown = with_name(alloc, arch, unknown, name.as_str())?;
+        if is_known(arch, name.as_str()) {
+            continue;
+        }
+        unknown.push(String::from_str(alloc, name.as_str())?)?;
     }
     Ok(unknown)
 }
@@ -59,24 +38,7 @@ fn unknown_in(alloc: Global, arch: TargetArch, entry: &Entry) -> Result<Vec<Stri
     unknown_of(alloc, arch, entry.names.as_slice())
 }
 
-// The names that are left out of some entries, with one entry more.
-fn with_entry(
-    alloc: Global,
-    arch: TargetArch,
-    container: &Container,
-    mut left_out: Vec<String>,
-    entry: &Entry,
-) -> Result<Vec<String>, AllocError>
-    ensures { IfOk result (λ all. (done : List Entry) → AreLeftOut arch container.now done (map string_bytes left_out.items) → AreLeftOut arch container.now (done ++ entry.now ∷ []) (map string_bytes all.items)) }
-{
-    if !applies(arch, container, entry) {
-        return Ok(left_out);
-    }
-    let mut own = unknown_in(alloc, arch, entry)?;
-    left_out.append(&mut own)?;
-    Ok(left_out)
-}
-
+// The names that are left out of these entries.
 fn left_out_of(
     alloc: Global,
     arch: TargetArch,
@@ -87,7 +49,11 @@ fn left_out_of(
 {
     let mut left_out = Vec::new(alloc);
     for entry in entries {
-        left_out = with_entry(alloc, arch, container, left_out, entry)?;
+        if !applies(arch, container, entry) {
+            continue;
+        }
+        let mut own = unknown_in(alloc, arch, entry)?;
+        left_out.append(&mut own)?;
     }
     Ok(left_out)
 }

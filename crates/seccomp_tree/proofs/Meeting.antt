@@ -151,7 +151,8 @@ met_now {Is} {most} {steps} {old} fit unfit t inside met unmet = record {
 
 -- the second of two, which is written first, and the first: what takes both, and as much
 pub met_both : {First Second Both : List ℕ → Type 0} {m n s k : ℕ} {old mid new : List sock_filter} {fit unfit t u : Target}
-    (most steps : ℕ) → ((r : List ℕ) → First r ⊎ (First r → ⊥)) → ((r : List ℕ) → IsRecord r → Both r ↔ (First r × Second r)) → m + n ≤ most → s + k ≤ steps
+    (most steps : ℕ) → ((r : List ℕ) → First r ⊎ (First r → ⊥)) → ((r : List ℕ) → IsRecord r → Both r ↔ (First r × Second r))
+    → m + n ≤ most → s + k ≤ steps
     → IsMet Second m s old fit unfit t mid → IsMet First n k mid t unfit u new → IsMet Both most steps old fit unfit u new
 met_both {s = s} most steps which both room time h g = record {
   grows = grows_on most h.grows g.grows room;

@@ -39,7 +39,8 @@ one_first default v w (d ∷ rulings) r is h = go d.conditions refl is
   where
     go : (q : List Condition) → d.conditions ≡ q → (if nat_eq (length q) 0 then Some d.value else None) ≡ Some v → w ≡ v
     go [] e some =
-        let value = first_here d rulings (subst (λ (q : List Condition). RuleHolds q r) (sym e) (All-nil (λ (c : Condition). Holds c r))) h in
+        let holds = subst (λ (q : List Condition). RuleHolds q r) (sym e) (All-nil (λ (c : Condition). Holds c r)) in
+        let value = first_here d rulings holds h in
         cc
     go (c ∷ q) e some =
         let no : nat_eq (length (c ∷ q)) 0 ≡ false = grind (arith, nat_tests) in

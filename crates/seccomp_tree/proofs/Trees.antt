@@ -81,7 +81,10 @@ pub rest_of : (code : List sock_filter) (m n t : ℕ) (steps : List Step) → 1 
     × (AscendFrom m 0 (take (length steps - n) (drop n steps)) × AreIn code (take (length steps - n) (drop n steps))))
 rest_of code m n t steps some lt all_in up inside =
     let all = all_behind steps n in
-    rw all (omega (arith, length-drop n steps), (omega (arith, length-drop n steps), (ascend_drop m 0 n steps up, in_drop code n steps inside)))
+    rw all (
+      omega (arith, length-drop n steps),
+      (omega (arith, length-drop n steps), (ascend_drop m 0 n steps up, in_drop code n steps inside)),
+    )
 
 pub rest_long : (n : ℕ) (steps : List Step) → length (take (length steps - n) (drop n steps)) ≡ length steps - n
 rest_long n steps = ap length (all_behind steps n) ∙ length-drop n steps

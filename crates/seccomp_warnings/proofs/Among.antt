@@ -3,25 +3,11 @@ use Rattle.std.proofs.Common.{◌≡◌, ◌++◌, ◌∷◌, [], ℕ, pos, List
 use Rattle.seccompiler.specs.declared.backend.TargetArch.{TargetArch}
 use Rattle.seccomp_compare.specs.declared.Comparison.{Comparison}
 use Rattle.seccomp_compare.specs.declared.Comparison.TheVariants as comparison
-use Rattle.seccomp_warnings.proofs.Covered.{beside_met, its_number}
+use Rattle.seccomp_warnings.proofs.Covered.{beside_met, its_number, says_beside}
 use Rattle.seccomp_warnings.proofs.Quantified.{any_append, any_nil, any_one}
 use Rattle.seccomp_warnings.specs.Verdicts.{Entry, IsCovered, Meets}
 use Rattle.std.specs.Prelude.{Any}
-use Rattle.seccomp_warnings.specs.VerdictParts.{Answers, AreAmong, IsAmong, IsMet, SaysBeside, rules_beside}
-
--- An entry that is one of the second of two lists is one of both.
-pub among_back : (front back : List Entry) (e : Entry) → IsAmong e back → IsAmong e (front ++ back)
-among_back front back e among = λ r meets. (any_append (Meets r) front back).1 (inr (among r meets))
-
--- So is one of the first.
-pub among_front : (front back : List Entry) (e : Entry) → IsAmong e front → IsAmong e (front ++ back)
-among_front front back e among = λ r meets. (any_append (Meets r) front back).1 (inl (among r meets))
-
--- A call that meets none of two lists' entries meets none of both.
-pub none_of_both : (n : ℕ) (r : List ℕ) (front back : List Entry) → (Any (IsMet n r) front → ⊥) → (Any (IsMet n r) back → ⊥)
-    → Any (IsMet n r) (front ++ back) → ⊥
-none_of_both n r front back not_front not_back any =
-    elim ((any_append (IsMet n r) front back).0 any) [ inl there ↦ not_front there | inr there ↦ not_back there ]
+use Rattle.seccomp_warnings.specs.VerdictParts.{Answers, AreAmong, IsAmong, SaysBeside, rules_beside}
 
 -- None of no entries is met; and one more of these is one of these.
 pub among_none : (entries : List Entry) → AreAmong [] entries
@@ -48,3 +34,8 @@ pub says_of_some : (arch : TargetArch) (n : ℕ) (own : Entry) (some entries : L
 says_of_some arch n own some entries comparison.Holds numbered are isnt says = covered_by_some arch n own some entries numbered are says
 says_of_some arch n own some entries (comparison.Fails r) numbered are isnt says = absurd (isnt r refl)
 says_of_some arch n own some entries comparison.Undecided numbered are isnt says = tt
+
+-- What is said of the calls of an entry alone is said of the entry beside no others.
+pub says_alone : (arch : TargetArch) (n : ℕ) (own : Entry) (a : Comparison) → own.number ≡ Some (pos n)
+    → Answers arch n own.conditions [] a → SaysBeside arch own [] a
+says_alone arch n own a numbered says = says_beside arch n own [] [] a numbered says

@@ -41,7 +41,7 @@ other Qword v = ⊎_elim
     (cases_lt 0 v)
 
 -- a number and itself under a mask
-masked_self : (m : ℕ) → bit_and m m ≡ m
+pub masked_self : (m : ℕ) → bit_and m m ≡ m
 masked_self m = omega (arith, xor_self m, xor_add_and m m)
 
 -- `Eq` fails for another number than the value; `Ne`, `Gt` and `Lt` fail for the value.

@@ -20,9 +20,9 @@ use Rattle.seccomp_compare.specs.declared.Comparison.{Comparison}
 use Rattle.seccomp_compare.specs.declared.Comparison.TheVariants as comparison
 use Rattle.seccomp_compare.specs.declared.Relation.TheVariants.{AtMostAsPermissive}
 use Rattle.seccomp_warnings.proofs.Quantified.{any_head, any_tail, any_nil, any_append, any_one, all_append, any_cases, any_weaker}
-use Rattle.seccomp_warnings.specs.Verdicts.{Entry, IsCovered, Meets}
-use Rattle.seccomp_warnings.specs.VerdictParts.{Answers, IsAlways, SaysBeside, chain_of, chains_with, filter_of, filter_with}
-use Rattle.seccomp_warnings.specs.VerdictParts.{rule_beside, rules_beside}
+use Rattle.seccomp_warnings.specs.Verdicts.{Entry, IsCovered, IsNeeded, Meets}
+use Rattle.seccomp_warnings.specs.VerdictParts.{Answers, IsAmong, IsMet, IsOwn, SaysBeside, chain_of, chains_with, filter_of}
+use Rattle.seccomp_warnings.specs.VerdictParts.{filter_with, rule_beside, rules_beside}
 
 -- ---- the filters that are compared
 
@@ -205,21 +205,20 @@ says_beside arch n own front back (comparison.Fails r) numbered says =
 says_beside arch n own front back comparison.Undecided numbered says = tt
 
 -- An entry of the call without conditions covers all of its calls.
-always_met : (n : ℕ) (own : Entry) (es : List Entry) (r : List ℕ) → own.number ≡ Some (pos n) → Any (IsAlways n) es → Meets r own
-    → Any (Meets r) es
-always_met n own es r numbered any meets =
-    let is = its_number own n r numbered meets in
-    any_weaker (IsAlways n) (Meets r) es (λ e always. (
-      always.0 ∙ ap (λ w. Some (pos w)) (sym is),
-      subst (All (λ c. Holds c r)) (sym always.1) (All-nil (λ c. Holds c r)),
-    )) any
+pub covered_always : (arch : TargetArch) (n : ℕ) (own e : Entry) (es : List Entry) → own.number ≡ Some (pos n) → e.number ≡ Some (pos n)
+    → e.conditions ≡ [] → IsAmong e es → IsCovered arch own es
+covered_always arch n own e es numbered its none among = λ r call meets.
+    among r (
+      its ∙ ap (λ w. Some (pos w)) (sym (its_number own n r numbered meets)),
+      subst (All (λ c. Holds c r)) (sym none) (All-nil (λ c. Holds c r)),
+    )
 
-pub covered_in_front : (arch : TargetArch) (n : ℕ) (own : Entry) (front back : List Entry) → own.number ≡ Some (pos n)
-    → Any (IsAlways n) front → IsCovered arch own (front ++ back)
-covered_in_front arch n own front back numbered any = λ r call meets.
-    (any_append (Meets r) front back).1 (inl (always_met n own front r numbered any meets))
-
-pub covered_behind : (arch : TargetArch) (n : ℕ) (own : Entry) (front back : List Entry) → own.number ≡ Some (pos n)
-    → Any (IsAlways n) back → IsCovered arch own (front ++ back)
-covered_behind arch n own front back numbered any = λ r call meets.
-    (any_append (Meets r) front back).1 (inr (always_met n own back r numbered any meets))
+-- A call that meets the entry and none of the others shows that it is needed.
+pub needed_by : (arch : TargetArch) (n : ℕ) (own : Entry) (r : List ℕ) (es : List Entry) → own.number ≡ Some (pos n)
+    → IsOwn arch n own.conditions r → (Any (IsMet n r) es → ⊥) → IsNeeded arch own es
+needed_by arch n own r es numbered is none = (
+  r,
+  is.call,
+  (numbered ∙ ap (λ w. Some (pos w)) (sym is.number_is), is.holds),
+  λ any. none (any_weaker (Meets r) (IsMet n r) es (λ e meets. (meets.0 ∙ ap (λ w. Some (pos w)) is.number_is, meets.1)) any),
+)

@@ -67,12 +67,12 @@ of_arch arch r (q ∷ qs) any = elim (any_cases (Meets r) (entry_of arch q) (map
 -- ---- entries without one
 
 module _ {X : Type 0} where
-  without_more : (place : ℕ) (x : X) (xs : List X) → without (suc place) (x ∷ xs) ≡ x ∷ without place xs
+  pub without_more : (place : ℕ) (x : X) (xs : List X) → without (suc place) (x ∷ xs) ≡ x ∷ without place xs
   without_more place x xs =
       let further : suc place + 1 ≡ suc (place + 1) = omega arith in
       ap (λ n. take (suc place) (x ∷ xs) ++ drop n (x ∷ xs)) further
 
-  without_none : (place : ℕ) → without {X = X} (suc place) [] ≡ []
+  pub without_none : (place : ℕ) → without {X = X} (suc place) [] ≡ []
   without_none place =
       let further : suc place + 1 ≡ suc (place + 1) = omega arith in
       ap (λ n. take {A = X} (suc place) [] ++ drop n []) further
@@ -105,7 +105,7 @@ module _ (P : Entry → Type 0) where
         | inr later ↦ any_tail P e es (any_whole es place own at later)
       ]
 
-  any_own : (es : List Entry) (place : ℕ) (own : Entry) → slice_get es place ≡ Some own → P own → Any P es
+  pub any_own : (es : List Entry) (place : ℕ) (own : Entry) → slice_get es place ≡ Some own → P own → Any P es
   any_own [] place own at has = absurd (let never : ⊥ = cc in never)
   any_own (e ∷ es) zero own at has =
       let same : e ≡ own = cc in

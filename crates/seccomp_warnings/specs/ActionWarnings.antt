@@ -1,7 +1,7 @@
 -- What is so of an action that its author may not mean.
 use Rattle.std.specs.Prelude.{◌≡◌, ℕ, ◌<◌, ◌⊎◌}
 use Rattle.seccompiler.specs.declared.backend.SeccompAction.{SeccompAction}
-use Rattle.seccompiler.specs.declared.backend.SeccompAction.TheVariants.{Allow, Errno, KillProcess, KillThread, Log, Trace}
+use Rattle.seccompiler.specs.declared.backend.SeccompAction.TheVariants.{Allow, Errno, Log, Trace}
 use Rattle.seccompiler.specs.Policy.{word_of}
 use Rattle.seccomp_warnings.specs.declared.code.Code.{Code}
 use Rattle.seccomp_warnings.specs.declared.code.Code.TheVariants as code
@@ -9,10 +9,6 @@ use Rattle.seccomp_warnings.specs.declared.code.Code.TheVariants as code
 -- The action lets a call through (seccomp(2): SECCOMP_RET_ALLOW and SECCOMP_RET_LOG).
 abbrev pub Permits : SeccompAction → Type 0
 Permits action = (action ≡ Allow) ⊎ (action ≡ Log)
-
--- The action kills whoever makes the call (seccomp(2): SECCOMP_RET_KILL_PROCESS and SECCOMP_RET_KILL_THREAD).
-abbrev pub Kills : SeccompAction → Type 0
-Kills action = (action ≡ KillProcess) ⊎ (action ≡ KillThread)
 
 -- The errno is above the greatest that Linux has (MAX_ERRNO of the kernel).
 abbrev pub IsErrnoTooLarge : SeccompAction → Type 0

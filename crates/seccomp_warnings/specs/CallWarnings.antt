@@ -1,7 +1,7 @@
 -- What is so of the calls that a filter names, and of those that it doesn't, that its author may not mean.
 use Rattle.std.specs.Prelude.{◌≡◌, ℕ, ◌⊎◌, List, [], ◌∷◌, Any, IsSome, IsSomeAnd, codes, slice_get, ⊤}
 use Rattle.seccompiler.specs.JsonTypes.{JsonRule, JsonFilter}
-use Rattle.seccomp_warnings.specs.ActionWarnings.{Kills, Permits}
+use Rattle.seccomp_warnings.specs.ActionWarnings.{Permits}
 use Rattle.seccomp_warnings.specs.declared.code.Code.{Code}
 use Rattle.seccomp_warnings.specs.declared.code.Code.TheVariants as code
 use Rattle.seccomp_warnings.specs.declared.unlisted.Unlisted.{Unlisted}
@@ -31,17 +31,20 @@ MatchesSome name entry = HasArgs entry × Names name entry
 abbrev pub NamesCall : JsonFilter → List ℕ → Type 0
 NamesCall j name = Any (Names name) j.rules
 
+-- No entry names the call, and the filter denies what no entry matches.
+abbrev pub IsDeniedUnlisted : JsonFilter → List ℕ → Type 0
+IsDeniedUnlisted j name = (Permits j.mismatch_action → ⊥) × (NamesCall j name → ⊥)
+
 -- Every call of this name is denied: an entry matches each, and the filter denies what entries match; or no entry names it, and the
 -- filter denies what no entry matches.
 abbrev pub DeniesEach : List ℕ → JsonFilter → Type 0
-DeniesEach name j = ((Permits j.match_action → ⊥) × Any (MatchesEach name) j.rules)
-    ⊎ ((Permits j.mismatch_action → ⊥) × (NamesCall j name → ⊥))
+DeniesEach name j = ((Permits j.match_action → ⊥) × Any (MatchesEach name) j.rules) ⊎ IsDeniedUnlisted j name
 
 -- ---- the calls that no entry names
 
 -- The calls that are looked for, in the order in which they are asked about.
 abbrev pub all_unlisted : List Unlisted
-all_unlisted = unlisted.Exit ∷ unlisted.ExitGroup ∷ unlisted.RtSigreturn ∷ unlisted.Clone3 ∷ []
+all_unlisted = unlisted.Exit ∷ unlisted.ExitGroup ∷ unlisted.RtSigreturn ∷ unlisted.Clone3 ∷ unlisted.Execve ∷ []
 
 -- A call's name.
 abbrev pub unlisted_name : Unlisted → List ℕ
@@ -49,10 +52,13 @@ unlisted_name unlisted.Exit = codes "exit"
 unlisted_name unlisted.ExitGroup = codes "exit_group"
 unlisted_name unlisted.RtSigreturn = codes "rt_sigreturn"
 unlisted_name unlisted.Clone3 = codes "clone3"
+unlisted_name unlisted.Execve = codes "execve"
 
--- The mismatch action kills, and no entry names the call.
-abbrev pub IsKilledUnlisted : JsonFilter → List ℕ → Type 0
-IsKilledUnlisted j name = Kills j.mismatch_action × (NamesCall j name → ⊥)
+-- The filter allows what it lists, among it set_tid_address, which a program calls once, as it starts, and it denies the calls by
+-- which a program is started.
+abbrev pub IsUnstartable : JsonFilter → Type 0
+IsUnstartable j = Permits j.match_action × NamesCall j (codes "set_tid_address") × IsDeniedUnlisted j (codes "execve")
+    × (NamesCall j (codes "execveat") → ⊥)
 
 -- Calls that an entry matches are denied, and an entry names clone; the others are let through, and no entry names clone3.
 abbrev pub IsCloneEvaded : JsonFilter → Type 0
@@ -61,9 +67,11 @@ IsCloneEvaded j = Permits j.mismatch_action × (Permits j.match_action → ⊥) 
 
 -- What a code says of a call that no entry of the filter names is so.
 abbrev pub IsSoOfUnlisted : Code → JsonFilter → Unlisted → Type 0
-IsSoOfUnlisted code.KillsExit j unlisted.Clone3 = ⊥
-IsSoOfUnlisted code.KillsExit j call = IsKilledUnlisted j (unlisted_name call)
+IsSoOfUnlisted code.KillsExit j unlisted.Exit = IsDeniedUnlisted j (codes "exit")
+IsSoOfUnlisted code.KillsExit j unlisted.ExitGroup = IsDeniedUnlisted j (codes "exit_group")
+IsSoOfUnlisted code.KillsExit j unlisted.RtSigreturn = IsDeniedUnlisted j (codes "rt_sigreturn")
 IsSoOfUnlisted code.CloneByClone3 j unlisted.Clone3 = IsCloneEvaded j
+IsSoOfUnlisted code.NoExecve j unlisted.Execve = IsUnstartable j
 IsSoOfUnlisted other j call = ⊥
 
 -- ---- what is so of an entry
@@ -72,9 +80,9 @@ IsSoOfUnlisted other j call = ⊥
 abbrev pub IsExit : List ℕ → Type 0
 IsExit name = (name ≡ codes "exit") ⊎ (name ≡ codes "exit_group") ⊎ (name ≡ codes "rt_sigreturn")
 
--- The match action kills, and the entry matches each call of one of these names.
+-- The match action denies, and the entry matches each call of one of these names. By an errno a process ends by a signal too.
 abbrev pub KillsAtExit : JsonFilter → JsonRule → Type 0
-KillsAtExit j entry = Kills j.match_action × (HasArgs entry → ⊥) × IsExit entry.syscall
+KillsAtExit j entry = (Permits j.match_action → ⊥) × (HasArgs entry → ⊥) × IsExit entry.syscall
 
 -- Calls that an entry matches are let through, and this one matches each clone3; the others are denied, and no entry matches
 -- each clone.

@@ -12,3 +12,5 @@ pub mod Reports
 -- Between layers.
 pub mod Parts
 pub mod VerdictParts
+pub mod Filed
+pub mod Halves

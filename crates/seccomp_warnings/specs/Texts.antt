@@ -36,6 +36,9 @@ said_text code.KillsExit =
 said_text code.CloneByClone3 =
     codes "clone is denied or restricted, and clone3, whose flags no filter sees, is let through; "
     ++ codes "deny clone3 with errno 38 in a separate filter"
+said_text code.NoExecve =
+    codes "a jailer can't start the program, which the filter lets make set_tid_address; let execve through, or leave out "
+    ++ codes "set_tid_address if the program installs the filter"
 said_text code.CrateDiffers =
     codes "the call also has entries with args, and matches here whatever its arguments are; "
     ++ codes "the Rust crate checks these args: leave out those entries or this one"

@@ -10,10 +10,6 @@ use Rattle.seccompiler.specs.Machine.{word_at}
 use Rattle.seccompiler.specs.Policy.{Condition, Rule, Chain, Filter, RuleHolds}
 use Rattle.seccomp_warnings.specs.Verdicts.{Entry, IsCall, IsCovered, IsNeeded, Meets}
 
--- The entry is one of the call of this number without conditions.
-abbrev pub IsAlways : ℕ → Entry → Type 0
-IsAlways number entry = (entry.number ≡ Some (pos number)) × (entry.conditions ≡ [])
-
 -- A call of this number whose record this is meets the entry.
 abbrev pub IsMet : ℕ → List ℕ → Entry → Type 0
 IsMet number r entry = (entry.number ≡ Some (pos number)) × RuleHolds entry.conditions r

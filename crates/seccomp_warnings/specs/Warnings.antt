@@ -1,14 +1,15 @@
 -- The warnings of a filter: of which of its parts something is so that its author may not mean.
-use Rattle.std.specs.Prelude.{◌≡◌, ◌≢◌, ℕ, ◌+◌, ◌^◌, ◌<◌, ◌≤◌, ◌⊎◌, List, [], ◌∷◌, ◌++◌, map, Contains, Option, Some, None, bit_and}
+use Rattle.std.specs.Prelude.{◌≡◌, ◌≢◌, ℕ, ◌+◌, ◌%◌, ◌^◌, ◌<◌, ◌≤◌, ◌⊎◌, List, [], ◌∷◌, ◌++◌, map, Contains, Option, Some, None, bit_and}
+use Rattle.seccompiler.specs.declared.backend.SeccompAction.{SeccompAction}
 use Rattle.seccompiler.specs.declared.backend.SeccompCmpArgLen.{SeccompCmpArgLen}
-use Rattle.seccompiler.specs.declared.backend.SeccompCmpArgLen.TheVariants.{Dword, Qword}
+use Rattle.seccompiler.specs.declared.backend.SeccompCmpArgLen.TheVariants.{Dword}
 use Rattle.seccompiler.specs.declared.backend.SeccompCmpOp.{SeccompCmpOp}
-use Rattle.seccompiler.specs.declared.backend.SeccompCmpOp.TheVariants.{Eq, MaskedEq}
+use Rattle.seccompiler.specs.declared.backend.SeccompCmpOp.TheVariants.{MaskedEq}
 use Rattle.seccompiler.specs.declared.json.types.JsonCondition.{JsonCondition}
 use Rattle.seccompiler.specs.JsonTypes.{JsonRule, JsonFilter}
 use Rattle.seccompiler.specs.Policy.{Condition, part_of}
 use Rattle.seccomp_warnings.specs.ActionWarnings.{Permits, IsSoOfAction}
-use Rattle.seccomp_warnings.specs.AnyArgument.{HoldsForAll, HoldsForNone}
+use Rattle.seccomp_warnings.specs.AnyArgument.{HoldsFor, HoldsForAll, HoldsForNone}
 use Rattle.seccomp_warnings.specs.CallWarnings.{IsJudged, IsSoOfEntry, IsSoOfUnlisted, all_unlisted}
 use Rattle.seccomp_warnings.specs.declared.warning.Actions.{Actions}
 use Rattle.seccomp_warnings.specs.declared.warning.Comparison.{Comparison}
@@ -38,19 +39,26 @@ IsOutside length operator value = ⊥
 abbrev pub HasValueOutside : Comparison → Type 0
 HasValueOutside c = IsOutside c.arg_len c.operator c.value
 
--- The operator asks for a number whose high half is 0, of an argument's high half.
-abbrev pub AsksForNoHighHalf : SeccompCmpOp → ℕ → Type 0
-AsksForNoHighHalf Eq value = value < 2 ^ 32
-AsksForNoHighHalf (MaskedEq mask) value = (2 ^ 32 ≤ mask) × (bit_and value mask < 2 ^ 32)
-AsksForNoHighHalf operator value = ⊥
+-- The value has no high half, as far as it is compared under a mask.
+abbrev pub HasNoHighHalf : SeccompCmpOp → ℕ → Type 0
+HasNoHighHalf (MaskedEq mask) value = bit_and value mask < 2 ^ 32
+HasNoHighHalf operator value = value < 2 ^ 32
 
--- The whole argument is compared, by an operator that asks for that.
-abbrev pub IsEvaded : Comparison → Type 0
-IsEvaded c = (c.arg_len ≡ Qword) × AsksForNoHighHalf c.operator c.value
+-- Whether the condition holds for this value of its argument decides for an action that has P.
+abbrev pub Decides : (SeccompAction → Type 0) → Actions → Comparison → ℕ → Type 0
+Decides P actions c x = (HoldsFor (condition_in c) x × P actions.matching) ⊎ ((HoldsFor (condition_in c) x → ⊥) × P actions.mismatch)
 
--- The filter lets calls through that no entry matches, and none that an entry matches.
-abbrev pub DeniesWhatItLists : Actions → Type 0
-DeniesWhatItLists actions = Permits actions.mismatch × (Permits actions.matching → ⊥)
+-- The condition compares with a value that has no high half. It denies an argument that has none, and lets through an argument with
+-- the same low half and some high half, which is the same number to a kernel that reads 32 bits.
+pub record IsEvaded (actions : Actions) (c : Comparison) : Type 0 where
+  pub value_is_low : HasNoHighHalf c.operator c.value
+  pub argument : ℕ
+  pub low : argument < 2 ^ 32
+  pub with_high : ℕ
+  pub fits : with_high < 2 ^ 64
+  pub same_low : with_high % 2 ^ 32 ≡ argument
+  pub denied : Decides (λ action. Permits action → ⊥) actions c argument
+  pub let_through : Decides Permits actions c with_high
 
 -- What a code says of a condition is so, in a filter of these actions.
 abbrev pub IsSoOfCondition : Code → Actions → Comparison → Type 0
@@ -58,7 +66,7 @@ IsSoOfCondition code.HighHalfIgnored actions c = HasIgnoredHalf c
 IsSoOfCondition code.ValueOutsideMask actions c = HasValueOutside c
 IsSoOfCondition code.AlwaysHolds actions c = HoldsForAll (condition_in c)
 IsSoOfCondition code.NeverHolds actions c = HoldsForNone (condition_in c)
-IsSoOfCondition code.HighHalfEvades actions c = DeniesWhatItLists actions × IsEvaded c
+IsSoOfCondition code.HighHalfEvades actions c = IsEvaded actions c
 IsSoOfCondition other actions c = ⊥
 
 -- ---- what is so of a filter
@@ -87,7 +95,7 @@ abbrev pub match_codes : List Code
 match_codes = code.FakeSuccess ∷ code.ErrnoTooLarge ∷ code.TraceWithoutTracer ∷ []
 
 abbrev pub unlisted_codes : List Code
-unlisted_codes = code.KillsExit ∷ code.CloneByClone3 ∷ []
+unlisted_codes = code.KillsExit ∷ code.CloneByClone3 ∷ code.NoExecve ∷ []
 
 abbrev pub entry_codes : List Code
 entry_codes = code.KillsExit ∷ code.CloneByClone3 ∷ code.CrateDiffers ∷ code.UnreachableEntry ∷ code.RedundantEntry

@@ -1,7 +1,7 @@
 // What is so of an action.
 
 ghost use Rattle.std.specs.Prelude.{◌↔◌, IsTrue};
-ghost use Rattle.seccomp_warnings.specs.ActionWarnings.{IsSoOfAction, Kills, Permits};
+ghost use Rattle.seccomp_warnings.specs.ActionWarnings.{IsSoOfAction, Permits};
 
 use crate::code::Code;
 use seccompiler::SeccompAction;
@@ -17,16 +17,6 @@ pub(crate) fn permits(action: SeccompAction) -> bool
     ensures { IsTrue result ↔ Permits action }
 {
     matches!(action, SeccompAction::Allow | SeccompAction::Log)
-}
-
-// Whether the action kills whoever makes the call.
-pub(crate) fn kills(action: SeccompAction) -> bool
-    ensures { IsTrue result ↔ Kills action }
-{
-    matches!(
-        action,
-        SeccompAction::KillProcess | SeccompAction::KillThread
-    )
 }
 
 // Whether what a code says is so of an action.

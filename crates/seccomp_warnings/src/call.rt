@@ -2,9 +2,9 @@
 
 ghost use Rattle.std.specs.Prelude.{◌↔◌, Any, IsTrue};
 ghost use Rattle.seccomp_warnings.specs.ActionWarnings.{Permits};
-ghost use Rattle.seccomp_warnings.specs.CallWarnings.{DeniesEach, HasArgs, IsCloneEvaded, IsExit, IsJudged, IsKilledUnlisted, IsOfVerdict, IsSoOfEntry, IsSoOfRule, IsSoOfUnlisted, IsWithAndWithoutArgs, KillsAtExit, LetsClone3Through, MatchesEach, MatchesSome, Names, NamesCall};
+ghost use Rattle.seccomp_warnings.specs.CallWarnings.{DeniesEach, HasArgs, IsCloneEvaded, IsDeniedUnlisted, IsExit, IsJudged, IsOfVerdict, IsSoOfEntry, IsSoOfRule, IsSoOfUnlisted, IsUnstartable, IsWithAndWithoutArgs, KillsAtExit, LetsClone3Through, MatchesEach, MatchesSome, Names, NamesCall};
 
-use crate::action::{kills, permits};
+use crate::action::permits;
 use crate::code::Code;
 use crate::unlisted::Unlisted;
 use crate::verdict::Verdict;
@@ -82,16 +82,19 @@ fn is_denied_by_entry(filter: &JsonFilter, name: &str) -> bool
 
 // Whether calls that no entry matches are denied, and no entry names the call.
 fn is_denied_unlisted(filter: &JsonFilter, name: &str) -> bool
-    ensures { IsTrue result ↔ ((Permits filter.now.mismatch_action → ⊥) × (NamesCall filter.now name.now → ⊥)) }
+    ensures { IsTrue result ↔ IsDeniedUnlisted filter.now name.now }
 {
     !permits(filter.mismatch_action) && !names_call(filter, name)
 }
 
-// Whether the mismatch action kills, and no entry names the call.
-fn is_killed_unlisted(filter: &JsonFilter, name: &str) -> bool
-    ensures { IsTrue result ↔ IsKilledUnlisted filter.now name.now }
+// Whether the filter is one of a program that starts under it, and lets no program be started.
+fn is_unstartable(filter: &JsonFilter) -> bool
+    ensures { IsTrue result ↔ IsUnstartable filter.now }
 {
-    kills(filter.mismatch_action) && !names_call(filter, name)
+    permits(filter.match_action)
+        && names_call(filter, "set_tid_address")
+        && is_denied_unlisted(filter, "execve")
+        && !names_call(filter, "execveat")
 }
 
 // Whether clone is denied by entries, and clone3 is let through as no entry names it.
@@ -109,9 +112,11 @@ pub(crate) fn is_so_of_unlisted(code: Code, filter: &JsonFilter, call: Unlisted)
     ensures { IsTrue result ↔ IsSoOfUnlisted code filter.now call }
 {
     match (code, call) {
-        (Code::KillsExit, Unlisted::Clone3) => false,
-        (Code::KillsExit, call) => is_killed_unlisted(filter, call.name()),
+        (Code::KillsExit, Unlisted::Exit) => is_denied_unlisted(filter, "exit"),
+        (Code::KillsExit, Unlisted::ExitGroup) => is_denied_unlisted(filter, "exit_group"),
+        (Code::KillsExit, Unlisted::RtSigreturn) => is_denied_unlisted(filter, "rt_sigreturn"),
         (Code::CloneByClone3, Unlisted::Clone3) => is_clone_evaded(filter),
+        (Code::NoExecve, Unlisted::Execve) => is_unstartable(filter),
         _ => false,
     }
 }
@@ -123,11 +128,11 @@ fn is_exit(name: &str) -> bool
     name == "exit" || name == "exit_group" || name == "rt_sigreturn"
 }
 
-// Whether the entry kills at each call by which a thread or a process ends, or a signal handler returns.
+// Whether the entry denies each call by which a thread or a process ends, or a signal handler returns.
 fn kills_at_exit(filter: &JsonFilter, entry: &JsonRule) -> bool
     ensures { IsTrue result ↔ KillsAtExit filter.now entry.now }
 {
-    kills(filter.match_action) && !has_args(entry) && is_exit(entry.syscall.as_str())
+    !permits(filter.match_action) && !has_args(entry) && is_exit(entry.syscall.as_str())
 }
 
 // Whether the entry lets every clone3 through, if the filter doesn't let every clone through.

@@ -11,6 +11,9 @@ use seccompiler::{
 use std::alloc::Global;
 use std::collections::BTreeMap;
 
+// How many rules are compared at most: the program of more is too long.
+const MOST_RULES: usize = 1_024;
+
 // The rule of these conditions and those.
 fn joined(
     alloc: Global,
@@ -37,6 +40,9 @@ pub(crate) fn push_rules(
 {
     for entry in entries {
         if is_of(entry, number) {
+            if rules.len() >= MOST_RULES {
+                return Err(BackendError::FilterTooLarge(rules.len()));
+            }
             rules.push(joined(alloc, &entry.conditions, own)?)?;
         }
     }

@@ -1,9 +1,8 @@
 // The entries of a filter on an architecture, as their verdicts are looked for.
 
-ghost use Rattle.std.specs.Prelude.{◌≡◌, ◌≤◌, ◌↔◌, Any, All, Some, pos, map, IfOk, IfSome, IsTrue};
+ghost use Rattle.std.specs.Prelude.{◌≡◌, ◌≤◌, ◌<◌, ◌^◌, ◌↔◌, ℕ, All, Some, pos, map, IfOk, IfSome, IfNone, IsTrue};
 ghost use Rattle.seccompiler.specs.JsonPolicyOf.{condition_of, AreFineArgs, IsFineEntry};
 ghost use Rattle.seccomp_warnings.specs.Verdicts as spec;
-ghost use Rattle.seccomp_warnings.specs.VerdictParts.{IsAlways};
 
 use seccompiler::{JsonCondition, JsonRule, SeccompCondition, SyscallTable, TargetArch};
 use std::alloc::{AllocError, Global};
@@ -105,7 +104,8 @@ pub(crate) fn copy_of(alloc: Global, entry: &Entry) -> Result<Entry, AllocError>
 
 // The number of the entry's call, if it has one, as a record has it.
 pub(crate) fn number_of(entry: &Entry) -> Option<u32>
-    ensures { IfSome result (λ number. entry.now.number ≡ Some (pos number)) }
+    ensures is { IfSome result (λ number. entry.now.number ≡ Some (pos number)) }
+    ensures none { IfNone result ((number : ℕ) → number < 2 ^ 32 → entry.now.number ≡ Some (pos number) → ⊥) }
 {
     match entry.number {
         Some(number) => u32::try_from(number).ok(),
@@ -118,18 +118,4 @@ pub(crate) fn is_of(entry: &Entry, number: u32) -> bool
     ensures { IsTrue result ↔ (entry.now.number ≡ Some (pos number)) }
 {
     entry.number == Some(i64::from(number))
-}
-
-// Whether the entry is one of the call of this number without conditions.
-fn is_always(entry: &Entry, number: u32) -> bool
-    ensures { IsTrue result ↔ IsAlways number entry.now }
-{
-    is_of(entry, number) && entry.conditions.is_empty()
-}
-
-// Whether one of the entries is.
-pub(crate) fn is_any_always(entries: &[Entry], number: u32) -> bool
-    ensures { IsTrue result ↔ Any (IsAlways number) entries.now }
-{
-    entries.iter().any(|entry| is_always(entry, number))
 }

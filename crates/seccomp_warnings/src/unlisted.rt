@@ -14,6 +14,8 @@ pub enum Unlisted {
     RtSigreturn,
     /// `clone3`, which makes processes and threads, with flags that no filter sees.
     Clone3,
+    /// `execve`, by which a program is started.
+    Execve,
 }
 
 impl Unlisted {
@@ -26,6 +28,7 @@ impl Unlisted {
             Unlisted::ExitGroup,
             Unlisted::RtSigreturn,
             Unlisted::Clone3,
+            Unlisted::Execve,
         ]
     }
 
@@ -38,6 +41,7 @@ impl Unlisted {
             Unlisted::ExitGroup => "exit_group",
             Unlisted::RtSigreturn => "rt_sigreturn",
             Unlisted::Clone3 => "clone3",
+            Unlisted::Execve => "execve",
         }
     }
 }

@@ -7,10 +7,12 @@ ghost use Rattle.seccompiler.specs.declared.backend.TargetArch.{TargetArch};
 ghost use Rattle.seccomp_warnings.specs.Verdicts as spec;
 ghost use Rattle.seccomp_warnings.specs.VerdictPolicies.{SaysOfPolicies};
 ghost use Rattle.seccomp_warnings.specs.declared.verdict.Verdict as declared;
+ghost use Rattle.seccomp_warnings.specs.Filed.{IsIndex};
 ghost use Rattle.seccomp_warnings.specs.VerdictParts.{SaysBeside};
 
-use crate::beside::compared;
-use crate::entry::{Entry, entries_of, is_any_always, number_of};
+use crate::beside::{alone, compared};
+use crate::entry::{Entry, entries_of, number_of};
+use crate::filed::index_of;
 use seccomp_compare::Comparison;
 use seccompiler::{
     BackendError, JsonCompiler, JsonFilter, JsonFrontendError, JsonRule, TargetArch,
@@ -39,11 +41,12 @@ pub enum Verdict {
 /// Without a redundant or unreachable entry, the filter's policy decides every call alike; without a needed
 /// one, it decides some call differently, unless its two actions return the same value.
 ///
-/// For each entry, the calls that meet its conditions are compared with those that meet another entry too:
-/// first with up to 15 entries that such calls were found to meet, and if that isn't enough, with all. Each
-/// entry has an equal share, at least one, of 300000 sets of calls for each comparison. If that isn't enough
-/// either, and if all entries of the call take a program of more than 4096 instructions, the verdict is
-/// [`Verdict::Undecided`].
+/// An entry is needed if a call is found at once that meets it and no other entry. Else the calls that meet its
+/// conditions are compared with those that meet another entry too: first with up to 16 entries that such calls
+/// were found to meet, and if that isn't enough, with all, if the filter has at most 16384. Each entry has an
+/// equal share, at least one, of 300000 sets of calls for each comparison, and for each set 16 entries are looked
+/// at. If that isn't enough, or if all entries of the call take a program of more than 4096 instructions, the
+/// verdict is [`Verdict::Undecided`]. So the time is proportional to the number of entries.
 ///
 /// # Errors
 ///
@@ -87,10 +90,11 @@ fn verdicts_for(
 ) -> Result<Vec<Verdict>, AllocError>
     ensures { IfOk result (λ verdicts. spec.AreTrue arch entries.now verdicts.items) }
 {
+    let drawers = index_of(alloc, entries)?;
     let most = share_of(entries.len());
     let mut verdicts = Vec::with_capacity(alloc, entries.len())?;
     for place in 0..entries.len() {
-        let verdict = verdict_at(alloc, arch, entries, place, most)?;
+        let verdict = verdict_at(alloc, arch, entries, &drawers, place, most)?;
         verdicts.push(verdict)?;
     }
     Ok(verdicts)
@@ -106,39 +110,41 @@ fn verdict_at(
     alloc: Global,
     arch: TargetArch,
     entries: &[Entry],
+    drawers: &[Vec<usize>],
     place: usize,
     most: usize,
 ) -> Result<Verdict, AllocError>
-    requires { place < length entries.now }
+    requires place { place < length entries.now }
+    requires index { IsIndex drawers.now entries.now }
     ensures { IfOk result (spec.IsVerdictAt arch entries.now place) }
 {
-    let own = &entries[place];
-    let verdict = verdict_of(
-        alloc,
-        arch,
-        own,
-        &entries[..place],
-        &entries[place + 1..],
-        most,
-    )?;
+    let verdict = verdict_of(alloc, arch, &entries[place], entries, drawers, place, most)?;
     Ok(verdict)
 }
 
-// The verdict of an entry beside others: those before it, and those after it.
+// The verdict of an entry beside those at other places than this one.
 fn verdict_of(
     alloc: Global,
     arch: TargetArch,
     own: &Entry,
-    front: &[Entry],
-    back: &[Entry],
+    entries: &[Entry],
+    drawers: &[Vec<usize>],
+    place: usize,
     most: usize,
 ) -> Result<Verdict, AllocError>
-    ensures { IfOk result (spec.IsVerdict arch own.now (front.now ++ back.now)) }
+    requires place { place < length entries.now }
+    requires index { IsIndex drawers.now entries.now }
+    ensures { IfOk result (spec.IsVerdict arch own.now (spec.without place entries.now)) }
 {
-    match number_of(own) {
-        Some(number) => verdict_numbered(alloc, arch, number, own, front, back, most),
+    let Some(number) = number_of(own) else {
         // A policy has no such entry.
-        None => Ok(Verdict::Undecided),
+        return Ok(Verdict::Undecided);
+    };
+    match verdict_numbered(alloc, arch, number, own, entries, drawers, place, most) {
+        Ok(verdict) => Ok(verdict),
+        Err(BackendError::OutOfMemory) => Err(AllocError),
+        // The program would be too large.
+        Err(_) => Ok(Verdict::Undecided),
     }
 }
 
@@ -148,15 +154,20 @@ fn verdict_numbered(
     arch: TargetArch,
     number: u32,
     own: &Entry,
-    front: &[Entry],
-    back: &[Entry],
+    entries: &[Entry],
+    drawers: &[Vec<usize>],
+    place: usize,
     most: usize,
-) -> Result<Verdict, AllocError>
-    requires { own.now.number ≡ Some (pos number) }
-    ensures { IfOk result (spec.IsVerdict arch own.now (front.now ++ back.now)) }
+) -> Result<Verdict, BackendError>
+    requires number { own.now.number ≡ Some (pos number) }
+    requires place { place < length entries.now }
+    requires index { IsIndex drawers.now entries.now }
+    ensures { IfOk result (spec.IsVerdict arch own.now (spec.without place entries.now)) }
 {
-    let beside = answer_beside(alloc, arch, number, own, front, back, most)?;
-    let alone = answer_beside(alloc, arch, number, own, &[], &[], most)?;
+    let alone = alone(alloc, arch, number, own, most)?;
+    let beside = compared(
+        alloc, arch, number, own, entries, drawers, place, alone, most,
+    )?;
     Ok(verdict_by(beside, alone))
 }
 
@@ -170,32 +181,5 @@ fn verdict_by(beside: Comparison, alone: Comparison) -> Verdict
         (_, Comparison::Holds) => Verdict::Unreachable,
         (Comparison::Holds, Comparison::Fails(_)) => Verdict::Redundant,
         _ => Verdict::Undecided,
-    }
-}
-
-// What is said of an entry beside others.
-fn answer_beside(
-    alloc: Global,
-    arch: TargetArch,
-    number: u32,
-    own: &Entry,
-    front: &[Entry],
-    back: &[Entry],
-    most: usize,
-) -> Result<Comparison, AllocError>
-    requires { own.now.number ≡ Some (pos number) }
-    ensures { IfOk result (SaysBeside arch own.now (front.now ++ back.now)) }
-{
-    if is_any_always(front, number) {
-        return Ok(Comparison::Holds);
-    }
-    if is_any_always(back, number) {
-        return Ok(Comparison::Holds);
-    }
-    match compared(alloc, arch, number, own, front, back, most) {
-        Ok(answer) => Ok(answer),
-        Err(BackendError::OutOfMemory) => Err(AllocError),
-        // The program would be too large.
-        Err(_) => Ok(Comparison::Undecided),
     }
 }

@@ -1,5 +1,7 @@
 -- What `check` gives: why a policy is rejected, or else its warnings.
-use Rattle.std.specs.Prelude.{◌≢◌, ◌==◌, if◌then◌else◌, ℕ, Bool, true, false, List, string_bytes, ⊤}
+use Rattle.std.specs.Prelude.{◌≡◌, ◌≢◌, ◌==◌, if◌then◌else◌, ℕ, Bool, true, false, List, String, length, string_bytes, ⊤}
+use Rattle.std.specs.List.{AllZip, sum_by}
+use Rattle.std.specs.declared.alloc.Global.{Global}
 use Rattle.seccompiler.specs.declared.backend.TargetArch.{TargetArch}
 use Rattle.seccompiler.specs.declared.error.Error.TheVariants as library
 use Rattle.seccompiler.specs.declared.json.types.JsonFilterMap.{JsonFilterMap}
@@ -7,31 +9,45 @@ use Rattle.seccompiler.specs.Errors.{IsNoMemoryInside}
 use Rattle.seccompiler.specs.JsonAnswers.{OfValue}
 use Rattle.seccompiler.specs.JsonPrograms.{TellsFirstFault}
 use Rattle.seccompiler.specs.JsonSteps.{AreFilters}
+use Rattle.seccompiler.specs.JsonTypes.{JsonFilter}
 use Rattle.seccomp_check.specs.Checks.{AreAllCompiled, IsPlaced}
-use Rattle.seccomp_warnings.specs.Reports.{IsReportOf}
+use Rattle.seccomp_check.specs.Texts.{fault_text}
+use Rattle.seccomp_warnings.specs.Reports.{AreTrueWarnings}
 use Rattle.seccomp_warnings.specs.declared.code.Code.{Code}
-use Rattle.seccomp_warnings.specs.declared.report.Report.{Report}
 use Rattle.seccomptool.specs.declared.error.ToolError.{ToolError}
-use Rattle.seccomptool.specs.declared.error.ToolError.TheVariants.{Library, Fault, OutOfMemory}
+use Rattle.seccomptool.specs.declared.check.CheckedPolicy.{CheckedPolicy}
+use Rattle.seccomptool.specs.declared.check.FilterWarnings.{FilterWarnings}
+use Rattle.seccomptool.specs.declared.error.ToolError.TheVariants.{Library, Placed, OutOfMemory}
 use Rattle.seccomptool.specs.declared.findings.Verdict.{Verdict}
 use Rattle.seccomptool.specs.declared.findings.Verdict.TheVariants.{Same, Different}
 
--- The report is that of the filters of a text, but for the codes that are allowed for a filter's name, each line after this front.
-pub record IsTextReport (target : TargetArch) (allowed_for : JsonFilterMap → List ℕ → List Code) (front text : List ℕ) (report : Report)
+-- These are the warnings of the filter of this name, but for those of the allowed codes.
+pub record AreWarningsOf (target : TargetArch) (allowed : List Code) (named : String Global × JsonFilter) (own : FilterWarnings)
     : Type 0 where
+  pub name : string_bytes own.name ≡ string_bytes named.0
+  pub warnings : AreTrueWarnings target allowed named.1 own.warnings.items
+
+-- How many warnings the filters have.
+abbrev pub count_of : List FilterWarnings → ℕ
+count_of all = sum_by (λ (own : FilterWarnings). length own.warnings.items) all
+
+-- They are those of these filters, in their order, and there are so many.
+pub record AreWarningsIn (target : TargetArch) (allowed : List Code) (filters : List (String Global × JsonFilter)) (checked : CheckedPolicy)
+    : Type 0 where
+  pub each : AllZip (AreWarningsOf target allowed) filters checked.filters.items
+  pub count_is : checked.count ≡ count_of checked.filters.items
+
+-- All filters of the text have programs, and these are their warnings, but for those of the allowed codes.
+pub record IsCheckOf (target : TargetArch) (allowed : List Code) (text : List ℕ) (checked : CheckedPolicy) : Type 0 where
+  pub compiled : OfValue text (AreAllCompiled target)
   pub filters : JsonFilterMap
   pub of_text : OfValue text (λ d. AreFilters d filters)
-  pub is : IsReportOf target (allowed_for filters) front filters.0.entries report.text.items report.count
-
--- All filters of the text have programs, and the report is that of their warnings, but for those of the allowed codes.
-pub record IsCheckOf (target : TargetArch) (allowed : List Code) (front text : List ℕ) (report : Report) : Type 0 where
-  pub compiled : OfValue text (AreAllCompiled target)
-  pub is : IsTextReport target (λ filters name. allowed) front text report
+  pub are : AreWarningsIn target allowed filters.0.entries checked
 
 -- Why a policy is rejected: its first fault, with its place or as the library tells it; or want of memory.
 abbrev pub IsRefusal : TargetArch → List ℕ → ToolError → Type 0
 IsRefusal target text (Library e) = (e ≢ library.OutOfMemory) × IsNoMemoryInside e × TellsFirstFault target text e
-IsRefusal target text (Fault told) = IsPlaced target text (string_bytes told)
+IsRefusal target text (Placed told fault) = IsPlaced target text (string_bytes told) × (string_bytes told ≡ fault_text fault)
 IsRefusal target text OutOfMemory = ⊤
 IsRefusal target text e = ⊥
 

@@ -1,13 +1,13 @@
 -- What `check` gives of a profile: warnings, each true of the profile or of a filter.
-use Rattle.std.specs.Prelude.{◌≡◌, ◌≢◌, ℕ, Bool, false, All, Contains, List, [], length, ⊤}
+use Rattle.std.specs.Prelude.{◌≢◌, ℕ, Bool, false, All, Contains, List, [], ⊤}
 use Rattle.seccompiler.specs.declared.backend.TargetArch.{TargetArch}
 use Rattle.seccompiler.specs.JsonTypes.{JsonFilter}
 use Rattle.seccomp_oci.specs.CompiledProfile.{IsCompileFault, IsCompiledProfile}
-use Rattle.seccomp_oci.specs.Doubts.{IsDoubt}
 use Rattle.seccomp_oci.specs.ProfileText.{IsProfileText}
 use Rattle.seccomp_oci.specs.Types.{Container, Profile}
-use Rattle.seccomp_oci.specs.declared.doubts.Doubt.{Doubt}
-use Rattle.seccomp_oci.specs.declared.doubts.Doubt.TheVariants as doubt
+use Rattle.seccomp_profile_checks.specs.Doubts.{IsDoubt}
+use Rattle.seccomp_profile_checks.specs.declared.doubts.Doubt.{Doubt}
+use Rattle.seccomp_profile_checks.specs.declared.doubts.Doubt.TheVariants as doubt
 use Rattle.seccomp_warnings.specs.Verdicts.{AreVerdicts}
 use Rattle.seccomp_warnings.specs.Warnings.{IsSo}
 use Rattle.seccomp_warnings.specs.declared.code.Code.{Code}
@@ -56,15 +56,12 @@ pub record IsTold (arch : TargetArch) (container : Container) (p : Profile) (all
   pub is_so : IsSoOfProfile arch container p w
   pub kept : Contains allowed (code_of w) → ⊥
 
--- The profile of the text is compiled, and the report is of so many warnings.
+-- The profile is that of the text, and is compiled, and these are warnings of it.
 pub record IsProfileCheckOf (target : TargetArch) (container : Container) (allowed : List Code) (text : List ℕ)
     (checked : CheckedProfile) : Type 0 where
   pub compiled : IsCompiledProfile target container false text checked.compiled
-  pub profile : Profile
-  pub of_text : IsProfileText text profile
-  pub warnings : List ProfileWarning
-  pub told : All (IsTold target container profile allowed) warnings
-  pub count_is : checked.report.count ≡ length warnings
+  pub of_text : IsProfileText text checked.profile
+  pub told : All (IsTold target container checked.profile allowed) checked.warnings.items
 
 -- Why a profile is rejected: what its compiler finds; or want of memory.
 abbrev pub IsRefusedProfile : TargetArch → Container → (strict : Bool) → (text : List ℕ) → ToolError → Type 0

@@ -15,11 +15,11 @@ use Rattle.seccomp_oci.specs.declared.compiled.CompiledProfile.{CompiledProfile}
 use Rattle.seccomp_oci.specs.CompiledProfile.{IsCompiledProfile}
 use Rattle.seccomp_oci.specs.Types.{Container}
 use Rattle.seccomp_warnings.specs.declared.code.Code.{Code}
-use Rattle.seccomp_warnings.specs.declared.report.Report.{Report}
+use Rattle.seccomptool.specs.declared.check.CheckedPolicy.{CheckedPolicy}
 use Rattle.seccomptool.specs.declared.check.profile.CheckedProfile.{CheckedProfile}
 use Rattle.seccomptool.specs.declared.compile.NamedProgram.{NamedProgram}
 use Rattle.seccomptool.specs.declared.diff.Diff.{Diff}
-use Rattle.seccomptool.specs.declared.diff.scope.Scope.{Scope}
+use Rattle.seccomptool.specs.declared.diff.Scope.{Scope}
 use Rattle.seccomptool.specs.declared.error.ToolError.{ToolError}
 use Rattle.seccomptool.specs.declared.error.ToolError.TheVariants.{OutOfMemory}
 use Rattle.seccomptool.specs.declared.explain.Explanation.{Explanation}
@@ -34,7 +34,7 @@ use Rattle.seccomptool.specs.declared.kind.Subject.TheVariants as subject
 use Rattle.seccomptool.specs.declared.record.KnownCall.{KnownCall}
 use Rattle.seccomptool.specs.declared.sides.Side.{Side}
 use Rattle.seccomptool.specs.declared.stats.FilterStats.{FilterStats}
-use Rattle.seccomptool.specs.declared.stats.measure.Measure.{Measure}
+use Rattle.seccomptool.specs.declared.stats.Measure.{Measure}
 use Rattle.seccomptool.specs.declared.words.Call.{Call}
 use Rattle.seccomptool.specs.declared.words.Calls.{Calls}
 use Rattle.seccomptool.specs.declared.words.Calls.TheVariants.{One, Records, Log}
@@ -104,9 +104,10 @@ IsShown arch reading layout measured given =
 -- What is given is accepted, with its warnings, and whether they count.
 abbrev pub IsAccepted : TargetArch → Subject → (denied : Bool) → (allowed : List Code) → (given : List ℕ) → Verdict → Type 0
 IsAccepted arch subject.Policy denied allowed text v =
-    (front : List ℕ) × (report : Report) × IsCheckOf arch allowed front text report × (v ≡ verdict_where denied report.count)
+    (checked : CheckedPolicy) × IsCheckOf arch allowed text checked × (v ≡ verdict_where denied checked.count)
 IsAccepted arch (subject.Profile container) denied allowed text v =
-    (checked : CheckedProfile) × IsProfileCheckOf arch container.now allowed text checked × (v ≡ verdict_where denied checked.report.count)
+    (checked : CheckedProfile) × IsProfileCheckOf arch container.now allowed text checked
+    × (v ≡ verdict_where denied (length checked.warnings.items))
 IsAccepted arch subject.Program denied allowed bytes v = IsCheckedProgram bytes × (v ≡ Same)
 
 -- What is given is rejected for this, or memory ran out.
@@ -179,7 +180,7 @@ abbrev pub IsCarriedOut : Command → (first second : List ℕ) → Verdict → 
 IsCarriedOut (Compile arch reading strict filter layout format quiet) given none v =
     IsCompiled arch reading layout strict (text_of filter) given × (v ≡ Same)
 IsCarriedOut (Show arch reading filter layout measured) given none v = IsShown arch reading layout measured given × (v ≡ Same)
-IsCarriedOut (Check arch reading denied allowed) given none v = IsCheck arch reading denied allowed.items given v
+IsCarriedOut (Check arch reading denied allowed format) given none v = IsCheck arch reading denied allowed.items given v
 IsCarriedOut Codes none other v = v ≡ Same
 IsCarriedOut (Explain arch reading filter format calls) given bytes v =
     OnRecords arch calls bytes (IsExplained arch reading (text_of filter) given) × (v ≡ Same)

@@ -16,8 +16,8 @@ use Rattle.seccomptool.specs.declared.diff.Found.TheVariants.{OnlyOld, OnlyNew, 
 use Rattle.seccomptool.specs.declared.diff.NamedFound.{NamedFound}
 use Rattle.seccomptool.specs.declared.diff.pair.Compared.{Compared}
 use Rattle.seccomptool.specs.declared.diff.pair.Pair.{Pair}
-use Rattle.seccomptool.specs.declared.diff.scope.Scope.{Scope}
-use Rattle.seccomptool.specs.declared.diff.scope.Scope.TheVariants as scope
+use Rattle.seccomptool.specs.declared.diff.Scope.{Scope}
+use Rattle.seccomptool.specs.declared.diff.Scope.TheVariants as scope
 use Rattle.seccomptool.specs.declared.findings.Finding.{Finding}
 use Rattle.seccomptool.specs.declared.findings.Part.{Part}
 use Rattle.seccomptool.specs.declared.findings.Part.TheVariants as part

@@ -21,8 +21,8 @@ use Rattle.seccomptool.specs.declared.explain.Explained.{Explained}
 use Rattle.seccomptool.specs.declared.explain.Explanation.{Explanation}
 use Rattle.seccomptool.specs.declared.explain.NamedFilter.{NamedFilter}
 use Rattle.seccomptool.specs.declared.explain.Why.TheVariants as variant
-use Rattle.seccomptool.specs.declared.explain.reason.Reason.{Reason}
-use Rattle.seccomptool.specs.declared.explain.reason.Reason.TheVariants.{AnotherArchitecture, NoEntry, NoMatch, Entry}
+use Rattle.seccomptool.specs.declared.explain.search.Reason.{Reason}
+use Rattle.seccomptool.specs.declared.explain.search.Reason.TheVariants.{AnotherArchitecture, NoEntry, NoMatch, Entry}
 use Rattle.seccomptool.specs.Chosen.{IsChosen}
 use Rattle.seccomptool.specs.Reasons.{IsReason}
 

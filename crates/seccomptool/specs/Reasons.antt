@@ -11,9 +11,9 @@ use Rattle.seccompiler.specs.Policy.{Holds}
 use Rattle.seccompiler.specs.JsonPolicyOf.{IsFor, condition_of}
 use Rattle.seccompiler.specs.JsonTypes.{JsonRule}
 use Rattle.seccompiler.specs.Machine.{word_at}
-use Rattle.seccomptool.specs.declared.explain.reason.Miss.{Miss}
-use Rattle.seccomptool.specs.declared.explain.reason.Reason.{Reason}
-use Rattle.seccomptool.specs.declared.explain.reason.Reason.TheVariants.{AnotherArchitecture, NoEntry, NoMatch, Entry}
+use Rattle.seccomptool.specs.declared.explain.search.Miss.{Miss}
+use Rattle.seccomptool.specs.declared.explain.search.Reason.{Reason}
+use Rattle.seccomptool.specs.declared.explain.search.Reason.TheVariants.{AnotherArchitecture, NoEntry, NoMatch, Entry}
 
 -- The index, from 0, is that of an entry whose call has this number on the architecture.
 abbrev pub IsIndexFor : TargetArch → List JsonRule → ℤ → ℕ → Type 0

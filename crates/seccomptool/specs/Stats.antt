@@ -19,7 +19,7 @@ use Rattle.seccomptool.specs.Named.{AreNamed}
 use Rattle.seccomptool.specs.Record.{record_bytes}
 use Rattle.seccomptool.specs.Ways.{IsMost}
 use Rattle.seccomptool.specs.declared.stats.FilterStats.{FilterStats}
-use Rattle.seccomptool.specs.declared.stats.measure.Measure.{Measure}
+use Rattle.seccomptool.specs.declared.stats.Measure.{Measure}
 
 -- The passing record: that of the greatest call number, which no table of calls has, with arguments that are 0.
 abbrev pub passing_record : TargetArch → List ℕ

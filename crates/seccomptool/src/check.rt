@@ -1,44 +1,67 @@
 // The first fault of a policy, or else its warnings.
 
+pub(crate) mod diagnostic;
+pub(crate) mod fault;
+pub mod format;
+pub(crate) mod made;
+pub(crate) mod outline;
+pub(crate) mod policy;
 pub mod profile;
 
-ghost use Rattle.std.specs.Prelude.{◌≡◌, IfErr, IfOk, OnOk};
+ghost use Rattle.std.specs.Prelude.{◌≡◌, ◌+◌, IfErr, IfOk, OnOk};
 ghost use Rattle.seccompiler.specs.JsonAnswers.{OfValue};
 ghost use Rattle.seccomp_check.specs.Checks.{AreAllCompiled};
 ghost use Rattle.seccomptool.specs.Check as spec;
-ghost use Rattle.seccomptool.specs.Check.{IsCheckOf, IsRefusal};
+ghost use Rattle.seccomp_warnings.specs.Reports.{AreTrueWarnings};
+ghost use Rattle.seccomptool.specs.Check.{AreWarningsIn, IsCheckOf, IsRefusal};
 
 use crate::error::ToolError;
 use crate::findings::Verdict;
 use seccomp_check::{Rejection, check};
-use seccomp_warnings::{Code, Report, report_of};
-use seccompiler::TargetArch;
+use seccomp_warnings::{Code, Warning, verdicts_of, warnings_of};
 use seccompiler::json::filters_of;
-use std::alloc::Global;
+use seccompiler::{JsonFilter, JsonFilterMap, TargetArch};
+use std::alloc::{AllocError, Global};
 
-/// The warnings of a policy's text, except those of the allowed codes, each in a line after this prefix.
+/// A filter's name, and its warnings.
+#[derive(Drop)]
+pub struct FilterWarnings {
+    /// The name.
+    pub name: String,
+    /// The warnings.
+    pub warnings: Vec<Warning>,
+}
+
+/// The warnings of all filters of a policy.
+#[derive(Drop)]
+pub struct CheckedPolicy {
+    /// Those of each filter, in byte order of names.
+    pub filters: Vec<FilterWarnings>,
+    /// How many there are.
+    pub count: usize,
+}
+
+/// The warnings of a policy's text, except those of the allowed codes.
 ///
-/// The filters come in byte order of names. Each has a line for each warning: first those of its two actions,
-/// then those of its entries, condition by condition. A line is the prefix, the place, `: warning [`, the
-/// warning's code, `]: `, the problem, and what to write instead. The place begins with the filter's name.
+/// The filters come in byte order of names. Of each filter come first the warnings of its two actions, then those of its
+/// entries, condition by condition.
 ///
 /// # Errors
 ///
-/// `Fault` with the text of a fault of the kind that `compile_from_json` reports, if it has a place. `Library`
+/// `Placed` with a fault of the kind that `compile_from_json` reports, and its text, if it has a place. `Library`
 /// with the error of `compile_from_json`, if it has no place: the bytes are no JSON, or a name is repeated.
 /// `OutOfMemory` is returned instead of any of these if memory runs out.
 ///
 /// The contract promises any one fault of that kind, and lets it be reported as `Library`. That it is the first
-/// in the order of docs/CHECKS.md, and that a fault with a place is reported as `Fault`, is tested and not
+/// in the order of docs/CHECKS.md, and that a fault with a place is reported as `Placed`, is tested and not
 /// proved.
 pub fn checked(
     alloc: Global,
     target: TargetArch,
     allowed: &[Code],
-    front: &[u8],
     text: &[u8],
-) -> Result<Report, ToolError>
-    ensures report { IfOk result (IsCheckOf target allowed.now front.now text.now) }
+) -> Result<CheckedPolicy, ToolError>
+    ensures checked { IfOk result (IsCheckOf target allowed.now text.now) }
     ensures refused { IfErr result (IsRefusal target text.now) }
 {
     judge(alloc, target, text)?;
@@ -46,10 +69,59 @@ pub fn checked(
     let Ok(filters) = filters_of(alloc, text) else {
         return Err(ToolError::OutOfMemory);
     };
-    match report_of(alloc, target, front, &filters, allowed) {
-        Ok(report) => Ok(report),
+    match warnings_in(alloc, target, allowed, &filters) {
+        Ok(checked) => Ok(checked),
         Err(_) => Err(ToolError::OutOfMemory),
     }
+}
+
+// The warnings of all filters.
+fn warnings_in(
+    alloc: Global,
+    target: TargetArch,
+    allowed: &[Code],
+    filters: &JsonFilterMap,
+) -> Result<CheckedPolicy, AllocError>
+    ensures { IfOk result (λ checked. AreWarningsIn target allowed.now filters.now.0.entries checked) }
+{
+    let mut all = Vec::new(alloc);
+    let mut count = 0;
+    for (name, filter) in &filters.0 {
+        let warnings = warnings_in_filter(alloc, target, allowed, filter)?;
+        let more = sum_of(count, warnings.len())?;
+        count = more;
+        let name = name.clone()?;
+        all.push(FilterWarnings { name, warnings })?;
+    }
+    Ok(CheckedPolicy {
+        filters: all,
+        count,
+    })
+}
+
+// The sum of two counts of what is in memory, where it has room.
+fn sum_of(first: usize, second: usize) -> Result<usize, AllocError>
+    ensures { IfOk result (λ sum. sum ≡ first + second) }
+{
+    match first.checked_add(second) {
+        Some(sum) => Ok(sum),
+        None => Err(AllocError),
+    }
+}
+
+// The warnings of a filter.
+fn warnings_in_filter(
+    alloc: Global,
+    target: TargetArch,
+    allowed: &[Code],
+    filter: &JsonFilter,
+) -> Result<Vec<Warning>, AllocError>
+    ensures { IfOk result (λ warnings. AreTrueWarnings target allowed.now filter.now warnings.items) }
+{
+    let Ok(verdicts) = verdicts_of(alloc, target, filter) else {
+        return Err(AllocError);
+    };
+    warnings_of(alloc, filter, &verdicts, allowed)
 }
 
 // That the library compiles all filters of the text.
@@ -60,7 +132,7 @@ fn judge(alloc: Global, target: TargetArch, text: &[u8]) -> Result<(), ToolError
     match check(alloc, target, text) {
         Ok(()) => Ok(()),
         Err(Rejection::Library(refusal)) => Err(ToolError::Library(refusal)),
-        Err(Rejection::Placed(told)) => Err(ToolError::Fault(told)),
+        Err(Rejection::Placed(told, fault)) => Err(ToolError::Placed(told, fault)),
         Err(Rejection::OutOfMemory) => Err(ToolError::OutOfMemory),
     }
 }

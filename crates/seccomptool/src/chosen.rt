@@ -5,7 +5,7 @@ ghost use Rattle.std.specs.BTreeMap as tree;
 ghost use Rattle.seccomptool.specs.Chosen.{HoldsOnly, IsChosen, text_of};
 
 use crate::error::ToolError;
-use seccomp_command_line::readable::{TextKind, push_readable};
+use seccomp_command_line::readable::{TextKind, readable};
 use seccompiler::json::filters_of;
 use seccompiler::{JsonFilter, JsonFilterMap};
 use std::alloc::{AllocError, Global};
@@ -53,10 +53,7 @@ pub(crate) fn refuse_name(alloc: Global, asked: Option<&str>) -> Result<(), Tool
 
 // Whether a filter is the one that is asked for, or none is.
 pub(crate) fn is_asked(asked: Option<&str>, name: &str) -> bool {
-    match asked {
-        Some(asked) => asked == name,
-        None => true,
-    }
+    asked.unwrap_or(name) == name
 }
 
 // A text of filters, in which something stands where one is asked for.
@@ -78,18 +75,16 @@ pub(crate) fn names_of<V>(
     alloc: Global,
     filters: &BTreeMap<String, V>,
 ) -> Result<String, AllocError> {
-    let mut text = Vec::new(alloc);
+    let mut names = String::new(alloc);
     for (name, _) in filters {
-        if !text.is_empty() {
-            text.extend_from_slice(b", ")?;
+        if !names.is_empty() {
+            names.push_str(", ")?;
         }
         if name.is_empty() {
-            text.extend_from_slice(b"''")?;
+            names.push_str("''")?;
         }
-        push_readable(&mut text, name.as_str(), TextKind::Name)?;
+        let shown = readable(alloc, name.as_str(), TextKind::Name)?;
+        names.push_str(shown.as_str())?;
     }
-    match String::from_utf8(text) {
-        Ok(names) => Ok(names),
-        Err(_) => Ok(String::new(alloc)),
-    }
+    Ok(names)
 }

@@ -1,8 +1,6 @@
 // A filter's program, in the form that is asked for.
 
-pub(crate) mod bytes;
-pub mod format;
-mod text;
+pub mod text;
 
 ghost use Rattle.std.specs.Prelude.{IfOk, string_bytes};
 ghost use Rattle.seccomptool.specs.Chosen.{IsChosen, text_of};
@@ -11,10 +9,10 @@ ghost use Rattle.seccomptool.specs.Compile.{IsProgramUnder};
 use crate::chosen::chosen_name;
 pub(crate) use crate::compile::text::program_text;
 use crate::error::ToolError;
-use crate::layouts::{program_in, uncompiled};
-use seccomp_tree::Layout;
-use seccompiler::{BpfProgram, JsonCompiler, TargetArch};
-use std::alloc::Global;
+use seccomp_command_line::readable::{TextKind, readable};
+use seccomp_tree::{FilterError, Layout, to_bpf_in};
+use seccompiler::{BpfProgram, JsonCompiler, SeccompFilter, TargetArch};
+use std::alloc::{AllocError, Global};
 
 /// A filter's program.
 #[derive(Drop)]
@@ -51,8 +49,39 @@ pub fn compiled(
     let Some(filter) = filters.get(name.as_str()) else {
         return Err(ToolError::NoFilter(name));
     };
-    match program_in(alloc, filter, layout) {
+    match to_bpf_in(alloc, filter, layout) {
         Ok(program) => Ok(NamedProgram { name, program }),
-        Err(cause) => Err(uncompiled(alloc, filter, name.as_str(), layout, cause)),
+        Err(cause) => Err(uncompiled(alloc, filter, name.as_str(), layout, cause)?),
     }
+}
+
+// Why a filter of this name has no program in a layout: if it is too large, with the length that it would have, if that is known,
+// and with its length in the other layout, where it fits.
+fn uncompiled(
+    alloc: Global,
+    filter: &SeccompFilter,
+    name: &str,
+    layout: Layout,
+    cause: FilterError,
+) -> Result<ToolError, AllocError> {
+    let (this, other, other_name) = match layout {
+        Layout::Linear => ("linear", Layout::Tree, "tree"),
+        Layout::Tree => ("tree", Layout::Linear, "linear"),
+    };
+    let needs = match cause {
+        FilterError::FilterTooLarge(length) => {
+            format!(in alloc; "needs {length} instructions in the {this} layout; 4096 fit")?
+        }
+        FilterError::TreeTooLarge => {
+            format!(in alloc; "needs more than 4096 instructions in the {this} layout")?
+        }
+        cause => return Ok(cause.into()),
+    };
+    let fits = match to_bpf_in(alloc, filter, other) {
+        Ok(program) => format!(in alloc; "; {} in the {other_name} layout", program.len())?,
+        Err(FilterError::FilterTooLarge(_) | FilterError::TreeTooLarge) => String::new(alloc),
+        Err(_) => return Err(AllocError),
+    };
+    let name = readable(alloc, name, TextKind::Name)?;
+    Ok(ToolError::Fault(format!(in alloc; "{name}: {needs}{fits}")?))
 }

@@ -2,7 +2,6 @@
 
 pub(crate) mod lines;
 pub mod pair;
-pub mod scope;
 
 ghost use Rattle.std.specs.Prelude.{◌≡◌, All, IfOk, map, option_map, string_bytes};
 ghost use Rattle.std.specs.BTreeMap.{get_by_text};
@@ -11,7 +10,6 @@ ghost use Rattle.seccomptool.specs.Diff.{AreByName, IsDiff, IsFoundOf, IsPairOf,
 ghost use Rattle.seccomptool.specs.DiffParts.{AreAllNames, IsFoundUnder};
 
 use crate::diff::pair::{Pair, compare_pair, loads_pointer};
-use crate::diff::scope::Scope;
 use crate::error::{FaultAt, ToolError};
 use crate::findings::fitting::fitting_program;
 use crate::findings::{Finding, Terms, Verdict, findings_of, verdict_of};
@@ -40,6 +38,15 @@ pub struct NamedFound {
     pub name: String,
     /// What is found.
     pub found: Found,
+}
+
+/// Which calls count for the verdict on a pair of sides.
+#[derive(Clone, Copy)]
+pub enum Scope {
+    /// Those of the architecture: numbers with a name, and numbers without one.
+    Named,
+    /// Those of other architectures too.
+    All,
 }
 
 /// What a comparison of two sides finds.

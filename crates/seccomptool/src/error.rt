@@ -1,6 +1,7 @@
 // Why an engine of the program fails.
 
 use crate::run::fault::ProgramFault;
+use seccomp_check::Fault;
 use seccomp_oci::CompileError;
 use seccomp_tree::FilterError;
 use seccompiler::json::JsonFrontendError;
@@ -23,8 +24,10 @@ pub enum ToolError {
     UnknownCall(String, TargetArch),
     /// No architecture has a call of this name or number.
     NoCall(String),
-    /// The policy has a fault that has a place; the text names the place, what stands there and what may.
+    /// What is given has this fault.
     Fault(String),
+    /// The policy has this fault, which has a place; the text is the fault's.
+    Placed(String, Fault),
     /// A filter would have more than 4096 instructions as a tree.
     TreeTooLarge,
     /// The program can't be read, or may not be run.
@@ -51,6 +54,7 @@ impl ToolError {
             | ToolError::UnknownCall(_, _)
             | ToolError::NoCall(_)
             | ToolError::Fault(_)
+            | ToolError::Placed(_, _)
             | ToolError::TreeTooLarge
             | ToolError::Program(_)
             | ToolError::Profile(_) => false,
@@ -142,7 +146,7 @@ impl fmt::Display for ToolError {
                     "No architecture has a call of this name or number: {call}."
                 )
             }
-            ToolError::Fault(told) => f.write_str(told.as_str()),
+            ToolError::Fault(told) | ToolError::Placed(told, _) => f.write_str(told.as_str()),
             ToolError::TreeTooLarge => {
                 f.write_str("A filter needs more than 4096 instructions in the tree layout.")
             }

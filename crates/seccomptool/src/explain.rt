@@ -1,11 +1,9 @@
 // What a filter of a policy, or a profile, decides on records, and why.
 
-pub mod format;
-pub(crate) mod lines;
+pub mod lines;
 mod log;
 pub(crate) mod made;
-pub mod reason;
-pub(crate) mod search;
+pub mod search;
 
 ghost use Rattle.std.specs.Prelude.{◌≡◌, All, IfOk, OnOk, option_map};
 ghost use Rattle.std.specs.List.{AllZip};
@@ -17,13 +15,10 @@ ghost use Rattle.seccomptool.specs.Explain.{AreMatched, HavePolicies, IsExplaine
 
 use crate::chosen::chosen_name;
 use crate::error::ToolError;
-use crate::explain::reason::Reason;
-use crate::explain::search::{reason_of, word_at};
+use crate::explain::search::{Reason, reason_of, word_at};
 use seccomp_oci::{CompileError, Container, Profile, ProfileError, decision_of_profile};
 use seccompiler::json::filters_of;
-use seccompiler::{
-    JsonCompiler, JsonFilter, JsonFilterMap, SeccompAction, SeccompFilter, TargetArch,
-};
+use seccompiler::{JsonCompiler, JsonFilter, JsonFilterMap, SeccompAction, TargetArch};
 use std::alloc::{AllocError, Global};
 
 /// Why a record is decided as it is.
@@ -115,27 +110,15 @@ fn check_filters(
 ) -> Result<(), ToolError>
     ensures { OnOk result (HavePolicies target filters.now.0.entries) }
 {
-    let policies = policies_of(alloc, target, filters)?;
-    for policy in &policies {
-        policy.compiled_len()?;
-    }
-    Ok(())
-}
-
-// The policies of filters, in byte order of names.
-fn policies_of(
-    alloc: Global,
-    target: TargetArch,
-    filters: &JsonFilterMap,
-) -> Result<Vec<SeccompFilter>, ToolError>
-    ensures { OnOk result (HavePolicies target filters.now.0.entries) }
-{
     let compiler = JsonCompiler::new(target);
     let mut policies = Vec::new(alloc);
     'filters: for (_name, filter) in &filters.0 {
         policies.push(compiler.make_seccomp_filter(alloc, filter)?)?;
     }
-    Ok(policies)
+    for policy in &policies {
+        policy.compiled_len()?;
+    }
+    Ok(())
 }
 
 // What a filter decides on each record, and why.

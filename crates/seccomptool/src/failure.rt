@@ -1,8 +1,7 @@
 // What the program tells of a failure.
 
 use crate::error::{FaultAt, Place, ToolError};
-use crate::notes::front_of;
-use crate::readable::readable;
+use crate::notes::{front_of, readable};
 use crate::words::{Asked, Inputs};
 use seccomp_command_line::readable::TextKind;
 use std::alloc::{AllocError, Global};
@@ -67,28 +66,16 @@ fn failure_line(
     failure: &Failure,
 ) -> Result<String, AllocError> {
     let (place, told) = told(alloc, failure)?;
-    let front = match place {
-        Place::Nowhere => Vec::new(alloc),
-        Place::First => front_of(alloc, first_path(failure, inputs))?,
-        Place::Second => front_of(alloc, inputs.second.unwrap_or("-"))?,
-        Place::Output => front_of(alloc, asked.output.unwrap_or("standard output"))?,
+    let front = match (place, failure) {
+        (Place::Nowhere, _) => Vec::new(alloc),
+        (Place::First, Failure::Further(path, _)) => front_of(alloc, path.as_str())?,
+        (Place::First, _) => front_of(alloc, inputs.first.unwrap_or("-"))?,
+        (Place::Second, _) => front_of(alloc, inputs.second.unwrap_or("-"))?,
+        (Place::Output, _) => front_of(alloc, asked.output.unwrap_or("standard output"))?,
     };
-    line_of(alloc, &front, told.as_str())
-}
-
-// The path of what is at fault in the first one of what is read.
-fn first_path<'a>(failure: &'a Failure, inputs: Inputs<'a>) -> &'a str {
-    match failure {
-        Failure::Further(path, _) => path.as_str(),
-        _ => inputs.first.unwrap_or("-"),
-    }
-}
-
-// The line of what is wrong with what `front` names.
-fn line_of(alloc: Global, front: &[u8], told: &str) -> Result<String, AllocError> {
     let mut line = Vec::new(alloc);
     line.extend_from_slice(b"seccomptool: ")?;
-    line.extend_from_slice(front)?;
+    line.extend_from_slice(&front)?;
     line.extend_from_slice(told.as_bytes())?;
     readable(alloc, &line, TextKind::Line)
 }
@@ -100,18 +87,16 @@ pub(crate) fn rejection(
     error: &ToolError,
 ) -> Result<Vec<u8>, AllocError> {
     let told = format!(in alloc; "{error}")?;
-    let mut line = line_of(alloc, &front_of(alloc, path)?, told.as_str())?.into_bytes();
-    line.push(b'\n')?;
-    Ok(line)
+    let told = readable(alloc, told.as_bytes(), TextKind::Line)?;
+    crate::notes::note(alloc, path, told.as_bytes())
 }
 
-// Where a failure is, and what is wrong.
+// Where a failure is, and what is wrong; that memory ran out has no place.
 fn told(alloc: Global, failure: &Failure) -> Result<(Place, String), AllocError> {
-    let told = match failure {
-        Failure::First(error) => return told_by_system(alloc, Place::First, error),
-        Failure::Second(error) => return told_by_system(alloc, Place::Second, error),
-        Failure::Further(_, error) => return told_by_system(alloc, Place::First, error),
-        Failure::Output(error) => return told_by_system(alloc, Place::Output, error),
+    let (place, error) = match failure {
+        Failure::First(error) | Failure::Further(_, error) => (Place::First, error),
+        Failure::Second(error) => (Place::Second, error),
+        Failure::Output(error) => (Place::Output, error),
         Failure::Engine(fault) => {
             let error = &fault.error;
             return Ok((fault.place, format!(in alloc; "{error}")?));
@@ -122,18 +107,15 @@ fn told(alloc: Global, failure: &Failure) -> Result<(Place, String), AllocError>
             )?;
             return Ok((Place::Second, told));
         }
-        Failure::Terminal => "bytes aren't written to a terminal; use a file or a pipe",
-        Failure::Onto => "the output would overwrite the input",
+        Failure::Terminal => {
+            let told = "bytes aren't written to a terminal; use a file or a pipe";
+            return Ok((Place::Output, String::from_str(alloc, told)?));
+        }
+        Failure::Onto => {
+            let told = "the output would overwrite the input";
+            return Ok((Place::Output, String::from_str(alloc, told)?));
+        }
     };
-    Ok((Place::Output, String::from_str(alloc, told)?))
-}
-
-// What the system tells of a place; that memory ran out meanwhile has no part in it.
-fn told_by_system(
-    alloc: Global,
-    place: Place,
-    error: &io::Error,
-) -> Result<(Place, String), AllocError> {
     if error.kind() == ErrorKind::OutOfMemory {
         return Ok((Place::Nowhere, String::from_str(alloc, "Out of memory.")?));
     }

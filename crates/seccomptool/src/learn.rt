@@ -1,18 +1,23 @@
 // A policy of the calls that a trace has.
 
-pub(crate) mod made;
 pub(crate) mod notes;
-mod wanted;
 
-ghost use Rattle.std.specs.Prelude.{IfOk, string_bytes};
-ghost use Rattle.seccomp_learn.specs.Written.{HasFilter};
-ghost use Rattle.seccomptool.specs.Chosen.{IsChosen, text_of};
-ghost use Rattle.seccomptool.specs.Learn.{IsBase, IsLearned};
+ghost use Rattle.std.specs.Prelude.{◌≡◌, IfOk};
+ghost use Rattle.seccomptool.specs.Chosen.{text_of};
+ghost use Rattle.seccomptool.specs.Learn.{IsBase, IsLearned, IsLesson};
+ghost use Rattle.seccomptool.specs.declared.findings.Verdict.TheVariants.{Same};
 ghost use Rattle.seccomptool.specs.declared.learn.Start.TheVariants.{Into};
 
 use crate::chosen::chosen_name;
-use crate::error::ToolError;
-use seccomp_learn::{Kept, Lesson, Observation, Taken, learn_within, taken_from};
+use crate::error::{FaultAt, ToolError};
+use crate::findings::Verdict;
+use crate::learn::notes::{notes_of, refuse_strange};
+use crate::made::Made;
+use crate::record::call_number;
+use seccomp_learn::{
+    Kept, Lesson, Observation, Taken, asked_kept, learn_within, profile_text, read_trace,
+    start_and_exit, taken_from, usual_kept, written_policy,
+};
 use seccompiler::{JsonFilter, JsonFilterMap, SeccompAction, TargetArch};
 use std::alloc::Global;
 use std::collections::BTreeMap;
@@ -75,8 +80,42 @@ struct Base {
     others: JsonFilterMap,
 }
 
+pub(crate) fn learn_made(
+    alloc: Global,
+    arch: TargetArch,
+    learning: &Learning<'_>,
+    path: &str,
+    given: &[u8],
+    policy: &[u8],
+) -> Result<Made, FaultAt>
+    ensures { IfOk result (λ made. IsLesson arch learning.now.most learning.now.start (text_of learning.now.name) policy.now × (made.verdict ≡ Same)) }
+{
+    let mut trace = read_trace(alloc, arch, given)?;
+    if learning.runnable {
+        trace
+            .observed
+            .extend_from_slice(&start_and_exit(alloc, arch)?)?;
+    }
+    if learning.strict {
+        refuse_strange(alloc, &trace)?;
+    }
+    let wanted = wanted_in(alloc, arch, learning, &trace.observed)?;
+    let learned = match learned_of(alloc, arch, learning, &trace.observed, &wanted, policy) {
+        Ok(learned) => learned,
+        Err(error) => return Err(FaultAt::in_new(error)),
+    };
+    let notes = notes_of(alloc, arch, learning, path, &trace, &wanted, &learned)?;
+    let filter = &learned.lesson.learned.json;
+    let text = if learning.as_profile {
+        profile_text(alloc, arch, filter)?
+    } else {
+        written_policy(alloc, &learned.others, learned.name.as_str(), filter)?
+    };
+    Ok(Made::noting(text, Verdict::Same, notes))
+}
+
 // The filter that allows the observed calls, with the values of the arguments that are wanted, and what it is added to.
-pub(crate) fn learned_of(
+fn learned_of(
     alloc: Global,
     arch: TargetArch,
     learning: &Learning<'_>,
@@ -122,31 +161,59 @@ fn base_of(
     }
 }
 
-// The filter that is asked for, or a policy's only one.
-fn base_in(alloc: Global, asked: Option<&str>, policy: &[u8]) -> Result<Base, ToolError>
-    ensures { IfOk result (λ base. IsChosen policy.now (text_of asked.entry) (string_bytes base.name) × HasFilter policy.now (string_bytes base.name) base.filter) }
-{
-    let name = chosen_name(alloc, policy, asked)?;
-    match taken_from(alloc, policy, name.as_str())? {
-        Some(Taken { filter, others }) => Ok(Base {
-            name,
-            filter,
-            others,
-        }),
-        None => Err(ToolError::NoFilter(name)),
-    }
-}
-
 // The filter that is asked for, or a policy's only one, if it allows what it lists.
 fn base_into(alloc: Global, asked: Option<&str>, policy: &[u8]) -> Result<Base, ToolError>
     ensures { IfOk result (λ base. IsBase Into (text_of asked.entry) policy.now base.filter) }
 {
-    let base = base_in(alloc, asked, policy)?;
-    match base.filter.match_action {
-        SeccompAction::Allow => Ok(base),
+    let name = chosen_name(alloc, policy, asked)?;
+    let Some(Taken { filter, others }) = taken_from(alloc, policy, name.as_str())? else {
+        return Err(ToolError::NoFilter(name));
+    };
+    match filter.match_action {
+        SeccompAction::Allow => Ok(Base {
+            name,
+            filter,
+            others,
+        }),
         _ => {
             let told = "The filter's match_action isn't allow, so it doesn't list what is allowed.";
             Err(ToolError::Fault(String::from_str(alloc, told)?))
         }
     }
+}
+
+// The usual ones, and those that are asked for.
+fn wanted_in(
+    alloc: Global,
+    arch: TargetArch,
+    learning: &Learning<'_>,
+    observed: &[Observation],
+) -> Result<Vec<Kept>, ToolError> {
+    let mut wanted = usual_kept(alloc, arch)?;
+    for asked in &learning.arguments {
+        push_asked(alloc, arch, &mut wanted, *asked, observed)?;
+    }
+    Ok(wanted)
+}
+
+// Adds those of a call that is asked for.
+fn push_asked(
+    alloc: Global,
+    arch: TargetArch,
+    wanted: &mut Vec<Kept>,
+    asked: AskedArguments<'_>,
+    observed: &[Observation],
+) -> Result<(), ToolError> {
+    let Some(number) = call_number(arch, asked.call) else {
+        return Err(ToolError::UnknownCall(String::from_str(alloc, asked.call)?, arch));
+    };
+    let mut index: u8 = 0;
+    for is_asked in asked.indices {
+        let is_this = |each: &Kept| each.number == number && each.arg_index == index;
+        if is_asked && !wanted.iter().any(is_this) {
+            wanted.push(asked_kept(observed, number, index))?;
+        }
+        index = index.saturating_add(1);
+    }
+    Ok(())
 }

@@ -1,27 +1,20 @@
 // What each command makes of the bytes that it is given: an answer, and a view of it.
 
-ghost use Rattle.std.specs.Prelude.{◌≡◌, IfErr, IfOk};
+ghost use Rattle.std.specs.Prelude.{◌≡◌, IfOk};
 ghost use Rattle.seccomptool.specs.Chosen.{text_of};
-ghost use Rattle.seccomptool.specs.Commands.{IsAccepted, IsCalled, IsCheck, IsCheckedProgram, IsCompared, IsCompiled, IsFilterCompiled, IsMeasuredAs, IsProfileCompiled, IsRejectedFor, IsShown, IsShownAs};
+ghost use Rattle.seccomptool.specs.Commands.{IsCalled, IsCheckedProgram, IsCompared, IsCompiled, IsFilterCompiled, IsMeasuredAs, IsProfileCompiled, IsShown, IsShownAs};
 ghost use Rattle.seccomptool.specs.declared.findings.Verdict.TheVariants.{Same};
 
-use crate::check::profile::{CheckedProfile, profile_checked};
-use crate::check::{checked, verdict_where};
 use crate::chosen::refuse_name;
-use crate::codes::codes_text;
-use crate::compile::format::ProgramFormat;
+use crate::compile::text::ProgramFormat;
 use crate::compile::{NamedProgram, compiled, program_text};
-use crate::counts::counted;
 use crate::diff::lines::{lines_by_name, pair_lines};
-use crate::diff::scope::Scope;
-use crate::diff::{Diff, diff_of};
+use crate::diff::{Diff, Scope, diff_of};
 use crate::error::{FaultAt, ToolError};
-use crate::failure::rejection;
 use crate::findings::{Terms, Verdict};
 use crate::kind::{Reading, Subject, subject_of};
-use crate::notes::front_of;
-use crate::profile::compiled_of;
-use crate::profile::notes::{profile_notes, uncompiled};
+use crate::notes::counted;
+use crate::profile::{compiled_of, profile_notes, uncompiled};
 use crate::progress::Progress;
 use crate::record::{called_record, calls_text, known_calls};
 use crate::run::program::program_of;
@@ -54,18 +47,18 @@ impl Made {
     pub(crate) fn plain(alloc: Global, text: Vec<u8>) -> Made
         ensures { result.verdict ≡ Same }
     {
-        Made::found(alloc, text, Verdict::Same)
+        Made::noting(text, Verdict::Same, Vec::new(alloc))
     }
 
-    // A text of a command that finds this, and has nothing to tell.
-    pub(crate) fn found(alloc: Global, text: Vec<u8>, verdict: Verdict) -> Made
+    // A text of a command that finds this, and has these notes.
+    pub(crate) fn noting(text: Vec<u8>, verdict: Verdict, notes: Vec<u8>) -> Made
         ensures { result.verdict ≡ verdict }
     {
         Made {
             text,
             rest: 0,
             verdict,
-            notes: Vec::new(alloc),
+            notes,
         }
     }
 }
@@ -115,12 +108,7 @@ fn policy_made(
     let program = compiled(alloc, arch, layout, filter, policy)?;
     let text = program_text(alloc, format, &program)?;
     let notes = counted(alloc, quiet, arch, path, policy)?;
-    Ok(Made {
-        text,
-        rest: 0,
-        verdict: Verdict::Same,
-        notes,
-    })
+    Ok(Made::noting(text, Verdict::Same, notes))
 }
 
 fn profile_made(
@@ -157,12 +145,7 @@ fn profile_made(
         program: compiled.program,
     };
     let text = program_text(alloc, format, &program)?;
-    Ok(Made {
-        text,
-        rest: 0,
-        verdict: Verdict::Same,
-        notes,
-    })
+    Ok(Made::noting(text, Verdict::Same, notes))
 }
 
 fn program_made(alloc: Global, format: ProgramFormat, given: &[u8]) -> Result<Made, FaultAt>
@@ -215,12 +198,12 @@ fn shown_text(
         Subject::Profile(container) => {
             refuse_name(alloc, filter)?;
             let compiled = compiled_of(alloc, arch, container, false, given)?;
-            Ok(show::program_text(alloc, arch, &compiled.program)?)
+            Ok(show::program_text(alloc, Some(arch), &compiled.program)?)
         }
         Subject::Program => {
             refuse_name(alloc, filter)?;
             let program = program_of(alloc, given)?;
-            Ok(show::program_text(alloc, arch, &program)?)
+            Ok(show::program_text(alloc, Some(arch), &program)?)
         }
     }
 }
@@ -254,75 +237,15 @@ fn measured_text(
     }
 }
 
-pub(crate) fn check_made(
-    alloc: Global,
-    arch: TargetArch,
-    reading: &Reading,
-    denied: bool,
-    allowed: &[Code],
-    path: &str,
-    given: &[u8],
-) -> Result<Made, FaultAt>
-    ensures { IfOk result (λ made. IsCheck arch reading.now denied allowed.now given.now made.verdict) }
-{
-    let subject = subject_of(alloc, reading, given)?;
-    let listed = reading.listed;
-    match accepted(alloc, arch, subject, listed, denied, allowed, path, given) {
-        Ok(made) => Ok(made),
-        Err(fault) if fault.is_out_of_memory() => Err(fault.into()),
-        Err(fault) => Ok(Made {
-            text: Vec::new(alloc),
-            rest: 0,
-            verdict: Verdict::Different,
-            notes: rejection(alloc, path, &fault)?,
-        }),
-    }
-}
-
-// What `check` makes of what is accepted.
-fn accepted(
-    alloc: Global,
-    arch: TargetArch,
-    subject: Subject<'_>,
-    listed: bool,
-    denied: bool,
-    allowed: &[Code],
-    path: &str,
-    given: &[u8],
-) -> Result<Made, ToolError>
-    ensures accepted { IfOk result (λ made. IsAccepted arch subject.entry denied allowed.now given.now made.verdict) }
-    ensures rejected { IfErr result (IsRejectedFor arch subject.entry given.now) }
-{
-    match subject {
-        Subject::Policy => {
-            let front = front_of(alloc, path)?;
-            let report = checked(alloc, arch, allowed, &front, given)?;
-            let verdict = verdict_where(denied, report.count);
-            Ok(Made::found(alloc, report.text, verdict))
-        }
-        Subject::Profile(container) => {
-            let front = front_of(alloc, path)?;
-            let checked = profile_checked(alloc, arch, container, allowed, &front, given)?;
-            let CheckedProfile { compiled, report } = checked;
-            let notes = profile_notes(alloc, arch, path, listed, &compiled.left_out, &[])?;
-            Ok(Made {
-                text: report.text,
-                rest: 0,
-                verdict: verdict_where(denied, report.count),
-                notes,
-            })
-        }
-        Subject::Program => {
-            let _program = program_of(alloc, given)?;
-            Ok(Made::plain(alloc, Vec::new(alloc)))
-        }
-    }
-}
-
+// A line for each code of a warning, in the order of `Code::all`: its name, `: `, and what is so if a warning has the code.
 pub(crate) fn codes_made(alloc: Global) -> Result<Made, FaultAt>
     ensures { IfOk result (λ made. made.verdict ≡ Same) }
 {
-    let text = codes_text(alloc)?;
+    let mut text = Vec::new(alloc);
+    for code in Code::all() {
+        let (name, paragraph) = (code.name(), code.paragraph());
+        text.extend_from_slice(format!(in alloc; "{name}: {paragraph}\n")?.as_bytes())?;
+    }
     Ok(Made::plain(alloc, text))
 }
 
@@ -382,12 +305,7 @@ pub(crate) fn diff_made<G: Progress>(
         Diff::ByName(all) => lines_by_name(alloc, terms, all)?,
         Diff::OfPair(pair) => pair_lines(alloc, terms, old, new, pair)?,
     };
-    Ok(Made {
-        text,
-        rest: 0,
-        verdict: found.verdict(scope),
-        notes,
-    })
+    Ok(Made::noting(text, found.verdict(scope), notes))
 }
 
 // The note on how many warnings a side has, if it is a policy.

@@ -3,16 +3,14 @@
 
 mod check;
 mod chosen;
-mod codes;
 mod compile;
-mod counts;
 mod diff;
 mod error;
 mod explain;
 mod failure;
 mod findings;
+mod json;
 mod kind;
-mod layouts;
 mod learn;
 mod made;
 mod notes;
@@ -21,7 +19,6 @@ mod output;
 mod perform;
 mod profile;
 mod progress;
-mod readable;
 mod record;
 mod run;
 mod shell;

@@ -1,6 +1,9 @@
 // Notes on what stands at a path, for standard error.
 
-use seccomp_command_line::readable::{TextKind, push_readable};
+use seccomp_command_line::readable::{TextKind, push_readable, readable as readable_text};
+use seccomp_warnings::report_of;
+use seccompiler::json::filters_of;
+use seccompiler::{JsonFrontendError, TargetArch};
 use std::alloc::{AllocError, Global};
 
 // The line of a note on what stands at this path.
@@ -9,7 +12,7 @@ pub(crate) fn note(alloc: Global, path: &str, text: &[u8]) -> Result<Vec<u8>, Al
     line.extend_from_slice(b"seccomptool: ")?;
     line.extend_from_slice(&front_of(alloc, path)?)?;
     line.extend_from_slice(text)?;
-    line.extend_from_slice(b"\n")?;
+    line.push(b'\n')?;
     Ok(line)
 }
 
@@ -17,10 +20,47 @@ pub(crate) fn note(alloc: Global, path: &str, text: &[u8]) -> Result<Vec<u8>, Al
 pub(crate) fn front_of(alloc: Global, path: &str) -> Result<Vec<u8>, AllocError> {
     let mut front = Vec::new(alloc);
     if path == "-" {
-        front.extend_from_slice(b"standard input: ")?;
-        return Ok(front);
+        front.extend_from_slice(b"standard input")?;
+    } else {
+        push_readable(&mut front, path, TextKind::Name)?;
     }
-    push_readable(&mut front, path, TextKind::Name)?;
     front.extend_from_slice(b": ")?;
     Ok(front)
+}
+
+// The text as people read it, with bytes that aren't UTF-8 replaced. What the program reports of files goes through here; bytes of
+// programs and of records don't.
+pub(crate) fn readable(alloc: Global, text: &[u8], kind: TextKind) -> Result<String, AllocError> {
+    let text = String::from_utf8_lossy(alloc, text)?;
+    readable_text(alloc, text.as_str(), kind)
+}
+
+// The note on how many warnings `check` has for the policy of this path and text. There is none where it has no warning, where it is
+// to be left out, and where the text has a fault, which is for the command to report.
+pub(crate) fn counted(
+    alloc: Global,
+    quiet: bool,
+    arch: TargetArch,
+    path: &str,
+    text: &[u8],
+) -> Result<Vec<u8>, AllocError> {
+    if quiet {
+        return Ok(Vec::new(alloc));
+    }
+    let report = match filters_of(alloc, text) {
+        Ok(filters) => report_of(alloc, arch, b"", &filters, &[]),
+        Err(refusal) => Err(refusal),
+    };
+    match report {
+        Err(JsonFrontendError::OutOfMemory) => Err(AllocError),
+        Err(_) => Ok(Vec::new(alloc)),
+        Ok(report) => match report.count {
+            0 => Ok(Vec::new(alloc)),
+            1 => note(alloc, path, b"1 warning; seccomptool check prints it"),
+            count => {
+                let told = format!(in alloc; "{count} warnings; seccomptool check prints them")?;
+                note(alloc, path, told.as_bytes())
+            }
+        },
+    }
 }

@@ -5,14 +5,11 @@ use std::io::ErrorKind;
 use std::rt::Files;
 use std::{fs, io};
 
-// Whether both paths lead to one file.
+// Whether both paths lead to one file; the first one leads to standard input if it is `-`.
 pub(crate) fn is_same(rt: &(impl Files + AllocGlobal), first: &str, second: &str) -> bool {
-    match fs::canonicalize(rt, first) {
-        Ok(first) => match fs::canonicalize(rt, second) {
-            Ok(second) => first == second,
-            Err(_) => false,
-        },
-        Err(_) => false,
+    match (fs::canonicalize(rt, first), fs::canonicalize(rt, second)) {
+        (Ok(one), Ok(other)) => first != "-" && one == other,
+        _ => false,
     }
 }
 

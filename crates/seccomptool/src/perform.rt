@@ -4,18 +4,19 @@ ghost use Rattle.std.specs.Prelude.{◌≡◌, IfErr, IfOk, IfSome};
 ghost use Rattle.seccompiler.specs.Reads.{Reads};
 ghost use Rattle.seccomptool.specs.Commands.{IsCarriedOut, KeepsOutput};
 
+use crate::check::made::check_made;
 use crate::error::{FaultAt, Place};
 use crate::explain::made::explain_made;
 use crate::failure::Failure;
 use crate::findings::Verdict;
-use crate::learn::made::learn_made;
-use crate::made::{Made, call_made, check_made, codes_made, compile_made, diff_made, show_made};
+use crate::learn::learn_made;
+use crate::made::{Made, call_made, codes_made, compile_made, diff_made, show_made};
+use crate::notes::readable;
 use crate::progress::Progress;
-use crate::readable::readable;
 use crate::shell::writes_bytes;
 use crate::words::{Command, Inputs};
 use seccomp_command_line::readable::TextKind;
-use std::alloc::{AllocError, Global};
+use std::alloc::Global;
 use std::io;
 use std::io::{Read, Write};
 
@@ -54,10 +55,11 @@ pub fn perform<P: Read + Drop, R: Read + Drop, W: Write, G: Progress>(
     };
     let second = match text_of(alloc, second) {
         Ok(text) => text,
+        // A fault of the first text comes before that the second one can't be read.
         Err(error) => {
-            return match fault_before(alloc, command, inputs, &first, progress) {
-                Some(fault) => Err(Failure::Engine(fault)),
-                None => Err(Failure::Second(error)),
+            return match made_by(alloc, command, inputs, &first, b"", progress) {
+                Err(fault) if !matches!(fault.place, Place::Second) => Err(Failure::Engine(fault)),
+                _ => Err(Failure::Second(error)),
             };
         }
     };
@@ -88,23 +90,6 @@ fn text_of<R: Read + Drop>(alloc: Global, mut reader: R) -> io::Result<Vec<u8>>
     }
 }
 
-// The fault of the first text that comes before the second one can't be read.
-fn fault_before<G: Progress>(
-    alloc: Global,
-    command: &Command<'_>,
-    inputs: Inputs<'_>,
-    first: &[u8],
-    progress: &mut G,
-) -> Option<FaultAt> {
-    match made_by(alloc, command, inputs, first, b"", progress) {
-        Ok(_) => None,
-        Err(fault) => match fault.place {
-            Place::Second => None,
-            _ => Some(fault),
-        },
-    }
-}
-
 // What a command makes of these texts, ready to be written.
 fn ready<G: Progress>(
     alloc: Global,
@@ -116,36 +101,12 @@ fn ready<G: Progress>(
 ) -> Result<Made, FaultAt>
     ensures { IfOk result (λ made. IsCarriedOut command.now first.now second.now made.verdict) }
 {
-    let Made {
-        text,
-        rest,
-        verdict,
-        notes,
-    } = made_by(alloc, command, inputs, first, second, progress)?;
-    Ok(Made {
-        text: shown(alloc, command, text)?,
-        rest,
-        verdict,
-        notes,
-    })
-}
-
-// What is written of a text that a command makes.
-fn shown(alloc: Global, command: &Command<'_>, text: Vec<u8>) -> Result<Vec<u8>, AllocError> {
-    if writes_bytes(command) || is_plain(&text) {
-        return Ok(text);
+    let mut made = made_by(alloc, command, inputs, first, second, progress)?;
+    let is_plain = |byte: &u8| matches!(*byte, b'\n' | b' '..=b'~');
+    if !writes_bytes(command) && !made.text.iter().all(is_plain) {
+        made.text = readable(alloc, &made.text, TextKind::Lines)?.into_bytes();
     }
-    Ok(readable(alloc, &text, TextKind::Lines)?.into_bytes())
-}
-
-// Whether a text has printed ASCII and line feeds alone.
-fn is_plain(text: &[u8]) -> bool {
-    for byte in text {
-        if *byte != b'\n' && (*byte < b' ' || *byte > b'~') {
-            return false;
-        }
-    }
-    true
+    Ok(made)
 }
 
 // What a command makes of these texts.
@@ -184,7 +145,10 @@ fn made_by<G: Progress>(
             reading,
             denied,
             allowed,
-        } => check_made(alloc, *arch, reading, *denied, allowed, path, first),
+            format,
+        } => check_made(
+            alloc, *arch, reading, *denied, allowed, *format, path, first,
+        ),
         Command::Codes => codes_made(alloc),
         Command::Explain {
             arch,

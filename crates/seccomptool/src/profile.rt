@@ -1,15 +1,16 @@
-// The program of a profile of a container runtime.
-
-pub(crate) mod notes;
+// The program of a profile of a container runtime, and what is noted of one.
 
 ghost use Rattle.std.specs.Prelude.{IfErr, IfOk};
 ghost use Rattle.seccomp_oci.specs.CompiledProfile.{IsCompiledProfile};
 ghost use Rattle.seccomptool.specs.CheckProfile.{IsRefusedProfile};
 
 use crate::error::ToolError;
-use seccomp_oci::{CompileError, CompiledProfile, Container, ProfileError, compile_profile};
+use crate::notes::note;
+use seccomp_command_line::readable::{TextKind, readable};
+use seccomp_oci::{CompileError, CompiledProfile, Container, Flag, ProfileError, compile_profile};
 use seccompiler::TargetArch;
-use std::alloc::Global;
+use std::alloc::{AllocError, Global};
+use std::collections::BTreeMap;
 
 /// The program of a profile's text. If it isn't strict, names that no call of the architecture has are left out.
 ///
@@ -32,4 +33,98 @@ pub(crate) fn compiled_of(
         Err(CompileError::Profile(ProfileError::OutOfMemory)) => Err(ToolError::OutOfMemory),
         Err(error) => Err(ToolError::Profile(error)),
     }
+}
+
+/// The notes on the profile of a path.
+///
+/// One line notes the names that are left out: `seccomptool: `, the profile's file, `: `, how many there are, each counted once,
+/// and ` names that ARCH has no call for are left out`; and if they are to be listed, `: ` and the names, in the profile's order,
+/// separated by `, `. The file is `path`, or `standard input` if that is `-`. In it and in the names each byte of the control
+/// characters (U+0080 to U+009F too) and of the backslash is written as `\x` and two lower-case hexadecimal digits. If no
+/// name is left out, the line is missing.
+///
+/// A second line notes the profile's flags: the same prefix, `flags to set when the program is installed (N): `,
+/// and then the N flags, in the profile's order, separated by `, `. If the profile has no flags, the line is
+/// missing.
+pub(crate) fn profile_notes(
+    alloc: Global,
+    arch: TargetArch,
+    path: &str,
+    listed: bool,
+    left_out: &[String],
+    flags: &[Flag],
+) -> Result<Vec<u8>, AllocError> {
+    let mut notes = Vec::new(alloc);
+    if !left_out.is_empty() {
+        let (count, names) = each_once(alloc, left_out)?;
+        let (noun, verb) = if count == 1 {
+            ("name", "is")
+        } else {
+            ("names", "are")
+        };
+        let (mark, names) = if listed {
+            (": ", names.as_str())
+        } else {
+            ("", "")
+        };
+        let told = format!(in alloc;
+            "{count} {noun} that {arch} has no call for {verb} left out{mark}{names}"
+        )?;
+        notes.extend_from_slice(&note(alloc, path, told.as_bytes())?)?;
+    }
+    if !flags.is_empty() {
+        let told = flags_told(alloc, flags)?;
+        notes.extend_from_slice(&note(alloc, path, told.as_bytes())?)?;
+    }
+    Ok(notes)
+}
+
+/// Why a profile isn't compiled: the error, or the names that no call of the architecture has.
+pub(crate) fn uncompiled(alloc: Global, arch: TargetArch, error: ToolError) -> ToolError {
+    match error {
+        ToolError::Profile(CompileError::UnknownNames(names)) => {
+            match unknown_told(alloc, arch, &names) {
+                Ok(told) => ToolError::Fault(told),
+                Err(_) => ToolError::OutOfMemory,
+            }
+        }
+        error => error,
+    }
+}
+
+// The error of names that are no calls.
+fn unknown_told(alloc: Global, arch: TargetArch, names: &[String]) -> Result<String, AllocError> {
+    let (count, names) = each_once(alloc, names)?;
+    format!(in alloc; "not system calls of {arch} ({count}): {names}")
+}
+
+// How many names these are, each counted once, and the names, each where it first stands.
+fn each_once(alloc: Global, names: &[String]) -> Result<(usize, String), AllocError> {
+    let (mut told, mut list) = (BTreeMap::new(alloc), String::new(alloc));
+    for name in names {
+        if told.insert(name.as_str(), ())?.is_none() {
+            if told.len() > 1 {
+                list.push_str(", ")?;
+            }
+            list.push_str(readable(alloc, name.as_str(), TextKind::Name)?.as_str())?;
+        }
+    }
+    Ok((told.len(), list))
+}
+
+// That no filter has the flags, with their number and their names, as a profile has them.
+fn flags_told(alloc: Global, flags: &[Flag]) -> Result<String, AllocError> {
+    let count = flags.len();
+    let mut told = format!(in alloc; "flags to set when the program is installed ({count})")?;
+    let mut mark = ": ";
+    for flag in flags {
+        told.push_str(mark)?;
+        told.push_str(match flag {
+            Flag::Tsync => "SECCOMP_FILTER_FLAG_TSYNC",
+            Flag::Log => "SECCOMP_FILTER_FLAG_LOG",
+            Flag::SpecAllow => "SECCOMP_FILTER_FLAG_SPEC_ALLOW",
+        })?;
+        mark = ", ";
+    }
+    Ok(told)
 }

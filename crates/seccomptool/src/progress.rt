@@ -46,17 +46,6 @@ impl<'a, R: Eprint + Clock> Watch<'a, R> {
             written: false,
         }
     }
-
-    // Whether the comparison has lasted long enough.
-    fn is_long(&self) -> bool {
-        let Some(start) = self.start else {
-            return false;
-        };
-        match start.elapsed(self.rt) {
-            Ok(time) => time.as_secs() >= SECONDS,
-            Err(_) => false,
-        }
-    }
 }
 
 impl<R: Eprint + Clock> Progress for Watch<'_, R> {
@@ -75,9 +64,18 @@ impl<R: Eprint + Clock> Progress for Watch<'_, R> {
 
     fn looked_at(&mut self, target: TargetArch, part: Part, sets: usize) {
         self.sets = self.sets.saturating_add(sets);
-        if self.is_long() {
+        let Some(start) = self.start else {
+            return;
+        };
+        if matches!(start.elapsed(self.rt), Ok(time) if time.as_secs() >= SECONDS) {
             self.written = true;
-            let (name, sets) = (name_in(target, part), self.sets);
+            // A short name, so that the line fits a terminal.
+            let name = match part {
+                Part::Named { number } => name_of(target, number).unwrap_or("calls"),
+                Part::Unnamed { .. } => "other calls",
+                Part::Elsewhere { .. } => "other architectures",
+            };
+            let sets = self.sets;
             // From the line's begin on, and nothing behind it.
             let _ = eprint!(self.rt; "\rseccomptool: {name}: {sets} sets of calls looked at\x1b[K");
         }
@@ -89,14 +87,5 @@ impl<R: Eprint + Clock> Progress for Watch<'_, R> {
             self.written = false;
             let _ = eprint!(self.rt; "\r\x1b[K");
         }
-    }
-}
-
-// A part by a short name, so that the line fits a terminal.
-fn name_in(target: TargetArch, part: Part) -> &'static str {
-    match part {
-        Part::Named { number } => name_of(target, number).unwrap_or("calls"),
-        Part::Unnamed { .. } => "other calls",
-        Part::Elsewhere { .. } => "other architectures",
     }
 }

@@ -9,8 +9,7 @@ ghost use Rattle.std.specs.Prelude.{IfOk};
 ghost use Rattle.seccomp_compare.specs.Machine.{IsChecked};
 ghost use Rattle.seccomptool.specs.Run.{AreReturned};
 
-use crate::explain::format::LineFormat;
-use crate::explain::lines::NumberedCall;
+use crate::explain::lines::{LineFormat, call_text};
 use crate::explain::search::word_at;
 use crate::findings::lines::Word;
 use seccomp_compare::machine;
@@ -52,27 +51,16 @@ pub(crate) fn outcomes_text(
     let mut text = Vec::new(alloc);
     for (record, outcome) in records.iter().zip(outcomes) {
         let Outcome { word, steps } = *outcome;
+        let action = Word(word);
         let line = match format {
-            LineFormat::Path => outcome_line(alloc, target, record, word)?,
             LineFormat::Word => format!(in alloc; "{word:08x} {steps}\n")?,
+            LineFormat::Path if word_at(record, 4) == target.get_audit_value() => {
+                let call = call_text(alloc, target, word_at(record, 0))?;
+                format!(in alloc; "{action}: {call}\n")?
+            }
+            LineFormat::Path => format!(in alloc; "{action}: another architecture\n")?,
         };
         text.extend_from_slice(line.as_bytes())?;
     }
     Ok(text)
-}
-
-// The line of what is returned for a record, for people.
-fn outcome_line(
-    alloc: Global,
-    target: TargetArch,
-    record: &[u8; 64],
-    word: u32,
-) -> Result<String, AllocError> {
-    let action = Word(word);
-    if word_at(record, 4) != target.get_audit_value() {
-        return Ok(format!(in alloc; "{action}: another architecture\n")?);
-    }
-    let number = word_at(record, 0);
-    let call = NumberedCall { target, number };
-    Ok(format!(in alloc; "{action}: {call}\n")?)
 }

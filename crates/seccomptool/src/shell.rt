@@ -6,17 +6,19 @@ ghost use Rattle.clap.specs.Words.{kind_of};
 ghost use Rattle.clap.specs.declared.error.kind.ErrorKind.TheVariants.{DisplayHelp, DisplayVersion};
 ghost use Rattle.seccomptool.specs.Commands.{EndWith, EndsWith, IsPerformed, verdict_status};
 
-use crate::compile::format::ProgramFormat;
+use crate::check::format::CheckFormat;
+use crate::compile::text::ProgramFormat;
 use crate::failure::{Failure, note, tell};
 use crate::findings::Verdict;
+use crate::json::list_text;
 use crate::output::{is_same, write_whole};
 use crate::perform::{Done, perform};
 use crate::progress::Progress;
 use crate::source::{Source, open, open_all};
 use crate::words::{Asked, Command, Inputs, read};
 use clap::error::ErrorKind;
-use seccomp_command_line::readable::{TextKind, readable};
 use std::io;
+use std::io::Write;
 use std::process::ExitCode;
 use std::rt::Files;
 
@@ -35,7 +37,17 @@ pub(crate) fn answer<G: Progress>(
     ensures ended { exit_status result ≤ 3 }
 {
     if let Some(word) = words.first() {
-        if let Some(verb) = verb_for(word.as_str()) {
+        // What does now what a command did that is gone.
+        let verb = match word.as_str() {
+            "stats" => "show --stats",
+            "run" => "explain",
+            "record" => "call --record",
+            "verify" => "diff",
+            "compat" => "check",
+            "import" => "compile",
+            _ => "",
+        };
+        if !verb.is_empty() {
             let _ = eprintln!(rt; "seccomptool: '{word}' is now '{verb}'");
             return ExitCode::from(TROUBLE);
         }
@@ -43,19 +55,6 @@ pub(crate) fn answer<G: Progress>(
     match read(rt.alloc(), words) {
         Ok(asked) => ExitCode::from(carry_out_each(rt, &asked, to_terminal, progress)),
         Err(error) => misused(rt, &error),
-    }
-}
-
-// What does now what a command did that is gone.
-fn verb_for(command: &str) -> Option<&'static str> {
-    match command {
-        "stats" => Some("show --stats"),
-        "run" => Some("explain"),
-        "record" => Some("call --record"),
-        "verify" => Some("diff"),
-        "compat" => Some("check"),
-        "import" => Some("compile"),
-        _ => None,
     }
 }
 
@@ -72,18 +71,10 @@ fn misused(rt: &(impl Print + Eprint + AllocGlobal), error: &clap::Error) -> Exi
             ExitCode::from(2)
         }
         _ => {
-            tell_misuse(rt, error);
+            if let Ok(told) = format!(in rt.alloc(); "{error}") {
+                note(rt, told.as_bytes());
+            }
             ExitCode::from(2)
-        }
-    }
-}
-
-// Tells what is wrong with the words.
-fn tell_misuse(rt: &(impl Eprint + AllocGlobal), error: &clap::Error) {
-    let alloc = rt.alloc();
-    if let Ok(told) = format!(in alloc; "{error}") {
-        if let Ok(lines) = readable(alloc, told.as_str(), TextKind::Lines) {
-            let _ = eprint!(rt; "{lines}");
         }
     }
 }
@@ -123,10 +114,52 @@ fn carry_out_each<G: Progress>(
     ensures each { EndWith asked.now.command asked.now.inputs.items result }
 {
     let mut status = 0;
+    let mut left = asked.inputs.len();
+    let mut gathered = Vec::new(rt.alloc());
     for inputs in &asked.inputs {
-        status = greater(status, carry_out(rt, asked, *inputs, to_terminal, progress));
+        left = left.saturating_sub(1);
+        let own = carry_out(rt, asked, *inputs, to_terminal, progress, &mut gathered);
+        let ended = once_written(rt, asked, *inputs, left, &gathered, own);
+        status = greater(status, ended);
     }
     status
+}
+
+// The status of what a command is carried out on, of which so many are left: of the last one it is that of trouble if what is
+// gathered of all can't be written.
+fn once_written(
+    rt: &(impl Print + Eprint + AllocGlobal),
+    asked: &Asked<'_>,
+    inputs: Inputs<'_>,
+    left: usize,
+    gathered: &[u8],
+    status: u8,
+) -> u8
+    ensures { (result ≡ status) ⊎ (result ≡ 2) }
+{
+    if left > 0 || !gathers(&asked.command) {
+        return status;
+    }
+    match write_gathered(rt, gathered) {
+        Ok(()) => status,
+        Err(error) => {
+            tell(rt, asked, inputs, &Failure::Output(error));
+            TROUBLE
+        }
+    }
+}
+
+fn write_gathered(rt: &(impl Print + AllocGlobal), gathered: &[u8]) -> io::Result<()> {
+    let text = list_text(rt.alloc(), "diagnostics", gathered)?;
+    io::writer(rt).write_all(&text)
+}
+
+// Whether what a command makes is written at once, behind the last of what it is carried out on.
+fn gathers(command: &Command<'_>) -> bool {
+    match command {
+        Command::Check { format, .. } => matches!(format, CheckFormat::Json),
+        _ => false,
+    }
 }
 
 fn greater(first: u8, second: u8) -> u8
@@ -144,11 +177,12 @@ fn carry_out<G: Progress>(
     inputs: Inputs<'_>,
     to_terminal: bool,
     progress: &mut G,
+    gathered: &mut Vec<u8>,
 ) -> u8
     ensures ended { result ≤ 3 }
     ensures performed { EndsWith asked.now.command result }
 {
-    match carried_out(rt, asked, inputs, to_terminal, progress) {
+    match carried_out(rt, asked, inputs, to_terminal, progress, gathered) {
         Ok(done) => {
             note(rt, &done.notes);
             status_of(done.verdict)
@@ -166,6 +200,7 @@ fn carried_out<G: Progress>(
     inputs: Inputs<'_>,
     to_terminal: bool,
     progress: &mut G,
+    gathered: &mut Vec<u8>,
 ) -> Result<Done, Failure>
     ensures { IfOk result (λ done. IsPerformed asked.now.command done.verdict) }
 {
@@ -178,29 +213,18 @@ fn carried_out<G: Progress>(
     }
     let first = first_of(rt, command, inputs)?;
     let second = open(rt, inputs.second).map_err(Failure::Second)?;
+    let alloc = rt.alloc();
+    if gathers(command) {
+        let held = perform(alloc, command, inputs, first, second, gathered, progress)?;
+        return Ok(held);
+    }
     let Some(path) = asked.output else {
         let mut out = io::writer(rt);
-        let shown = perform(
-            rt.alloc(),
-            command,
-            inputs,
-            first,
-            second,
-            &mut out,
-            progress,
-        )?;
+        let shown = perform(alloc, command, inputs, first, second, &mut out, progress)?;
         return Ok(shown);
     };
-    let mut bytes = Vec::new(rt.alloc());
-    let done = perform(
-        rt.alloc(),
-        command,
-        inputs,
-        first,
-        second,
-        &mut bytes,
-        progress,
-    )?;
+    let mut bytes = Vec::new(alloc);
+    let done = perform(alloc, command, inputs, first, second, &mut bytes, progress)?;
     match write_whole(rt, path, &bytes) {
         Ok(()) => Ok(done),
         Err(error) => Err(Failure::Output(error)),
@@ -229,15 +253,12 @@ fn is_onto(rt: &(impl Files + AllocGlobal), asked: &Asked<'_>, inputs: Inputs<'_
     };
     if let Command::Learn { learning, .. } = &asked.command {
         for path in &learning.further {
-            if *path != "-" && is_same(rt, path, output) {
+            if is_same(rt, path, output) {
                 return true;
             }
         }
     }
-    match inputs.first {
-        Some(first) => first != "-" && is_same(rt, first, output),
-        None => false,
-    }
+    inputs.first.is_some_and(|first| is_same(rt, first, output))
 }
 
 // Whether a command writes bytes that are no text.

@@ -1,27 +1,37 @@
 // How long programs are, and how many steps they take.
 
-mod measure;
-mod text;
 mod ways;
 
-ghost use Rattle.std.specs.Prelude.{IfOk, string_cmp};
+ghost use Rattle.std.specs.Prelude.{◌≡◌, IfOk, string_cmp};
 ghost use Rattle.std.specs.List.{AllZip};
 ghost use Rattle.std.specs.List.Sorted.{IsStrictlySortedBy};
 ghost use Rattle.std.specs.Map.{keys_of};
 ghost use Rattle.seccompiler.specs.JsonAnswers.{OfValue};
-ghost use Rattle.seccomptool.specs.Stats.{AreStats, IsMeasureIn, IsMeasured, IsProfileMeasure};
+ghost use Rattle.seccomp_compare.specs.Machine.{IsChecked};
+ghost use Rattle.seccomptool.specs.Stats.{AreStats, IsMeasureIn, IsMeasureOf, IsMeasured, IsProfileMeasure, passing_record};
 
+use crate::chosen::{is_asked, some_text};
 use crate::error::ToolError;
-use crate::layouts::program_in;
 use crate::profile::compiled_of;
-pub use crate::stats::measure::Measure;
-pub(crate) use crate::stats::measure::measure_of;
-pub(crate) use crate::stats::text::{filters_text, measure_text};
+use crate::stats::ways::most_steps;
+use seccomp_command_line::readable::{TextKind, push_readable};
+use seccomp_compare::machine::run;
 use seccomp_oci::Container;
-use seccomp_tree::{FilterError, Layout};
-use seccompiler::{JsonCompiler, SeccompFilter, SyscallTable, TargetArch};
-use std::alloc::Global;
+use seccomp_tree::{FilterError, Layout, to_bpf_in};
+use seccompiler::{BpfProgramRef, JsonCompiler, SeccompFilter, SyscallTable, TargetArch};
+use std::alloc::{AllocError, Global};
 use std::collections::BTreeMap;
+
+/// How long a program is, and how many steps it takes.
+#[derive(Clone, Copy)]
+pub struct Measure {
+    /// How many instructions it has.
+    pub length: usize,
+    /// The most instructions on a way through it.
+    pub most: usize,
+    /// Its steps on a call whose number is the greatest, which no filter lists.
+    pub passing: usize,
+}
 
 /// The numbers of a filter's programs.
 #[derive(Drop)]
@@ -100,7 +110,7 @@ fn first_cause(
     cause: FilterError,
 ) -> FilterError {
     for (_, filter) in filters {
-        if let Err(refusal) = program_in(alloc, filter, Layout::Linear) {
+        if let Err(refusal) = to_bpf_in(alloc, filter, Layout::Linear) {
             return refusal;
         }
     }
@@ -116,6 +126,85 @@ fn measure_in(
 ) -> Result<Measure, FilterError>
     ensures { IfOk result (IsMeasureIn layout target filter.now) }
 {
-    let program = program_in(alloc, filter, layout)?;
+    let program = to_bpf_in(alloc, filter, layout)?;
     Ok(measure_of(alloc, target, &program)?)
+}
+
+// The measure of a program for this architecture.
+pub(crate) fn measure_of(
+    alloc: Global,
+    target: TargetArch,
+    program: BpfProgramRef<'_>,
+) -> Result<Measure, AllocError>
+    requires { IsChecked program.now }
+    ensures { IfOk result (IsMeasureOf target program.now) }
+{
+    Ok(Measure {
+        length: program.len(),
+        most: most_steps(alloc, program)?,
+        passing: run(program, &passing_record(target)).steps,
+    })
+}
+
+// The record of the greatest call number, with arguments that are 0.
+fn passing_record(target: TargetArch) -> [u8; 64]
+    ensures { result ≡ passing_record target }
+{
+    let mut record = [0; 64];
+    record[..4].copy_from_slice(&u32::MAX.to_le_bytes());
+    record[4..8].copy_from_slice(&target.get_audit_value().to_le_bytes());
+    record
+}
+
+/// The lines of filters' numbers, three for each filter:
+///
+/// ```text
+/// filter NAME
+/// linear: LENGTH instructions, at most MOST steps, PASSING passing
+/// tree: LENGTH instructions, at most MOST steps, PASSING passing
+/// ```
+///
+/// In NAME each byte of the control characters (U+0080 to U+009F too) and of the backslash is written as `\x`
+/// and two lower-case hexadecimal digits, all others as they are. The numbers are decimal. MOST is the length
+/// of the longest path through the program from its first instruction to a return; no record takes more steps,
+/// and perhaps none takes as many. PASSING is the number of steps on the record of call 4294967295, which no
+/// architecture has, with arguments that are 0. In the linear layout each call that the filter doesn't list
+/// takes exactly as many, if it lists any; in the tree another one may take more or fewer.
+///
+/// # Errors
+///
+/// `NoFilter` with the name that is asked for, if no filter has it; `OutOfMemory` if memory runs out.
+pub(crate) fn filters_text(
+    alloc: Global,
+    asked: Option<&str>,
+    all: &[FilterStats],
+) -> Result<Vec<u8>, ToolError> {
+    let mut text = Vec::new(alloc);
+    for filter in all {
+        if is_asked(asked, filter.name.as_str()) {
+            text.extend_from_slice(b"filter ")?;
+            push_readable(&mut text, filter.name.as_str(), TextKind::Name)?;
+            text.push(b'\n')?;
+            text.extend_from_slice(&measure_text(alloc, "linear", filter.linear)?)?;
+            text.extend_from_slice(&measure_text(alloc, "tree", filter.tree)?)?;
+        }
+    }
+    some_text(alloc, asked, text)
+}
+
+/// The line of the numbers of one program, after a name.
+pub(crate) fn measure_text(
+    alloc: Global,
+    front: &str,
+    measure: Measure,
+) -> Result<Vec<u8>, AllocError> {
+    let Measure {
+        length,
+        most,
+        passing,
+    } = measure;
+    let line = format!(in alloc;
+        "{front}: {length} instructions, at most {most} steps, {passing} passing\n"
+    )?;
+    Ok(line.into_bytes())
 }

@@ -7,9 +7,10 @@ mod options;
 mod program;
 mod values;
 
-use crate::compile::format::ProgramFormat;
-use crate::diff::scope::Scope;
-use crate::explain::format::LineFormat;
+use crate::check::format::CheckFormat;
+use crate::compile::text::ProgramFormat;
+use crate::diff::Scope;
+use crate::explain::lines::LineFormat;
 use crate::findings::Terms;
 use crate::kind::Reading;
 use crate::learn::Learning;
@@ -64,6 +65,8 @@ pub enum Command<'a> {
         denied: bool,
         /// The codes whose warnings aren't printed.
         allowed: Vec<Code>,
+        /// How errors and warnings are written.
+        format: CheckFormat,
     },
     /// Print the codes of warnings.
     Codes,
@@ -197,21 +200,20 @@ impl<T: Drop> From<AllocFailed<T>> for Misuse {
 pub(crate) fn read<'a>(alloc: Global, words: &'a [String]) -> Result<Asked<'a>, clap::Error> {
     let mut program = program(alloc)?;
     let matches = program.try_get_matches_from_mut(words)?;
-    let Some((name, found)) = matches.subcommand() else {
-        return Err(misused(&mut program, "no command is given"));
+    let misuse = match matches.subcommand() {
+        None => Misuse::Told("no command is given"),
+        Some((name, found)) => match asked_in(alloc, name, found) {
+            Ok(asked) => return Ok(asked),
+            Err(misuse) => misuse,
+        },
     };
-    match asked_in(alloc, name, found) {
-        Ok(asked) => Ok(asked),
-        Err(Misuse::Told(message)) => Err(misused(&mut program, message)),
-        Err(Misuse::Named(message)) => Err(misused(&mut program, message.as_str())),
-        Err(Misuse::OutOfMemory) => Err(clap::Error::from(AllocError)),
-    }
-}
-
-// The error of words that clap takes and that are no command.
-fn misused(program: &mut clap::Command<'_>, message: &str) -> clap::Error {
+    let message = match &misuse {
+        Misuse::Told(message) => *message,
+        Misuse::Named(message) => message.as_str(),
+        Misuse::OutOfMemory => return Err(clap::Error::from(AllocError)),
+    };
     match program.error(ErrorKind::ValueValidation, message) {
-        Ok(error) => error,
-        Err(error) => clap::Error::from(error),
+        Ok(error) => Err(error),
+        Err(error) => Err(clap::Error::from(error)),
     }
 }

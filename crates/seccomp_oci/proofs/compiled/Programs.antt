@@ -8,7 +8,7 @@ use Rattle.seccomp_oci.specs.declared.compiled.CompileError.{CompileError}
 use Rattle.seccomp_oci.specs.declared.compiled.CompileError.TheVariants as e
 use Rattle.seccomp_oci.specs.CompiledProfile.{IsCompileFault, IsProfileProgram, IsProgramFault, IsRead}
 use Rattle.seccomp_oci.specs.ProfileDecisions.{DecideAs}
-use Rattle.seccomp_oci.specs.Types.{Container, Profile}
+use Rattle.seccomp_profiles.specs.Types.{Container, Profile}
 
 module _ (arch : TargetArch) (container : Container) (p : Profile) where
   -- A program of decisions that decide as the profile is the profile's.

@@ -4,7 +4,7 @@ use Rattle.std.proofs.Common.{Global}
 use Rattle.std.specs.Prelude.{Any}
 use Rattle.std.proofs.lemmas.List.{map_push, take_more, take_all}
 use Rattle.seccompiler.specs.Policy.{Condition, Holds, RuleHolds}
-use Rattle.seccomp_oci.specs.declared.types.Argument.{Argument}
+use Rattle.seccomp_profiles.specs.declared.types.Argument.{Argument}
 use Rattle.seccomp_oci.specs.Concerns.{AreAlternatives}
 use Rattle.seccomp_oci.specs.Decision.{AreMet, all_met, one_met, IsMet, ShareArgument}
 use Rattle.seccomp_oci.proofs.Quantified.{all_more, all_one, any_more, any_one}

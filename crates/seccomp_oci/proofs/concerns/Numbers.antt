@@ -2,7 +2,6 @@
 use Rattle.std.proofs.Common.{◌≡◌, ◌≢◌, ◌<◌, ℕ, pos, ◌+◌, List, [], ◌∷◌, ◌++◌, map, take, length, get_or, subst, sym, ap, ◌∙◌, inl, inr}
 use Rattle.std.proofs.Common.{String, Global, string_bytes, Option, Some, None, arith}
 use Rattle.std.specs.Prelude.{Any, Contains, IfNone, IfSome, MatchOption}
-use Rattle.std.proofs.lemmas.List.{map_push}
 use Rattle.std.proofs.lemmas.List.Elements.{All-nil, All-push, Contains-append_left, Contains-push, Contains-push_cases}
 use Rattle.seccompiler.specs.declared.backend.SeccompAction.{SeccompAction}
 use Rattle.seccompiler.specs.declared.backend.TargetArch.{TargetArch}
@@ -10,8 +9,8 @@ use Rattle.seccompiler.specs.Architecture.{table_of}
 use Rattle.seccompiler.specs.SyscallTable.{number_of}
 use Rattle.seccomp_oci.specs.Concerns.{AreCallsOf}
 use Rattle.seccomp_oci.specs.Decision.{Applies, Concerns, IsNameOf}
-use Rattle.seccomp_oci.specs.Types.{Container, Entry}
-use Rattle.seccomp_oci.proofs.Quantified.{any_append, any_nil, any_one, more_read}
+use Rattle.seccomp_profiles.specs.Types.{Container, Entry}
+use Rattle.seccomp_oci.proofs.Quantified.{any_last, any_nil, more_texts}
 
 module _ (arch : TargetArch) where
   -- The numbers of these names.
@@ -30,42 +29,31 @@ module _ (arch : TargetArch) where
   one_more : (old : List ℕ) (before : List (List ℕ)) (text : List ℕ) (k : ℕ) → IsNameOf arch k text → k < 463
       → AreNumbersOf before old → AreNumbersOf (before ++ text ∷ []) (old ++ k ∷ [])
   one_more old before text k is small so_far = record {
-    exactly = λ n. (there n, back n);
+    exactly = λ n. (
+      λ has. (any_last (IsNameOf arch n) before text).1 (elim (Contains-push_cases old k n has) [
+        | inl earlier ↦ inl ((so_far.exactly n).0 earlier)
+        | inr same ↦ inr (subst (λ n. IsNameOf arch n text) same is)
+      ]),
+      λ any. elim ((any_last (IsNameOf arch n) before text).0 any) [
+        | inl earlier ↦ Contains-append_left old (k ∷ []) n ((so_far.exactly n).1 earlier)
+        | inr named ↦ let same : k ≡ n = cc in subst (λ n. Contains (old ++ k ∷ []) n) same (Contains-push old k)
+      ],
+    );
     below = All-push (λ n. n < 463) old k so_far.below small;
   }
-    where
-      there : (n : ℕ) → Contains (old ++ k ∷ []) n → Any (IsNameOf arch n) (before ++ text ∷ [])
-      there n has = elim (Contains-push_cases old k n has) [
-        | inl earlier ↦ (any_append (IsNameOf arch n) before (text ∷ [])).1 (inl ((so_far.exactly n).0 earlier))
-        | inr same ↦ (any_append (IsNameOf arch n) before (text ∷ [])).1 (inr ((any_one (IsNameOf arch n) text).1
-            (subst (λ n. IsNameOf arch n text) same is)))
-      ]
-
-      back : (n : ℕ) → Any (IsNameOf arch n) (before ++ text ∷ []) → Contains (old ++ k ∷ []) n
-      back n any = elim ((any_append (IsNameOf arch n) before (text ∷ [])).0 any) [
-        | inl earlier ↦ Contains-append_left old (k ∷ []) n ((so_far.exactly n).1 earlier)
-        | inr last ↦
-            let named = (any_one (IsNameOf arch n) text).0 last in
-            let same : k ≡ n = cc in
-            subst (λ n. Contains (old ++ k ∷ []) n) same (Contains-push old k)
-      ]
 
   one_unknown : (old : List ℕ) (before : List (List ℕ)) (text : List ℕ) → ((n : ℕ) → IsNameOf arch n text → ⊥)
       → AreNumbersOf before old → AreNumbersOf (before ++ text ∷ []) old
   one_unknown old before text unknown so_far = record {
     exactly = λ n. (
-      λ has. (any_append (IsNameOf arch n) before (text ∷ [])).1 (inl ((so_far.exactly n).0 has)),
-      λ any. elim ((any_append (IsNameOf arch n) before (text ∷ [])).0 any) [
+      λ has. (any_last (IsNameOf arch n) before text).1 (inl ((so_far.exactly n).0 has)),
+      λ any. elim ((any_last (IsNameOf arch n) before text).0 any) [
         | inl earlier ↦ (so_far.exactly n).1 earlier
-        | inr last ↦ absurd (unknown n ((any_one (IsNameOf arch n) text).0 last))
+        | inr named ↦ absurd (unknown n named)
       ],
     );
     below = so_far.below;
   }
-
-  pub whole : (names : List (String Global)) (i : ℕ) (name : String Global) → i < length names → name ≡ get_or names i name
-      → map string_bytes (take (i + 1) names) ≡ map string_bytes (take i names) ++ string_bytes name ∷ []
-  whole names i name within is = ap (map string_bytes) (more_read names i name within is) ∙ map_push string_bytes (take i names) name
 
   -- The numbers so far and that of one name more, if it has one.
   pub next : (old new : List ℕ) (names : List (String Global)) (i : ℕ) (name : String Global) (text : List ℕ) (o : Option ℕ)
@@ -75,12 +63,12 @@ module _ (arch : TargetArch) where
       → MatchOption o (new ≡ old) (λ n. new ≡ old ++ n ∷ []) → AreNumbersOf (map string_bytes (take i names)) old
       → AreNumbersOf (map string_bytes (take (i + 1) names)) new
   next old new names i name text None within read same some none longer so_far =
-      subst (λ texts. AreNumbersOf texts new) (sym (whole names i name within read))
+      subst (λ texts. AreNumbersOf texts new) (sym (more_texts names i name within read))
       (subst (AreNumbersOf (map string_bytes (take i names) ++ string_bytes name ∷ [])) (sym longer)
       (one_unknown old (map string_bytes (take i names)) (string_bytes name)
       (λ n is. none n (ap (number_of (table_of arch)) same ∙ is)) so_far))
   next old new names i name text (Some k) within read same some none longer so_far =
-      subst (λ texts. AreNumbersOf texts new) (sym (whole names i name within read))
+      subst (λ texts. AreNumbersOf texts new) (sym (more_texts names i name within read))
       (subst (AreNumbersOf (map string_bytes (take i names) ++ string_bytes name ∷ [])) (sym longer)
       (one_more old (map string_bytes (take i names)) (string_bytes name) k
       (ap (number_of (table_of arch)) (sym same) ∙ some.0) some.1 so_far))

@@ -4,7 +4,7 @@ use Rattle.seccompiler.specs.declared.backend.SeccompAction.{SeccompAction}
 use Rattle.seccompiler.specs.declared.backend.TargetArch.{TargetArch}
 use Rattle.seccompiler.specs.Machine.{word_at}
 use Rattle.seccomp_oci.specs.Decision.{by_default, by_entry, default_of, IsByEntry, IsDefault, IsProfileDecision, Matches, NoneOf, rank}
-use Rattle.seccomp_oci.specs.Types.{Container, Entry, Profile}
+use Rattle.seccomp_profiles.specs.Types.{Container, Entry, Profile}
 use Rattle.seccomp_oci.proofs.Least.{least_only}
 
 -- What a test decides has one answer.

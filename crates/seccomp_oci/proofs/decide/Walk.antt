@@ -8,7 +8,7 @@ use Rattle.seccompiler.specs.declared.backend.TargetArch.{TargetArch}
 use Rattle.seccomp_oci.specs.declared.decide.Found.{Found}
 use Rattle.seccomp_oci.specs.Decided.{AreFound, IsFound}
 use Rattle.seccomp_oci.specs.Decision.{Applies, Concerns, IsByEntry, IsNameOf, Matches, rank}
-use Rattle.seccomp_oci.specs.Types.{Container, Entry, Profile}
+use Rattle.seccomp_profiles.specs.Types.{Container, Entry, Profile}
 use Rattle.seccomp_oci.proofs.Least.{least_kept, least_next, none_more}
 
 module _ (P : Entry → Type 0) (entries : List Entry) (i : ℕ) (e : Entry) (inside : i < length entries) (read : e ≡ get_or entries i e) where

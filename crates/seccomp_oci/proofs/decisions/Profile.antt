@@ -13,11 +13,11 @@ use Rattle.seccomp_tree.specs.Decisions.{First, Ruling}
 use Rattle.seccomp_tree.specs.Decided.{DecisionSet, default_for, IsDecided, rulings_for}
 use Rattle.seccomp_tree.specs.Decided as decided
 use Rattle.seccomp_oci.specs.Concerns.{Concern, IsConcernOf}
-use Rattle.seccomp_oci.specs.declared.types.Argument.{Argument}
+use Rattle.seccomp_profiles.specs.declared.types.Argument.{Argument}
 use Rattle.seccomp_oci.specs.Decision.{by_default, by_entry, IsDefault, rank_by, strictness}
 use Rattle.seccomp_oci.specs.ProfileDecisions.{DecideAs, IsProfileWord, other, own}
 use Rattle.seccomp_oci.specs.Rulings.{AreRulingsFor}
-use Rattle.seccomp_oci.specs.Types.{Container, Entry, Profile}
+use Rattle.seccomp_profiles.specs.Types.{Container, Entry, Profile}
 use Rattle.seccomp_oci.proofs.decisions.Held.{first_cases}
 
 -- Each entry is of one of eight ranks.

@@ -10,7 +10,7 @@ use Rattle.seccomp_tree.specs.Decisions.{Ruling}
 use Rattle.seccomp_oci.specs.Concerns.{Concern, IsConcernOf}
 use Rattle.seccomp_oci.specs.Decision.{Concerns, Matches, rank}
 use Rattle.seccomp_oci.specs.Rulings.{AreRulings, each_with, IsDone, IsPushed, passed_over, pushed, IsSaid}
-use Rattle.seccomp_oci.specs.Types.{Container, Entry}
+use Rattle.seccomp_profiles.specs.Types.{Container, Entry}
 use Rattle.seccomp_oci.proofs.Least.{same_at, up_to}
 use Rattle.seccomp_oci.proofs.Quantified.{all_append}
 use Rattle.seccomp_oci.proofs.Zipped.{zip_at, zip_length}

@@ -9,9 +9,9 @@ use Rattle.std.proofs.lemmas.Cmp.{nat_list_eq_equiv}
 use Rattle.std.proofs.lemmas.Map.Views.{Contains-from_any, list_any-from_Contains}
 use Rattle.std.proofs.lemmas.Slice.Eq.{bytes_eq-Decides}
 use Rattle.seccompiler.specs.declared.backend.TargetArch.{TargetArch}
-use Rattle.seccomp_oci.specs.declared.types.Kernel.{Kernel}
+use Rattle.seccomp_profiles.specs.declared.types.Kernel.{Kernel}
 use Rattle.seccomp_oci.specs.Decision.{go_name, Applies, IsAtLeast}
-use Rattle.seccomp_oci.specs.Types.{Container, Entry}
+use Rattle.seccomp_profiles.specs.Types.{Container, Entry}
 
 -- Whether a text is one of these.
 pub text_decides : (texts : List (List ℕ)) (text : List ℕ) → Decides (list_any (bytes_eq text) texts) (Contains texts text)

@@ -12,8 +12,8 @@ use Rattle.seccompiler.specs.JsonEntries.{ConditionsHold, MeetsEntry}
 use Rattle.seccompiler.specs.JsonPolicyOf.{condition_of, IsPolicyOf}
 use Rattle.seccompiler.specs.JsonTypes.{JsonRule, JsonFilter}
 use Rattle.seccompiler.specs.Machine.{word_at}
-use Rattle.seccomptool.specs.declared.explain.reason.Reason.{Reason}
-use Rattle.seccomptool.specs.declared.explain.reason.Reason.TheVariants.{AnotherArchitecture, NoEntry, NoMatch, Entry}
+use Rattle.seccomptool.specs.declared.explain.search.Reason.{Reason}
+use Rattle.seccomptool.specs.declared.explain.search.Reason.TheVariants.{AnotherArchitecture, NoEntry, NoMatch, Entry}
 use Rattle.seccomptool.specs.Reasons.{AreIndicesFor, EntryHolds, OfEntry, IsFirstMatch, IsReasonAmong, IsReason, of_another, of_call}
 use Rattle.seccomptool.specs.Explain.{action_of}
 use Rattle.seccomptool.proofs.explain.EntrySearches as search

@@ -18,9 +18,9 @@ use Rattle.seccompiler.specs.JsonTypes.{JsonRule}
 use Rattle.seccompiler.specs.Machine.{word_at}
 use Rattle.seccompiler.specs.Architecture.{table_of}
 use Rattle.seccompiler.specs.SyscallTable.{number_of}
-use Rattle.seccomptool.specs.declared.explain.reason.Miss.{Miss}
-use Rattle.seccomptool.specs.declared.explain.reason.Reason.{Reason}
-use Rattle.seccomptool.specs.declared.explain.reason.Reason.TheVariants.{AnotherArchitecture, NoEntry, NoMatch, Entry}
+use Rattle.seccomptool.specs.declared.explain.search.Miss.{Miss}
+use Rattle.seccomptool.specs.declared.explain.search.Reason.{Reason}
+use Rattle.seccomptool.specs.declared.explain.search.Reason.TheVariants.{AnotherArchitecture, NoEntry, NoMatch, Entry}
 use Rattle.seccomptool.specs.Reasons.{ConditionHolds, EntryHolds, EntryFails, FirstFails, OfEntry, FailsBelow, IsNearest, IsFirstMatch}
 use Rattle.seccomptool.specs.Reasons.{AreIndicesFor, IsReasonAmong, IsReason, of_another, of_call, nearer}
 use Rattle.seccomptool.proofs.explain.Ascending.{same_indices}

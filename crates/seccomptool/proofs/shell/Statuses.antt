@@ -35,6 +35,13 @@ failed command Same shown = absurd (omega (arith, shown))
 failed command Different shown = absurd (omega (arith, shown))
 failed command Undecided shown = absurd (omega (arith, shown))
 
+-- A command that is carried out ends with its own status, or with that of trouble.
+pub once_ended : (command : Command) (own after : ℕ) → EndsWith command own → (after ≡ own) ⊎ (after ≡ 2) → EndsWith command after
+once_ended command own after ends either = elim either [
+  | inl same ↦ subst (EndsWith command) (sym same) ends
+  | inr trouble ↦ subst (EndsWith command) (sym trouble) (failed command)
+]
+
 -- Nothing ends with 0.
 pub none_ended : (command : Command) → EndWith command [] 0
 none_ended command = record { statuses = []; each = tt; most = All-nil (λ s. s ≤ 0); reached = inl refl }

@@ -8,25 +8,24 @@ ghost use Rattle.seccomp_oci.specs.ProfileText.{IsProfileText};
 ghost use Rattle.seccomp_oci.specs.Types.{AllOnArguments, Container, Profile};
 ghost use Rattle.seccomptool.specs.CheckProfile.{IsProfileCheckOf, IsRefusedProfile, IsSoOfProfile, IsTold, IsTrueOf, code_of};
 
-use crate::check::profile::lines::profile_lines;
 use crate::error::ToolError;
 use crate::profile::compiled_of;
-use seccomp_oci::{
-    CompiledProfile, Container, Doubt, EntryFilter, Origin, Profile, doubts_of, entry_filters_of,
-    profile_of,
-};
-use seccomp_warnings::{Code, Report, Subject, Warning, denies_each, verdicts_of, warnings_of};
+use seccomp_oci::{CompiledProfile, Container, Profile, profile_of};
+use seccomp_profile_checks::{Doubt, EntryFilter, Origin, doubts_of, entry_filters_of};
+use seccomp_warnings::{Code, Subject, Warning, denies_each, verdicts_of, warnings_of};
 use seccompiler::{JsonFilter, SeccompAction, TargetArch};
 use serde_json::Value;
 use std::alloc::{AllocError, Global};
 
-/// A profile's program, and its warnings.
+/// A profile, its program, and its warnings.
 #[derive(Drop)]
 pub struct CheckedProfile {
+    /// The profile.
+    pub profile: Profile,
     /// The program.
     pub compiled: CompiledProfile,
     /// The warnings.
-    pub report: Report,
+    pub warnings: Vec<ProfileWarning>,
 }
 
 /// A warning of a profile.
@@ -68,8 +67,7 @@ const KEYS: [&str; 11] = [
     "comment",
 ];
 
-/// The warnings of a profile's text, except those of the allowed codes, each in a line after this prefix: what is doubtful
-/// about the profile, its flags and unknown keys, and the warnings of the filters of [`entry_filters_of`].
+/// The warnings of a profile's text, except those of the allowed codes: what is doubtful about the profile, its flags and unknown keys, and the warnings of the filters of [`entry_filters_of`].
 ///
 /// These filters decide together, and a runtime reads the profile. So these warnings are left out beside those of the allowed
 /// codes:
@@ -88,20 +86,19 @@ pub fn profile_checked(
     target: TargetArch,
     container: &Container,
     allowed: &[Code],
-    front: &[u8],
     text: &[u8],
 ) -> Result<CheckedProfile, ToolError>
-    ensures report { IfOk result (IsProfileCheckOf target container.now allowed.now text.now) }
+    ensures checked { IfOk result (IsProfileCheckOf target container.now allowed.now text.now) }
     ensures refused { IfErr result (IsRefusedProfile target container.now false text.now) }
 {
     let compiled = compiled_of(alloc, target, container, false, text)?;
     let profile = taken(alloc, text)?;
     let warnings = warnings_in(alloc, target, container, allowed, &profile, text)?;
-    let report = Report {
-        text: profile_lines(alloc, target, container, front, &profile, &warnings)?,
-        count: warnings.len(),
-    };
-    Ok(CheckedProfile { compiled, report })
+    Ok(CheckedProfile {
+        profile,
+        compiled,
+        warnings,
+    })
 }
 
 // The profile of a text that is compiled: an error is want of memory.

@@ -1,11 +1,26 @@
 // A program, as it is written.
 
+ghost use Rattle.std.specs.Prelude.{◌≡◌, ◌++◌, IfOk, OnOk};
+ghost use Rattle.seccomptool.specs.Compile.{instruction_bytes, program_bytes};
+
 use crate::compile::NamedProgram;
-use crate::compile::bytes::bytes_of;
-use crate::compile::format::ProgramFormat;
 use seccomp_command_line::listing::push_listing;
 use seccompiler::{BpfProgramRef, sock_filter};
 use std::alloc::{AllocError, Global};
+
+/// How `compile` writes a program.
+#[derive(Clone, Copy)]
+pub enum ProgramFormat {
+    /// As the machine has it: each instruction as the 8 bytes of a `struct sock_filter`, its numbers
+    /// with the low byte first: code in 2, jt in 1, jf in 1, k in 4.
+    Raw,
+    /// As `seccompc list` writes it: a line `filter LENGTH NAME` and a line for each instruction.
+    Listing,
+    /// As C has it: for each instruction the initializer of a `struct sock_filter`, in a line
+    /// `{ CODE, JT, JF, K },`. A file of such lines is included between the braces of an array's
+    /// initializer.
+    C,
+}
 
 /// A filter's program in this form.
 ///
@@ -25,17 +40,36 @@ pub(crate) fn program_text(
             push_listing(&mut text, made.name.as_str(), &made.program)?;
             Ok(text)
         }
-        ProgramFormat::C => initializers(alloc, &made.program),
+        ProgramFormat::C => {
+            let mut text = Vec::new(alloc);
+            for instruction in &made.program {
+                let sock_filter { code, jt, jf, k } = *instruction;
+                let line = format!(in alloc; "{{ 0x{code:x}, {jt}, {jf}, 0x{k:08x} }},\n")?;
+                text.extend_from_slice(line.as_bytes())?;
+            }
+            Ok(text)
+        }
     }
 }
 
-// The initializers of a program's instructions, a line for each.
-fn initializers(alloc: Global, program: BpfProgramRef<'_>) -> Result<Vec<u8>, AllocError> {
-    let mut text = Vec::new(alloc);
+// The bytes of a program.
+pub(crate) fn bytes_of(alloc: Global, program: BpfProgramRef<'_>) -> Result<Vec<u8>, AllocError>
+    ensures { IfOk result (λ bytes. bytes.items ≡ program_bytes program.now) }
+{
+    let mut bytes = Vec::new(alloc);
     for instruction in program {
-        let sock_filter { code, jt, jf, k } = *instruction;
-        let line = format!(in alloc; "{{ 0x{code:x}, {jt}, {jf}, 0x{k:08x} }},\n")?;
-        text.extend_from_slice(line.as_bytes())?;
+        push_instruction(&mut bytes, instruction)?;
     }
-    Ok(text)
+    Ok(bytes)
+}
+
+// Adds the bytes of an instruction.
+fn push_instruction(bytes: &mut Vec<u8>, instruction: &sock_filter) -> Result<(), AllocError>
+    ensures { OnOk result (bytes.new.items ≡ bytes.old.items ++ instruction_bytes instruction.now) }
+{
+    let sock_filter { code, jt, jf, k } = *instruction;
+    bytes.extend_from_slice(&code.to_le_bytes())?;
+    bytes.push(jt)?;
+    bytes.push(jf)?;
+    bytes.extend_from_slice(&k.to_le_bytes())
 }

@@ -3,7 +3,7 @@
 use crate::diff::pair::Pair;
 use crate::diff::{Found, NamedFound, verdict_found};
 use crate::findings::lines::{Shown, push_filter, push_finding, push_verdict};
-use crate::findings::{Finding, Part, Terms, verdict_of};
+use crate::findings::{Part, Terms, verdict_of};
 use crate::kind::Subject;
 use crate::sides::Side;
 use seccomp_command_line::readable::{TextKind, push_readable};
@@ -28,7 +28,9 @@ pub(crate) fn lines_by_name(
             Found::OnlyNew => text.extend_from_slice(b": only in NEW\n")?,
             Found::Both(findings) => {
                 push_verdict(&mut text, terms.relation, verdict_found(&named.found))?;
-                push_all(alloc, &mut text, shown, findings)?;
+                for finding in findings {
+                    push_finding(alloc, &mut text, shown, *finding)?;
+                }
             }
         }
     }
@@ -52,21 +54,20 @@ pub(crate) fn pair_lines(
     push_title(&mut text, old, new, pair)?;
     let own = pair.found.own.as_slice();
     push_verdict(&mut text, terms.relation, verdict_of(own))?;
-    for finding in own {
-        if let Part::Named { .. } = finding.part {
-            push_finding(alloc, &mut text, shown, *finding)?;
-        }
-    }
-    for finding in own {
-        if let Part::Unnamed { .. } = finding.part {
-            push_finding(alloc, &mut text, shown, *finding)?;
+    for of_named in [true, false] {
+        for finding in own {
+            if matches!(finding.part, Part::Named { .. }) == of_named {
+                push_finding(alloc, &mut text, shown, *finding)?;
+            }
         }
     }
     if is_program(old) || is_program(new) {
         let others = pair.found.others.as_slice();
         text.extend_from_slice(b"other architectures")?;
         push_verdict(&mut text, terms.relation, verdict_of(others))?;
-        push_all(alloc, &mut text, shown, others)?;
+        for finding in others {
+            push_finding(alloc, &mut text, shown, *finding)?;
+        }
     }
     Ok(text)
 }
@@ -95,17 +96,4 @@ fn push_title(
         (None, None) if is_program(old) && is_program(new) => text.extend_from_slice(b"program"),
         (None, None) => text.extend_from_slice(b"profile"),
     }
-}
-
-// Adds the lines of findings.
-fn push_all(
-    alloc: Global,
-    text: &mut Vec<u8>,
-    shown: Shown,
-    findings: &[Finding],
-) -> Result<(), AllocError> {
-    for finding in findings {
-        push_finding(alloc, text, shown, *finding)?;
-    }
-    Ok(())
 }

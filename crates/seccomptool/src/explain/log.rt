@@ -49,7 +49,12 @@ fn push_call(
     let Some(number) = told_number(arch, told.call) else {
         return Ok(false);
     };
-    log.heads.push(head_of(alloc, told)?)?;
+    let (program, process) = (told.program, told.process);
+    log.heads.push(match (program, process) {
+        ("", _) => String::new(alloc),
+        (_, "") => format!(in alloc; "{program}: ")?,
+        _ => format!(in alloc; "{program}[{process}]: ")?,
+    })?;
     log.records.extend_from_slice(&number.to_le_bytes())?;
     log.records
         .extend_from_slice(&told.arch_word.to_le_bytes())?;
@@ -59,22 +64,6 @@ fn push_call(
             .extend_from_slice(&argument.unwrap_or(0).to_le_bytes())?;
     }
     Ok(true)
-}
-
-// Who made a call.
-fn head_of(alloc: Global, told: &Told<'_>) -> Result<String, AllocError> {
-    let Told {
-        program,
-        process,
-        ..
-    } = *told;
-    if program.is_empty() {
-        return Ok(String::new(alloc));
-    }
-    if process.is_empty() {
-        return Ok(format!(in alloc; "{program}: ")?);
-    }
-    Ok(format!(in alloc; "{program}[{process}]: ")?)
 }
 
 // The lines of a text, each after its head.

@@ -1,12 +1,11 @@
 // What `explain` makes of what is given, and of the calls that it is asked about.
 
-ghost use Rattle.std.specs.Prelude.{◌≡◌, ℕ, IfOk, List};
+ghost use Rattle.std.specs.Prelude.{◌≡◌, IfOk};
 ghost use Rattle.seccomptool.specs.Chosen.{text_of};
 ghost use Rattle.seccomptool.specs.Commands.{IsExplained, IsExplainedAs, OnRecords, records_in};
 ghost use Rattle.seccomptool.specs.declared.findings.Verdict.TheVariants.{Same};
 
-use super::format::LineFormat;
-use super::lines::explained_lines;
+use super::lines::{LineFormat, explained_lines};
 use super::log::{headed, log_of};
 use super::{explain_policy, explain_profile};
 use crate::chosen::refuse_name;
@@ -41,7 +40,14 @@ pub(crate) fn explain_made(
             explain_records(alloc, arch, reading, filter, format, given, &record)
         }
         Calls::Records => explain_records(alloc, arch, reading, filter, format, given, bytes),
-        Calls::Log => explain_log(alloc, arch, reading, filter, format, path, given, bytes),
+        // Each line comes after who made the call.
+        Calls::Log => {
+            let log = log_of(alloc, arch, bytes)?;
+            let made = explain_records(alloc, arch, reading, filter, format, given, &log.records)?;
+            let notes = strange_note(alloc, path, log.strange, log.first_strange)?;
+            let text = headed(alloc, &log.heads, &made.text)?;
+            Ok(Made::noting(text, made.verdict, notes))
+        }
     }
 }
 
@@ -64,29 +70,6 @@ fn explain_records(
         rest: rest.len(),
         verdict: Verdict::Same,
         notes: Vec::new(alloc),
-    })
-}
-
-// The calls that lines of a log or a trace are about, each after who made it.
-fn explain_log(
-    alloc: Global,
-    arch: TargetArch,
-    reading: &Reading,
-    filter: Option<&str>,
-    format: LineFormat,
-    path: &str,
-    given: &[u8],
-    lines: &[u8],
-) -> Result<Made, FaultAt>
-    ensures { IfOk result (λ made. ((records : List (List ℕ)) × IsExplained arch reading.now (text_of filter.entry) given.now records) × (made.verdict ≡ Same)) }
-{
-    let log = log_of(alloc, arch, lines)?;
-    let made = explain_records(alloc, arch, reading, filter, format, given, &log.records)?;
-    Ok(Made {
-        text: headed(alloc, &log.heads, &made.text)?,
-        rest: 0,
-        verdict: made.verdict,
-        notes: strange_note(alloc, path, log.strange, log.first_strange)?,
     })
 }
 

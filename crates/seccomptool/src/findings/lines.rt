@@ -6,7 +6,7 @@ use crate::findings::parts::{X32, name_of};
 use crate::findings::{Answer, Finding, Part, Verdict};
 use seccomp_command_line::readable::{TextKind, push_readable};
 use seccomp_compare::{Relation, rank};
-use seccomp_oci::error_name;
+use seccomp_names::error_name;
 use seccompiler::TargetArch;
 use std::alloc::{AllocError, Global};
 use std::fmt;

@@ -29,22 +29,26 @@ pub(super) fn notes_of(
     learned: &LearnedFilter,
 ) -> Result<Vec<u8>, AllocError> {
     let mut notes = strange_note(alloc, path, trace.strange, trace.first_strange)?;
-    let foreign = match trace.foreign {
-        0 => Vec::new(alloc),
-        1 => note(alloc, path, b"1 call is of another architecture")?,
-        count => {
-            let told = format!(in alloc; "{count} calls are of other architectures")?;
-            note(alloc, path, told.as_bytes())?
-        }
-    };
-    notes.extend_from_slice(&foreign)?;
-    notes.extend_from_slice(&unnamed_note(alloc, arch, path, &trace.unnamed)?)?;
-    for name in given_up(alloc, arch, wanted, &learned.lesson.kept)? {
-        let most = learning.most;
-        let told = format!(in alloc;
-            "{name} is allowed with any arguments, since more than {most} different values were seen"
-        )?;
+    if trace.foreign > 0 {
+        let told = match trace.foreign {
+            1 => String::from_str(alloc, "1 call is of another architecture")?,
+            count => format!(in alloc; "{count} calls are of other architectures")?,
+        };
         notes.extend_from_slice(&note(alloc, path, told.as_bytes())?)?;
+    }
+    notes.extend_from_slice(&unnamed_note(alloc, arch, path, &trace.unnamed)?)?;
+    // The calls that are allowed with any arguments, since more values of them were seen than are kept.
+    let mut before = None;
+    for each in wanted {
+        let (number, kept, most) = (each.number, &learned.lesson.kept, learning.most);
+        if before != Some(number) && !kept.iter().any(|one| one.number == number) {
+            before = Some(number);
+            let name = name_of(arch, number).unwrap_or("a call");
+            let told = format!(in alloc;
+                "{name} is allowed with any arguments, since more than {most} different values were seen"
+            )?;
+            notes.extend_from_slice(&note(alloc, path, told.as_bytes())?)?;
+        }
     }
     Ok(notes)
 }
@@ -85,41 +89,12 @@ fn unnamed_note(
     if unnamed.is_empty() {
         return Ok(Vec::new(alloc));
     }
-    let mut told = format!(in alloc; "{arch} has no call of these names or numbers")?.into_bytes();
-    let mut mark: &[u8] = b": ";
+    let mut told = format!(in alloc; "{arch} has no call of these names or numbers")?;
+    let mut mark = ": ";
     for name in unnamed {
-        told.extend_from_slice(mark)?;
-        told.extend_from_slice(name.as_bytes())?;
-        mark = b", ";
+        told.push_str(mark)?;
+        told.push_str(name.as_str())?;
+        mark = ", ";
     }
-    note(alloc, path, &told)
-}
-
-// The names of calls that are allowed with any arguments, since more values of them were seen than are kept.
-fn given_up(
-    alloc: Global,
-    arch: TargetArch,
-    wanted: &[Kept],
-    kept: &[Kept],
-) -> Result<Vec<&'static str>, AllocError> {
-    let mut names = Vec::new(alloc);
-    let mut before = None;
-    for each in wanted {
-        if has_number(kept, each.number) || before == Some(each.number) {
-            continue;
-        }
-        before = Some(each.number);
-        names.push(name_of(arch, each.number).unwrap_or("a call"))?;
-    }
-    Ok(names)
-}
-
-// Whether an argument of the call is among these.
-fn has_number(kept: &[Kept], number: u32) -> bool {
-    for each in kept {
-        if each.number == number {
-            return true;
-        }
-    }
-    false
+    note(alloc, path, told.as_bytes())
 }

@@ -13,32 +13,19 @@ pub(crate) fn words(
     place: usize,
     instruction: &sock_filter,
 ) -> Result<String, AllocError> {
-    let k = instruction.k;
-    match instruction.code {
-        LOAD => format!(in alloc; "ld [{k}]"),
-        MASK => format!(in alloc; "and #0x{k:x}"),
-        JUMP => {
-            let to = place.saturating_add(1).saturating_add(k as usize);
-            format!(in alloc; "ja {to}")
-        }
-        JUMP_EQUAL => test(alloc, "jeq", place, instruction),
-        JUMP_GREATER => test(alloc, "jgt", place, instruction),
-        JUMP_AT_LEAST => test(alloc, "jge", place, instruction),
-        JUMP_IF_SET => test(alloc, "jset", place, instruction),
-        RETURN => format!(in alloc; "ret #0x{k:x}"),
-        _ => String::from_str(alloc, "unknown"),
-    }
-}
-
-// A jump with a test, of this name.
-fn test(
-    alloc: Global,
-    name: &str,
-    place: usize,
-    instruction: &sock_filter,
-) -> Result<String, AllocError> {
-    let sock_filter { code: _, jt, jf, k } = *instruction;
+    let sock_filter { code, jt, jf, k } = *instruction;
     let next = place.saturating_add(1);
+    let name = match code {
+        LOAD => return format!(in alloc; "ld [{k}]"),
+        MASK => return format!(in alloc; "and #0x{k:x}"),
+        JUMP => return format!(in alloc; "ja {}", next.saturating_add(k as usize)),
+        RETURN => return format!(in alloc; "ret #0x{k:x}"),
+        JUMP_EQUAL => "jeq",
+        JUMP_GREATER => "jgt",
+        JUMP_AT_LEAST => "jge",
+        JUMP_IF_SET => "jset",
+        _ => return String::from_str(alloc, "unknown"),
+    };
     let met = next.saturating_add(jt as usize);
     let unmet = next.saturating_add(jf as usize);
     format!(in alloc; "{name} #0x{k:x}, {met}, {unmet}")

@@ -66,7 +66,13 @@ fn go_on(known: &mut [Option<Known>], place: usize, here: Known, instruction: &s
             lead(known, next, Known { word, ..here });
         }
         MASK => {
-            let word = masked(here.word, k);
+            let word = match here.word {
+                Some(Word { byte, mask }) => Some(Word {
+                    byte,
+                    mask: mask & k,
+                }),
+                None => None,
+            };
             lead(known, next, Known { word, ..here });
         }
         JUMP => lead(known, next.saturating_add(k as usize), here),
@@ -77,15 +83,6 @@ fn go_on(known: &mut [Option<Known>], place: usize, here: Known, instruction: &s
         }
         _ => {}
     }
-}
-
-// A word of which a mask is kept.
-fn masked(word: Option<Word>, mask: u32) -> Option<Word> {
-    let word = word?;
-    Some(Word {
-        byte: word.byte,
-        mask: word.mask & mask,
-    })
 }
 
 // What is known where a test is met, and where it isn't: a test of the architecture tells it.
@@ -138,58 +135,40 @@ fn lead(known: &mut [Option<Known>], place: usize, here: Known) {
 
 // The note on an instruction.
 fn note(alloc: Global, here: Known, instruction: &sock_filter) -> Result<String, AllocError> {
-    let k = instruction.k;
-    match (instruction.code, here.word) {
-        (LOAD, _) => load_meaning(alloc, k),
-        (RETURN, _) => word_meaning(alloc, k),
-        (MASK, Some(word)) => part(alloc, word),
-        (JUMP_EQUAL | JUMP_GREATER | JUMP_AT_LEAST | JUMP_IF_SET, Some(word)) => {
-            test_note(alloc, here.arch, word, instruction)
-        }
-        _ => Ok(String::new(alloc)),
+    let sock_filter { code, k, .. } = *instruction;
+    match code {
+        LOAD => return load_meaning(alloc, k),
+        RETURN => return word_meaning(alloc, k),
+        _ => {}
     }
-}
-
-// The note on a test of a word.
-fn test_note(
-    alloc: Global,
-    arch: Option<u32>,
-    word: Word,
-    instruction: &sock_filter,
-) -> Result<String, AllocError> {
-    let k = instruction.k;
-    match (word.byte, word.mask, instruction.code) {
-        (0, u32::MAX, JUMP_EQUAL) => call(alloc, arch, k),
-        (0, u32::MAX, JUMP_AT_LEAST) => format!(in alloc; "calls from {k} on"),
-        (0, u32::MAX, JUMP_GREATER) => format!(in alloc; "calls above {k}"),
-        (0, u32::MAX, _) if k == X32_BIT && arch == Some(AUDIT_ARCH_X86_64) => {
+    let Some(word) = here.word else {
+        return Ok(String::new(alloc));
+    };
+    let Word { byte, mask } = word;
+    match (code, byte, mask) {
+        (JUMP_EQUAL, 0, u32::MAX) => call(alloc, here.arch, k),
+        (JUMP_AT_LEAST, 0, u32::MAX) => format!(in alloc; "calls from {k} on"),
+        (JUMP_GREATER, 0, u32::MAX) => format!(in alloc; "calls above {k}"),
+        (JUMP_IF_SET, 0, u32::MAX) if k == X32_BIT && here.arch == Some(AUDIT_ARCH_X86_64) => {
             String::from_str(alloc, "calls of x32")
         }
-        (_, mask, JUMP_IF_SET) => part(
-            alloc,
-            Word {
-                byte: word.byte,
-                mask: mask & k,
-            },
-        ),
-        (4, u32::MAX, JUMP_EQUAL) => match arch_of(k) {
+        (JUMP_IF_SET, _, _) => {
+            let mask = mask & k;
+            part(alloc, Word { byte, mask })
+        }
+        (JUMP_EQUAL, 4, u32::MAX) => match arch_of(k) {
             Some(target) => target.to_string(alloc),
             None => part(alloc, word),
         },
-        _ => part(alloc, word),
+        (MASK | JUMP_EQUAL | JUMP_GREATER | JUMP_AT_LEAST, _, _) => part(alloc, word),
+        _ => Ok(String::new(alloc)),
     }
 }
 
 // A call: its name on the architecture of this value, or its number.
 fn call(alloc: Global, arch: Option<u32>, number: u32) -> Result<String, AllocError> {
-    let name = match arch {
-        Some(value) => match arch_of(value) {
-            Some(target) => name_of(target, number),
-            None => None,
-        },
-        None => None,
-    };
-    match name {
+    let target = arch_of(arch.unwrap_or(0));
+    match target.and_then(|target| name_of(target, number)) {
         Some(name) => String::from_str(alloc, name),
         None => format!(in alloc; "call {number}"),
     }
@@ -197,12 +176,9 @@ fn call(alloc: Global, arch: Option<u32>, number: u32) -> Result<String, AllocEr
 
 // The architecture of an `AUDIT_ARCH_*` value.
 fn arch_of(value: u32) -> Option<TargetArch> {
-    for target in TargetArch::all() {
-        if target.get_audit_value() == value {
-            return Some(*target);
-        }
-    }
-    None
+    let mut all = TargetArch::all().iter();
+    all.find(|target| target.get_audit_value() == value)
+        .copied()
 }
 
 // The part of a record that a word is.

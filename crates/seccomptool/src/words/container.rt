@@ -1,9 +1,11 @@
 // What the options say of a profile's container.
 
 use super::Misuse;
+use crate::kind::Reading;
 use clap::ArgMatches;
 use seccomp_command_line::readable::{TextKind, readable};
-use seccomp_oci::{Container, Kernel, Runtime, capabilities, capability, kernel_of};
+use seccomp_names::{capabilities, capability};
+use seccomp_oci::{Container, Runtime, kernel_of};
 use std::alloc::{AllocError, Global};
 use strsim::osa_distance;
 
@@ -12,27 +14,28 @@ const NO_KERNEL: &str = "the value of --kernel isn't a version of two numbers, s
 // The most bytes of a name for which a like one is looked for.
 const LONGEST: usize = 64;
 
-/// The container of the capabilities that `--cap` names, of the kernel that `--kernel` names, and of the runtime of `--runtime`.
-pub(super) fn container_in(alloc: Global, found: &ArgMatches<'_>) -> Result<Container, Misuse> {
-    let kernel = kernel_in(found)?;
-    Ok(Container {
-        caps: caps_in(alloc, found)?,
-        kernel,
-        runtime: match found.get_str("runtime") {
-            Some("runc") => Runtime::Runc,
-            _ => Runtime::Crun,
-        },
-    })
-}
-
-fn kernel_in(found: &ArgMatches<'_>) -> Result<Option<Kernel>, Misuse> {
-    match found.get_str("kernel") {
-        None => Ok(None),
+// How what is given is read: whether as profiles, and in the container of the capabilities that `--cap` names, of the kernel that
+// `--kernel` names, and of the runtime of `--runtime`; and whether names that are left out are listed.
+pub(super) fn reading_in(alloc: Global, found: &ArgMatches<'_>) -> Result<Reading, Misuse> {
+    let kernel = match found.get_str("kernel") {
+        None => None,
         Some(text) => match kernel_of(text) {
-            None => Err(Misuse::Told(NO_KERNEL)),
-            kernel => Ok(kernel),
+            None => return Err(Misuse::Told(NO_KERNEL)),
+            kernel => kernel,
         },
-    }
+    };
+    Ok(Reading {
+        of_profiles: found.get_flag("oci"),
+        container: Container {
+            caps: caps_in(alloc, found)?,
+            kernel,
+            runtime: match found.get_str("runtime") {
+                Some("runc") => Runtime::Runc,
+                _ => Runtime::Crun,
+            },
+        },
+        listed: found.get_flag("verbose"),
+    })
 }
 
 // The capabilities that are given, as profiles name them.
@@ -49,37 +52,29 @@ fn caps_in(alloc: Global, found: &ArgMatches<'_>) -> Result<Vec<String>, Misuse>
     Ok(caps)
 }
 
-// That there is no capability of this name, and the one that may have been meant.
+// That there is no capability of this name; and the first of the nearest ones, if its name with or without CAP_ is at most one edit
+// away, or at most one for every three bytes.
 fn no_capability(alloc: Global, name: &str) -> Result<String, AllocError> {
     let shown = readable(alloc, name, TextKind::Name)?;
-    match near_capability(alloc, name)? {
-        Some(near) => format!(in alloc;
-            "the value of --cap names no capability: \"{shown}\"; did you mean \"{near}\"?"
-        ),
-        None => format!(in alloc; "the value of --cap names no capability: \"{shown}\""),
-    }
-}
-
-// The first of the nearest capabilities, if its name with or without CAP_ is at most one edit away, or at most one for every
-// three bytes.
-fn near_capability(alloc: Global, name: &str) -> Result<Option<&'static str>, AllocError> {
+    let told = format!(in alloc; "the value of --cap names no capability: \"{shown}\"")?;
     if name.len() > LONGEST {
-        return Ok(None);
+        return Ok(told);
     }
     let name = name.to_ascii_uppercase(alloc)?;
     let mut best = None;
     let mut least = (name.len() / 3).max(1) + 1;
     for cap in capabilities() {
         let short = cap.strip_prefix("CAP_").unwrap_or(*cap);
-        let distance = osa_distance(alloc, name.as_str(), cap)?.min(osa_distance(
-            alloc,
-            name.as_str(),
-            short,
-        )?);
-        if distance < least {
-            least = distance;
-            best = Some(*cap);
+        for spelling in [*cap, short] {
+            let distance = osa_distance(alloc, name.as_str(), spelling)?;
+            if distance < least {
+                least = distance;
+                best = Some(*cap);
+            }
         }
     }
-    Ok(best)
+    match best {
+        Some(near) => format!(in alloc; "{told}; did you mean \"{near}\"?"),
+        None => Ok(told),
+    }
 }

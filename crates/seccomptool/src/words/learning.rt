@@ -6,10 +6,10 @@ use crate::learn::{AskedArguments, Learning, Start};
 use crate::numbers::read_number;
 use clap::ArgMatches;
 use seccompiler::SeccompAction;
-use std::alloc::{AllocError, Global};
+use std::alloc::Global;
 
 const NO_ACTION: &str =
-    "the value of --otherwise isn't allow, kill_process, kill_thread, log, trap, errno:N or trace:N";
+    "the value of --otherwise isn't kill_process, kill_thread, log, trap, errno:N or trace:N";
 
 const NO_ARGUMENTS: &str =
     "the value of --args isn't CALL or CALL:INDEX,.. with indices from 0 to 5";
@@ -25,18 +25,31 @@ pub(super) fn learn_in<'a>(alloc: Global, found: &ArgMatches<'a>) -> Result<Aske
     let Some(most) = read_number(found.get_str("values").unwrap_or("")) else {
         return Err(Misuse::Told(NO_VALUES));
     };
+    let start = match (
+        found.get_str("into"),
+        action_of(found.get_str("otherwise").unwrap_or("kill_process")),
+    ) {
+        (Some(_), _) => Start::Into,
+        (None, Some(action)) => Start::Otherwise(action),
+        (None, None) => return Err(Misuse::Told(NO_ACTION)),
+    };
+    let traces = found.get_strs("trace").unwrap_or(&["-"]);
+    let mut further = Vec::new(alloc);
+    for path in traces.iter().skip(1) {
+        further.push(*path)?;
+    }
     let learning = Learning {
-        start: start_in(found)?,
+        start,
         name: found.get_str("name"),
         arguments: arguments_in(alloc, found)?,
         most: most as usize,
         runnable: found.get_flag("runnable"),
         strict: found.get_flag("strict"),
         as_profile: found.get_flag("profile"),
-        further: further_in(alloc, found)?,
+        further,
     };
     let inputs = Inputs {
-        first: first_of(found.get_strs("trace").unwrap_or(&[])),
+        first: traces.first().copied(),
         second: found.get_str("into"),
     };
     Ok(Asked {
@@ -63,64 +76,22 @@ fn refusal(found: &ArgMatches<'_>) -> Option<&'static str> {
     if is_named && is_profile {
         return Some("--profile can't be given with --name");
     }
-    if into == Some("-") && has_input(found.get_strs("trace").unwrap_or(&[])) {
+    let traces = found.get_strs("trace").unwrap_or(&[]);
+    if into == Some("-") && traces.iter().any(|path| *path == "-") {
         return Some("TRACE and POLICY can't both be read from standard input");
     }
     None
 }
 
-// Whether standard input is among these paths.
-fn has_input(paths: &[&str]) -> bool {
-    for path in paths {
-        if *path == "-" {
-            return true;
-        }
-    }
-    false
-}
-
-// The first trace.
-fn first_of<'a>(paths: &[&'a str]) -> Option<&'a str> {
-    match paths {
-        [first, ..] => Some(first),
-        [] => Some("-"),
-    }
-}
-
-// The traces after the first one.
-fn further_in<'a>(alloc: Global, found: &ArgMatches<'a>) -> Result<Vec<&'a str>, AllocError> {
-    let mut further = Vec::new(alloc);
-    for path in found.get_strs("trace").unwrap_or(&[]).iter().skip(1) {
-        further.push(*path)?;
-    }
-    Ok(further)
-}
-
-// What the calls are added to.
-fn start_in(found: &ArgMatches<'_>) -> Result<Start, Misuse> {
-    if found.get_str("into").is_some() {
-        return Ok(Start::Into);
-    }
-    match action_of(found.get_str("otherwise").unwrap_or("kill_process")) {
-        Some(action) => Ok(Start::Otherwise(action)),
-        None => Err(Misuse::Told(NO_ACTION)),
-    }
-}
-
-// The action that a text names.
+// The action that a text names; a number that it has is one that 16 bits hold.
 fn action_of(text: &str) -> Option<SeccompAction> {
     match text {
-        "allow" => Some(SeccompAction::Allow),
-        "kill_process" => Some(SeccompAction::KillProcess),
-        "kill_thread" => Some(SeccompAction::KillThread),
-        "log" => Some(SeccompAction::Log),
-        "trap" => Some(SeccompAction::Trap),
-        _ => numbered_action(text),
+        "kill_process" => return Some(SeccompAction::KillProcess),
+        "kill_thread" => return Some(SeccompAction::KillThread),
+        "log" => return Some(SeccompAction::Log),
+        "trap" => return Some(SeccompAction::Trap),
+        _ => {}
     }
-}
-
-// The action that a text names with its number, which 16 bits hold.
-fn numbered_action(text: &str) -> Option<SeccompAction> {
     let (name, number) = text.split_once(':')?;
     let number = u32::from(u16::try_from(read_number(number)?).ok()?);
     match name {

@@ -1,14 +1,23 @@
 // What clap's matches ask for.
 
+use super::container::reading_in;
 use super::learning::learn_in;
 use super::values::{
-    allowed_in, arch_in, arguments_in, calls_in, format_in, given_arch, layout_in, line_format_in,
-    output_in, path_in, reading_in, subjects_in, terms_in,
+    arch_in, arguments_in, calls_in, check_format_in, given_arch, layout_in, output_in, path_in,
 };
 use super::{Asked, Call, Command, Inputs, Misuse, Names};
-use crate::diff::scope::Scope;
+use crate::compile::text::ProgramFormat;
+use crate::diff::Scope;
+use crate::explain::lines::LineFormat;
+use crate::findings::Terms;
+use crate::numbers::read_number;
 use clap::ArgMatches;
+use seccomp_compare::Relation;
+use seccomp_warnings::Code;
 use std::alloc::Global;
+
+const NO_MOST: &str =
+    "the value of --most isn't a number from 0 to 18446744073709551615, decimal or hexadecimal after 0x";
 
 type Read<'a> = Result<Asked<'a>, Misuse>;
 
@@ -26,33 +35,49 @@ pub(super) fn asked_in<'a>(alloc: Global, name: &str, found: &ArgMatches<'a>) ->
     }
 }
 
-// A command that is carried out once, on what it reads at these paths.
+// A command that is carried out once, on what it reads at these paths, and writes this file.
 fn on<'a>(
     alloc: Global,
     command: Command<'a>,
     first: Option<&'a str>,
     second: Option<&'a str>,
+    output: Option<&'a str>,
 ) -> Read<'a> {
     Ok(Asked {
         command,
         inputs: vec![in alloc; Inputs { first, second }]?,
-        output: None,
+        output,
     })
 }
 
 fn check_in<'a>(alloc: Global, found: &ArgMatches<'a>) -> Read<'a> {
     if found.get_flag("list") {
-        return on(alloc, Command::Codes, None, None);
+        return on(alloc, Command::Codes, None, None, None);
+    }
+    let mut inputs = Vec::new(alloc);
+    for path in found.get_strs("subject").unwrap_or(&[]) {
+        let first = Some(*path);
+        inputs.push(Inputs {
+            first,
+            second: None,
+        })?;
+    }
+    let mut allowed = Vec::new(alloc);
+    for name in found.get_strs("allow").unwrap_or(&[]) {
+        if let Some(code) = Code::by_name(name) {
+            allowed.push(code)?;
+        }
     }
     let command = Command::Check {
         arch: arch_in(found),
         reading: reading_in(alloc, found)?,
         denied: found.get_flag("deny-warnings"),
-        allowed: allowed_in(alloc, found)?,
+        allowed,
+        format: check_format_in(found)?,
     };
     Ok(Asked {
         command,
-        inputs: subjects_in(alloc, found)?,
+        inputs,
         output: None,
     })
 }
@@ -64,12 +89,15 @@ fn compile_in<'a>(alloc: Global, found: &ArgMatches<'a>) -> Read<'a> {
         strict: found.get_flag("strict"),
         filter: found.get_str("filter"),
         layout: layout_in(found),
-        format: format_in(found),
+        format: match found.get_str("format") {
+            Some("listing") => ProgramFormat::Listing,
+            Some("c") => ProgramFormat::C,
+            _ => ProgramFormat::Raw,
+        },
         quiet: found.get_flag("quiet"),
     };
-    let mut asked = on(alloc, command, Some(path_in(found, "subject")), None)?;
-    asked.output = output_in(found);
-    Ok(asked)
+    let subject = Some(path_in(found, "subject"));
+    on(alloc, command, subject, None, output_in(found))
 }
 
 fn show_in<'a>(alloc: Global, found: &ArgMatches<'a>) -> Read<'a> {
@@ -80,7 +108,7 @@ fn show_in<'a>(alloc: Global, found: &ArgMatches<'a>) -> Read<'a> {
         layout: layout_in(found),
         measured: found.get_flag("stats"),
     };
-    on(alloc, command, Some(path_in(found, "subject")), None)
+    on(alloc, command, Some(path_in(found, "subject")), None, None)
 }
 
 fn explain_in<'a>(alloc: Global, found: &ArgMatches<'a>) -> Read<'a> {
@@ -90,10 +118,13 @@ fn explain_in<'a>(alloc: Global, found: &ArgMatches<'a>) -> Read<'a> {
         arch: arch_in(found),
         reading: reading_in(alloc, found)?,
         filter: found.get_str("filter"),
-        format: line_format_in(found),
+        format: match found.get_str("format") {
+            Some("word") => LineFormat::Word,
+            _ => LineFormat::Path,
+        },
         calls,
     };
-    on(alloc, command, Some(subject), second)
+    on(alloc, command, Some(subject), second, None)
 }
 
 fn diff_in<'a>(alloc: Global, found: &ArgMatches<'a>) -> Read<'a> {
@@ -102,8 +133,19 @@ fn diff_in<'a>(alloc: Global, found: &ArgMatches<'a>) -> Read<'a> {
     if old == "-" && new == "-" {
         return Err(Misuse::Told("OLD and NEW can't both be read from standard input"));
     }
+    let Some(most) = read_number(found.get_str("most").unwrap_or("")) else {
+        return Err(Misuse::Told(NO_MOST));
+    };
     let command = Command::Diff {
-        terms: terms_in(found)?,
+        terms: Terms {
+            target: arch_in(found),
+            relation: if found.get_flag("only-more") {
+                Relation::AtMostAsPermissive
+            } else {
+                Relation::Alike
+            },
+            most: most as usize,
+        },
         reading: reading_in(alloc, found)?,
         names: Names {
             old: of_old,
@@ -116,7 +158,7 @@ fn diff_in<'a>(alloc: Global, found: &ArgMatches<'a>) -> Read<'a> {
         },
         quiet: found.get_flag("quiet"),
     };
-    on(alloc, command, Some(old), Some(new))
+    on(alloc, command, Some(old), Some(new), None)
 }
 
 // A path, and the name of a filter, where one stands behind the last colon: none where nothing does.
@@ -143,7 +185,5 @@ fn call_of<'a>(alloc: Global, found: &ArgMatches<'a>) -> Read<'a> {
         call,
         recorded,
     };
-    let mut asked = on(alloc, command, None, None)?;
-    asked.output = output;
-    Ok(asked)
+    on(alloc, command, None, None, output)
 }

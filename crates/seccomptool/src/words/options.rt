@@ -37,13 +37,11 @@ pub(super) fn subcommand<'a>(
     common: &[Row<'a>],
     own: &[Row<'a>],
 ) -> Built<'a> {
-    let command = Command::new(alloc, name).about(about);
-    with_rows(alloc, with_rows(alloc, command, common)?, own)
-}
-
-// The command, which takes what these rows say too.
-fn with_rows<'a>(alloc: Global, mut command: Command<'a>, rows: &[Row<'a>]) -> Built<'a> {
-    for row in rows {
+    let mut command = Command::new(alloc, name).about(about);
+    for row in common {
+        command = command.arg(arg_of(alloc, *row))?;
+    }
+    for row in own {
         command = command.arg(arg_of(alloc, *row))?;
     }
     Ok(command)

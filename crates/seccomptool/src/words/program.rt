@@ -14,6 +14,8 @@ const LAYOUTS: &[&str] = &["linear", "tree"];
 
 const PROGRAM_FORMATS: &[&str] = &["raw", "listing", "c"];
 
+const CHECK_FORMATS: &[&str] = &["text", "gcc", "json"];
+
 const LINE_FORMATS: &[&str] = &["path", "word"];
 
 const RUNTIMES: &[&str] = &["crun", "runc"];
@@ -30,6 +32,7 @@ const CODES: &[&str] = &[
     "high-half-evades",
     "kills-exit",
     "clone-by-clone3",
+    "no-execve",
     "crate-differs",
     "unreachable-entry",
     "redundant-entry",
@@ -62,6 +65,11 @@ const LAYOUT: &str =
 
 const PROGRAM_FORMAT: &str =
     "How the program is written: as bytes, as a listing, or as a C initializer";
+
+const CHECK_FORMAT: &str =
+    "How errors and warnings are written: for people, in lines as gcc's, or as JSON";
+
+const JSON: &str = "The same as --format json";
 
 const LINE_FORMAT: &str =
     "How a line is written: with places in the policy, or in numbers for scripts";
@@ -113,7 +121,7 @@ const LOG: &str = "Explain the calls that lines of a log or of strace in FILE ar
 const NAME: &str = "The name of the filter; `main`, or with --into the policy's only one";
 
 const OTHERWISE: &str =
-    "What other calls get: kill_process (the default), kill_thread, trap, log, allow, errno:N or trace:N";
+    "What other calls get: kill_process (the default), kill_thread, trap, log, errno:N or trace:N";
 
 const INTO: &str = "Add to a filter of this policy; its other filters stay";
 
@@ -151,9 +159,11 @@ static COMMON: [Row<'static>; 5] = [
     ("runtime", OneOf("RUNTIME", RUNTIMES, "crun"), RUNTIME),
 ];
 
-static CHECK: [Row<'static>; 5] = [
+static CHECK: [Row<'static>; 7] = [
     ("deny-warnings", Nothing, DENIED),
     ("allow", Several("CODE", CODES), ALLOWED),
+    ("format", OneOf("FORMAT", CHECK_FORMATS, ""), CHECK_FORMAT),
+    ("json", Nothing, JSON),
     ("list", Nothing, LIST),
     VERBOSE,
     ("subject", Files("SUBJECT"), FILES),
@@ -241,22 +251,16 @@ pub(super) fn program<'a>(alloc: Global) -> Built<'a> {
         ("learn", learn, &[], &LEARN),
         ("call", call, &[], &CALL),
     ];
-    let mut command = top(alloc)?;
+    let named = Command::new(alloc, "seccomptool").bin_name("seccomptool")?;
+    let mut command = named
+        .version(VERSION)
+        .about("Compiles, checks and explains seccomp policies")
+        .after_help(AFTER)
+        .no_binary_name(true)
+        .subcommand_required(true)
+        .arg_required_else_help(true);
     for (name, about, common, own) in commands {
         command = command.subcommand(subcommand(alloc, name, about, common, own)?)?;
     }
     Ok(command)
-}
-
-fn top<'a>(alloc: Global) -> Built<'a> {
-    let named = Command::new(alloc, "seccomptool").bin_name("seccomptool")?;
-    Ok(
-        named
-            .version(VERSION)
-            .about("Compiles, checks and explains seccomp policies")
-            .after_help(AFTER)
-            .no_binary_name(true)
-            .subcommand_required(true)
-            .arg_required_else_help(true),
-    )
 }

@@ -22,3 +22,7 @@ returns-in-Ok-clause-matches c =
     learned_matches arch c.args.kept.now c.args.observed.now c.args.old json c.in-Ok.filter _
     (subst PoliciesMatchEntries c.new-compiler.ensures c.in-Ok.ensures.entries)
     (subst (λ a. IsPolicyOf a json c.in-Ok.filter) c.new-compiler.ensures c.in-Ok.ensures.policy) c.in_ok-in_order.ensures pushed
+
+pub returns-in-Ok-clause-before : goal.returns-in-Ok-clause-before
+returns-in-Ok-clause-before c =
+    (c.in_ok-before.before, subst (λ a. IsPolicyOf a c.args.old c.in_ok-before.before) c.new-compiler.ensures c.in_ok-before.ensures.policy)

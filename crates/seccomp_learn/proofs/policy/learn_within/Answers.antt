@@ -11,6 +11,7 @@ returns-clause-learned c =
     let named = λ (kept : List Kept) (r : List ℕ). Any (IsAsNamed c.args.arch kept r) c.args.observed.now in
     record {
       policy = own.policy;
+      before = own.before;
       mismatch_action = own.actions.0;
       match_action = own.actions.1;
       matches = subst (λ (kept : List Kept). (before : Filter) → IsPolicyOf c.args.arch c.args.old before → (r : List ℕ)

@@ -1,7 +1,7 @@
 use Rattle.std.proofs.Common.{ap, ◌∙◌, subst}
 use Rattle.seccomp_oci.specs.Concerns.{AreAlternatives}
 use Rattle.seccomp_oci.specs.Decision.{rank, rank_by}
-use Rattle.seccomp_oci.specs.Types.{Entry}
+use Rattle.seccomp_profiles.specs.Types.{Entry}
 use Rattle.seccomp_oci.proofs.concerns.Conditions.{lists_of}
 use Rattle.seccomp_oci.proofs.concerns.concern_of.Goals as goal
 

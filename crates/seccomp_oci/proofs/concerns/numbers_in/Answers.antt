@@ -3,7 +3,7 @@ use Rattle.std.proofs.lemmas.Bool.{true≢false}
 use Rattle.std.proofs.lemmas.Result.{IfOk-weaker}
 use Rattle.seccomp_oci.specs.Concerns.{AreCallsOf}
 use Rattle.seccomp_oci.specs.Decision.{Concerns}
-use Rattle.seccomp_oci.specs.Types.{Entry}
+use Rattle.seccomp_profiles.specs.Types.{Entry}
 use Rattle.seccomp_oci.proofs.concerns.Numbers.{AreNumbersOf, concerned}
 use Rattle.seccomp_oci.proofs.concerns.numbers_in.Goals as goal
 

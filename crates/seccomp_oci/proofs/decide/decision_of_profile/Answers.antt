@@ -1,6 +1,6 @@
 use Rattle.std.proofs.Common.{None, ap, subst, ◌∙◌}
 use Rattle.seccomp_oci.specs.Decision.{by_default, by_entry, IsByEntry, IsDefault, IsProfileDecision}
-use Rattle.seccomp_oci.specs.Types.{Profile}
+use Rattle.seccomp_profiles.specs.Types.{Profile}
 use Rattle.seccomp_oci.proofs.decide.Once.{decision_only}
 use Rattle.seccomp_oci.proofs.decide.Walk.{by_found, found_whole}
 use Rattle.seccomp_oci.proofs.decide.decision_of_profile.Goals as goal

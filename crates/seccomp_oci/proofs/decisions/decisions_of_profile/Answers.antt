@@ -1,7 +1,7 @@
 use Rattle.std.proofs.Common.{◌<◌, All, ap, ◌∙◌, subst, sym}
 use Rattle.std.specs.List.{AllZip}
 use Rattle.seccomp_oci.specs.Concerns.{Concern, IsConcernOf}
-use Rattle.seccomp_oci.specs.Types.{Profile}
+use Rattle.seccomp_profiles.specs.Types.{Profile}
 use Rattle.seccomp_oci.proofs.decisions.Profile.{decide_as_made, small_numbers}
 use Rattle.seccomp_oci.proofs.decisions.decisions_of_profile.Goals as goal
 

@@ -6,7 +6,7 @@ use Rattle.seccompiler.specs.Machine.{word_at}
 use Rattle.seccomp_oci.specs.Concerns.{IsConcernOf}
 use Rattle.seccomp_oci.specs.Decision.{Matches}
 use Rattle.seccomp_oci.specs.Rulings.{AreRulings, AreRulingsTo}
-use Rattle.seccomp_oci.specs.Types.{Container, Entry}
+use Rattle.seccomp_profiles.specs.Types.{Container, Entry}
 use Rattle.seccomp_oci.proofs.decisions.push_all.Given as goal
 
 abbrev pub invariant-loop-concern : goal.invariant-loop-concern

@@ -1,6 +1,6 @@
 use Rattle.std.proofs.Common.{◌↔◌, IsTrue, ap, sym, subst, ◌∙◌}
 use Rattle.seccomp_oci.specs.Decision.{default_of, IsAbove}
-use Rattle.seccomp_oci.specs.Types.{Profile}
+use Rattle.seccomp_profiles.specs.Types.{Profile}
 use Rattle.seccomp_oci.proofs.defaults.default_for.Goals as goal
 
 pub returns : goal.returns

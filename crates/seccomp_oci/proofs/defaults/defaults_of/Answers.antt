@@ -5,7 +5,7 @@ use Rattle.seccompiler.specs.Policy.{word_of}
 use Rattle.seccomp_tree.specs.Decided.{default_for}
 use Rattle.seccomp_oci.specs.Decision.{default_of, IsDefault}
 use Rattle.seccomp_oci.specs.Defaults.{is_above}
-use Rattle.seccomp_oci.specs.Types.{Profile}
+use Rattle.seccomp_profiles.specs.Types.{Profile}
 use Rattle.seccomp_oci.proofs.defaults.defaults_of.Goals as goal
 
 pub returns-clause-values : goal.returns-clause-values

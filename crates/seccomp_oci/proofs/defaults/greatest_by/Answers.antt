@@ -3,7 +3,7 @@ use Rattle.std.specs.Prelude.{Any}
 use Rattle.std.proofs.lemmas.Bool.{true≢false}
 use Rattle.seccomp_oci.specs.Decision.{IsNameOf}
 use Rattle.seccomp_oci.specs.Defaults.{IsGreatest}
-use Rattle.seccomp_oci.specs.Types.{Entry}
+use Rattle.seccomp_profiles.specs.Types.{Entry}
 use Rattle.seccomp_oci.proofs.defaults.Greatest.{greatest_none}
 use Rattle.seccomp_oci.proofs.defaults.greatest_by.Goals as goal
 

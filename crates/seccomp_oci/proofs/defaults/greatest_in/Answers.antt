@@ -3,7 +3,7 @@ use Rattle.std.specs.Prelude.{Any}
 use Rattle.std.proofs.lemmas.List.{take_all}
 use Rattle.seccomp_oci.specs.Decision.{Applies, IsNamed, IsNameOf}
 use Rattle.seccomp_oci.specs.Defaults.{IsGreatest}
-use Rattle.seccomp_oci.specs.Types.{Entry}
+use Rattle.seccomp_profiles.specs.Types.{Entry}
 use Rattle.seccomp_oci.proofs.Quantified.{more_read}
 use Rattle.seccomp_oci.proofs.defaults.Greatest.{greatest_more, greatest_nil}
 use Rattle.seccomp_oci.proofs.defaults.greatest_in.Goals as goal

@@ -3,9 +3,9 @@ use Rattle.std.proofs.lemmas.Bool.{true≢false}
 use Rattle.std.proofs.lemmas.Bool.Decides.{nat_tests}
 use Rattle.seccompiler.specs.declared.backend.TargetArch.{TargetArch}
 use Rattle.seccomp_oci.specs.Decision.{IsAbove, IsNamed, lets}
-use Rattle.seccomp_oci.specs.declared.types.Runtime.TheVariants.{Runc}
+use Rattle.seccomp_profiles.specs.declared.types.Runtime.TheVariants.{Runc}
 use Rattle.seccomp_oci.specs.Defaults.{IsGreatest}
-use Rattle.seccomp_oci.specs.Types.{Container, Profile}
+use Rattle.seccomp_profiles.specs.Types.{Container, Profile}
 use Rattle.seccomp_oci.proofs.defaults.named_in.Goals as goal
 
 module _ (arch : TargetArch) (container : Container) (p : Profile) (g : ℕ)

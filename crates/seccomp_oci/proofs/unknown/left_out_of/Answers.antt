@@ -1,7 +1,26 @@
-use Rattle.std.proofs.Common.{[], map, string_bytes, sym, subst}
-use Rattle.seccomp_oci.specs.LeftOut.{AreLeftOut, none}
+use Rattle.std.proofs.Common.{◌≡◌, [], ◌++◌, ap, map, refl, string_bytes, sym, subst, ◌∙◌}
+use Rattle.std.proofs.lemmas.Bool.{true≢false}
+use Rattle.std.proofs.lemmas.List.{map-append}
+use Rattle.seccomp_oci.specs.LeftOut.{AreLeftOut, applies, none, passed}
+use Rattle.seccomp_oci.proofs.Quantified.{more_read}
 use Rattle.seccomp_oci.proofs.unknown.left_out_of.Goals as goal
 
 pub loop-entry-init : goal.loop-entry-init
 loop-entry-init c =
     subst (λ all. AreLeftOut c.args.arch c.args.container.now [] (map string_bytes all)) (sym c.new-left_out.ensures.items) none
+
+pub loop-entry-preserved-then-not-applies : goal.loop-entry-preserved-then-not-applies
+loop-entry-preserved-then-not-applies c =
+    subst (λ es. AreLeftOut c.args.arch c.args.container.now es (map string_bytes c.loop-entry.left_out.items))
+    (sym (more_read c.args.entries.now c.loop-entry.entry-index _ c.loop-entry-test.true c.entry-item.is))
+    (passed c.loop-entry.invariant (λ is. true≢false (sym (c.if-not-applies.ensures.1 is))))
+
+pub loop-entry-preserved : goal.loop-entry-preserved
+loop-entry-preserved c =
+    let longer : map string_bytes c.append.new.self.items
+    ≡ map string_bytes c.loop-entry.left_out.items ++ map string_bytes c.in_ok-own.own.items =
+    ap (map string_bytes) c.in_ok-append.ensures.items ∙ map-append string_bytes c.loop-entry.left_out.items c.in_ok-own.own.items in
+    subst (λ es. AreLeftOut c.args.arch c.args.container.now es (map string_bytes c.append.new.self.items))
+    (sym (more_read c.args.entries.now c.loop-entry.entry-index _ c.loop-entry-test.true c.entry-item.is))
+    (subst (AreLeftOut c.args.arch c.args.container.now _) (sym longer)
+    (applies c.loop-entry.invariant (c.if-not-applies.ensures.0 refl) c.in_ok-own.ensures))

@@ -13,4 +13,4 @@ returns-in-Ok-clause-compiled c =
     let policy = c.in-Some.filter.now in
     let is = subst (λ n. get_by_text filters n ≡ Some policy) c.as_str.ensures.value (sym c.in-Some.ensures.value) in
     let value = there (HasPolicy c.args.target) (get_by_text filters) of.0 are name policy is in
-    (of.0, of.1, (value.0, value.1, record { policy = policy; is_policy = value.2; compiled = c.in-Ok.ensures }))
+    (of.0, of.1, (value.0, value.1, record { policy = policy; is_policy = value.2; compiled = c.in-Ok.ensures.compiled }))

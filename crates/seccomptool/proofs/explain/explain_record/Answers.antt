@@ -1,7 +1,7 @@
 use Rattle.std.proofs.Common.{◌≡◌, refl, sym, ap, ◌∙◌, subst}
 use Rattle.seccompiler.specs.JsonTypes.{JsonFilter}
 use Rattle.seccompiler.specs.Policy.{IsDecision, word_of}
-use Rattle.seccomptool.specs.declared.explain.reason.Reason.{Reason}
+use Rattle.seccomptool.specs.declared.explain.search.Reason.{Reason}
 use Rattle.seccomptool.specs.Reasons.{IsReason}
 use Rattle.seccomptool.proofs.explain.Agreement.{reason_decides}
 use Rattle.seccomptool.proofs.explain.explain_record.Goals as goal

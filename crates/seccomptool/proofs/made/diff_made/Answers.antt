@@ -1,4 +1,4 @@
-use Rattle.std.proofs.Common.{refl}
+use Rattle.std.proofs.Common.{◌∙◌, refl}
 use Rattle.std.proofs.lemmas.Result.{IfOk-at_ok}
 use Rattle.seccomptool.specs.Diff.{IsDiff}
 use Rattle.seccomptool.specs.declared.sides.Side.{Side}
@@ -15,5 +15,5 @@ returns g c =
       of_new = record { kind = c.in_ok-subject_of-2.ensures; filter_is = refl; given_is = refl };
       found = c.in_ok-found.found;
       is = IfOk-at_ok (IsDiff c.args.terms.target c.args.terms.relation old new) c.in_ok-found.was c.diff_of-found.ensures;
-      verdict = c.verdict.ensures;
+      verdict = c.noting.ensures ∙ c.verdict.ensures;
     }

@@ -1,7 +1,7 @@
 use Rattle.std.proofs.Common.{◌<◌, ◌≤◌, arith, inl, inr, length, subst, take}
 use Rattle.std.proofs.lemmas.List.{take_all}
-use Rattle.seccomptool.specs.Commands.{EndWith}
-use Rattle.seccomptool.proofs.shell.Statuses.{next_ended, none_ended}
+use Rattle.seccomptool.specs.Commands.{EndWith, EndsWith}
+use Rattle.seccomptool.proofs.shell.Statuses.{next_ended, none_ended, once_ended}
 use Rattle.seccomptool.proofs.shell.carry_out_each.Goals as goal
 
 pub loop-inputs-init : goal.loop-inputs-init
@@ -11,15 +11,22 @@ pub loop-inputs-preserved : goal.loop-inputs-preserved
 loop-inputs-preserved g c =
     let before = c.loop-inputs.invariant in
     let greater = c.greater-status.ensures in
-    let own_status = c.carry_out.ensures.ended in
+    let own = c.carry_out-own.ensures in
+    let either = c.once_written-ended.ensures in
+    let own_status : c.once_written-ended.result ≤ 3 = elim either [
+      | inl same ↦ let le = own.ended in omega (arith, same, le)
+      | inr trouble ↦ omega (arith, trouble)
+    ] in
+    let performed : EndsWith c.args.asked.now.command c.once_written-ended.result =
+    once_ended c.args.asked.now.command c.carry_out-own.result c.once_written-ended.result own.performed either in
     let at_most : c.greater-status.result ≤ 3 = elim greater.2 [
       | inl same ↦ let le = before.1 in omega (arith, same, le)
       | inr same ↦ omega (arith, same, own_status)
     ] in (
-      next_ended c.args.asked.now.command c.args.asked.now.inputs.items c.loop-inputs.inputs-index c.loop-inputs.status c.carry_out.result
-          c.greater-status.result
+      next_ended c.args.asked.now.command c.args.asked.now.inputs.items c.loop-inputs.inputs-index c.loop-inputs.status
+          c.once_written-ended.result c.greater-status.result
           (subst (λ items. c.loop-inputs.inputs-index < length items) c.deref-inputs-items.ensures.value c.loop-inputs-test.true)
-          before.0 c.carry_out.ensures.performed greater.0 greater.1 greater.2,
+          before.0 performed greater.0 greater.1 greater.2,
       at_most,
     )
 

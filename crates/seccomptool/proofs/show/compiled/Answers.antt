@@ -22,7 +22,7 @@ loop-name-preserved c =
           ∙ sym (append_assoc l.yielded (f ∷ []) c.next.new.self);
       compiled = subst (AllZip (IsCompiledAs c.args.layout) (l.yielded ++ f ∷ [])) (sym c.in_ok-push.ensures.items)
           (all_zipped_more (IsCompiledAs c.args.layout) l.yielded l.programs.items f p l.invariant.compiled
-          (record { name = refl; compiled = c.in_ok-program.ensures }));
+          (record { name = refl; compiled = c.in_ok-program.ensures.compiled }));
     }
 
 pub returns-clause-programs : goal.returns-clause-programs

@@ -5,4 +5,4 @@ use Rattle.seccomptool.proofs.stats.measure_in.Goals as goal
 
 pub measure_of-requires : goal.measure_of-requires
 measure_of-requires c =
-    subst IsChecked (sym c.deref.ensures.value) (compiled_checked c.args.layout c.args.filter.now _ c.in_ok-program.ensures)
+    subst IsChecked (sym c.deref.ensures.value) (compiled_checked c.args.layout c.args.filter.now _ c.in_ok-program.ensures.compiled)

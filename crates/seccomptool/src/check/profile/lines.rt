@@ -1,10 +1,13 @@
-// What is printed of the warnings of a profile.
+// What is said of the warnings of a profile.
 
+use crate::check::diagnostic::{Diagnostic, Place, key};
+use crate::check::format::push_subject;
 use crate::check::profile::{ProfilePart, ProfileWarning, code_of};
 use crate::findings::lines::{CallName, Example, Shown};
 use crate::findings::parts::name_of;
-use seccomp_command_line::readable::{TextKind, readable};
-use seccomp_oci::{Container, Doubt, Entry, Origin, Profile, applies};
+use seccomp_check::Step;
+use seccomp_oci::{Container, Entry, Profile, applies};
+use seccomp_profile_checks::{Doubt, Origin};
 use seccomp_warnings::{Code, Subject, Warning, said_text};
 use seccompiler::TargetArch;
 use std::alloc::{AllocError, Global};
@@ -18,43 +21,53 @@ struct Told<'a> {
     profile: &'a Profile,
 }
 
+// The way to what a warning is about, and the name of the call if it is about one.
+type Placed = (Vec<Step>, Option<String>);
+
 // Where a line stands: those of the profile itself first, then those of entries, by place, part, number and code.
 type Order = (usize, usize, usize, usize, &'static str);
 
-/// The lines of the warnings of a profile, each after this prefix, in the order of their places. There is one for each code of
-/// a place, and for each pair of entries.
-pub(crate) fn profile_lines(
+/// What is said of the warnings of a profile, in the order of their places: once for each code of a place, and for each pair
+/// of entries.
+pub(crate) fn profile_diagnostics(
     alloc: Global,
     target: TargetArch,
     container: &Container,
-    front: &[u8],
     profile: &Profile,
     warnings: &[ProfileWarning],
-) -> Result<Vec<u8>, AllocError> {
+) -> Result<Vec<Diagnostic>, AllocError> {
     let told = Told {
         target,
         container,
         profile,
     };
-    let mut lines = BTreeMap::new(alloc);
+    let mut ordered = BTreeMap::new(alloc);
     for (nth, warning) in warnings.iter().enumerate() {
         let order = order_of(warning, nth);
-        if !lines.contains_key(&order) {
-            drop(lines.insert(order, line_of(alloc, told, warning)?)?);
+        if !ordered.contains_key(&order) {
+            drop(ordered.insert(order, diagnostic_of(alloc, told, warning)?)?);
         }
     }
-    joined(alloc, front, &lines)
+    let mut diagnostics = Vec::new(alloc);
+    for (_, diagnostic) in ordered {
+        diagnostics.push(diagnostic)?;
+    }
+    Ok(diagnostics)
 }
 
-fn joined(
+/// A line for each, after this prefix.
+pub(crate) fn profile_lines(
     alloc: Global,
     front: &[u8],
-    lines: &BTreeMap<Order, String>,
+    diagnostics: &[Diagnostic],
 ) -> Result<Vec<u8>, AllocError> {
     let mut text = Vec::new(alloc);
-    for (_, line) in lines {
+    for diagnostic in diagnostics {
         text.extend_from_slice(front)?;
-        text.extend_from_slice(line.as_bytes())?;
+        push_subject(&mut text, alloc, diagnostic)?;
+        let code = diagnostic.code.unwrap_or(Code::UnknownKey).name();
+        let said = &diagnostic.message;
+        text.extend_from_slice(format!(in alloc; ": warning [{code}]: {said}\n")?.as_bytes())?;
     }
     Ok(text)
 }
@@ -93,64 +106,93 @@ fn condition_in(subject: Subject, origin: Origin) -> Option<usize> {
     }
 }
 
-// The line of a warning, without its prefix.
-fn line_of(alloc: Global, told: Told<'_>, warning: &ProfileWarning) -> Result<String, AllocError> {
-    let code = code_of(warning).name();
-    let (place, said) = match warning {
-        ProfileWarning::Doubtful(doubt) => (
-            place_of_doubt(alloc, told.target, *doubt)?,
-            said_of_doubt(alloc, told, *doubt)?,
-        ),
+// What is said of a warning.
+fn diagnostic_of(
+    alloc: Global,
+    told: Told<'_>,
+    warning: &ProfileWarning,
+) -> Result<Diagnostic, AllocError> {
+    let (path, call, said) = match warning {
+        ProfileWarning::Doubtful(doubt) => {
+            let (path, call) = place_of_doubt(alloc, told.target, *doubt)?;
+            (path, call, said_of_doubt(alloc, told, *doubt)?)
+        }
         ProfileWarning::Flags => (
-            String::from_str(alloc, "flags")?,
+            vec![in alloc; key(alloc, "flags")?]?,
+            None,
             String::from_str(
                 alloc,
                 "crun sets them, and runc 1.1 starts no container with them; leave them out for runc",
             )?,
         ),
-        ProfileWarning::UnknownKey(key) => (
-            shown_key(alloc, key.as_str())?,
+        ProfileWarning::UnknownKey(name) => (
+            vec![in alloc; key(alloc, name.as_str())?]?,
+            None,
             String::from_str(
                 alloc,
                 "the key is passed over; leave it out, or correct it, also its letter case",
             )?,
         ),
-        ProfileWarning::OfEntries(warning, part) => (
-            place_of_part(alloc, told.target, *warning, *part)?,
-            String::from_str(alloc, said_of_entries(warning.code))?,
-        ),
+        ProfileWarning::OfEntries(warning, part) => {
+            let (path, call) = place_of_part(alloc, told.target, *warning, *part)?;
+            (
+                path,
+                call,
+                String::from_str(alloc, said_of_entries(warning.code))?,
+            )
+        }
     };
-    format!(in alloc; "{place}: warning [{code}]: {said}\n")
+    let place = match warning {
+        ProfileWarning::UnknownKey(_) => Place::Key,
+        _ => Place::Value,
+    };
+    Ok(Diagnostic::warning(code_of(warning), path, call, said, place))
 }
 
-// A key as errors name it.
-fn shown_key(alloc: Global, key: &str) -> Result<String, AllocError> {
-    let key = readable(alloc, key, TextKind::Name)?;
-    format!(in alloc; "\"{key}\"")
-}
-
-// The place of what is doubtful.
-fn place_of_doubt(alloc: Global, target: TargetArch, doubt: Doubt) -> Result<String, AllocError> {
-    match doubt {
-        Doubt::LargeDefaultErrno => String::from_str(alloc, "defaultAction"),
-        Doubt::EqualsDefault { place } | Doubt::LargeErrno { place } => {
-            format!(in alloc; "syscalls[{place}].action")
-        }
-        Doubt::ManyConditions { place } => format!(in alloc; "syscalls[{place}].args"),
-        Doubt::Behind { place, number } => {
-            let call = CallName { target, number };
-            format!(in alloc; "syscalls[{place}] ({call})")
-        }
-        Doubt::SameConditions { second, number, .. } => {
-            let call = CallName { target, number };
-            format!(in alloc; "syscalls[{second}] ({call})")
-        }
-        Doubt::OpenOrder { second, call, .. } => {
-            let number = u32::from_le_bytes([call[0], call[1], call[2], call[3]]);
-            let call = CallName { target, number };
-            format!(in alloc; "syscalls[{second}] ({call})")
-        }
+// The way to an entry, or to what it has under a name.
+fn entry_path(alloc: Global, entry: usize, part: Option<&str>) -> Result<Vec<Step>, AllocError> {
+    let mut path = vec![in alloc; key(alloc, "syscalls")?, Step::Item(entry)]?;
+    if let Some(part) = part {
+        path.push(key(alloc, part)?)?;
     }
+    Ok(path)
+}
+
+// The place of what is doubtful, and the call that it is about.
+fn place_of_doubt(alloc: Global, target: TargetArch, doubt: Doubt) -> Result<Placed, AllocError> {
+    let (place, number) = match doubt {
+        Doubt::LargeDefaultErrno => return Ok((
+            vec![in alloc; key(alloc, "defaultAction")?]?,
+            None,
+        )),
+        Doubt::EqualsDefault { place } | Doubt::LargeErrno { place } => {
+            return Ok((entry_path(alloc, place, Some("action"))?, None));
+        }
+        Doubt::ManyConditions { place } => {
+            return Ok((entry_path(alloc, place, Some("args"))?, None));
+        }
+        Doubt::Behind { place, number } => (place, number),
+        Doubt::SameConditions { second, number, .. } => (second, number),
+        Doubt::OpenOrder { second, call, .. } => {
+            (
+                second,
+                u32::from_le_bytes([call[0], call[1], call[2], call[3]]),
+            )
+        }
+    };
+    of_call(alloc, target, place, number)
+}
+
+// An entry, and the call of a number.
+fn of_call(
+    alloc: Global,
+    target: TargetArch,
+    entry: usize,
+    number: u32,
+) -> Result<Placed, AllocError> {
+    let call = CallName { target, number };
+    let call = format!(in alloc; "{call}")?;
+    Ok((entry_path(alloc, entry, None)?, Some(call)))
 }
 
 // What is doubtful, and what to write instead.
@@ -211,40 +253,35 @@ fn settles(told: Told<'_>, entry: &Entry, name: &str) -> bool {
         && applies(told.target, told.container, entry)
 }
 
-// The place of what a warning of a filter is about.
+// The place of what a warning of a filter is about, and the call.
 fn place_of_part(
     alloc: Global,
     target: TargetArch,
     warning: Warning,
     part: ProfilePart,
-) -> Result<String, AllocError> {
+) -> Result<Placed, AllocError> {
     let origin = match part {
         ProfilePart::Default => {
-            return match warning.subject {
-                Subject::MismatchCall(call) => {
-                    let call = call.name();
-                    format!(in alloc; "defaultAction ({call})")
-                }
-                _ => String::from_str(alloc, "defaultAction"),
+            let call = match warning.subject {
+                Subject::MismatchCall(call) => Some(String::from_str(alloc, call.name())?),
+                _ => None,
             };
+            return Ok((vec![in alloc; key(alloc, "defaultAction")?]?, call));
         }
-        ProfilePart::Action(place) => return format!(in alloc; "syscalls[{place}].action"),
+        ProfilePart::Action(place) => {
+            return Ok((entry_path(alloc, place, Some("action"))?, None));
+        }
         ProfilePart::Rule(origin) => origin,
     };
-    let (entry, number) = (origin.entry, origin.number);
-    match condition_in(warning.subject, origin) {
-        Some(condition) => {
-            let key = match warning.code {
-                Code::ValueOutsideMask => ".valueTwo",
-                _ => "",
-            };
-            format!(in alloc; "syscalls[{entry}].args[{condition}]{key}")
-        }
-        None => {
-            let call = CallName { target, number };
-            format!(in alloc; "syscalls[{entry}] ({call})")
-        }
+    let Some(condition) = condition_in(warning.subject, origin) else {
+        return of_call(alloc, target, origin.entry, origin.number);
+    };
+    let mut path = entry_path(alloc, origin.entry, Some("args"))?;
+    path.push(Step::Item(condition))?;
+    if let Code::ValueOutsideMask = warning.code {
+        path.push(key(alloc, "valueTwo")?)?;
     }
+    Ok((path, None))
 }
 
 // What is so of an entry, and what to write instead: of a code whose words for a policy don't fit, in words for a profile.

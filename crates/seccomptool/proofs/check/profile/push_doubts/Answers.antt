@@ -1,6 +1,6 @@
 use Rattle.std.proofs.Common.{subst, sym}
 use Rattle.std.specs.Prelude.{All}
-use Rattle.seccomp_oci.specs.Doubts.{IsDoubt}
+use Rattle.seccomp_profile_checks.specs.Doubts.{IsDoubt}
 use Rattle.seccomptool.proofs.check.profile.push_doubts.Goals as goal
 
 pub loop-doubt-preserved : goal.loop-doubt-preserved

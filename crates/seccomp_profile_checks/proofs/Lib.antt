@@ -1,0 +1,2 @@
+-- What holds of lists.
+pub mod Places

@@ -1,0 +1,12 @@
+use Rattle.std.proofs.Common.{◌≡◌, List, [], ◌∷◌, ap, refl}
+use Rattle.serde_json.specs.Data.{no_items}
+use Rattle.serde_json.specs.View.{items_view}
+use Rattle.serde_json.specs.declared.value.Value.{Value}
+use Rattle.seccomp_profiles.proofs.members.are_none.Goals as goal
+
+none_of : (items : List Value) → items_view items ≡ no_items → items ≡ []
+none_of [] none = refl
+none_of (v ∷ items) none = absurd cc
+
+pub returns : goal.returns
+returns c = (λ yes. ap items_view (c.is_nil.ensures.0 yes), λ none. c.is_nil.ensures.1 (none_of c.args.items.now none))

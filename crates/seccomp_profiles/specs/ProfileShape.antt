@@ -1,0 +1,56 @@
+-- Which JSON values are profiles and their entries (OCI runtime specification, `linux.seccomp`, and what Docker and Podman
+-- add to it). Nothing but the forms given here is one.
+use Rattle.std.specs.Prelude.{◌≡◌, ℕ, List, [], ◌∷◌, Option, Some, None, codes}
+use Rattle.serde_json.specs.Data.{Data, null, string, Items, no_items}
+use Rattle.serde_json.specs.Find.{get}
+use Rattle.seccompiler.specs.JsonShape.{HasOnly, IsCommented}
+use Rattle.seccomp_profiles.specs.Actions.{IsActionUnder}
+use Rattle.seccomp_profiles.specs.Shape.{IsArgument, IsFlag, IsListed, IsText, items_of}
+use Rattle.seccomp_profiles.specs.Types.{Criteria, Entry, Profile}
+use Rattle.seccomp_profiles.specs.Version.{IsKernelOr}
+
+-- What stands there is a list of whatever items, or nothing, or null.
+abbrev pub IsList : Option Data → Type 0
+IsList o = (items : Items) × (items_of o ≡ Some items)
+
+-- The names of an entry stand under `names`, as a list; or one stands under `name`, beside no others. An empty name is none.
+abbrev pub AreNames : Option Data → Option Data → List (List ℕ) → Type 0
+AreNames names None texts = IsListed IsText names texts
+AreNames names (Some null) texts = IsListed IsText names texts
+AreNames names (Some (string [])) texts = IsListed IsText names texts
+AreNames names (Some (string (c ∷ name))) texts = (items_of names ≡ Some no_items) × (texts ≡ (c ∷ name) ∷ [])
+AreNames names (Some _) texts = ⊥
+
+-- The value is these criteria: an object of `caps`, `arches` and `minKernel`, if it likes.
+pub record AreCriteria (d : Data) (c : Criteria) : Type 0 where
+  pub names : HasOnly d (codes "caps" ∷ codes "arches" ∷ codes "minKernel" ∷ [])
+  pub caps : IsListed IsText (get (codes "caps") d) c.caps
+  pub arches : IsListed IsText (get (codes "arches") d) c.arches
+  pub min_kernel : IsKernelOr (get (codes "minKernel") d) c.min_kernel
+
+-- What stands there is these criteria: empty ones if nothing stands there, or null.
+abbrev pub AreCriteriaOr : Option Data → Criteria → Type 0
+AreCriteriaOr None c = (c.caps ≡ []) × (c.arches ≡ []) × (c.min_kernel ≡ None)
+AreCriteriaOr (Some null) c = (c.caps ≡ []) × (c.arches ≡ []) × (c.min_kernel ≡ None)
+AreCriteriaOr (Some d) c = AreCriteria d c
+
+-- The value is this entry: an object of `action`, `names` or `name`, and, if it likes, `errnoRet`, `errno`, `args`, `includes`,
+-- `excludes` and `comment`.
+pub record IsEntry (d : Data) (e : Entry) : Type 0 where
+  pub only : HasOnly d (codes "names" ∷ codes "name" ∷ codes "action" ∷ codes "errnoRet" ∷ codes "errno" ∷ codes "args"
+      ∷ codes "includes" ∷ codes "excludes" ∷ codes "comment" ∷ [])
+  pub comment : IsCommented d
+  pub names : AreNames (get (codes "names") d) (get (codes "name") d) e.names
+  pub action : IsActionUnder d (codes "action") (codes "errnoRet") (codes "errno") e.action
+  pub args : IsListed IsArgument (get (codes "args") d) e.args
+  pub includes : AreCriteriaOr (get (codes "includes") d) e.includes
+  pub excludes : AreCriteriaOr (get (codes "excludes") d) e.excludes
+
+-- The value is this profile: an object of `defaultAction` and, if it likes, `defaultErrnoRet`, `defaultErrno`, `flags` and `syscalls`.
+-- `architectures` and `archMap`, which concern other architectures, are lists, if they are there. Other keys say nothing.
+pub record IsProfile (d : Data) (p : Profile) : Type 0 where
+  pub architectures : IsList (get (codes "architectures") d)
+  pub arch_map : IsList (get (codes "archMap") d)
+  pub default : IsActionUnder d (codes "defaultAction") (codes "defaultErrnoRet") (codes "defaultErrno") p.default
+  pub flags : IsListed IsFlag (get (codes "flags") d) p.flags
+  pub entries : IsListed IsEntry (get (codes "syscalls") d) p.entries

@@ -1,0 +1,88 @@
+// From a JSON value, or a text, to a profile.
+
+ghost use Rattle.std.specs.Prelude.{◌↔◌, IsTrue, option_map, IfOk, IfErr, IfSome, IfNone};
+ghost use Rattle.serde_json.specs.View.{view};
+ghost use Rattle.seccompiler.specs.JsonAnswers.{IsReadAs};
+ghost use Rattle.seccomp_profiles.specs.Types.{AllOnArguments};
+ghost use Rattle.seccomp_profiles.specs.ProfileShape.{IsList, IsProfile};
+ghost use Rattle.seccomp_profiles.specs.ProfileText.{IsProfileFault, IsProfileText};
+ghost use Rattle.seccomp_profiles.specs.Types.{Profile};
+
+use crate::actions::action_under;
+use crate::error::ProfileError;
+use crate::fault::fault_of;
+use crate::lists::parts_under;
+use crate::members::items_of;
+use crate::types::Profile;
+use serde_json::Value;
+use std::alloc::{AllocError, Global};
+
+// Whether a list stands there, or nothing, or null.
+fn is_list(value: Option<&Value>) -> bool
+    ensures { IsTrue result ↔ IsList (option_map (λ v. view v.now) value.entry) }
+{
+    items_of(value).is_some()
+}
+
+// The profile that a JSON value is, or `None` where it is none.
+fn read_profile(alloc: Global, value: &Value) -> Result<Option<Profile>, AllocError>
+    ensures found { IfOk result (λ o. IfSome o (IsProfile (view value.now))) }
+    ensures none { IfOk result (λ o. IfNone o ((p : Profile) → IsProfile (view value.now) p → ⊥)) }
+    ensures arguments { IfOk result (λ o. IfSome o (λ p. AllOnArguments p.entries)) }
+{
+    if !is_list(value.get("architectures")) || !is_list(value.get("archMap")) {
+        return Ok(None);
+    }
+    let Some(default) = action_under(value, "defaultAction", "defaultErrnoRet", "defaultErrno")
+    else {
+        return Ok(None);
+    };
+    let Some(flags) = parts_under(alloc, value.get("flags"))? else {
+        return Ok(None);
+    };
+    let Some(entries) = parts_under(alloc, value.get("syscalls"))? else {
+        return Ok(None);
+    };
+    Ok(Some(Profile {
+        default,
+        flags,
+        entries,
+    }))
+}
+
+/// Reads a profile from a JSON text.
+///
+/// The text is the value of `linux.seccomp` in the OCI runtime specification, or a profile of Docker or Podman.
+/// It is no profile if an entry or a part of one has an unknown name, or if an action, operator or flag can't
+/// be carried. Podman names an errno beside its number, as `"errno": "EPERM"`: the name wins. Each condition of
+/// a profile is on an argument from 0 to 5.
+///
+/// # Errors
+///
+/// `Json` if the bytes are no JSON text in UTF-8. `NotAProfile` if the text's value is no profile, with the
+/// text of its first fault: the path to its place, a colon, a space, and what is wrong there, as
+/// `syscalls[3].args[0].index: expected 0 to 5, found 6`. `OutOfMemory` may be returned instead of any answer, if
+/// memory runs out. No other error is returned.
+pub fn profile_of(alloc: Global, text: &[u8]) -> Result<Profile, ProfileError>
+    ensures read { IfOk result (IsProfileText text.now) }
+    ensures fault { IfErr result (IsProfileFault text.now) }
+    ensures arguments { IfOk result (λ p. AllOnArguments p.entries) }
+{
+    let value = value_of(alloc, text)?;
+    match read_profile(alloc, &value)? {
+        Some(profile) => Ok(profile),
+        None => Err(ProfileError::NotAProfile(fault_of(alloc, &value)?)),
+    }
+}
+
+// The value of a text.
+fn value_of(alloc: Global, text: &[u8]) -> Result<Value, ProfileError>
+    ensures value { IfOk result (λ value. IsReadAs text.now (view value)) }
+    ensures fault { IfErr result (IsProfileFault text.now) }
+{
+    match Value::from_slice(alloc, text) {
+        Ok(value) => Ok(value),
+        Err(error) if error.is_memory() => Err(ProfileError::OutOfMemory),
+        Err(error) => Err(ProfileError::Json(error)),
+    }
+}

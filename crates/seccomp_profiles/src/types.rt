@@ -1,0 +1,156 @@
+// A profile as types.
+
+use seccompiler::SeccompAction;
+use std::marker::Model;
+
+/// How an argument of a call is compared, both numbers unsigned and of 64 bits.
+#[derive(Clone, Copy, Debug, PartialEq, Eq)]
+pub enum Operator {
+    /// The argument differs from `value`: `SCMP_CMP_NE`.
+    Ne,
+    /// The argument is less than `value`: `SCMP_CMP_LT`.
+    Lt,
+    /// The argument is at most `value`: `SCMP_CMP_LE`.
+    Le,
+    /// The argument is `value`: `SCMP_CMP_EQ`.
+    Eq,
+    /// The argument is at least `value`: `SCMP_CMP_GE`.
+    Ge,
+    /// The argument is greater than `value`: `SCMP_CMP_GT`.
+    Gt,
+    /// The argument and `value_two` have the same bits under the mask `value`: `SCMP_CMP_MASKED_EQ`.
+    MaskedEq,
+}
+
+/// A condition on one argument of a call: an item of `args`.
+#[derive(Clone, Copy, Debug, PartialEq, Eq)]
+pub struct Argument {
+    /// The argument's index, from 0 to 5.
+    pub index: u8,
+    /// What the argument is compared with; the mask of `MaskedEq`.
+    pub value: u64,
+    /// What the argument is compared with under a mask: `valueTwo`, 0 if the text has none.
+    pub value_two: u64,
+    /// How the argument is compared: `op`.
+    pub operator: Operator,
+}
+
+/// A flag of `seccomp(2)` that a profile may name. None of them changes what a filter decides.
+#[derive(Clone, Copy, Debug, PartialEq, Eq)]
+pub enum Flag {
+    /// `SECCOMP_FILTER_FLAG_TSYNC`
+    Tsync,
+    /// `SECCOMP_FILTER_FLAG_LOG`
+    Log,
+    /// `SECCOMP_FILTER_FLAG_SPEC_ALLOW`
+    SpecAllow,
+}
+
+/// A version of the kernel, as `minKernel` has it.
+#[derive(Clone, Copy, Debug, PartialEq, Eq)]
+pub struct Kernel {
+    /// The first number, as 4 of 4.8.
+    pub major: u32,
+    /// The second number, as 8 of 4.8.
+    pub minor: u32,
+}
+
+/// Which program makes a filter of the profile. docs/OCI.md says in what they differ.
+#[derive(Clone, Copy, Debug, PartialEq, Eq)]
+pub enum Runtime {
+    /// crun, and each that does no more than libseccomp.
+    Crun,
+    /// runc, which answers calls that are newer than all that the profile names with `ENOSYS`.
+    Runc,
+}
+
+/// What a profile is for: a container's capabilities, the kernel that it runs on, and its runtime.
+///
+/// A contract sees the names as their bytes, in a list.
+#[derive(Debug, Drop)]
+pub struct Container {
+    /// Names of the container's capabilities as a profile has them, such as `CAP_SYS_ADMIN`.
+    pub caps: Vec<String>,
+    /// The kernel; if none is given, it counts as newer than each that a profile names.
+    pub kernel: Option<Kernel>,
+    /// The runtime.
+    pub runtime: Runtime,
+}
+
+impl Model for Container {
+    ghost use Rattle.std.specs.Prelude.{map, string_bytes};
+    ghost use Rattle.seccomp_profiles.specs.Types.{Container};
+
+    ghost Value = { Container };
+
+    ghost view = { λ c. record { caps = map string_bytes c.caps.items; kernel = c.kernel; runtime = c.runtime } };
+}
+
+/// What a container has to have, or must not have, for an entry to apply: `includes` or `excludes`.
+///
+/// A contract sees the texts as their bytes, in lists.
+#[derive(Debug, Drop)]
+pub struct Criteria {
+    /// Names of capabilities, such as `CAP_SYS_ADMIN`: `caps`.
+    pub caps: Vec<String>,
+    /// Names of architectures as Go has them, such as `amd64`: `arches`.
+    pub arches: Vec<String>,
+    /// The kernel from which on an entry applies, or doesn't: `minKernel`.
+    pub min_kernel: Option<Kernel>,
+}
+
+impl Model for Criteria {
+    ghost use Rattle.std.specs.Prelude.{map, string_bytes};
+    ghost use Rattle.seccomp_profiles.specs.Types.{Criteria};
+
+    ghost Value = { Criteria };
+
+    ghost view = { λ c. record { caps = map string_bytes c.caps.items; arches = map string_bytes c.arches.items; min_kernel = c.min_kernel } };
+}
+
+/// One entry of a profile: an item of `syscalls`.
+///
+/// A contract sees the names as their bytes, and both they and the conditions as lists.
+#[derive(Debug, Drop)]
+pub struct Entry {
+    /// The calls' names: `names`, or the one of the older `name`. Some may be no call's.
+    pub names: Vec<String>,
+    /// The action for these calls: `action`, with `errnoRet`.
+    pub action: SeccompAction,
+    /// The conditions on the calls' arguments: `args`.
+    pub args: Vec<Argument>,
+    /// What has to be there for the entry to apply: `includes`.
+    pub includes: Criteria,
+    /// What must not be there for the entry to apply: `excludes`.
+    pub excludes: Criteria,
+}
+
+impl Model for Entry {
+    ghost use Rattle.std.specs.Prelude.{map, string_bytes};
+    ghost use Rattle.seccomp_profiles.specs.Types.{Entry};
+
+    ghost Value = { Entry };
+
+    ghost view = { λ e. record { names = map string_bytes e.names.items; action = e.action; args = e.args.items; includes = e.includes; excludes = e.excludes } };
+}
+
+/// A profile: `linux.seccomp`.
+///
+/// A contract sees the flags and the entries as lists.
+#[derive(Debug, Drop)]
+pub struct Profile {
+    /// The action for calls that no entry is for: `defaultAction`, with `defaultErrnoRet`.
+    pub default: SeccompAction,
+    /// The flags of `seccomp(2)`: `flags`.
+    pub flags: Vec<Flag>,
+    /// The entries, in the text's order: `syscalls`.
+    pub entries: Vec<Entry>,
+}
+
+impl Model for Profile {
+    ghost use Rattle.seccomp_profiles.specs.Types.{Profile};
+
+    ghost Value = { Profile };
+
+    ghost view = { λ p. record { default = p.default; flags = p.flags.items; entries = p.entries.items } };
+}

@@ -1,0 +1,10 @@
+use Rattle.std.proofs.Common.{[]}
+use Rattle.seccomptool.specs.Compile.{instruction_bytes}
+use Rattle.seccomp_command_line.proofs.Joined.{joined_more}
+use Rattle.seccomptool.proofs.compile.text.bytes_of.Goals as goal
+
+pub loop-instruction-preserved : goal.loop-instruction-preserved
+loop-instruction-preserved c =
+    joined_more instruction_bytes c.args.program.now c.loop-instruction.instruction-index
+    (record { code = 0; jt = 0; jf = 0; k = 0 }) [] c.loop-instruction.bytes.items
+    c.push_instruction.new.bytes.items c.loop-instruction-test.true c.loop-instruction.invariant c.in_ok-push_instruction.ensures

@@ -1,0 +1,144 @@
+// What `check` makes of the text that it is given.
+
+ghost use Rattle.std.specs.Prelude.{◌≡◌, IfErr, IfOk};
+ghost use Rattle.seccomptool.specs.Commands.{IsAccepted, IsCheck, IsRejectedFor};
+ghost use Rattle.seccomptool.specs.declared.findings.Verdict.TheVariants.{Different};
+
+use crate::check::diagnostic::Diagnostic;
+use crate::check::fault::fault_diagnostic;
+use crate::check::format::{CheckFormat, gcc_lines, json_lines};
+use crate::check::policy::{policy_diagnostics, policy_lines};
+use crate::check::profile::lines::{profile_diagnostics, profile_lines};
+use crate::check::profile::profile_checked;
+use crate::check::{FilterWarnings, checked, verdict_where};
+use crate::error::{FaultAt, ToolError};
+use crate::failure::rejection;
+use crate::findings::Verdict;
+use crate::kind::{Reading, Subject, subject_of};
+use crate::made::Made;
+use crate::notes::front_of;
+use crate::profile::profile_notes;
+use crate::run::program::program_of;
+use seccomp_warnings::Code;
+use seccompiler::TargetArch;
+use std::alloc::{AllocError, Global};
+
+pub(crate) fn check_made(
+    alloc: Global,
+    arch: TargetArch,
+    reading: &Reading,
+    denied: bool,
+    allowed: &[Code],
+    format: CheckFormat,
+    path: &str,
+    given: &[u8],
+) -> Result<Made, FaultAt>
+    ensures { IfOk result (λ made. IsCheck arch reading.now denied allowed.now given.now made.verdict) }
+{
+    let subject = subject_of(alloc, reading, given)?;
+    let listed = reading.listed;
+    match accepted(
+        alloc, arch, subject, listed, denied, allowed, format, path, given,
+    ) {
+        Ok(made) => Ok(made),
+        Err(fault) if fault.is_out_of_memory() => Err(fault.into()),
+        Err(fault) => Ok(rejected(alloc, format, path, given, fault)?),
+    }
+}
+
+// What `check` makes of what is accepted.
+fn accepted(
+    alloc: Global,
+    arch: TargetArch,
+    subject: Subject<'_>,
+    listed: bool,
+    denied: bool,
+    allowed: &[Code],
+    format: CheckFormat,
+    path: &str,
+    given: &[u8],
+) -> Result<Made, ToolError>
+    ensures accepted { IfOk result (λ made. IsAccepted arch subject.entry denied allowed.now given.now made.verdict) }
+    ensures rejected { IfErr result (IsRejectedFor arch subject.entry given.now) }
+{
+    match subject {
+        Subject::Policy => {
+            let checked = checked(alloc, arch, allowed, given)?;
+            let text = policy_text(alloc, format, path, given, &checked.filters)?;
+            let verdict = verdict_where(denied, checked.count);
+            Ok(Made::noting(text, verdict, Vec::new(alloc)))
+        }
+        Subject::Profile(container) => {
+            let checked = profile_checked(alloc, arch, container, allowed, given)?;
+            let diagnostics = profile_diagnostics(
+                alloc,
+                arch,
+                container,
+                &checked.profile,
+                &checked.warnings,
+            )?;
+            let left_out = &checked.compiled.left_out;
+            let notes = profile_notes(alloc, arch, path, listed, left_out, &[])?;
+            let text = written(alloc, format, path, given, &diagnostics)?;
+            Ok(Made {
+                text,
+                rest: 0,
+                verdict: verdict_where(denied, checked.warnings.len()),
+                notes,
+            })
+        }
+        Subject::Program => {
+            let _program = program_of(alloc, given)?;
+            Ok(Made::plain(alloc, Vec::new(alloc)))
+        }
+    }
+}
+
+// What is said of the warnings of a policy.
+fn policy_text(
+    alloc: Global,
+    format: CheckFormat,
+    path: &str,
+    given: &[u8],
+    all: &[FilterWarnings],
+) -> Result<Vec<u8>, AllocError> {
+    match format {
+        CheckFormat::Text => policy_lines(alloc, &front_of(alloc, path)?, all),
+        _ => written(alloc, format, path, given, &policy_diagnostics(alloc, all)?),
+    }
+}
+
+// What `check` makes of what is rejected for this error: a line on standard error, or what its form has for it.
+fn rejected(
+    alloc: Global,
+    format: CheckFormat,
+    path: &str,
+    given: &[u8],
+    error: ToolError,
+) -> Result<Made, AllocError>
+    ensures { IfOk result (λ made. made.verdict ≡ Different) }
+{
+    let mut made = Made::noting(Vec::new(alloc), Verdict::Different, Vec::new(alloc));
+    if let CheckFormat::Text = format {
+        made.notes = rejection(alloc, path, &error)?;
+        return Ok(made);
+    }
+    let diagnostics = vec![in alloc; fault_diagnostic(alloc, given, &error)?]?;
+    made.text = written(alloc, format, path, given, &diagnostics)?;
+    Ok(made)
+}
+
+// What is said of a text, in this form.
+fn written(
+    alloc: Global,
+    format: CheckFormat,
+    path: &str,
+    given: &[u8],
+    diagnostics: &[Diagnostic],
+) -> Result<Vec<u8>, AllocError> {
+    match format {
+        CheckFormat::Text => profile_lines(alloc, &front_of(alloc, path)?, diagnostics),
+        CheckFormat::Gcc => gcc_lines(alloc, path, given, diagnostics),
+        CheckFormat::Json => json_lines(alloc, path, given, diagnostics),
+    }
+}

@@ -1,0 +1,73 @@
+// What is said of the warnings of a policy.
+
+use crate::check::FilterWarnings;
+use crate::check::diagnostic::{Diagnostic, Place, key};
+use seccomp_check::Step;
+use seccomp_warnings::{Code, Subject, Warning, push_lines, said_text};
+use std::alloc::{AllocError, Global};
+
+/// A line for each warning, after this prefix.
+pub(crate) fn policy_lines(
+    alloc: Global,
+    front: &[u8],
+    all: &[FilterWarnings],
+) -> Result<Vec<u8>, AllocError> {
+    let mut text = Vec::new(alloc);
+    for own in all {
+        push_lines(&mut text, alloc, front, own.name.as_str(), &own.warnings)?;
+    }
+    Ok(text)
+}
+
+/// What the lines say, as values.
+pub(crate) fn policy_diagnostics(
+    alloc: Global,
+    all: &[FilterWarnings],
+) -> Result<Vec<Diagnostic>, AllocError> {
+    let mut diagnostics = Vec::new(alloc);
+    for own in all {
+        for warning in &own.warnings {
+            diagnostics.push(diagnostic_of(alloc, own.name.as_str(), *warning)?)?;
+        }
+    }
+    Ok(diagnostics)
+}
+
+// What is said of a warning of the filter of this name.
+fn diagnostic_of(alloc: Global, name: &str, warning: Warning) -> Result<Diagnostic, AllocError> {
+    let mut path = vec![in alloc; key(alloc, name)?]?;
+    let mut call = None;
+    match warning.subject {
+        Subject::MismatchAction(_) => path.push(key(alloc, "mismatch_action")?)?,
+        Subject::MismatchCall(unlisted) => {
+            path.push(key(alloc, "mismatch_action")?)?;
+            call = Some(String::from_str(alloc, unlisted.name())?);
+        }
+        Subject::MatchAction(_) => path.push(key(alloc, "match_action")?)?,
+        Subject::Entry(entry) => {
+            path.push(key(alloc, "filter")?)?;
+            path.push(Step::Item(entry))?;
+        }
+        Subject::Condition(comparison) => {
+            path.push(key(alloc, "filter")?)?;
+            path.push(Step::Item(comparison.entry))?;
+            path.push(key(alloc, "args")?)?;
+            path.push(Step::Item(comparison.place))?;
+        }
+    }
+    if let Some(part) = part_of(warning.code) {
+        path.push(key(alloc, part)?)?;
+    }
+    let message = String::from_str(alloc, said_text(warning.code))?;
+    Ok(Diagnostic::warning(warning.code, path, call, message, Place::Value))
+}
+
+// The part of an action or of a condition that a code is about, as in the lines.
+fn part_of(code: Code) -> Option<&'static str> {
+    match code {
+        Code::FakeSuccess | Code::ErrnoTooLarge => Some("errno"),
+        Code::TraceWithoutTracer => Some("trace"),
+        Code::HighHalfIgnored | Code::ValueOutsideMask => Some("val"),
+        _ => None,
+    }
+}

@@ -1,0 +1,44 @@
+// JSON that the program writes.
+
+use serde_json::Value;
+use std::alloc::{AllocError, Global};
+
+// Adds the text of a value, in ASCII. What isn't stands in strings alone, and is written there by its number, so that no
+// character of it steers a terminal.
+pub(crate) fn push_json(
+    text: &mut Vec<u8>,
+    alloc: Global,
+    value: &Value,
+) -> Result<(), AllocError> {
+    for character in value.to_string(alloc)?.as_str().chars() {
+        if character < '\u{7f}' {
+            text.push(character as u8)?;
+        } else {
+            let mut room = [0; 2];
+            for unit in character.encode_utf16(&mut room) {
+                text.extend_from_slice(format!(in alloc; "\\u{unit:04x}")?.as_bytes())?;
+            }
+        }
+    }
+    Ok(())
+}
+
+// A text, or null if there is none.
+pub(crate) fn text_or_null(alloc: Global, text: Option<&str>) -> Result<Value, AllocError> {
+    match text {
+        Some(text) => Value::try_from_str(alloc, text),
+        None => Ok(Value::Null),
+    }
+}
+
+// The text of an object with a list under this name. Each item stands in a line, with a comma behind it.
+pub(crate) fn list_text(alloc: Global, name: &str, items: &[u8]) -> Result<Vec<u8>, AllocError> {
+    let mut text = format!(in alloc; "{{\"{name}\":[")?.into_bytes();
+    if let Some(items) = items.strip_suffix(b",\n") {
+        text.push(b'\n')?;
+        text.extend_from_slice(items)?;
+        text.push(b'\n')?;
+    }
+    text.extend_from_slice(b"]}\n")?;
+    Ok(text)
+}

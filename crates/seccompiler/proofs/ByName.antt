@@ -34,8 +34,6 @@ abbrev pub AreInOrder : {X : Type 0} → ByName X → Type 0
 AreInOrder values = IsStrictlySortedBy string_cmp (keys_of values)
 
 module _ {X : Type 0} where
-  -- ---- in a list
-
   -- What is found stands under a key of that name.
   key_of : (q : List ℕ) (xs : ByName X) (x : X) → under xs q ≡ Some x → (key : String Global) × (string_bytes key ≡ q)
   key_of q xs x there = let place = place_from_lookup (λ key. bytes_eq q (string_bytes key)) xs x there in
@@ -50,8 +48,6 @@ module _ {X : Type 0} where
   in_front : (q : List ℕ) (front back : ByName X) → under back q ≡ None → under (front ++ back) q ≡ under front q
   in_front q [] back none = none
   in_front q (e ∷ front) back none = ap (cond (bytes_eq q (string_bytes e.0)) (Some e.1)) (in_front q front back none)
-
-  -- ---- in order
 
   behind : (front back : ByName X) → AreInOrder (front ++ back) → AreInOrder back
   behind [] back h = h
@@ -74,12 +70,9 @@ module _ {X : Type 0} where
   found_in_front front e back h q x there less =
       let key = key_of q (front ++ e ∷ back) x there in
       let below : string_cmp key.0 e.0 ≡ Less = subst (λ r. ComesBefore r (string_bytes e.0)) (sym key.1) less in
-      let none = sym (by_text (string_bytes key.0) (e ∷ back))
-      ∙ lookup-none (is_at (string_cmp key.0)) (e ∷ back)
+      let none = sym (by_text (string_bytes key.0) (e ∷ back)) ∙ lookup-none (is_at (string_cmp key.0)) (e ∷ back)
       (none_below_head string_cmp_total key.0 e back (behind front (e ∷ back) h) below) in
       sym (in_front q front (e ∷ back) (subst (λ r. under (e ∷ back) r ≡ None) key.1 none)) ∙ there
-
-  -- ---- in a map
 
   -- Where the same is found by each key, the same is found by each name.
   same_by_name : (xs ys : ByName X) → ((key : String Global) → lookup (string_eq key) xs ≡ lookup (string_eq key) ys)
@@ -116,8 +109,6 @@ module _ {X : Type 0} where
       → hash.IsFromIterResult string_eq n.entries m → (q : List ℕ) → hash.get_by_text m q ≡ tree.get_by_text n q
   rehashed n m order made q = hashed n.entries m order made q ∙ sym (by_text q n.entries)
 
--- ---- what is made of a list
-
 -- Of each value one is made that R relates to it, under the same name.
 abbrev pub AreMade : {X Y : Type 0} → (X → Y → Type 0) → ByName X → ByName Y → Type 0
 AreMade R xs ys = AllZip (λ x y. (y.0 ≡ x.0) × R x.1 y.1) xs ys
@@ -148,7 +139,4 @@ module _ {X Y : Type 0} (R : X → Y → Type 0) where
   made_under (a ∷ xs) (b ∷ ys) h q =
       rw h.0.0 (elim (bytes_eq q (string_bytes a.0)) as
       (λ t. MatchOption (cond t (Some a.1) (under xs q)) (cond t (Some b.1) (under ys q) ≡ None)
-      (λ x. (y : Y) × (cond t (Some b.1) (under ys q) ≡ Some y) × R x y)) [
-        | true ↦ (b.1, refl, h.0.1)
-        | false ↦ made_under xs ys h.1 q
-      ])
+      (λ x. (y : Y) × (cond t (Some b.1) (under ys q) ≡ Some y) × R x y)) [ true ↦ (b.1, refl, h.0.1) | false ↦ made_under xs ys h.1 q ])

@@ -1,6 +1,5 @@
 -- Lengths that stop at the greatest number that a machine's number holds.
-use Rattle.std.proofs.Common.{List, ℤ, refl, map, Bor, Vec, Global, sum_by, ◌≡◌, ℕ, ◌+◌, ◌≤◌, [], ◌∷◌, length}
-use Rattle.std.proofs.Common.{min, sym, ap, ◌∙◌, arith}
+use Rattle.std.proofs.Common.{List, ℤ, refl, map, Bor, Vec, Global, sum_by, ◌≡◌, ℕ, ◌+◌, ◌≤◌, [], ◌∷◌, length, min, sym, ap, ◌∙◌, arith}
 use Rattle.std.proofs.lemmas.List.Sums.{sum_by-cons}
 use Rattle.std.specs.Map.{values_of}
 use Rattle.std.specs.Map.Iter.{deref}

@@ -1,6 +1,5 @@
 -- The call numbers of a filter's chains are the keys of its map, which ascend.
-use Rattle.std.proofs.Common.{◌≡◌, ℤ, List, [], ◌∷◌, Vec, Global}
-use Rattle.std.proofs.Common.{refl, sym, ap, ◌∙◌, subst, length, arith}
+use Rattle.std.proofs.Common.{◌≡◌, ℤ, List, [], ◌∷◌, Vec, Global, refl, sym, ap, ◌∙◌, subst, length, arith}
 use Rattle.std.specs.List.Sorted.{IsStrictlySortedBy}
 use Rattle.std.specs.Ordering.{int_cmp}
 use Rattle.std.specs.Map.{keys_of}

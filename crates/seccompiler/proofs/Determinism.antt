@@ -8,7 +8,7 @@ use Rattle.seccompiler.specs.Machine.{word_at, Does, loads, masks, jumps, is_equ
 use Rattle.seccompiler.specs.Machine.{is_less, Step, Goes, stays, then_step, Ends}
 
 -- Where an instruction leads.
-abbrev pub place_after : sock_filter → ℕ → ℕ → ℕ
+abbrev place_after : sock_filter → ℕ → ℕ → ℕ
 place_after i place a =
     if i.code == 0x05 then place + 1 + i.k
     else (if i.code == 0x15 then (if a == i.k then place + 1 + i.jt else (place + 1 + i.jf))
@@ -17,56 +17,30 @@ place_after i place a =
     else (place + 1))))
 
 -- What an instruction leaves in the accumulator.
-abbrev pub accumulator_after : sock_filter → List ℕ → ℕ → ℕ
+abbrev accumulator_after : sock_filter → List ℕ → ℕ → ℕ
 accumulator_after i r a = if i.code == 0x20 then word_at r i.k else (if i.code == 0x54 then bit_and a i.k else a)
 
--- An instruction leads to the place that its fields and the accumulator name.
-pub place_after-does : (i : sock_filter) (r : List ℕ) (place a place' a' : ℕ) → Does i r place a place' a' → place' ≡ place_after i place a
-place_after-does i r place a place' a' (loads code _ to _) = grind (arith, nat_tests)
-place_after-does i r place a place' a' (masks code to _) = grind (arith, nat_tests)
-place_after-does i r place a place' a' (jumps code to _) = grind (arith, nat_tests)
-place_after-does i r place a place' a' (is_equal code test to _) = grind (arith, nat_tests)
-place_after-does i r place a place' a' (is_not_equal code test to _) = grind (arith, nat_tests)
-place_after-does i r place a place' a' (is_greater code test to _) = grind (arith, nat_tests)
-place_after-does i r place a place' a' (is_not_greater code test to _) = grind (arith, nat_tests)
-place_after-does i r place a place' a' (is_at_least code test to _) = grind (arith, nat_tests)
-place_after-does i r place a place' a' (is_less code test to _) = grind (arith, nat_tests)
-
--- So it is with the accumulator.
-pub accumulator_after-does : (i : sock_filter) (r : List ℕ) (place a place' a' : ℕ) → Does i r place a place' a'
-    → a' ≡ accumulator_after i r a
-accumulator_after-does i r place a place' a' (loads code _ _ to) = grind (arith, nat_tests)
-accumulator_after-does i r place a place' a' (masks code _ to) = grind (arith, nat_tests)
-accumulator_after-does i r place a place' a' (jumps code _ to) = grind (arith, nat_tests)
-accumulator_after-does i r place a place' a' (is_equal code _ _ to) = grind (arith, nat_tests)
-accumulator_after-does i r place a place' a' (is_not_equal code _ _ to) = grind (arith, nat_tests)
-accumulator_after-does i r place a place' a' (is_greater code _ _ to) = grind (arith, nat_tests)
-accumulator_after-does i r place a place' a' (is_not_greater code _ _ to) = grind (arith, nat_tests)
-accumulator_after-does i r place a place' a' (is_at_least code _ _ to) = grind (arith, nat_tests)
-accumulator_after-does i r place a place' a' (is_less code _ _ to) = grind (arith, nat_tests)
-
--- A return does nothing.
-pub does_not_return : (i : sock_filter) (r : List ℕ) (place a place' a' : ℕ) → Does i r place a place' a' → i.code ≢ 0x06
-does_not_return i r place a place' a' (loads code _ _ _) = λ returns. omega arith
-does_not_return i r place a place' a' (masks code _ _) = λ returns. omega arith
-does_not_return i r place a place' a' (jumps code _ _) = λ returns. omega arith
-does_not_return i r place a place' a' (is_equal code _ _ _) = λ returns. omega arith
-does_not_return i r place a place' a' (is_not_equal code _ _ _) = λ returns. omega arith
-does_not_return i r place a place' a' (is_greater code _ _ _) = λ returns. omega arith
-does_not_return i r place a place' a' (is_not_greater code _ _ _) = λ returns. omega arith
-does_not_return i r place a place' a' (is_at_least code _ _ _) = λ returns. omega arith
-does_not_return i r place a place' a' (is_less code _ _ _) = λ returns. omega arith
+-- An instruction that does something leads to the place and leaves the accumulator that its fields tell, and it is no return.
+told : (i : sock_filter) (r : List ℕ) (place a place' a' : ℕ) → Does i r place a place' a'
+    → (place' ≡ place_after i place a) × (a' ≡ accumulator_after i r a) × (i.code ≢ 0x06)
+told i r place a place' a' (loads code _ to is) = (grind (arith, nat_tests), grind (arith, nat_tests), λ returns. omega arith)
+told i r place a place' a' (masks code to is) = (grind (arith, nat_tests), grind (arith, nat_tests), λ returns. omega arith)
+told i r place a place' a' (jumps code to is) = (grind (arith, nat_tests), grind (arith, nat_tests), λ returns. omega arith)
+told i r place a place' a' (is_equal code test to is) = (grind (arith, nat_tests), grind (arith, nat_tests), λ returns. omega arith)
+told i r place a place' a' (is_not_equal code test to is) = (grind (arith, nat_tests), grind (arith, nat_tests), λ returns. omega arith)
+told i r place a place' a' (is_greater code test to is) = (grind (arith, nat_tests), grind (arith, nat_tests), λ returns. omega arith)
+told i r place a place' a' (is_not_greater code test to is) = (grind (arith, nat_tests), grind (arith, nat_tests), λ returns. omega arith)
+told i r place a place' a' (is_at_least code test to is) = (grind (arith, nat_tests), grind (arith, nat_tests), λ returns. omega arith)
+told i r place a place' a' (is_less code test to is) = (grind (arith, nat_tests), grind (arith, nat_tests), λ returns. omega arith)
 
 -- A step from one place and accumulator leads to one place and accumulator.
 step_only : (p : List sock_filter) (r : List ℕ) {place a place' a' at b at' b' : ℕ} → Step p r place a place' a'
     → Step p r at b at' b' → place ≡ at → a ≡ b → (place' ≡ at') × (a' ≡ b')
 step_only p r {place} {a} {place'} {a'} {at} {b} {at'} {b'} s t here with_same =
     let same : s.instruction ≡ t.instruction = cc (s.here, t.here) in
-    let places = place_after-does s.instruction r place a place' a' s.does in
-    let accumulators = accumulator_after-does s.instruction r place a place' a' s.does in
-    let other_places = place_after-does t.instruction r at b at' b' t.does in
-    let other_accumulators = accumulator_after-does t.instruction r at b at' b' t.does in
-    ((rw (same, here, with_same) at places) ∙ sym other_places, (rw (same, with_same) at accumulators) ∙ sym other_accumulators)
+    let one = told s.instruction r place a place' a' s.does in
+    let other = told t.instruction r at b at' b' t.does in
+    ((rw (same, here, with_same) at one.0) ∙ sym other.0, (rw (same, with_same) at one.1) ∙ sym other.1)
 
 -- So do equally many steps.
 goes_only : (p : List sock_filter) (r : List ℕ) {place a n place' a' m place'' a'' : ℕ}
@@ -102,7 +76,7 @@ ends_no_later p r {n} {w} {m} {v} e f fewer =
     let on = goes_on_before p r (n - 1) f.goes (omega arith) in
     let same = goes_only p r e.goes on.goes refl in
     let found : e.instruction ≡ on.step.instruction = cc (e.here, on.step.here, same.0) in
-    does_not_return on.step.instruction r _ _ _ _ on.step.does (cc (found, e.returns))
+    (told on.step.instruction r _ _ _ _ on.step.does).2 (cc (found, e.returns))
 
 -- A program that ends on a record does so with one word and one number of steps.
 pub ends_only : (p : List sock_filter) (r : List ℕ) {n w m v : ℕ} → Ends p r n w → Ends p r m v → (n ≡ m) × (w ≡ v)

@@ -4,11 +4,10 @@ use Rattle.std.proofs.Common.{refl, sym, ap, ◌∙◌, subst}
 use Rattle.std.specs.BTreeMap.{BTreeMap, get_by_text}
 use Rattle.serde_json.specs.Data.{Data}
 use Rattle.serde_json.specs.Find.{get}
-use Rattle.seccompiler.proofs.ByName.{ByName, under, AreInOrder}
+use Rattle.seccompiler.proofs.ByName.{ByName, under, AreInOrder, AreMade, by_text, found_there, found_in_front, made_under}
 use Rattle.seccompiler.specs.JsonFilters.{AreFound, IsLeast}
 use Rattle.seccompiler.specs.JsonShape.{Under}
 use Rattle.seccompiler.specs.Reads.{Reads}
-use Rattle.seccompiler.proofs.ByName.{AreMade, by_text, found_there, found_in_front, made_under}
 
 -- What holds of every text holds of the one that is read.
 pub reads_some : (known : Option (List ℕ)) (P : List ℕ → Type 0) → ((text : List ℕ) → P text) → Reads known P
@@ -35,8 +34,7 @@ reads_this known P text is own = (text, is, own)
 module _ {X Y : Type 0} (P : Data → X → Type 0) (R : X → Y → Type 0) (given : BTreeMap (String Global) X) (d : Data)
     (are : AreFound P (get_by_text given) d) where
   -- What is made of all of it is the value's, where it is so of one.
-  pub all_made : (ys : ByName Y) → AreMade R given.entries ys → (found : List ℕ → Option Y)
-      → ((name : List ℕ) → found name ≡ under ys name)
+  pub all_made : (ys : ByName Y) → AreMade R given.entries ys → (found : List ℕ → Option Y) → ((name : List ℕ) → found name ≡ under ys name)
       → (Q : Data → Y → Type 0) → ((value : Data) (x : X) (y : Y) → P value x → R x y → Q value y) → AreFound Q found d
   all_made ys h found same Q one = record {
     is_object = are.is_object;

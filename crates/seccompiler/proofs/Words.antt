@@ -16,8 +16,7 @@ byte_fits r k rec =
 
 -- a word of a record has 32 bits
 pub word_fits : (r : List ℕ) (k : ℕ) → IsRecord r → word_at r k < 2 ^ 32
-word_fits r k rec =
-    omega (arith, byte_fits r k rec, byte_fits r (k + 1) rec, byte_fits r (k + 1 + 1) rec, byte_fits r (k + 1 + 1 + 1) rec)
+word_fits r k rec = omega (arith, byte_fits r k rec, byte_fits r (k + 1) rec, byte_fits r (k + 1 + 1) rec, byte_fits r (k + 1 + 1 + 1) rec)
 
 -- an eight-byte number is two words
 pub number_halves : (r : List ℕ) (k : ℕ) → number_at r k 8 ≡ word_at r k + 2 ^ 32 * word_at r (k + 4)

@@ -7,8 +7,7 @@ use Rattle.seccompiler.specs.Code.{jump}
 use Rattle.seccompiler.specs.Machine.{IsRecord, Goes, AreInRange}
 use Rattle.seccompiler.specs.Pieces.{IsInside, Leads}
 use Rattle.seccompiler.specs.Policy.{Chain, RuleHolds, ChainMatches, chain_under}
-use Rattle.seccompiler.specs.Layout.{greatest_offset, rule_steps, chain_length, chain_steps, chains_length, chains_steps}
-use Rattle.seccompiler.specs.Layout.{rules_length}
+use Rattle.seccompiler.specs.Layout.{greatest_offset, rule_steps, chain_length, chain_steps, chains_length, chains_steps, rules_length}
 
 -- The three jumps of a relay in front of code whose failure exit is o places after them.
 abbrev pub relay_code : ℕ → List sock_filter
@@ -40,13 +39,11 @@ Returns p r place a w = (count : ℕ) × ReturnsAfter p r place a count w
 pub record IsBlock (p : List sock_filter) (m : ℕ) : Type 0 where
   pub each : (place : ℕ) (i : sock_filter) → slice_get p place ≡ Some i → (IsInside i place m) ⊎ (i.code ≡ 0x06)
 
--- Entered at its first place the code returns the first word if the fact holds, and the second if it does not; one of
--- the two is so.
+-- Entered at its first place the code returns the first word if the fact holds, and the second if it does not; one of the two is so.
 abbrev pub ReturnsBy : List sock_filter → ℕ → ℕ → List ℕ → ℕ → Type 0 → Type 0
 ReturnsBy code matched mismatch r a fact = (fact × Returns code r 0 a matched) ⊎ ((fact → ⊥) × Returns code r 0 a mismatch)
 
--- Entered at its first place the code returns the word if the fact holds, and leaves at its end if it does not; one of
--- the two is so.
+-- Entered at its first place the code returns the word if the fact holds, and leaves at its end if it does not; one of the two is so.
 abbrev pub ReturnsOrLeaves : List sock_filter → ℕ → List ℕ → ℕ → Type 0 → Type 0
 ReturnsOrLeaves code w r a fact = (fact × Returns code r 0 a w) ⊎ ((fact → ⊥) × Leads code r 0 a (length code))
 
@@ -68,8 +65,7 @@ pub record IsChainCode (number : ℕ) (chain : Chain) (mismatch matched : ℕ) (
   pub enters : (r : List ℕ) → IsRecord r → ReturnsBy code matched mismatch r number (ChainMatches chain r)
   pub passes : (r : List ℕ) (a : ℕ) → a < 2 ^ 32 → a ≢ number → Goes code r 0 a (chain_steps chain) (length code) a
 
--- What the code of chains does with a call number: it returns a word if there is a chain, and leaves at its end if
--- there is none.
+-- What the code of chains does with a call number: it returns a word if there is a chain, and leaves at its end if there is none.
 pub data Dispatches (chains : List (ℤ × Chain)) (mismatch matched : ℕ) (code : List sock_filter) (r : List ℕ) (a : ℕ) : Type 0 where
   in_chain : (chain : Chain) → chain_under chains a ≡ Some chain → ReturnsBy code matched mismatch r a (ChainMatches chain r)
       → Dispatches chains mismatch matched code r a

@@ -53,8 +53,7 @@ pub record IsCompilable (f : Filter) : Type 0 where
   pub numbers : AreCallNumbers (numbers_of f.chains)
   pub short : counted_length f ≤ greatest_length
 
--- All its numbers are call numbers, but its counted length, which is n if a machine's number can hold it, is more
--- than the greatest length.
+-- All its numbers are call numbers, but its counted length, which is n if a machine's number can hold it, is more than the greatest length.
 pub record IsTooLarge (f : Filter) (n : ℕ) : Type 0 where
   pub numbers : AreCallNumbers (numbers_of f.chains)
   pub large : greatest_length < counted_length f

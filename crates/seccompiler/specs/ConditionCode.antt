@@ -38,3 +38,13 @@ comparison_code Qword (MaskedEq m) low v d =
 -- The code of a condition that leaves d places after its end if it fails.
 abbrev pub condition_code : Condition → ℕ → List sock_filter
 condition_code c d = comparison_code c.arg_len c.operator (16 + 8 * c.arg_index) c.value d
+
+-- Its last instruction, which tests the low half.
+abbrev pub test_code : SeccompCmpOp → ℕ → ℕ → sock_filter
+test_code Eq v d = jump_equal v 0 d
+test_code Ne v d = jump_equal v d 0
+test_code Ge v d = jump_at_least v 0 d
+test_code Gt v d = jump_greater v 0 d
+test_code Le v d = jump_greater v d 0
+test_code Lt v d = jump_at_least v d 0
+test_code (MaskedEq m) v d = jump_equal (bit_and v (m % 2 ^ 32)) 0 d

@@ -1,7 +1,6 @@
 -- What `==` computes of values that own memory, when two values have the same parts, and that each test of equality
 -- tells whether they have.
-use Rattle.std.specs.Prelude.{◌≡◌, ℤ, Bool, ◌&&◌, List, [], ◌∷◌, Option, Some, None, nat_eq, String, string_eq, string_bytes}
-use Rattle.std.specs.Prelude.{refl, Decides}
+use Rattle.std.specs.Prelude.{◌≡◌, ℤ, Bool, ◌&&◌, List, [], ◌∷◌, Option, Some, None, nat_eq, String, string_eq, string_bytes, refl, Decides}
 use Rattle.std.specs.Cmp.{IsPartialEquivalence, partial_equiv_from_equiv, decided, and_per, on_per, unsigned_Decides, signed_Decides}
 use Rattle.std.specs.Cmp.Lexicographic.{pointwise, pointwise_decides, bytes_decides, lists_per, nat_list_eq_equiv}
 use Rattle.std.specs.List.{AllZip}

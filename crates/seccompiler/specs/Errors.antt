@@ -1,5 +1,4 @@
--- The errors: how a refusal of one module becomes one of another, the text of the crate's, and where lack of memory
--- stands.
+-- The errors: how a refusal of one module becomes one of another, the text of the crate's, and where lack of memory stands.
 use Rattle.std.specs.Prelude.{◌≡◌, ◌≢◌, ℕ, List, ◌++◌, Option, Some, option_map, codes, ⊤}
 use Rattle.std.specs.Fmt.{signed_decimal}
 use Rattle.std.specs.IoError.{error_kind}

@@ -5,8 +5,7 @@ use Rattle.seccompiler.specs.declared.error.Error.{Error}
 use Rattle.seccompiler.specs.declared.error.Error.TheVariants.{EmptyFilter, Prctl, Seccomp, ThreadSync}
 
 -- What is answered to the code and the error number of the call that asks for the filter (seccomp(2)): a negative code
--- says that the call failed, a positive one is the id of a thread that could not take the filter, 0 says that the
--- filter is installed.
+-- says that the call failed, a positive one is the id of a thread that could not take the filter, 0 says that the filter is installed.
 pub data AnswersCode (code number : ℤ) (answer : Result ⊤ Error) : Type 0 where
   call_failed : code <ℤ pos 0 → answer ≡ Err (Seccomp number) → AnswersCode code number answer
   thread_failed : pos 0 <ℤ code → answer ≡ Err (ThreadSync code) → AnswersCode code number answer

@@ -57,8 +57,7 @@ rule_length q = 2 + total_size q + 3 * relays q
 abbrev pub rules_length : Chain → ℕ
 rules_length chain = sum_by (λ rule. rule_length rule + 1) chain
 
--- The instructions of a chain: without rules its test, two jumps of an entry and two returns; else its test, its rules and
--- its last return.
+-- The instructions of a chain: without rules its test, two jumps of an entry and two returns; else its test, its rules and its last return.
 abbrev pub chain_length : Chain → ℕ
 chain_length [] = 5
 chain_length (q ∷ chain) = 2 + rules_length (q ∷ chain)
@@ -68,8 +67,7 @@ abbrev pub chains_length : List (ℤ × Chain) → ℕ
 chains_length chains = sum_by (λ (e : ℤ × Chain). chain_length e.1) chains
 
 -- The counted length of a filter: how many instructions its program has, which are the three of the guard, which kill the
--- process on another architecture, and the last return; and if it has chains, theirs and the load of the call number.
--- It has no limit.
+-- process on another architecture, and the last return; and if it has chains, theirs and the load of the call number. It has no limit.
 abbrev pub counted_length_of : List (ℤ × Chain) → ℕ
 counted_length_of [] = 4
 counted_length_of (e ∷ chains) = 5 + chains_length (e ∷ chains)

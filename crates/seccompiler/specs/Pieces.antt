@@ -24,8 +24,7 @@ pub record Leads (piece : List sock_filter) (r : List ℕ) (place a place' : ℕ
   pub accumulator : ℕ
   pub goes : Goes piece r place a count place' accumulator
 
--- Entered at its first place, the piece leaves at its end if the fact holds, and d places further if it
--- does not; one of the two is so.
+-- Entered at its first place, the piece leaves at its end if the fact holds, and d places further if it does not; one of the two is so.
 abbrev pub Exits : List sock_filter → ℕ → List ℕ → ℕ → Type 0 → Type 0
 Exits piece d r a fact = (fact × Leads piece r 0 a (length piece)) ⊎ ((fact → ⊥) × Leads piece r 0 a (length piece + d))
 

@@ -82,8 +82,7 @@ Rule = List Condition
 abbrev pub Chain : Type 0
 Chain = List Rule
 
--- A filter: a chain for each of some call numbers, the action if no chain matches, the action if one does,
--- and the architecture.
+-- A filter: a chain for each of some call numbers, the action if no chain matches, the action if one does, and the architecture.
 pub record Filter : Type 0 where
   pub chains : List (ℤ × Chain)
   pub mismatch_action : SeccompAction

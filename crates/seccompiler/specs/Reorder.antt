@@ -29,8 +29,7 @@ pub record IsReordered (f g : Filter) : Type 0 where
 pub record IsSameCall (r s : List ℕ) : Type 0 where
   pub bytes : (k : ℕ) → (k < 8) ⊎ (16 ≤ k) → slice_index r k ≡ slice_index s k
 
--- Two conditions on the low half of one argument have the same operator, and agree in the low 32 bits of the value and
--- of the mask.
+-- Two conditions on the low half of one argument have the same operator, and agree in the low 32 bits of the value and of the mask.
 pub record IsSameLowHalf (c d : Condition) : Type 0 where
   pub first_length : c.arg_len ≡ Dword
   pub second_length : d.arg_len ≡ Dword

@@ -1,8 +1,7 @@
 -- A text as a sequence of pieces: bytes, and strings in quotes. It needs not be JSON.
 use Rattle.std.specs.Prelude.{◌≡◌, ◌≢◌, ℕ, ◌==◌, List, [], ◌∷◌, ◌++◌, Bool, false, flat_map}
 
--- What is in a string: a byte other than a quote (34) or a backslash (92), or a backslash with
--- the byte after it, whichever that is.
+-- What is in a string: a byte other than a quote (34) or a backslash (92), or a backslash with the byte after it, whichever that is.
 pub data StringItem : Type 0 where
   plain : (b : ℕ) → b ≢ 34 → b ≢ 92 → StringItem
   escaped : ℕ → StringItem
@@ -26,8 +25,7 @@ abbrev pub piece_bytes : Piece → List ℕ
 piece_bytes (byte b no_quote) = b ∷ []
 piece_bytes (quoted items) = 34 ∷ (items_bytes items ++ 34 ∷ [])
 
--- How a text ends: after a whole piece, or in a string that is not closed, whose last byte may be
--- a backslash with nothing after it.
+-- How a text ends: after a whole piece, or in a string that is not closed, whose last byte may be a backslash with nothing after it.
 pub data Ending : Type 0 where
   closed : Ending
   unclosed : List StringItem → Ending

@@ -49,12 +49,11 @@ impl EqualByParts for SeccompCondition {
 impl SeccompCondition {
     ghost use Rattle.std.specs.Prelude.{◌≡◌, ℕ, List, ◌+◌, ◌*◌, ◌/◌, ◌%◌, ◌^◌, ◌≤◌, ◌<◌, ◌↔◌, length, IfOk, IfErr, IsOk, IsOkUnless, IsTrue};
     ghost use Rattle.seccompiler.specs.declared.backend.BackendError.TheVariants.{InvalidArgumentNumber, OutOfMemory};
-    ghost use Rattle.seccompiler.specs.declared.backend.SeccompCmpArgLen.TheVariants.{Dword, Qword};
     ghost use Rattle.seccompiler.specs.Layout.{greatest_offset};
     ghost use Rattle.seccompiler.specs.Policy.{Condition, Holds, size_of};
     ghost use Rattle.seccompiler.specs.ConditionCode.{condition_code};
     ghost use Rattle.seccompiler.specs.Reorder.{IsSameLowHalf};
-    ghost use Rattle.seccompiler.specs.Machine.{argument_at, AreInRange};
+    ghost use Rattle.seccompiler.specs.Machine.{argument_at};
     ghost use Rattle.seccompiler.specs.Pieces.{IsConditionCode};
 
     /// Makes a condition on argument `arg_index`, numbered from 0.
@@ -134,7 +133,7 @@ impl SeccompCondition {
     pub fn split_value(&self) -> (u32, u32)
         ensures { result ≡ (self.now.value / 2 ^ 32, self.now.value % 2 ^ 32) }
     {
-        (high_half(self.value), low_half(self.value))
+        ((self.value >> 32) as u32, low_half(self.value))
     }
 
     /// Whether the condition holds for the call of this record.
@@ -199,91 +198,85 @@ impl SeccompCondition {
         ensures code { part.new ≡ condition_code self.now offset }
         ensures meets { IsConditionCode self.now offset part.new }
     {
-        match self.arg_len {
-            SeccompCmpArgLen::Dword => self.write_dword(part, offset),
-            SeccompCmpArgLen::Qword => self.write_qword(part, offset),
-        }
-    }
-
-    // The code that compares the low half.
-    fn write_dword(&self, part: &mut [sock_filter], offset: u8)
-        requires dword { self.now.arg_len ≡ Dword }
-        requires room { length part.old ≡ size_of self.now }
-        requires few { offset ≤ greatest_offset }
-        ensures code { part.new ≡ condition_code self.now offset }
-        ensures ranges { AreInRange part.new }
-    {
         let (_, low) = self.get_data_offsets();
-        let low = load_word(u32::from(low));
-        let (_, value) = self.split_value();
-        match self.operator {
-            SeccompCmpOp::Eq => part.copy_from_slice(&[low, jump_if_equal(value, 0, offset)]),
-            SeccompCmpOp::Ne => part.copy_from_slice(&[low, jump_if_equal(value, offset, 0)]),
-            SeccompCmpOp::Ge => part.copy_from_slice(&[low, jump_if_at_least(value, 0, offset)]),
-            SeccompCmpOp::Gt => part.copy_from_slice(&[low, jump_if_greater(value, 0, offset)]),
-            SeccompCmpOp::Le => part.copy_from_slice(&[low, jump_if_greater(value, offset, 0)]),
-            SeccompCmpOp::Lt => part.copy_from_slice(&[low, jump_if_at_least(value, offset, 0)]),
-            SeccompCmpOp::MaskedEq(mask) => {
-                let mask = low_half(mask);
-                let test = jump_if_equal(value & mask, 0, offset);
-                part.copy_from_slice(&[low, and_mask(mask), test]);
-            }
-        }
-    }
-
-    // The code that compares the high half, and then the low half where that is still needed.
-    fn write_qword(&self, part: &mut [sock_filter], offset: u8)
-        requires qword { self.now.arg_len ≡ Qword }
-        requires room { length part.old ≡ size_of self.now }
-        requires few { offset ≤ greatest_offset }
-        ensures code { part.new ≡ condition_code self.now offset }
-        ensures ranges { AreInRange part.new }
-    {
-        let (high, low) = self.get_data_offsets();
-        let (high, low) = (load_word(u32::from(high)), load_word(u32::from(low)));
-        let (high_value, value) = self.split_value();
-        let equal_or_fail = jump_if_equal(high_value, 0, offset + 2);
-        let equal_or_done = jump_if_equal(high_value, 0, 2);
-        let greater_or_on = jump_if_greater(high_value, 3, 0);
-        let greater_fails = jump_if_greater(high_value, offset + 3, 0);
-        match self.operator {
-            SeccompCmpOp::Eq => {
-                let test = jump_if_equal(value, 0, offset);
-                part.copy_from_slice(&[high, equal_or_fail, low, test]);
-            }
-            SeccompCmpOp::Ne => {
-                let test = jump_if_equal(value, offset, 0);
-                part.copy_from_slice(&[high, equal_or_done, low, test]);
-            }
-            SeccompCmpOp::Ge => {
-                let test = jump_if_at_least(value, 0, offset);
-                part.copy_from_slice(&[high, greater_or_on, equal_or_fail, low, test]);
-            }
-            SeccompCmpOp::Gt => {
-                let test = jump_if_greater(value, 0, offset);
-                part.copy_from_slice(&[high, greater_or_on, equal_or_fail, low, test]);
-            }
-            SeccompCmpOp::Le => {
-                let test = jump_if_greater(value, offset, 0);
-                part.copy_from_slice(&[high, greater_fails, equal_or_done, low, test]);
-            }
-            SeccompCmpOp::Lt => {
-                let test = jump_if_at_least(value, offset, 0);
-                part.copy_from_slice(&[high, greater_fails, equal_or_done, low, test]);
-            }
-            SeccompCmpOp::MaskedEq(mask) => {
-                let (high_mask, mask) = (high_half(mask), low_half(mask));
-                let high_test = jump_if_equal(high_value & high_mask, 0, offset + 3);
-                let test = jump_if_equal(value & mask, 0, offset);
-                let (high_and, and) = (and_mask(high_mask), and_mask(mask));
-                part.copy_from_slice(&[high, high_and, high_test, low, and, test]);
-            }
+        match self.arg_len {
+            SeccompCmpArgLen::Dword => write_dword(part, self.operator, low, self.value, offset),
+            SeccompCmpArgLen::Qword => write_qword(part, self.operator, low, self.value, offset),
         }
     }
 }
 
-ghost use Rattle.std.specs.Prelude.{◌≡◌, ◌/◌, ◌%◌, ◌^◌, ◌↔◌, IsTrue};
-ghost use Rattle.seccompiler.specs.Policy.{part_of, operator_part, Compares};
+ghost use Rattle.std.specs.Prelude.{◌≡◌, ◌≤◌, ◌%◌, ◌^◌, ◌↔◌, length, IsTrue};
+ghost use Rattle.seccompiler.specs.declared.backend.SeccompCmpArgLen.TheVariants.{Dword, Qword};
+ghost use Rattle.seccompiler.specs.Layout.{greatest_offset};
+ghost use Rattle.seccompiler.specs.Machine.{IsInRange, AreInRange};
+ghost use Rattle.seccompiler.specs.ConditionCode.{comparison_code, test_code};
+ghost use Rattle.seccompiler.specs.Policy.{part_of, operator_part, Compares, size_by};
+
+// The code that compares the low half, which lies at byte `low` of a record.
+fn write_dword(part: &mut [sock_filter], operator: SeccompCmpOp, low: u8, value: u64, offset: u8)
+    requires room { length part.old ≡ size_by Dword operator }
+    ensures code { part.new ≡ comparison_code Dword operator low value offset }
+    ensures ranges { AreInRange part.new }
+{
+    let test = low_test(operator, value, offset);
+    let low = load_word(u32::from(low));
+    match operator {
+        SeccompCmpOp::MaskedEq(mask) => {
+            part.copy_from_slice(&[low, and_mask(low_half(mask)), test]);
+        }
+        _ => part.copy_from_slice(&[low, test]),
+    }
+}
+
+// The code that compares the high half, and then the low half where that is still needed.
+fn write_qword(part: &mut [sock_filter], operator: SeccompCmpOp, low: u8, value: u64, offset: u8)
+    requires room { length part.old ≡ size_by Qword operator }
+    requires few { offset ≤ greatest_offset }
+    ensures code { part.new ≡ comparison_code Qword operator low value offset }
+    ensures ranges { AreInRange part.new }
+{
+    let test = low_test(operator, value, offset);
+    let (high, low) = (load_word(u32::from(low) + 4), load_word(u32::from(low)));
+    let high_value = (value >> 32) as u32;
+    let equal_or_fail = jump_if_equal(high_value, 0, offset + 2);
+    let equal_or_done = jump_if_equal(high_value, 0, 2);
+    let greater_or_on = jump_if_greater(high_value, 3, 0);
+    let greater_fails = jump_if_greater(high_value, offset + 3, 0);
+    match operator {
+        SeccompCmpOp::Eq => part.copy_from_slice(&[high, equal_or_fail, low, test]),
+        SeccompCmpOp::Ne => part.copy_from_slice(&[high, equal_or_done, low, test]),
+        SeccompCmpOp::Ge | SeccompCmpOp::Gt => {
+            part.copy_from_slice(&[high, greater_or_on, equal_or_fail, low, test]);
+        }
+        SeccompCmpOp::Le | SeccompCmpOp::Lt => {
+            part.copy_from_slice(&[high, greater_fails, equal_or_done, low, test]);
+        }
+        SeccompCmpOp::MaskedEq(mask) => {
+            let high_mask = (mask >> 32) as u32;
+            let high_test = jump_if_equal(high_value & high_mask, 0, offset + 3);
+            let (high_and, and) = (and_mask(high_mask), and_mask(low_half(mask)));
+            part.copy_from_slice(&[high, high_and, high_test, low, and, test]);
+        }
+    }
+}
+
+// The test of the low half, or of what a mask keeps of it.
+fn low_test(operator: SeccompCmpOp, value: u64, offset: u8) -> sock_filter
+    ensures test { result ≡ test_code operator (value % 2 ^ 32) offset }
+    ensures range { IsInRange result }
+{
+    let value = low_half(value);
+    match operator {
+        SeccompCmpOp::Eq => jump_if_equal(value, 0, offset),
+        SeccompCmpOp::Ne => jump_if_equal(value, offset, 0),
+        SeccompCmpOp::Ge => jump_if_at_least(value, 0, offset),
+        SeccompCmpOp::Gt => jump_if_greater(value, 0, offset),
+        SeccompCmpOp::Le => jump_if_greater(value, offset, 0),
+        SeccompCmpOp::Lt => jump_if_at_least(value, offset, 0),
+        SeccompCmpOp::MaskedEq(mask) => jump_if_equal(value & low_half(mask), 0, offset),
+    }
+}
 
 // What is compared of a number.
 fn part_of(length: SeccompCmpArgLen, number: u64) -> u64
@@ -311,13 +304,6 @@ fn compares(operator: SeccompCmpOp, length: SeccompCmpArgLen, argument: u64, val
             argument & mask == value & mask
         }
     }
-}
-
-// The high 32 bits.
-fn high_half(value: u64) -> u32
-    ensures { result ≡ value / 2 ^ 32 }
-{
-    (value >> 32) as u32
 }
 
 // The low 32 bits.

@@ -17,19 +17,11 @@ pub(crate) fn word_at(call: &[u8; 64], k: usize) -> u32
 }
 
 /// Reads the 64-bit argument of this index, from 0 to 5.
+#[tactic(auto, using(crate::proofs::Words::number_halves))]
 pub(crate) fn argument_at(call: &[u8; 64], index: u8) -> u64
     requires { index ≤ 5 }
     ensures { result ≡ argument_at call.now index }
 {
     let k = (SECCOMP_DATA_ARGS_OFFSET + SECCOMP_DATA_ARG_SIZE * index) as usize;
-    u64::from_le_bytes([
-        call[k],
-        call[k + 1],
-        call[k + 2],
-        call[k + 3],
-        call[k + 4],
-        call[k + 5],
-        call[k + 6],
-        call[k + 7],
-    ])
+    u64::from(word_at(call, k)) + 0x1_0000_0000 * u64::from(word_at(call, k + 4))
 }

@@ -136,4 +136,26 @@ impl SyscallTable {
     {
         self.lookup(name).number
     }
+
+    /// The same number, which is found soon if the name stands where the last one was found, or behind it.
+    ///
+    /// `near` is that place. It says where to look first and nothing else: any number may stand there.
+    pub(crate) fn number_near(&self, near: &mut usize, name: &str) -> Option<i64>
+        ensures { result ≡ number_of (table_of self.now) name.now }
+    {
+        let pairs = self.pairs();
+        for turn in 0..3 {
+            if *near < pairs.len() {
+                let pair = &pairs[*near];
+                if pair.0 == name {
+                    return Some(pair.1);
+                }
+            }
+            *near = match turn {
+                0 => near.wrapping_add(1),
+                _ => pairs.partition_point(|pair| pair.0 < name),
+            };
+        }
+        self.get_syscall_nr(name)
+    }
 }

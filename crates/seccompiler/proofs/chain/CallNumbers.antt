@@ -70,8 +70,7 @@ first_is_least front z back fit unfit ascends = record {
 }
 
 -- The same of a list that is cut there.
-pub first_unfit_is_least : (numbers front : List ℤ) (z : ℤ) (back : List ℤ)
-    → numbers ≡ front ++ z ∷ back → All IsCallNumber front → (IsCallNumber z → ⊥) → IsStrictlySortedBy int_cmp numbers
-    → IsLeastUnfit numbers z
+pub first_unfit_is_least : (numbers front : List ℤ) (z : ℤ) (back : List ℤ) → numbers ≡ front ++ z ∷ back → All IsCallNumber front
+    → (IsCallNumber z → ⊥) → IsStrictlySortedBy int_cmp numbers → IsLeastUnfit numbers z
 first_unfit_is_least numbers front z back is fit unfit ascends =
     rw is (first_is_least front z back fit unfit (subst (IsStrictlySortedBy int_cmp) is ascends))

@@ -13,8 +13,7 @@ use Rattle.seccompiler.specs.Policy.{Rule, Chain, RuleHolds}
 use Rattle.seccompiler.specs.Layout.{rule_length, rule_steps, rules_length}
 use Rattle.seccompiler.specs.Pieces.{IsRuleCode}
 use Rattle.seccompiler.specs.ChainCode.{IsRulesCode}
-use Rattle.seccompiler.proofs.Blocks.{returns_front, returns_back, gives, block_join, block_from_closed}
-use Rattle.seccompiler.proofs.Blocks.{block_give, give_in_range}
+use Rattle.seccompiler.proofs.Blocks.{returns_front, returns_back, gives, block_join, block_from_closed, block_give, give_in_range}
 use Rattle.seccompiler.proofs.Runs.{goes_shift, goes_on, goes_front, leads_front, leads_through, stands_second, leads_to, stays_small}
 use Rattle.seccompiler.proofs.Parts.{around}
 use Rattle.seccompiler.proofs.Closed.{ranges_join, ranges_from}
@@ -57,8 +56,7 @@ any_split P chain q h =
     (cases_lt h.0 (length chain))
 
 -- the code of a rule and its return
-pub with_return : (q : Rule) (w : ℕ) (own : List sock_filter) → w < 2 ^ 32 → IsRuleCode q own
-    → IsRulesCode (q ∷ []) w (own ++ give w ∷ [])
+pub with_return : (q : Rule) (w : ℕ) (own : List sock_filter) → w < 2 ^ 32 → IsRuleCode q own → IsRulesCode (q ∷ []) w (own ++ give w ∷ [])
 with_return q w own fits h =
     let p = own ++ give w ∷ [] in
     let len : length p ≡ length own + 1 = length-append own (give w ∷ []) in
@@ -135,9 +133,5 @@ pub rules_room : (chain : Chain) (i start : ℕ) (q : Rule) → i < length chain
     → start ≡ rules_length (take i chain) → start + rule_length q + 1 ≤ rules_length chain
 rules_room chain i start q within is e =
     let f = λ (rule : Rule). rule_length rule + 1 in
-    omega (
-      arith,
-      ap rules_length (around chain i q within is),
-      sum_by-append f (take i chain) (q ∷ drop (i + 1) chain),
-      sum_by-cons f q (drop (i + 1) chain),
-    )
+    let whole = ap rules_length (around chain i q within is) in
+    omega (arith, whole, sum_by-append f (take i chain) (q ∷ drop (i + 1) chain), sum_by-cons f q (drop (i + 1) chain))

@@ -6,7 +6,7 @@ use Rattle.std.specs.BTreeMap.{BTreeMap, get_by_text}
 use Rattle.std.proofs.lemmas.Int.{ints}
 use Rattle.std.proofs.lemmas.List.Elements.{All-contains}
 use Rattle.serde_json.specs.Data.{Data}
-use Rattle.seccompiler.proofs.ByName.{ByName, AreInOrder, under}
+use Rattle.seccompiler.proofs.ByName.{ByName, AreInOrder, under, AreMade, by_text, found_there}
 use Rattle.seccompiler.specs.Machine.{IsChecked}
 use Rattle.seccompiler.specs.Errors.{from_backend, from_frontend}
 use Rattle.seccompiler.specs.JsonAnswers.{IsValueOf, HasPolicy, ArePoliciesOf, TellsFrontendFault}
@@ -20,7 +20,6 @@ use Rattle.seccompiler.specs.declared.backend.TargetArch.{TargetArch}
 use Rattle.seccompiler.specs.declared.bpf.sock_filter.{sock_filter}
 use Rattle.seccompiler.specs.declared.json.error.JsonFrontendError.{JsonFrontendError}
 use Rattle.seccompiler.specs.declared.json.error.JsonFrontendError.TheVariants as f
-use Rattle.seccompiler.proofs.ByName.{AreMade, by_text, found_there}
 use Rattle.seccompiler.proofs.TextFilters.{value_under, all_made, least_wrong}
 use Rattle.seccompiler.proofs.json.compiler.TextPolicies.{have_table_numbers}
 

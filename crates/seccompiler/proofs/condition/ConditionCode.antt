@@ -1,5 +1,4 @@
--- For `SeccompCondition::write`: the code of a condition is what the code around it needs: as long as its size, closed,
--- and with two exits.
+-- For `SeccompCondition::write`: the code of a condition is what the code around it needs: as long as its size, closed, and with two exits.
 use Rattle.std.proofs.Common.{◌≡◌, ℕ, ◌+◌, ◌*◌, ◌≤◌, ◌%◌, List, [], ◌∷◌, length, refl, sym, subst, arith}
 use Rattle.seccompiler.specs.declared.bpf.sock_filter.{sock_filter}
 use Rattle.seccompiler.specs.declared.backend.SeccompCmpOp.{SeccompCmpOp}
@@ -67,22 +66,17 @@ module _ (low v d : ℕ) (aligned : low % 4 ≡ 0) (within : low ≤ 56) where
     ),
   )
 
--- the code of a condition, whose fields are in range
-condition_code-meets : (c : Condition) (d : ℕ) → c.arg_index ≤ 5 → AreInRange (condition_code c d)
-    → IsConditionCode c d (condition_code c d)
-condition_code-meets c d is_argument ranges =
+-- a part that was filled with the code of a condition, which is known under another name too
+pub written_meets : {view c : Condition} {d : ℕ} {part : List sock_filter} → view ≡ c
+    → view.arg_index ≤ 5 → part ≡ condition_code c d → AreInRange part → IsConditionCode c d part
+written_meets {view} {c} {d} same is_argument written ranges =
+    let small : c.arg_index ≤ 5 = subst (λ x. x.arg_index ≤ 5) same is_argument in
     let low = 16 + 8 * c.arg_index in
-    record {
+    subst (λ code. IsConditionCode c d code) (sym written) record {
       long = length-comparison_code c.arg_len c.operator low c.value d;
-      ranges = ranges;
+      ranges = subst AreInRange written ranges;
       closed = closed_from (condition_code c d) _ (inside_code low c.value d (omega arith) (omega arith) c.arg_len c.operator);
-      enters = λ r rec a small. comparison_exits low c.value d (argument_at r c.arg_index) (word_at r low) (word_at r (low + 4)) r
+      enters = λ r rec a fits. comparison_exits low c.value d (argument_at r c.arg_index) (word_at r low) (word_at r (low + 4)) r
           (omega (arith, rec.long)) (word_fits r low rec) (word_fits r (low + 4) rec) refl refl
-          (number_halves r low) a small c.arg_len c.operator;
+          (number_halves r low) a fits c.arg_len c.operator;
     }
-
--- the same, of a condition whose index is known under another name, and a part that was filled with its code
-pub written_meets : (c : Condition) (index d : ℕ) (part : List sock_filter) → index ≡ c.arg_index
-    → index ≤ 5 → part ≡ condition_code c d → AreInRange part → IsConditionCode c d part
-written_meets c index d part same is_argument written ranges =
-    subst (λ code. IsConditionCode c d code) (sym written) (condition_code-meets c d (omega arith) (subst AreInRange written ranges))

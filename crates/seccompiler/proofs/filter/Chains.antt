@@ -37,9 +37,8 @@ insert_last (x ∷ so_far) number chain back ascends =
 
 -- The next chain of a map, put into another map behind the chains so far.
 pub insert_next : (entries so_far left back : List (ℤ × Vec Rule Global)) (number : ℤ) (chain copy : Vec Rule Global)
-    → IsStrictlySortedBy int_cmp (keys_of entries) → chains_of so_far ++ chains_of left ≡ chains_of entries
-    → left ≡ (number, chain) ∷ back → copy.items ≡ chain.items
-    → chains_of (insert_entry int_cmp so_far number copy) ++ chains_of back ≡ chains_of entries
+    → IsStrictlySortedBy int_cmp (keys_of entries) → chains_of so_far ++ chains_of left ≡ chains_of entries → left ≡ (number, chain) ∷ back
+    → copy.items ≡ chain.items → chains_of (insert_entry int_cmp so_far number copy) ++ chains_of back ≡ chains_of entries
 insert_next entries so_far left back number chain copy ascends split next same =
     let whole : chains_of so_far ++ (number, copy.items) ∷ chains_of back ≡ chains_of entries =
     ap (λ rules. chains_of so_far ++ (number, rules) ∷ chains_of back) same ∙ ap (λ es. chains_of so_far ++ chains_of es) (sym next)

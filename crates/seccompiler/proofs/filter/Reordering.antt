@@ -1,5 +1,4 @@
--- For `SeccompFilter::decide`: what a decision does not depend on: the order of rules and conditions, and the
--- instruction pointer.
+-- For `SeccompFilter::decide`: what a decision does not depend on: the order of rules and conditions, and the instruction pointer.
 use Rattle.std.proofs.Common.{◌≡◌, ℕ, ℤ, zero, suc, pos, ◌+◌, ◌*◌, ◌<◌, ◌≤◌, List, [], ◌∷◌, length, Option, Some, Bool, true, false, cond}
 use Rattle.std.proofs.Common.{refl, sym, ap, ◌∙◌, subst, arith, inl, inr}
 use Rattle.std.specs.Prelude.{slice_index}
@@ -57,8 +56,7 @@ same_rule q q' r s order same holds =
 
 -- A chain matches in any order of its rules.
 matches_in_order : (chain middle : Chain) (r : List ℕ) → IsPermutation chain middle → ChainMatches chain r → ChainMatches middle r
-matches_in_order chain middle r order (inl empty) =
-    inl (nil_from_length middle (length_permutation chain middle order ∙ ap length empty))
+matches_in_order chain middle r order (inl empty) = inl (nil_from_length middle (length_permutation chain middle order ∙ ap length empty))
 matches_in_order chain middle r order (inr any) = inr (Any-permutation (λ q. RuleHolds q r) chain middle order any)
 
 -- A chain matches in any order of the conditions in its rules, on any record of the call.
@@ -136,8 +134,7 @@ reordered_matches_back f g r s order same =
     (all_zip_back IsReorderedEntry (λ e' e. IsReorderedEntry e e') f.chains g.chains (λ e e' pair. pair) order.chains)
     (same_call_back r s same)
 
--- The order of the rules in a chain and of the conditions in a rule does not change the decision, and neither does the
--- instruction pointer.
+-- The order of the rules in a chain and of the conditions in a rule does not change the decision, and neither does the instruction pointer.
 pub same_decision : (f g : Filter) (r s : List ℕ) (w : ℕ) → IsReordered f g → IsSameCall r s → IsDecision f r w → IsDecision g s w
 same_decision f g r s w order same (other_architecture differs is) =
     let word : word_at r 4 ≡ word_at s 4 = same_word r s 4 same (omega arith) in

@@ -39,9 +39,8 @@ past_chains code own r a k m g h =
 
 -- what one chain more does with a call number
 dispatches_more : (chains : List Entry) (mismatch matched n : ℕ) (chain : Chain) (code own : List sock_filter)
-    → IsChainCode n chain mismatch matched own → (r : List ℕ) → IsRecord r → (a : ℕ)
-    → a < 2 ^ 32 → Dispatches chains mismatch matched code r a
-    → Dispatches (chains ++ (pos n, chain) ∷ []) mismatch matched (code ++ own) r a
+    → IsChainCode n chain mismatch matched own → (r : List ℕ) → IsRecord r → (a : ℕ) → a < 2 ^ 32
+    → Dispatches chains mismatch matched code r a → Dispatches (chains ++ (pos n, chain) ∷ []) mismatch matched (code ++ own) r a
 dispatches_more chains mismatch matched n chain code own one r rec a small (in_chain found there (inl t)) =
     in_chain found (found_before chains (pos n, chain) a found there) (inl (t.0, returns_front code own r 0 a matched t.1))
 dispatches_more chains mismatch matched n chain code own one r rec a small (in_chain found there (inr t)) =
@@ -89,17 +88,12 @@ chains_step done mismatch matched n k chain items code own code' ek ei one ec h 
     (subst (λ x. IsChainsCode (chains_of done ++ (k, chain.items) ∷ []) mismatch matched x) (sym ec) keyed)
 
 -- there is room for the chain of an entry that is left
-pub chains_room : (entries done rest t : List MapEntry) (e : MapEntry) (start : ℕ)
-    → rest ≡ e ∷ t → done ++ rest ≡ entries → start ≡ chains_length (chains_of done)
-    → start + chain_length e.1.items ≤ chains_length (chains_of entries)
+pub chains_room : (entries done rest t : List MapEntry) (e : MapEntry) (start : ℕ) → rest ≡ e ∷ t → done ++ rest ≡ entries
+    → start ≡ chains_length (chains_of done) → start + chain_length e.1.items ≤ chains_length (chains_of entries)
 chains_room entries done rest t e start er ee es =
     let f = λ (x : Entry). chain_length x.1 in
     let same : entries ≡ done ++ e ∷ t = sym ee ∙ ap (λ l. done ++ l) er in
     let mapped : chains_of entries ≡ chains_of done ++ (e.0, e.1.items) ∷ chains_of t =
     ap chains_of same ∙ map-append (λ (x : MapEntry). (x.0, x.1.items)) done (e ∷ t) in
-    omega (
-      arith,
-      ap chains_length mapped,
-      sum_by-append f (chains_of done) ((e.0, e.1.items) ∷ chains_of t),
-      sum_by-cons f (e.0, e.1.items) (chains_of t),
-    )
+    let parts = sum_by-append f (chains_of done) ((e.0, e.1.items) ∷ chains_of t) in
+    omega (arith, ap chains_length mapped, parts, sum_by-cons f (e.0, e.1.items) (chains_of t))

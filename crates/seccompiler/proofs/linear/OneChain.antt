@@ -12,8 +12,7 @@ use Rattle.seccompiler.specs.ChainCode.{IsRulesCode, IsChainCode}
 use Rattle.seccompiler.proofs.Runs.{goes_shift, goes_on, goes_front, leads_front, stands_second}
 use Rattle.seccompiler.proofs.Closed.{ranges_join, ranges_from, jump_in_range}
 use Rattle.seccompiler.proofs.Steps.{on_jump}
-use Rattle.seccompiler.proofs.Blocks.{returns_front, returns_back, gives, block_join, block_give, give_in_range}
-use Rattle.seccompiler.proofs.Blocks.{block_one, test_in_range}
+use Rattle.seccompiler.proofs.Blocks.{returns_front, returns_back, gives, block_join, block_give, give_in_range, block_one, test_in_range}
 
 -- the test of the call number goes on with this number, and skips one instruction with another
 on_number : (p : List sock_filter) (r : List ℕ) (n : ℕ) → slice_get p 0 ≡ Some (jump_equal n 0 1) → n < 2 ^ 32 → Step p r 0 n 1 n
@@ -104,9 +103,8 @@ module _ (n mismatch matched : ℕ) (fits : n < 2 ^ 32) (fits_mismatch : mismatc
   chain_without [] code none e = subst (λ x. IsChainCode n [] mismatch matched x) (sym e) empty_chain
   chain_without (q ∷ chain) code none e = absurd (omega arith)
 
-  pub chain_with : (chain : Chain) (rules code : List sock_filter) → 0 < length chain
-      → IsRulesCode chain matched rules → code ≡ jump_equal n 0 1 ∷ (rules ++ give mismatch ∷ [])
-      → IsChainCode n chain mismatch matched code
+  pub chain_with : (chain : Chain) (rules code : List sock_filter) → 0 < length chain → IsRulesCode chain matched rules
+      → code ≡ jump_equal n 0 1 ∷ (rules ++ give mismatch ∷ []) → IsChainCode n chain mismatch matched code
   chain_with [] rules code some h e = absurd (omega arith)
   chain_with (q ∷ chain) rules code some h e =
       subst (λ x. IsChainCode n (q ∷ chain) mismatch matched x) (sym e) (full_chain q chain rules h)

@@ -14,9 +14,8 @@ use Rattle.seccompiler.proofs.Runs.{goes_front}
 use Rattle.seccompiler.proofs.Closed.{ranges_join, ranges_from}
 use Rattle.seccompiler.proofs.Words.{word_fits}
 use Rattle.seccompiler.proofs.Blocks.{block_join, block_give, give_in_range, front_returns, back_returns, gives}
-use Rattle.seccompiler.proofs.linear.Guarded.{action_word_fits, ends_after, decided_at, checked_of, Answered, guard, head}
-use Rattle.seccompiler.proofs.linear.Guarded.{guard_ranges, guard_block, guarded, decides, returns_behind_head, head_decides, head_checked}
-use Rattle.seccompiler.proofs.linear.Guarded.{Written}
+use Rattle.seccompiler.proofs.linear.Guarded.{action_word_fits, ends_after, decided_at, checked_of, Answered, guard, head, guard_ranges}
+use Rattle.seccompiler.proofs.linear.Guarded.{guard_block, guarded, decides, returns_behind_head, head_decides, head_checked, Written}
 
 -- the counted length of chains that are there
 counted_some : (chains : List (ℤ × Chain)) → 0 < length chains → counted_length_of chains ≡ 5 + chains_length chains
@@ -34,8 +33,7 @@ module _ (f : Filter) where
   last = give mismatch_word ∷ []
 
   -- the word of a call whose number has no chain
-  unnamed : (r : List ℕ) → chain_under f.chains (word_at r 0) ≡ None → word_at r 4 ≡ audit_word f.target_arch
-      → IsDecision f r mismatch_word
+  unnamed : (r : List ℕ) → chain_under f.chains (word_at r 0) ≡ None → word_at r 4 ≡ audit_word f.target_arch → IsDecision f r mismatch_word
   unnamed r none same = policy_differs same (λ m. let found = sym m.there ∙ none in absurd (cc)) refl
 
   -- the program of a filter without chains

@@ -1,5 +1,4 @@
--- For `SeccompRule::code_len`: a rule's conditions have one cut into groups, the one that `groups_of` gives, and few
--- relays.
+-- For `SeccompRule::code_len`: a rule's conditions have one cut into groups, the one that `groups_of` gives, and few relays.
 use Rattle.std.proofs.Common.{◌≡◌, ◌+◌, ◌-◌, ◌*◌, ◌<◌, ◌≤◌, List, [], ◌∷◌, ◌++◌, length, Bool, true, false, refl, sym, ap, ap₂, ◌∙◌, subst}
 use Rattle.std.proofs.Common.{append_assoc, length-append, nat_le, if◌then◌else◌, flat_map, arith}
 use Rattle.std.proofs.lemmas.Bool.Decides.{nat_tests}
@@ -41,14 +40,8 @@ more_closes_late group c late few front back d e = by (two_fronts group front (c
     by : Fronts group front → total_size front < greatest_offset
     by (same f) = subst (λ l. total_size l < greatest_offset) f few
     by (shorter x rest f) =
-        absurd (omega (
-          arith,
-          ap length e,
-          ap length f,
-          length-append group (c ∷ []),
-          length-append front (d ∷ back),
-          length-append group (x ∷ rest),
-        ))
+        let split = length-append front (d ∷ back) in
+        absurd (omega (arith, ap length e, ap length f, split, length-append group (c ∷ []), length-append group (x ∷ rest)))
     by (longer x rest f) = late front rest x f
 
 -- A single group that closes late is a cut.
@@ -61,9 +54,8 @@ last_cut group some late = record {
 }
 
 -- A full group before a cut makes a cut.
-full_cut : (group q : List Condition) (groups : List (List Condition))
-    → 1 ≤ length group → ClosesLate group → greatest_offset ≤ total_size group → IsCutIntoGroups q groups
-    → IsCutIntoGroups (group ++ q) (group ∷ groups)
+full_cut : (group q : List Condition) (groups : List (List Condition)) → 1 ≤ length group → ClosesLate group
+    → greatest_offset ≤ total_size group → IsCutIntoGroups q groups → IsCutIntoGroups (group ++ q) (group ∷ groups)
 full_cut group q groups some late many cut = record {
   joined = ap (λ l. group ++ l) cut.joined;
   some = All-cons (λ g. 1 ≤ length g) group groups some cut.some;
@@ -84,8 +76,7 @@ begun_cut group (c ∷ q) some late =
     (begun_cut (c ∷ []) q (omega arith) (one_closes_late c))
     (λ few. begun_cut (group ++ c ∷ []) q (omega (arith, length-append group (c ∷ []))) (more_closes_late group c late few))
   where
-    by : (b : Bool) → nat_le greatest_offset (total_size group) ≡ b
-        → IsCutIntoGroups (c ∷ q) (groups_from (c ∷ []) q)
+    by : (b : Bool) → nat_le greatest_offset (total_size group) ≡ b → IsCutIntoGroups (c ∷ q) (groups_from (c ∷ []) q)
         → (total_size group < greatest_offset → IsCutIntoGroups ((group ++ c ∷ []) ++ q) (groups_from (group ++ c ∷ []) q))
         → IsCutIntoGroups (group ++ c ∷ q) (if b then group ∷ groups_from (c ∷ []) q else groups_from (group ++ c ∷ []) q)
     by true e anew on = full_cut group (c ∷ q) (groups_from (c ∷ []) q) some late (grind (arith, nat_tests)) anew
@@ -120,15 +111,9 @@ cut_rest q group groups cut = record {
 not_shorter : (q group other : List Condition) (groups others : List (List Condition)) (c : Condition) (back : List Condition)
     → IsCutIntoGroups q (group ∷ groups) → IsCutIntoGroups q (other ∷ others) → other ≡ group ++ c ∷ back → ⊥
 not_shorter q group other [] others c back cut another e =
-    omega (
-      arith,
-      ap length cut.joined,
-      ap length another.joined,
-      ap length e,
-      length-append group [],
-      length-append other (join others),
-      length-append group (c ∷ back),
-    )
+    let tail = length-append group (c ∷ back) in
+    let joined = ap length cut.joined in
+    omega (arith, joined, ap length another.joined, ap length e, length-append group [], length-append other (join others), tail)
 not_shorter q group other (next ∷ groups) others c back cut another e =
     let few : total_size group < greatest_offset = All-head ClosesLate other others another.late group back c e in
     let many : greatest_offset ≤ total_size group = cut.full [] groups group next refl in
@@ -137,13 +122,8 @@ not_shorter q group other (next ∷ groups) others c back cut another e =
 -- A cut into no groups and a cut into some are not of the same conditions.
 not_empty : (q group : List Condition) (groups : List (List Condition)) → IsCutIntoGroups q [] → IsCutIntoGroups q (group ∷ groups) → ⊥
 not_empty q group groups none cut =
-    omega (
-      arith,
-      ap length none.joined,
-      ap length cut.joined,
-      length-append group (join groups),
-      All-head (λ g. 1 ≤ length g) group groups cut.some,
-    )
+    let some = All-head (λ g. 1 ≤ length g) group groups cut.some in
+    omega (arith, ap length none.joined, ap length cut.joined, length-append group (join groups), some)
 
 -- Two cuts of the same conditions are equal.
 cuts_same : (q : List Condition) (groups others : List (List Condition)) → IsCutIntoGroups q groups
@@ -165,10 +145,7 @@ cuts_same q (group ∷ groups) (other ∷ others) cut another =
 
 -- The groups of a rule's conditions are a cut of them, and the only one.
 pub groups_of-only : (q : List Condition) → IsOnlyCut q (groups_of q)
-groups_of-only q = record {
-  cut = groups_of-cut q;
-  only = λ others cut. cuts_same q others (groups_of q) cut (groups_of-cut q);
-}
+groups_of-only q = record { cut = groups_of-cut q; only = λ others cut. cuts_same q others (groups_of q) cut (groups_of-cut q) }
 
 -- The groups of a cut but the last take as many instructions as the border or more each.
 cut_small : (q : List Condition) (groups : List (List Condition)) → IsCutIntoGroups q groups

@@ -1,5 +1,4 @@
--- For `SeccompRule::code_len` and `SeccompRule::write`: how the running offset of the code follows the groups of a
--- rule's conditions.
+-- For `SeccompRule::code_len` and `SeccompRule::write`: how the running offset of the code follows the groups of a rule's conditions.
 use Rattle.std.proofs.Common.{◌≡◌, ℕ, suc, ◌+◌, ◌<◌, ◌≤◌, List, [], ◌∷◌, ◌++◌, length, sym, ap, ◌∙◌, arith, length-append, append_assoc}
 use Rattle.std.proofs.Common.{append-nil, Bool, true, false, nat_le}
 use Rattle.std.specs.Prelude.{if◌then◌else◌}
@@ -79,9 +78,5 @@ pub relays_so_far_full : (q rest : List Condition) (o k : ℕ) (c : Condition) �
 relays_so_far_full q rest o k c full (none e eo ek) = absurd (omega arith)
 relays_so_far_full q rest o k c full (begun groups group f eo ek) =
     let closed = closes_at group rest c (omega arith) in
-    omega (
-      arith,
-      ap length (f (c ∷ rest) ∙ ap (λ l. groups ++ l) closed),
-      length-append groups (group ∷ groups_from (c ∷ []) rest),
-      some_groups (c ∷ []) rest,
-    )
+    let all = ap length (f (c ∷ rest) ∙ ap (λ l. groups ++ l) closed) in
+    omega (arith, all, length-append groups (group ∷ groups_from (c ∷ []) rest), some_groups (c ∷ []) rest)

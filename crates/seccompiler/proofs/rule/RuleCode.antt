@@ -1,5 +1,4 @@
--- For `SeccompRule::code_len` and `SeccompRule::write`: what the code of a rule does, from its last condition to its
--- entry.
+-- For `SeccompRule::code_len` and `SeccompRule::write`: what the code of a rule does, from its last condition to its entry.
 use Rattle.std.proofs.Common.{◌≡◌, ℕ, suc, ◌+◌, ◌*◌, ◌<◌, ◌≤◌, ◌^◌, List, [], ◌∷◌, ◌++◌, length, refl, sym, subst, arith, length-append}
 use Rattle.std.proofs.Common.{⊎_elim, inl, inr}
 use Rattle.std.proofs.lemmas.List.Elements.{All-nil, All-push, All-pop}
@@ -93,14 +92,12 @@ body_more q code own o k c room one body =
           (λ u. inl (hold_more q c r u.0 t.0, leads_to (own ++ code) r 0 a _ _ (sym len) (leads_through own code r a (length code) g u.1)))
           (λ u. inr (
             λ h. u.0 (hold_front q c r h),
-            leads_to (own ++ code) r 0 a _ _ to_end
-                (leads_through own code r a (length code + 1) g u.1),
+            leads_to (own ++ code) r 0 a _ _ to_end (leads_through own code r a (length code + 1) g u.1),
           ))
           (body.enters r rec g.accumulator fits))
           (λ t. inr (
             λ h. t.0 (hold_last q c r h),
-            leads_to (own ++ code) r 0 a _ _ to_end
-                (leads_both own code r a o (length code + 1) small t.1 (body.fails r)),
+            leads_to (own ++ code) r 0 a _ _ to_end (leads_both own code r a o (length code + 1) small t.1 (body.fails r)),
           ))
           (one.enters r rec a small);
       fails = λ r a small. let e : length own + o ≡ o + size_of c = omega arith in
@@ -140,8 +137,7 @@ body_relay q code o k body =
       high = omega arith;
       near = omega arith;
       long = omega (arith, body.long);
-      ranges = ranges_join (relay_code o) code
-          (ranges_from (relay_code o) (jump_in_range 2 (omega arith), (far, (far, tt)))) body.ranges;
+      ranges = ranges_join (relay_code o) code (ranges_from (relay_code o) (jump_in_range 2 (omega arith), (far, (far, tt)))) body.ranges;
       closed = closed_join (relay_code o) code (length p + 2) (length code + 2) (length p + 2)
           (closed_from (relay_code o) (length p + 2) (
             inside_jump refl (omega arith),

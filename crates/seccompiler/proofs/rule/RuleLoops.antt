@@ -37,16 +37,14 @@ pub built_empty : Built [] [] 1
 built_empty = record { k = 0; body = body_empty; cutting = none refl refl refl }
 
 -- one condition more
-built_more : (q : List Condition) (code own : List sock_filter) (o : ℕ) (c : Condition)
-    → IsConditionCode c (offset_behind o) own → Built q code o
-    → Built (q ++ c ∷ []) (own ++ (relay_front o ++ code)) (offset_behind o + size_of c)
+built_more : (q : List Condition) (code own : List sock_filter) (o : ℕ) (c : Condition) → IsConditionCode c (offset_behind o) own
+    → Built q code o → Built (q ++ c ∷ []) (own ++ (relay_front o ++ code)) (offset_behind o + size_of c)
 built_more q code own o c one h =
     ⊎_elim (λ lt.
     let near : o ≤ greatest_offset = omega arith in
     let e = relay_none o near in
     let own_code = subst (λ d. IsConditionCode c d own) e.1 one in
-    let made : Built (q ++ c ∷ []) (own ++ code) (o + size_of c) =
-    record {
+    let made : Built (q ++ c ∷ []) (own ++ code) (o + size_of c) = record {
       k = h.k;
       body = body_more q code own o h.k c (omega arith) own_code h.body;
       cutting = cutting_more q o h.k c (omega arith) h.cutting;
@@ -56,8 +54,7 @@ built_more q code own o c one h =
     (λ far.
     let e = relay_one o far in
     let own_code = subst (λ d. IsConditionCode c d own) e.1 one in
-    let made : Built (q ++ c ∷ []) (own ++ (relay_code o ++ code)) (1 + size_of c) =
-    record {
+    let made : Built (q ++ c ∷ []) (own ++ (relay_code o ++ code)) (1 + size_of c) = record {
       k = suc h.k;
       body = body_more q (relay_code o ++ code) own 1 (suc h.k) c (omega arith) own_code (body_relay q code o h.k h.body);
       cutting = cutting_relay q o h.k c far h.cutting;
@@ -93,9 +90,8 @@ room_at items i code o free c within is h whole =
 
 -- a step of the loop
 pub built_step : (items : List Condition) (i : ℕ) (c : Condition) (code own code' : List sock_filter) (o o' : ℕ) → i < length items
-    → c ≡ get_or items i c → IsConditionCode c (offset_behind o) own
-    → code' ≡ own ++ (relay_front o ++ code) → o' ≡ offset_behind o + size_of c → Built (take i items) code o
-    → Built (take (i + 1) items) code' o'
+    → c ≡ get_or items i c → IsConditionCode c (offset_behind o) own → code' ≡ own ++ (relay_front o ++ code)
+    → o' ≡ offset_behind o + size_of c → Built (take i items) code o → Built (take (i + 1) items) code' o'
 built_step items i c code own code' o o' within is one ec eo h =
     let q : take (i + 1) items ≡ take i items ++ c ∷ [] = take_more items i c within ∙ ap (λ x. take i items ++ x ∷ []) (sym is) in
     subst (λ l. Built l code' o') (sym q) (subst (λ l. Built (take i items ++ c ∷ []) l o') (sym ec)
@@ -139,9 +135,8 @@ counted_more q c n n' o o' near en eo h = record {
 }
 
 -- one condition more, behind a relay
-pub counted_relay : (q : List Condition) (c : Condition) (n n' o o' : ℕ)
-    → greatest_offset < o → n' ≡ min (min (n + 3) (2 ^ 64 - 1) + size_of c) (2 ^ 64 - 1)
-    → o' ≡ 1 + size_of c → Counted q n o → Counted (q ++ c ∷ []) n' o'
+pub counted_relay : (q : List Condition) (c : Condition) (n n' o o' : ℕ) → greatest_offset < o
+    → n' ≡ min (min (n + 3) (2 ^ 64 - 1) + size_of c) (2 ^ 64 - 1) → o' ≡ 1 + size_of c → Counted q n o → Counted (q ++ c ∷ []) n' o'
 counted_relay q c n n' o o' far en eo h = record {
   k = suc h.k;
   cutting = subst (λ d. Cutting (q ++ c ∷ []) d (suc h.k)) (sym eo) (cutting_relay q o h.k c far h.cutting);

@@ -65,7 +65,7 @@ number_of-at table name i d within none here =
     sym (number_of-drop table name i none) ∙ ap (λ pairs. number_of pairs name) cut ∙ found
 
 -- a name that comes before another isn't that
-differs : (first second : List ℕ) → ComesBefore first second → first ≢ second
+pub differs : (first second : List ℕ) → ComesBefore first second → first ≢ second
 differs first second before same =
     let itself : slice_cmp nat_cmp first first ≡ Less = ap (slice_cmp nat_cmp first) same ∙ before in
     let tied = tied_itself nat_list_cmp_total first in
@@ -202,10 +202,7 @@ compared_with part name e order some is =
 
 -- one half of a number less one is the other, or one less
 halves_of : (n : ℕ) → 0 < n → (n / 2 ≡ n - (n / 2 + 1)) ⊎ (n / 2 ≡ n - (n / 2 + 1) + 1)
-halves_of n some = elim (cases_lt (n - (n / 2 + 1)) (n / 2)) [
-  | inl less ↦ inr (omega arith)
-  | inr from ↦ inl (omega arith)
-]
+halves_of n some = elim (cases_lt (n - (n / 2 + 1)) (n / 2)) [ inl less ↦ inr (omega arith) | inr from ↦ inl (omega arith) ]
 
 -- the pair at half the length is the middle one
 middle_of : (pairs : List Pair) (middle : ℕ) (d : Pair) → middle < length pairs → middle ≡ length pairs / 2
@@ -261,20 +258,29 @@ upper table name compared middle part is greater =
     (halved table name compared pairs (drop (middle + 1) pairs) is (omega (arith, greater.here))
     same ascending (omega (arith, greater.half)) (omega (arith, greater.half)) counts)
 
+-- the number of a name that stands at some place
+pub number_of-there : (part : Slice) (name : List ℕ) (i : ℕ) (e : Bor (List ℕ) × ℤ) → AllPairs StandsBefore (pairs_of part)
+    → i < length part → (get_or part i e).0.now ≡ name → number_of (pairs_of part) name ≡ Some (get_or part i e).1
+number_of-there part name i e ascends within here =
+    let pairs : List Pair = pairs_of part in
+    let long : length pairs ≡ length part = length-map part _ in
+    let read : (d : Pair) → get_or pairs i d ≡ ((get_or part i e).0.now, (get_or part i e).1) = λ d.
+    get_or-map (λ (pair : Bor (List ℕ) × ℤ). (pair.0.now, pair.1)) part i e d within in
+    let named : (d : Pair) → (get_or pairs i d).0 ≡ name = λ d. ap (λ (pair : Pair). pair.0) (read d) ∙ here in
+    let before : HasNot pairs name (λ k. k < i) = λ k d ahead inside same.
+    differs (get_or pairs k d).0 (get_or pairs i d).0 (ascends k i d ahead (omega arith)) (same ∙ sym (named d)) in
+    let d : Pair = ([], (get_or part i e).1) in
+    number_of-at pairs name i d (omega arith) before (named d) ∙ ap (λ (pair : Pair). Some pair.1) (read d)
+
 -- the number where the asked name is the middle one
 pub found : (table : List Pair) (name : List ℕ) (compared middle : ℕ) (part : Slice) (e : Bor (List ℕ) × ℤ)
     → IsHalf table name compared (pairs_of part) → middle < length part → IsCompared part name middle Equal
     → number_of table name ≡ Some (get_or part middle e).1
 found table name compared middle part e is inside equal =
-    let pairs : List Pair = pairs_of part in
-    let d : Pair = ([], (get_or part middle e).1) in
-    let read : get_or pairs middle d ≡ ((get_or part middle e).0.now, (get_or part middle e).1) =
-    get_or-map (λ (pair : Bor (List ℕ) × ℤ). (pair.0.now, pair.1)) part middle e d inside in
-    let before : HasNot pairs name (λ k. k < middle) = λ k f ahead within same.
-    differs (get_or pairs k f).0 (get_or pairs middle f).0 (is.ascending k middle f ahead equal.here)
-    (same ∙ tied name (get_or pairs middle f).0 (equal.order f)) in
-    sym is.same ∙ number_of-at pairs name middle d equal.here before (sym (tied name (get_or pairs middle d).0 (equal.order d)))
-    ∙ ap (λ (pair : Pair). Some pair.1) read
+    let d : Pair = ([], pos 0) in
+    let read = get_or-map (λ (pair : Bor (List ℕ) × ℤ). (pair.0.now, pair.1)) part middle e d inside in
+    let named = sym (tied name (get_or (pairs_of part) middle d).0 (equal.order d)) in
+    sym is.same ∙ number_of-there part name middle e is.ascending inside (sym (ap (λ (pair : Pair). pair.0) read) ∙ named)
 
 -- an empty part is left where the table has no such name
 pub absent : (table : List Pair) (name : List ℕ) (compared : ℕ) (part : Slice) → IsHalf table name compared (pairs_of part)

@@ -1,22 +1,14 @@
 -- For `SyscallTable::lookup`: a look-up by halving compares a name with one number of names.
-use Rattle.std.proofs.Common.{◌≡◌, ℕ, suc, ◌+◌, List, ◌∷◌, ◌++◌, length, take, nat_cmp, Less, inl, inr, refl, sym, ap, ◌∙◌, subst, arith}
-use Rattle.std.specs.Cmp.Lexicographic.{slice_cmp}
+use Rattle.std.proofs.Common.{◌≡◌, ℕ, suc, ◌+◌, List, ◌∷◌, ◌++◌, length, take, inl, inr, refl, sym, ap, ◌∙◌, subst, arith}
 use Rattle.std.proofs.Math.Seq.{take-append_seam}
-use Rattle.std.proofs.lemmas.Cmp.{nat_list_cmp_total, tied_itself}
+use Rattle.std.proofs.lemmas.Cmp.{nat_list_cmp_total}
 use Rattle.std.proofs.lemmas.List.{append_cancel_left, length-append}
 use Rattle.seccompiler.specs.SyscallTable.{Pair, ComesBefore, IsMiddle, HalvingCompares, none_left, at_middle, before_middle, behind_middle}
+use Rattle.seccompiler.proofs.syscall_table.Halving.{differs}
 
--- a name doesn't come before itself
-not_itself : (first second : List ℕ) → ComesBefore first second → first ≡ second → ⊥
-not_itself first second before same =
-    let itself : slice_cmp nat_cmp first first ≡ Less = ap (slice_cmp nat_cmp first) same ∙ before in
-    let tied = tied_itself nat_list_cmp_total first in
-    cc
-
--- nor does one come before another that comes before it
+-- a name doesn't come before another that comes before it
 not_both : (first second : List ℕ) → ComesBefore first second → ComesBefore second first → ⊥
-not_both first second before after =
-    not_itself first first (nat_list_cmp_total.trans first second first before after) refl
+not_both first second before after = differs first first (nat_list_cmp_total.trans first second first before after) refl
 
 -- an empty part has no middle
 no_middle : {part front back : List Pair} {middle : Pair} → IsMiddle part front middle back → length part ≡ 0 → ⊥
@@ -32,14 +24,8 @@ middle_only {part} {other} {front} {front'} {back} {back'} {middle} {middle'} is
     let long = length-append front (middle ∷ back) in
     let also_long = length-append front' (middle' ∷ back') in
     let as_long : length front ≡ length front' = elim is.halves [
-      | inl even ↦ elim also.halves [
-        | inl also_even ↦ omega (arith, ap length joined)
-        | inr also_odd ↦ omega (arith, ap length joined)
-      ]
-      | inr odd ↦ elim also.halves [
-        | inl also_even ↦ omega (arith, ap length joined)
-        | inr also_odd ↦ omega (arith, ap length joined)
-      ]
+      | inl even ↦ elim also.halves [ inl also_even ↦ omega (arith, ap length joined) | inr also_odd ↦ omega (arith, ap length joined) ]
+      | inr odd ↦ elim also.halves [ inl also_even ↦ omega (arith, ap length joined) | inr also_odd ↦ omega (arith, ap length joined) ]
     ] in
     let as_many : take (length front) (front ++ middle ∷ back) ≡ take (length front') (front' ++ middle' ∷ back') = cc (joined, as_long) in
     let fronts : front ≡ front' = sym (take-append_seam front (middle ∷ back)) ∙ as_many ∙ take-append_seam front' (middle' ∷ back') in
@@ -54,10 +40,10 @@ module _ (name : List ℕ) {part other front front' back back' : List Pair} {mid
   one = ap (λ pair. pair.0) (middle_only is also same).1
 
   not_at_before : name ≡ middle.0 → ComesBefore name middle'.0 → ⊥
-  not_at_before here before = not_itself name middle'.0 before (here ∙ one)
+  not_at_before here before = differs name middle'.0 before (here ∙ one)
 
   not_at_behind : name ≡ middle.0 → ComesBefore middle'.0 name → ⊥
-  not_at_behind here after = not_itself middle'.0 name after (sym (here ∙ one))
+  not_at_behind here after = differs middle'.0 name after (sym (here ∙ one))
 
   not_before_behind : ComesBefore name middle.0 → ComesBefore middle'.0 name → ⊥
   not_before_behind before after = not_both name middle'.0 (subst (ComesBefore name) one before) after

@@ -1,8 +1,7 @@
 // What the readers of a JSON object share: its members, its numbers and its comment.
 
-ghost use Rattle.std.specs.Prelude.{◌≡◌, ◌↔◌, ℕ, Some, None, IsTrue, IsSome, IfSome, IfNone, map, option_map, if◌then◌else◌};
-ghost use Rattle.std.specs.List.{list_any};
-ghost use Rattle.std.specs.Option.{option_or};
+ghost use Rattle.std.specs.Prelude.{◌≡◌, ◌↔◌, ◌≤◌, ℕ, [], ◌∷◌, false, codes, IsTrue, IsSome, IfSome, IfNone, take, option_map};
+ghost use Rattle.std.specs.List.{list_any, position_or_len};
 ghost use Rattle.std.specs.Str.{bytes_eq};
 ghost use Rattle.serde_json.specs.Find.{get};
 ghost use Rattle.serde_json.specs.View.{view};
@@ -10,63 +9,63 @@ ghost use Rattle.seccompiler.specs.JsonShape.{HasOnly, IsWhole, IsNumbered, IsCo
 
 use serde_json::Value;
 
-fn is_among(name: &str, names: &[&str]) -> bool
-    ensures { result ≡ list_any (bytes_eq name.now) (map (λ n. n.now) names.now) }
+// The first place of a name among five, or 5.
+#[inline(always)]
+fn place_among(name: &str, names: (&str, &str, &str, &str, &str)) -> usize
+    ensures { result ≡ position_or_len (λ n. bytes_eq n name.now) (names.entry.0.now ∷ names.entry.1.now ∷ names.entry.2.now ∷ names.entry.3.now ∷ names.entry.4.now ∷ []) }
 {
-    for one in names {
-        if name == *one {
-            return true;
-        }
-    }
-    false
-}
-
-// What was found under a name, or else the value of the next member, if that has the name.
-fn first_under<'v>(
-    found: Option<&'v Value>,
-    sought: &str,
-    name: &str,
-    value: &'v Value,
-) -> Option<&'v Value>
-    ensures { option_map (λ v. view v.now) result ≡ option_or (option_map (λ v. view v.now) found.entry) (if bytes_eq sought.now name.now then Some (view value.now) else None) }
-{
-    match found {
-        None if sought == name => Some(value),
-        _ => found,
+    if names.0 == name {
+        0
+    } else if names.1 == name {
+        1
+    } else if names.2 == name {
+        2
+    } else if names.3 == name {
+        3
+    } else if names.4 == name {
+        4
+    } else {
+        5
     }
 }
 
 type Found<'v> = Option<&'v Value>;
 
-/// What an object has under five names, if each name that it has is one of some. It goes through the members once.
+/// What an object has under five names, if each name that it has is one of the first `count`. It goes
+/// through the members once.
 #[inline(always)]
 pub fn members_under<'v>(
     value: &'v Value,
-    names: &[&str],
-    sought: (&str, &str, &str, &str, &str),
+    names: (&str, &str, &str, &str, &str),
+    count: usize,
 ) -> Option<(Found<'v>, Found<'v>, Found<'v>, Found<'v>, Found<'v>)>
-    ensures names { IsSome result → HasOnly (view value.now) (map (λ n. n.now) names.now) }
-    ensures first { IfSome result (λ found. option_map (λ v. view v.now) found.0 ≡ get sought.entry.0.now (view value.now)) }
-    ensures second { IfSome result (λ found. option_map (λ v. view v.now) found.1 ≡ get sought.entry.1.now (view value.now)) }
-    ensures third { IfSome result (λ found. option_map (λ v. view v.now) found.2 ≡ get sought.entry.2.now (view value.now)) }
-    ensures fourth { IfSome result (λ found. option_map (λ v. view v.now) found.3 ≡ get sought.entry.3.now (view value.now)) }
-    ensures fifth { IfSome result (λ found. option_map (λ v. view v.now) found.4 ≡ get sought.entry.4.now (view value.now)) }
-    ensures none { IfNone result (HasOnly (view value.now) (map (λ n. n.now) names.now) → ⊥) }
+    requires count { count ≤ 5 }
+    requires second { list_any (bytes_eq names.1.now) (names.0.now ∷ []) ≡ false }
+    requires third { list_any (bytes_eq names.2.now) (names.0.now ∷ names.1.now ∷ []) ≡ false }
+    requires fourth { list_any (bytes_eq names.3.now) (names.0.now ∷ names.1.now ∷ names.2.now ∷ []) ≡ false }
+    requires fifth { list_any (bytes_eq names.4.now) (names.0.now ∷ names.1.now ∷ names.2.now ∷ names.3.now ∷ []) ≡ false }
+    ensures names { IsSome result → HasOnly (view value.now) (take count (names.entry.0.now ∷ names.entry.1.now ∷ names.entry.2.now ∷ names.entry.3.now ∷ names.entry.4.now ∷ [])) }
+    ensures first { IfSome result (λ found. option_map (λ v. view v.now) found.0 ≡ get names.entry.0.now (view value.now)) }
+    ensures second { IfSome result (λ found. option_map (λ v. view v.now) found.1 ≡ get names.entry.1.now (view value.now)) }
+    ensures third { IfSome result (λ found. option_map (λ v. view v.now) found.2 ≡ get names.entry.2.now (view value.now)) }
+    ensures fourth { IfSome result (λ found. option_map (λ v. view v.now) found.3 ≡ get names.entry.3.now (view value.now)) }
+    ensures fifth { IfSome result (λ found. option_map (λ v. view v.now) found.4 ≡ get names.entry.4.now (view value.now)) }
+    ensures none { IfNone result (HasOnly (view value.now) (take count (names.entry.0.now ∷ names.entry.1.now ∷ names.entry.2.now ∷ names.entry.3.now ∷ names.entry.4.now ∷ [])) → ⊥) }
 {
     let Value::Object(members) = value else {
         return None;
     };
     let (mut first, mut second, mut third, mut fourth, mut fifth) = (None, None, None, None, None);
     for (name, member) in members.iter() {
-        let name = name.as_str();
-        if !is_among(name, names) {
+        let place = place_among(name.as_str(), names);
+        if place >= count {
             return None;
         }
-        first = first_under(first, sought.0, name, member);
-        second = first_under(second, sought.1, name, member);
-        third = first_under(third, sought.2, name, member);
-        fourth = first_under(fourth, sought.3, name, member);
-        fifth = first_under(fifth, sought.4, name, member);
+        first = first.or((place == 0).then_some(member));
+        second = second.or((place == 1).then_some(member));
+        third = third.or((place == 2).then_some(member));
+        fourth = fourth.or((place == 3).then_some(member));
+        fifth = fifth.or((place == 4).then_some(member));
     }
     Some((first, second, third, fourth, fifth))
 }
@@ -89,9 +88,16 @@ pub fn whole_number(value: &Value, most: u64) -> Option<u64>
 
 /// The number of an object of this one name, if serde_json holds it as a whole one, at most `most`.
 pub fn number_alone(value: &Value, name: &str, most: u64) -> Option<u64>
+    requires second { list_any (bytes_eq (codes "a")) (name.now ∷ []) ≡ false }
+    requires third { list_any (bytes_eq (codes "b")) (name.now ∷ codes "a" ∷ []) ≡ false }
+    requires fourth { list_any (bytes_eq (codes "c")) (name.now ∷ codes "a" ∷ codes "b" ∷ []) ≡ false }
+    requires fifth { list_any (bytes_eq (codes "d")) (name.now ∷ codes "a" ∷ codes "b" ∷ codes "c" ∷ []) ≡ false }
     ensures found { IfSome result (IsNumbered most name.now (view value.now)) }
     ensures none { IfNone result ((n : ℕ) → IsNumbered most name.now (view value.now) n → ⊥) }
 {
-    let found = members_under(value, &[name], (name, name, name, name, name))?;
-    whole_number(found.0?, most)
+    // Of the names only the first one counts.
+    match members_under(value, (name, "a", "b", "c", "d"), 1) {
+        Some((Some(value), ..)) => whole_number(value, most),
+        _ => None,
+    }
 }

@@ -114,18 +114,28 @@ fn read_condition(value: &Value) -> Option<JsonCondition>
     ensures found { IfSome result (IsCondition (view value.now)) }
     ensures none { IfNone result ((c : JsonCondition) → IsCondition (view value.now) c → ⊥) }
 {
-    let names = ["index", "type", "op", "val", "comment"];
-    let sought = ("index", "type", "op", "val", "comment");
-    let found = members_under(value, &names, sought)?;
-    if !is_comment(found.4) {
+    let names = ("index", "type", "op", "val", "comment");
+    let found = members_under(value, names, 5);
+    let Some((Some(index), Some(arg_len), Some(operator), Some(value), comment)) = found else {
+        return None;
+    };
+    if !is_comment(comment) {
         return None;
     }
-    let arg_index = whole_number(found.0?, GREATEST_INDEX)? as u8;
-    let arg_len = read_arg_len(found.1?)?;
-    let operator = read_operator(found.2?)?;
-    let value = whole_number(found.3?, u64::MAX)?;
+    let Some(arg_index) = whole_number(index, GREATEST_INDEX) else {
+        return None;
+    };
+    let Some(arg_len) = read_arg_len(arg_len) else {
+        return None;
+    };
+    let Some(operator) = read_operator(operator) else {
+        return None;
+    };
+    let Some(value) = whole_number(value, u64::MAX) else {
+        return None;
+    };
     Some(JsonCondition {
-        arg_index,
+        arg_index: arg_index as u8,
         arg_len,
         operator,
         value,
@@ -176,8 +186,9 @@ fn read_entry(alloc: Global, mut value: Value) -> Result<Option<JsonRule>, Alloc
     ensures found { IfOk result (λ o. IfSome o (IsEntry (view value))) }
     ensures none { IfOk result (λ o. IfNone o ((r : JsonRule) → IsEntry (view value) r → ⊥)) }
 {
-    let sought = ("syscall", "args", "comment", "comment", "comment");
-    let Some(found) = members_under(&value, &["syscall", "args", "comment"], sought) else {
+    // An entry has the first three.
+    let names = ("syscall", "args", "comment", "op", "val");
+    let Some(found) = members_under(&value, names, 3) else {
         return Ok(None);
     };
     if !is_comment(found.2) {
@@ -236,21 +247,14 @@ fn read_actions(value: &Value) -> Option<(SeccompAction, SeccompAction)>
     ensures matching { IfSome result (λ a. IsOneAction (get (codes "match_action") (view value.now)) (get (codes "filter_action") (view value.now)) a.1) }
     ensures none { IfNone result ((f : JsonFilter) → IsFilter (view value.now) f → ⊥) }
 {
-    let names = [
-        "mismatch_action",
-        "default_action",
-        "match_action",
-        "filter_action",
-        "filter",
-    ];
-    let sought = (
+    let names = (
         "mismatch_action",
         "default_action",
         "match_action",
         "filter_action",
         "filter",
     );
-    let found = members_under(value, &names, sought)?;
+    let found = members_under(value, names, 5)?;
     let mismatch_action = read_one_action(found.0, found.1)?;
     let match_action = read_one_action(found.2, found.3)?;
     Some((mismatch_action, match_action))

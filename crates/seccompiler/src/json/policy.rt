@@ -45,6 +45,8 @@ struct Gathered {
     rules: BTreeMap<i64, Vec<SeccompRule>>,
     // The numbers of the calls of the entries without conditions, in order.
     always: Vec<i64>,
+    // Where the table has the last call's name: the next is often the same one, or the one behind it.
+    near: usize,
 }
 
 // The condition of a JSON condition.
@@ -99,7 +101,8 @@ fn add_entry(
     ensures refused { IfErr result (Tells (IsFaultOf arch entry.now)) }
 {
     let name = entry.syscall.as_str();
-    let Some(number) = SyscallTable::new(arch).get_syscall_nr(name) else {
+    let table = SyscallTable::new(arch);
+    let Some(number) = table.number_near(&mut gathered.near, name) else {
         let name = String::from_str(alloc, name)?;
         return Err(JsonFrontendError::SyscallName(name, arch));
     };
@@ -129,6 +132,7 @@ fn gather(
     let mut gathered = Gathered {
         rules: BTreeMap::new(alloc),
         always: Vec::new(alloc),
+        near: 0,
     };
     for entry in entries {
         add_entry(alloc, arch, &mut gathered, entry)?;
@@ -147,6 +151,7 @@ fn chains_of_numbers(
     let Gathered {
         mut rules,
         mut always,
+        ..
     } = gathered;
     // To make a map of ascending numbers takes less than to insert each.
     always.sort_unstable();
@@ -164,7 +169,7 @@ fn both_kinds(alloc: Global, gathered: Gathered) -> Result<Vec<i64>, AllocError>
     ensures numbers { IfOk result (λ numbers. (number : ℤ) → list_any (int_eq number) numbers.items ≡ (is_always_at gathered number && is_some (rules_at gathered number))) }
     ensures ascending { IfOk result (λ numbers. IsStrictlySortedBy int_cmp numbers.items) }
 {
-    let Gathered { rules, always } = gathered;
+    let Gathered { rules, always, .. } = gathered;
     let always: BTreeSet<i64> = always.into_iter().collect(alloc)?;
     let mut numbers = Vec::new(alloc);
     for number in &always {

@@ -6,7 +6,7 @@ use Rattle.seccompiler.specs.Policy.{Rule, Chain}
 use Rattle.seccompiler.specs.Layout.{rule_length, rules_length}
 use Rattle.seccompiler.specs.ChainCode.{IsRulesCode}
 use Rattle.seccompiler.proofs.Parts.{take-front, length-part}
-use Rattle.seccompiler.proofs.chain.RulesCode.{rules_empty, rules_step, rules_room}
+use Rattle.seccompiler.proofs.chain.RulesCode.{rules_empty, rules_step, rules_all, rules_room}
 use Rattle.seccompiler.proofs.chain.write_rules.Goals as goal
 
 -- there is room for a further rule and its return
@@ -30,14 +30,16 @@ loop-rule-preserved c =
     let long : length c.write_rule-start.new.part ≡ length l.part - l.start = omega (arith, c.write_rule-start.auto.part, lent) in
     let written = take-front l.start c.write_rule-start.result l.part c.write_rule-start.new.part l.invariant.within
     (omega (arith, fits, c.write_rule-start.ensures.length, long)) in
+    let kept = same_len_mid l.start (length l.part - l.start) l.part c.write_rule-start.new.part (long ∙ sym lent) in
     record {
       code = rules_step c.args.chain.now l.rule-index c.args.matched c.rule-item.result (take l.start l.part)
           (take c.write_rule-start.result c.write_rule-start.new.part) _ c.loop-rule-test.true
           c.rule-item.is c.write_rule-start.ensures.code written l.invariant.code;
-      within = omega (
-        arith,
-        fits,
-        c.write_rule-start.ensures.length,
-        same_len_mid l.start (length l.part - l.start) l.part c.write_rule-start.new.part (long ∙ sym lent),
-      );
+      within = omega (arith, fits, c.write_rule-start.ensures.length, kept);
     }
+
+pub returns : goal.returns
+returns c =
+    let l = c.loop-rule in
+    let code = rules_all c.args.chain.now l.rule-index c.args.matched _ c.loop-rule-test.false l.invariant.code in
+    record { length = sym (length-take-le l.start l.part l.invariant.within) ∙ code.long; code = code }

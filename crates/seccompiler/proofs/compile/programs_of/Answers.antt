@@ -1,9 +1,16 @@
 use Rattle.std.proofs.Common.{subst}
 use Rattle.std.specs.BTreeMap.{get_by_text}
 use Rattle.std.proofs.lemmas.Result.{err_from_is_err_and}
-use Rattle.seccompiler.specs.JsonAnswers.{OfValue, ArePoliciesOf}
-use Rattle.seccompiler.proofs.compile.TextPrograms.{all_checked, refused_told}
+use Rattle.seccompiler.specs.JsonAnswers.{OfValue, ArePoliciesOf, TellsFrontendFault}
+use Rattle.seccompiler.proofs.compile.TextPrograms.{all_checked, refused_told, told_by_frontend}
 use Rattle.seccompiler.proofs.compile.programs_of.Goals as goal
+
+pub returns-in_err-policies-clause-fault : goal.returns-in_err-policies-clause-fault
+returns-in_err-policies-clause-fault c =
+    let p = err_from_is_err_and c.from_residual.result c.from_residual.ensures.1 in
+    let cause = c.in_err-policies.field-0.0 in
+    let told = subst (λ arch. TellsFrontendFault arch c.args.text.now cause) c.new.ensures c.in_err-policies.ensures.fault in
+    rw (p.1, p.2) (told_by_frontend c.args.arch c.args.text.now cause told)
 
 pub returns-in_err-programs_under-clause-fault : goal.returns-in_err-programs_under-clause-fault
 returns-in_err-programs_under-clause-fault c =

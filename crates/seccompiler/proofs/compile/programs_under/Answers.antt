@@ -2,10 +2,9 @@ use Rattle.std.proofs.Common.{◌≡◌, ◌∷◌, ◌++◌, [], String, Global
 use Rattle.std.proofs.Common.{rules}
 use Rattle.std.specs.BTreeMap.{get_by_text, IsFromIterResult}
 use Rattle.std.proofs.lemmas.Result.{err_from_is_err_and}
-use Rattle.seccompiler.proofs.ByName.{ByName, AreInOrder}
+use Rattle.seccompiler.proofs.ByName.{ByName, AreInOrder, AreMade, made_more, made_in_order, ordered}
 use Rattle.seccompiler.specs.Policy.{Filter}
 use Rattle.seccompiler.specs.declared.bpf.sock_filter.{sock_filter}
-use Rattle.seccompiler.proofs.ByName.{AreMade, made_more, made_in_order, ordered}
 use Rattle.seccompiler.proofs.compile.TextPrograms.{Compiles, are_programs, refusal_of}
 use Rattle.seccompiler.proofs.compile.programs_under.Goals as goal
 

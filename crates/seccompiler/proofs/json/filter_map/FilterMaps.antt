@@ -42,15 +42,13 @@ module _ (done : List Entry) (e : Entry) (more : List Entry) (m n : Map) (key : 
         let last = ap (get_member name) (sym (put_last done e more sorted)) in
         elim (cases_Bool (bytes_eq key name)) [
           | inl own ↦ inl (
-            last ∙ rw (sym ((bytes_eq-Decides key name).0 own) ∙ same)
-                (get_member-put (string_bytes e.0) (view e.1) (members_view done)),
+            last ∙ rw (sym ((bytes_eq-Decides key name).0 own) ∙ same) (get_member-put (string_bytes e.0) (view e.1) (members_view done)),
             updates name ∙ rw own refl,
           )
           | inr differs ↦ inr (
             last ∙ get_member-put_other name (string_bytes e.0) (view e.1)
                 (members_view done) (λ own. true≢false (sym ((bytes_eq-Decides key name).1 (same ∙ sym own)) ∙ differs)),
-            updates name
-                ∙ rw differs refl,
+            updates name ∙ rw differs refl,
           )
         ]
 

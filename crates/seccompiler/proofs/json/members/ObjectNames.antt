@@ -1,9 +1,11 @@
 -- For `members_under`: what an object has under a name, and whether its names are all among some.
-use Rattle.std.proofs.Common.{◌≡◌, ℕ, List, ◌∷◌, true, false, cond, Option, Some, None, refl, sym, ◌∙◌, subst}
-use Rattle.std.proofs.Common.{bytes_eq, ◌↔◌, ◌⊎◌, inl, inr, Contains, string_bytes}
-use Rattle.std.specs.List.{list_any}
+use Rattle.std.proofs.Common.{◌≡◌, ℕ, zero, suc, ◌≤◌, List, [], ◌∷◌, ◌++◌, length, take, true, false, nat_eq, nat_lt, Option, Some, None}
+use Rattle.std.proofs.Common.{option_map, refl, sym, ◌∙◌, subst, arith, bytes_eq, ◌↔◌, ◌⊎◌, inl, inr, Contains, string_bytes}
+use Rattle.std.specs.List.{list_any, position_or_len}
 use Rattle.std.specs.Option.{option_or}
-use Rattle.std.proofs.lemmas.Bool.{true≢false, cases_Bool}
+use Rattle.std.specs.Bool.{then_some}
+use Rattle.std.proofs.lemmas.Bool.{true≢false, cases_Bool, le-ltb, lt-ltb, ne_eqb}
+use Rattle.std.proofs.lemmas.Bool.Decides.{nat_tests}
 use Rattle.std.proofs.lemmas.Cmp.{nat_list_eq_equiv}
 use Rattle.std.proofs.lemmas.Map.Views.{Contains-from_any, list_any-from_Contains}
 use Rattle.std.proofs.lemmas.Slice.Eq.{bytes_eq-Decides}
@@ -16,6 +18,33 @@ use Rattle.seccompiler.specs.JsonShape.{HasOnly}
 -- What an object has under a name is what was found of it, or else what is under it among the members that are left.
 abbrev pub IsSought : Data → List Entry → List ℕ → Option Data → Type 0
 IsSought d left key found = get key d ≡ option_or found (get_member key (members_view left))
+
+-- The first place of a name among some; their number if it is none of them.
+abbrev pub place_in : List (List ℕ) → List ℕ → ℕ
+place_in ns name = position_or_len (λ n. bytes_eq n name) ns
+
+-- A name is among the first n where its place is one of them.
+pub among : (n : ℕ) (ns : List (List ℕ)) (name : List ℕ) → n ≤ length ns
+    → list_any (bytes_eq name) (take n ns) ≡ nat_lt (place_in ns name) n
+among zero ns name few = sym (le-ltb (place_in ns name) 0 (omega arith))
+among (suc n) [] name few = absurd (omega arith)
+among (suc n) (m ∷ ns) name few = elim (cases_Bool (bytes_eq m name)) [
+  | inl own ↦ rw (own, nat_list_eq_equiv.symm name m ∙ own) (sym (lt-ltb _ _ (omega arith)))
+  | inr other ↦ rw (other, nat_list_eq_equiv.symm name m ∙ other) (among n ns name (omega arith) ∙ grind (arith, nat_tests))
+]
+
+-- A name that is none of those in front of it has its own place.
+own_place : (front : List (List ℕ)) (key : List ℕ) (back : List (List ℕ)) (name : List ℕ)
+    → list_any (bytes_eq key) front ≡ false → nat_eq (place_in (front ++ key ∷ back) name) (length front) ≡ bytes_eq key name
+own_place [] key back name apart =
+    elim (cases_Bool (bytes_eq key name)) [ inl own ↦ rw own refl | inr other ↦ rw other (ne_eqb _ _ (λ e. omega arith)) ]
+own_place (n ∷ front) key back name apart = elim (cases_Bool (bytes_eq key n)) [
+  | inl same ↦ let e = rw same at apart in cc
+  | inr differs ↦ elim (cases_Bool (bytes_eq n name)) [
+    | inl own ↦ rw own (ne_eqb _ _ (λ e. omega arith) ∙ sym (subst (λ m. bytes_eq key m ≡ false) ((bytes_eq-Decides n name).0 own) differs))
+    | inr other ↦ rw other (grind (arith, nat_tests) ∙ own_place front key back name (rw differs at apart))
+  ]
+]
 
 -- The member of an object that is first, and those behind it.
 module _ (e : Entry) (left : List Entry) where
@@ -63,13 +92,16 @@ module _ (e : Entry) (left : List Entry) where
       → list_any (bytes_eq (string_bytes e.0)) names ≡ false → P → ⊥
   only_fails names so_far not h = let e = sym not ∙ ((only_step names).0 (so_far.1 h)).0 in cc
 
-  -- A member less is left.
-  pub sought_more : (d : Data) (key name : List ℕ) (found next : Option Data) → name ≡ string_bytes e.0
-      → next ≡ option_or found (cond (bytes_eq key name) (Some (view e.1)) None)
-      → IsSought d (e ∷ left) key found → IsSought d left key next
-  sought_more d key name found next same is so_far = so_far ∙ rw (is, same) (by_case found)
+  -- A member less is left, whose name has a place among some names, of which the key is none of those in front of it.
+  pub sought_more : {X : Type 0} (f : X → Data) (d : Data) (front : List (List ℕ)) (key : List ℕ) (back : List (List ℕ)) (name : List ℕ)
+      (place : ℕ) (found next : Option X) (v : X) → name ≡ string_bytes e.0 → f v ≡ view e.1
+      → place ≡ place_in (front ++ key ∷ back) name → list_any (bytes_eq key) front ≡ false
+      → next ≡ option_or found (then_some (nat_eq place (length front)) v)
+      → IsSought d (e ∷ left) key (option_map f found) → IsSought d left key (option_map f next)
+  sought_more {X = X} f d front key back name place found next v same value placed apart is so_far =
+      so_far ∙ rw (is, placed, own_place front key back name apart, same) (by_case found)
     where
-      by_case : (o : Option Data) → option_or o (get_member key (members_view (e ∷ left)))
-          ≡ option_or (option_or o (cond (bytes_eq key (string_bytes e.0)) (Some (view e.1)) None)) (get_member key (members_view left))
+      by_case : (o : Option X) → option_or (option_map f o) (get_member key (members_view (e ∷ left)))
+          ≡ option_or (option_map f (option_or o (then_some (bytes_eq key (string_bytes e.0)) v))) (get_member key (members_view left))
       by_case (Some x) = refl
-      by_case None = elim (first_or_later key) [ inl own ↦ rw own.0 own.1 | inr later ↦ rw later.0 later.1 ]
+      by_case None = elim (first_or_later key) [ inl own ↦ rw (own.0, value) own.1 | inr later ↦ rw later.0 later.1 ]

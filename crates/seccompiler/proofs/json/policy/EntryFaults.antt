@@ -70,14 +70,7 @@ module _ (arch : TargetArch) where
   all_fine_or_fault (entry ∷ entries) = elim (fine_or_fault entry) [
     | inr wrong ↦ inr (
       wrong.0,
-      record {
-        front = [];
-        entry = entry;
-        back = entries;
-        whole = refl;
-        fine = All-nil (IsFineEntry arch);
-        wrong = wrong.1;
-      },
+      record { front = []; entry = entry; back = entries; whole = refl; fine = All-nil (IsFineEntry arch); wrong = wrong.1 },
     )
     | inl fine ↦ elim (all_fine_or_fault entries) [
       | inl all ↦ inl (All-cons (IsFineEntry arch) entry entries fine all)

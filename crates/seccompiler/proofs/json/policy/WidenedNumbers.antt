@@ -123,20 +123,17 @@ module _ (arch : TargetArch) where
           let same = same_chain (pos (word_at r 0)) apart in
           let archs : before.target_arch ≡ now.target_arch = old.target_arch ∙ sym new.target_arch in
           let matches : before.match_action ≡ now.match_action = old.match_action ∙ sym new.match_action in
-          let mismatches : before.mismatch_action ≡ now.mismatch_action = old.mismatch_action ∙ sym new.mismatch_action in (
-            decided before now r w same archs matches mismatches,
-            decided now before r w (sym same)
-                (sym archs) (sym matches) (sym mismatches),
-          )
+          let mismatches : before.mismatch_action ≡ now.mismatch_action = old.mismatch_action ∙ sym new.mismatch_action in
+          (decided before now same archs matches mismatches, decided now before (sym same) (sym archs) (sym matches) (sym mismatches))
         where
-          decided : (f g : Filter) (r : List ℕ) (w : ℕ) → chain_at f.chains (pos (word_at r 0)) ≡ chain_at g.chains (pos (word_at r 0))
+          decided : (f g : Filter) → chain_at f.chains (pos (word_at r 0)) ≡ chain_at g.chains (pos (word_at r 0))
               → f.target_arch ≡ g.target_arch → f.match_action ≡ g.match_action → f.mismatch_action ≡ g.mismatch_action
               → IsDecision f r w → IsDecision g r w
-          decided f g r w same archs matches mismatches (other_architecture other is) =
+          decided f g same archs matches mismatches (other_architecture other is) =
               other_architecture (λ e. other (e ∙ ap audit_word (sym archs))) is
-          decided f g r w same archs matches mismatches (policy_matches ours m is) =
+          decided f g same archs matches mismatches (policy_matches ours m is) =
               policy_matches (ours ∙ ap audit_word archs) (matches_alike f g r same m) (is ∙ ap word_of matches)
-          decided f g r w same archs matches mismatches (policy_differs ours none is) =
+          decided f g same archs matches mismatches (policy_differs ours none is) =
               policy_differs (ours ∙ ap audit_word archs) (λ m. none (matches_alike g f r (sym same) m)) (is ∙ ap word_of mismatches)
 
       -- What the Rust crate's filter matches is matched.

@@ -17,16 +17,12 @@ some_length (q ∷ chain) some = refl
 pub returns-then-is_empty-clause-code : goal.returns-then-is_empty-clause-code
 returns-then-is_empty-clause-code c =
     let none : length c.args.chain.now ≡ 0 = grind (arith, nat_tests) in
+    let over = c.jump_over-then-is_empty.ensures.instruction in
+    let give = c.return_word.ensures.instruction in
+    let last = c.return_word-then-is_empty.ensures.instruction in
     chain_without c.args.number c.args.mismatch c.args.matched (omega arith) (omega arith) (omega arith) c.args.chain.now _ none
     (take_at c.copy_from_slice.new.self (drop 5 c.args.part.now) 5 (ap length c.copy_from_slice.ensures.after)
-    ∙ cc (
-      c.copy_from_slice.ensures.after,
-      c.jump_if_equal.ensures.instruction,
-      c.jump_over.ensures.instruction,
-      c.jump_over-then-is_empty.ensures.instruction,
-      c.return_word.ensures.instruction,
-      c.return_word-then-is_empty.ensures.instruction,
-    ))
+    ∙ cc (c.copy_from_slice.ensures.after, c.jump_if_equal.ensures.instruction, c.jump_over.ensures.instruction, over, give, last))
 
 pub returns-clause-code : goal.returns-clause-code
 returns-clause-code c =

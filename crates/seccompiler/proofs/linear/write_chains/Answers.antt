@@ -46,6 +46,7 @@ loop-number-preserved c =
     let long : length c.write_chain-start.new.part ≡ count = omega (arith, c.write_chain-start.auto.part, part) in
     let written = take-front l.start c.write_chain-start.result l.part c.write_chain-start.new.part l.invariant.within
     (omega (arith, fits, c.write_chain-start.ensures.length, long)) in
+    let kept = same_len_mid l.start count l.part c.write_chain-start.new.part (long ∙ sym part) in
     record {
       done = l.invariant.done ++ (c.in-Some.number.now, c.in-Some.chain.now) ∷ [];
       rest = rest_step c.args.rules.now.entries l.invariant.done l.number-iterator c.next.new.self
@@ -54,10 +55,14 @@ loop-number-preserved c =
           c.deref.result.now (take l.start l.part)
           (take c.write_chain-start.result c.write_chain-start.new.part) _ c.call_number.ensures
           c.deref.ensures.value c.write_chain-start.ensures.code written l.invariant.made;
-      within = omega (
-        arith,
-        fits,
-        c.write_chain-start.ensures.length,
-        same_len_mid l.start count l.part c.write_chain-start.new.part (long ∙ sym part),
-      );
+      within = omega (arith, fits, c.write_chain-start.ensures.length, kept);
     }
+
+pub write_chain-start-requires-clause-room : goal.write_chain-start-requires-clause-room
+write_chain-start-requires-clause-room c =
+    let l = c.loop-number in
+    let fits = room c.args.rules.now.entries l.invariant.done l.number-iterator c.next.new.self
+    (c.in-Some.number.now, c.in-Some.chain.now) c.deref.result.now l.start c.args.mismatch c.args.matched l.part c.args.part.now
+    c.in-Some.ensures.steps l.invariant.rest c.deref.ensures.value l.invariant.made l.invariant.within l.auto.part
+    (omega (arith, c.requires.room)) in
+    omega (arith, fits, length-part l.start (length l.part) l.part l.invariant.within (omega arith))

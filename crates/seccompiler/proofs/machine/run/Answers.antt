@@ -13,8 +13,7 @@ step-requires-clause-fine c =
     c.requires.each c.loop-place.place _ (slice_get-get_or c.args.prog.now c.loop-place.place _ c.loop-place.invariant.within)
 
 pub step-requires-clause-next : goal.step-requires-clause-next
-step-requires-clause-next c =
-    not_last c.args.prog.now c.loop-place.place _ c.requires c.loop-place.invariant.within c.loop-place-test.true
+step-requires-clause-next c = not_last c.args.prog.now c.loop-place.place _ c.requires c.loop-place.invariant.within c.loop-place-test.true
 
 pub loop-place-preserved : goal.loop-place-preserved
 loop-place-preserved c = record {

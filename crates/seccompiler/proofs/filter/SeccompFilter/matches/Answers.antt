@@ -27,7 +27,6 @@ returns-in-None c =
     let number = word_at c.args.call.now 0 in
     let fits : SFits w64 c.from.result = search rules in
     let key = to_z-of_z w64 c.from.result fits ∙ c.from.ensures ∙ ap pos c.word_at-number.ensures in
-    let none : chain_under f.chains number ≡ None =
-    ap (λ (g : Filter). chain_under g.chains number) (sym c.self.view_is)
+    let none : chain_under f.chains number ≡ None = ap (λ (g : Filter). chain_under g.chains number) (sym c.self.view_is)
     ∙ found_chain c.self.inside.rules.entries _ number None key c.in-None.ensures.value in
     differs_without_chain f c.args.call.now none

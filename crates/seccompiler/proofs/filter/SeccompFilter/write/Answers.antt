@@ -34,13 +34,9 @@ write_chains-requires-clause-numbers c =
 pub returns : goal.returns
 returns c =
     let some : 0 < length c.self.inside.rules.entries = grind (arith, nat_tests) in
+    let counted = counted_full c.self.inside.rules.entries c.args.self.now.chains (ap (λ (f : Filter). f.chains) c.self.view_is) some in
     let long : length c.write_chains.new.part + 5 ≡ length c.args.program.now =
-    omega (
-      arith,
-      c.write_chains.ensures.code.long,
-      c.requires.room,
-      counted_full c.self.inside.rules.entries c.args.self.now.chains (ap (λ (f : Filter). f.chains) c.self.view_is) some,
-    ) in
+    omega (arith, c.write_chains.ensures.code.long, c.requires.room, counted) in
     let written = headed c.copy_from_slice.new.self c.args.program.now c.write_chains.new.part _
     (jump_equal (audit_word c.args.self.now.target_arch) 1 0) _ c.load_word.result c.return_word-2.result
     (c.copy_from_slice.ensures.after ∙ c.arch_guard.ensures ∙ ap

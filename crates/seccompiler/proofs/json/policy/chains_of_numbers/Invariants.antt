@@ -6,5 +6,4 @@ use Rattle.seccompiler.proofs.json.policy.EntryChains.{made_at}
 use Rattle.seccompiler.proofs.json.policy.chains_of_numbers.Given as goal
 
 abbrev pub invariant-loop-number : goal.invariant-loop-number
-invariant-loop-number l = (q : ℤ) → made_at l.found.items q
-    ≡ chain_of (list_any (int_eq q) (take l.number-index l.number-items)) None
+invariant-loop-number l = (q : ℤ) → made_at l.found.items q ≡ chain_of (list_any (int_eq q) (take l.number-index l.number-items)) None

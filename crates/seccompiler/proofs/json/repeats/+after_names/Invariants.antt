@@ -4,9 +4,7 @@ use Rattle.seccompiler.specs.JsonRepeats.{names_in, names_in_items, names_in_mem
 use Rattle.seccompiler.proofs.json.repeats.+after_names.Given as goal
 
 abbrev pub invariant-loop-item : goal.invariant-loop-item
-invariant-loop-item l = l.left - names_in_items (items_view (drop l.item-index l.item-items))
-    ≡ l.fn.left - names_in (view l.value)
+invariant-loop-item l = l.left - names_in_items (items_view (drop l.item-index l.item-items)) ≡ l.fn.left - names_in (view l.value)
 
 abbrev pub invariant-loop-member : goal.invariant-loop-member
-invariant-loop-member l = l.left - names_in_members (members_view l.member-iterator)
-    ≡ l.fn.left - names_in (view l.value)
+invariant-loop-member l = l.left - names_in_members (members_view l.member-iterator) ≡ l.fn.left - names_in (view l.value)

@@ -67,17 +67,10 @@ loop-condition-preserved c =
     built_step q l.condition-index c.condition-item.result (drop l.end l.part) c.write.new.part
     _ l.offset _ c.loop-condition-test.true c.condition-item.is own written
     (omega (arith, relay.offset, size)) l.invariant.built in
+    let outer = length-append c.write.new.part (relay_front l.offset ++ drop l.end l.part) in
     record {
       built = built;
-      free = omega (
-        arith,
-        ap length written,
-        length-append c.write.new.part
-            (relay_front l.offset ++ drop l.end l.part),
-        length-append (relay_front l.offset) (drop l.end l.part),
-        own.long,
-        l.invariant.free,
-      );
+      free = omega (arith, ap length written, outer, length-append (relay_front l.offset) (drop l.end l.part), own.long, l.invariant.free);
     }
 
 pub copy_from_slice-requires : goal.copy_from_slice-requires

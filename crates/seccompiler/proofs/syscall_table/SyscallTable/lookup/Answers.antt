@@ -17,10 +17,7 @@ loop-part-init c =
     let table = table_of c.args.self.now in
     let is = is_call_table c.args.self.now in
     let same : pairs_of c.pairs-part.result.now ≡ table_of c.args.self.now = cc in
-    record {
-      half = rw same (whole table c.args.name.now is);
-      short = as_short table c.pairs-part.result.now is.short same;
-    }
+    record { half = rw same (whole table c.args.name.now is); short = as_short table c.pairs-part.result.now is.short same }
 
 pub returns-in-Equal-clause-number : goal.returns-in-Equal-clause-number
 returns-in-Equal-clause-number c =

@@ -4,14 +4,15 @@ use Rattle.seccompiler.specs.declared.backend.TargetArch.{TargetArch}
 use Rattle.seccompiler.specs.declared.bpf.sock_filter.{sock_filter}
 use Rattle.seccompiler.specs.Machine.{greatest_length, IsChecked, IsRecord}
 use Rattle.seccomp_tree.specs.Decided.{DecisionSet}
-use Rattle.seccomp_tree.specs.TreeProgram.{AreRanges, EndsWithin, length_by}
+use Rattle.seccomp_tree.specs.TreeProgram.{AreRanges, EndsWithin, IsTreeProgram, length_by}
 use Rattle.seccomp_oci.specs.declared.compiled.CompiledProfile.{CompiledProfile}
 use Rattle.seccomp_oci.specs.declared.compiled.CompileError.{CompileError}
 use Rattle.seccomp_oci.specs.declared.compiled.CompileError.TheVariants as compile_error
 use Rattle.seccomp_profiles.specs.declared.error.ProfileError.{ProfileError}
 use Rattle.seccomp_profiles.specs.declared.error.ProfileError.TheVariants as profile_error
 use Rattle.seccomp_oci.specs.LeftOut.{AreLeftOut}
-use Rattle.seccomp_oci.specs.ProfileDecisions.{DecideAs, IsProfileWord}
+use Rattle.seccomp_oci.specs.OwnDecisions.{AreOwn}
+use Rattle.seccomp_oci.specs.ProfileDecisions.{IsProfileWord}
 use Rattle.seccomp_profiles.specs.ProfileText.{IsProfileFault, IsProfileText}
 use Rattle.seccomp_profiles.specs.Types.{Container, Profile}
 
@@ -25,6 +26,12 @@ pub record EndsAsProfile (arch : TargetArch) (container : Container) (p : Profil
 pub record IsProfileProgram (arch : TargetArch) (container : Container) (p : Profile) (program : List sock_filter) : Type 0 where
   pub checked : IsChecked program
   pub decides : (r : List ℕ) → IsRecord r → EndsAsProfile arch container p program r
+
+-- The program is that of the profile's own decisions.
+pub record IsOwnProgram (arch : TargetArch) (container : Container) (p : Profile) (program : List sock_filter) : Type 0 where
+  pub decisions : DecisionSet
+  pub own : AreOwn arch container p decisions
+  pub made : IsTreeProgram decisions program
 
 -- The text is this profile's, and these names are left out: none if that is an error.
 pub record IsRead (arch : TargetArch) (container : Container) (strict : Bool) (text : List ℕ) (p : Profile)
@@ -40,6 +47,7 @@ pub record IsCompiledProfile (arch : TargetArch) (container : Container) (strict
   pub read : IsRead arch container strict text profile (map string_bytes compiled.left_out.items)
   pub flags : compiled.flags.items ≡ profile.flags
   pub program : IsProfileProgram arch container profile compiled.program.items
+  pub own : IsOwnProgram arch container profile compiled.program.items
 
 -- ---- why there is none
 
@@ -53,10 +61,10 @@ pub record HasUnknown (arch : TargetArch) (container : Container) (text : List �
   pub is_profile : IsProfileText text profile
   pub are : AreUnknownNames arch container profile names
 
--- Decisions that decide as the profile may need more than 4096 instructions.
+-- The profile's own decisions may need more than 4096 instructions.
 pub record IsLarge (arch : TargetArch) (container : Container) (p : Profile) : Type 0 where
   pub decisions : DecisionSet
-  pub decide : DecideAs arch container p decisions
+  pub own : AreOwn arch container p decisions
   pub large : (starts : List ℕ) → AreRanges decisions starts → greatest_length < length_by decisions (length starts)
 
 pub record HasLarge (arch : TargetArch) (container : Container) (strict : Bool) (text : List ℕ) : Type 0 where

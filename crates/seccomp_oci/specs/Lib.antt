@@ -1,8 +1,9 @@
 -- The definitions that the contracts cite.
 
--- What is promised: when an entry applies, what a profile decides, and which programs are a profile's.
+-- What is promised: when an entry applies, what a profile decides, and which decisions and programs are a profile's.
 pub mod Decision
 pub mod ProfileDecisions
+pub mod OwnDecisions
 pub mod Decided
 pub mod CompiledProfile
 pub mod LeftOut

@@ -1,20 +1,13 @@
 -- What the private functions of `decisions` promise each other: the rulings of a call's number, of what entries say.
-use Rattle.std.specs.Prelude.{◌≡◌, ◌↔◌, ◌⊎◌, ◌<◌, ℕ, List, ◌∷◌, ◌++◌, All, Any, Contains, length, map, slice_index_or}
+use Rattle.std.specs.Prelude.{◌≡◌, ◌⊎◌, ◌<◌, ℕ, List, ◌∷◌, ◌++◌, All, Contains, length, slice_index_or}
 use Rattle.std.specs.List.{AllZip}
-use Rattle.seccompiler.specs.declared.backend.SeccompAction.{SeccompAction}
 use Rattle.seccompiler.specs.declared.backend.TargetArch.{TargetArch}
-use Rattle.seccompiler.specs.Machine.{word_at}
-use Rattle.seccompiler.specs.Policy.{Condition, RuleHolds, word_of}
+use Rattle.seccompiler.specs.Policy.{RuleHolds, word_of}
 use Rattle.seccomp_tree.specs.Decisions.{Ruling}
 use Rattle.seccomp_oci.specs.Concerns.{Concern, IsConcernOf}
-use Rattle.seccomp_oci.specs.Decision.{IsFirstLeast, Matches, rank}
-use Rattle.seccomp_profiles.specs.Types.{Container, Entry}
-
--- Of the calls of number n this is what the entry says: it has the property if one of the lists of conditions holds.
-pub record IsSaid (P : Entry → Type 0) (n : ℕ) (r : List ℕ) (e : Entry) (c : Concern) : Type 0 where
-  pub rank : c.rank ≡ rank e
-  pub action : c.action ≡ e.action
-  pub met : P e ↔ (Contains c.numbers n × Any (λ cs. RuleHolds cs r) c.alternatives)
+use Rattle.seccomp_oci.specs.Decision.{IsFirstLeast, rank}
+use Rattle.seccomp_oci.specs.OwnDecisions.{AreOwnRulings, each_with}
+use Rattle.seccomp_profiles.specs.Types.{Container, Entry, Profile}
 
 -- The first of the rulings that hold for the record names this word.
 pub data IsHeld (r : List ℕ) : List Ruling → ℕ → Type 0 where
@@ -37,18 +30,9 @@ pub record AreRulings (P : Entry → Type 0) (entries : List Entry) (s i : ℕ) 
   pub none : NoneHolds r rulings → (k : ℕ) (y : Entry) → k < length entries → y ≡ slice_index_or entries k y → IsDone s i k y → P y → ⊥
 
 -- The rulings of the calls of number n are those of all entries below a rank that say this.
-abbrev pub AreRulingsTo : ℕ → List Concern → ℕ → List Ruling → Type 0
-AreRulingsTo s concerns n rulings = (arch : TargetArch) (container : Container) (default : SeccompAction) (entries : List Entry)
-    (r : List ℕ) → word_at r 0 ≡ n → AllZip (IsConcernOf arch container default) entries concerns
-    → AreRulings (Matches arch container default r) entries s 0 r rulings
-
--- The same of all ranks.
-abbrev pub AreRulingsFor : List Concern → ℕ → List Ruling → Type 0
-AreRulingsFor concerns n rulings = AreRulingsTo 8 concerns n rulings
-
--- The rulings of lists of conditions, with one word.
-abbrev pub each_with : ℕ → List (List Condition) → List Ruling
-each_with v alternatives = map (λ cs. record { conditions = cs; value = v }) alternatives
+abbrev pub AreOwnTo : ℕ → List Concern → ℕ → List Ruling → Type 0
+AreOwnTo s concerns n rulings = (arch : TargetArch) (container : Container) (p : Profile)
+    → AllZip (IsConcernOf arch container p.default) p.entries concerns → AreOwnRulings arch container p n s 0 rulings
 
 -- One thing that is said more has given its rulings, if it is of this rank and about the calls of this number.
 pub data IsPushed (n s : ℕ) (c : Concern) (old new : List Ruling) : Type 0 where

@@ -1,7 +1,7 @@
 // From the text of a profile to its program.
 
 ghost use Rattle.std.specs.Prelude.{◌≡◌, [], IfErr, IfOk, map, string_bytes, true};
-ghost use Rattle.seccomp_oci.specs.CompiledProfile.{IsCompileFault, IsCompiledProfile, IsNamesFault, IsProfileProgram, IsProgramFault};
+ghost use Rattle.seccomp_oci.specs.CompiledProfile.{IsCompileFault, IsCompiledProfile, IsNamesFault, IsOwnProgram, IsProfileProgram, IsProgramFault};
 ghost use Rattle.seccomp_oci.specs.LeftOut.{AreLeftOut};
 ghost use Rattle.seccomp_profiles.specs.Types.{AllOnArguments};
 
@@ -105,6 +105,7 @@ fn program_for(
 ) -> Result<BpfProgram, CompileError>
     requires { AllOnArguments profile.now.entries }
     ensures program { IfOk result (λ program. IsProfileProgram arch container.now profile.now program.items) }
+    ensures own { IfOk result (λ program. IsOwnProgram arch container.now profile.now program.items) }
     ensures fault { IfErr result (IsProgramFault arch container.now profile.now) }
 {
     let decisions = decisions_of_profile(alloc, arch, container, profile)?;

@@ -4,9 +4,10 @@ ghost use Rattle.std.specs.Prelude.{◌≡◌, ◌↔◌, ◌<◌, ◌++◌, ◌
 ghost use Rattle.std.specs.List.{AllZip};
 ghost use Rattle.seccompiler.specs.Architecture.{table_of};
 ghost use Rattle.seccompiler.specs.SyscallTable.{number_of};
-ghost use Rattle.seccompiler.specs.Policy.{Compares, Holds, RuleHolds};
-ghost use Rattle.seccomp_oci.specs.Concerns.{AreAlternatives, AreCallsOf, IsConcernOf};
-ghost use Rattle.seccomp_oci.specs.Decision.{AreMet, Concerns, IsMet, IsNameOf, Meets, ShareArgument, rank_by, strictness};
+ghost use Rattle.seccompiler.specs.Policy.{Compares, Holds};
+ghost use Rattle.seccomp_oci.specs.Concerns.{AreCallsOf, IsConcernOf};
+ghost use Rattle.seccomp_oci.specs.OwnDecisions.{AreListsOf, compared_by, condition_of};
+ghost use Rattle.seccomp_oci.specs.Decision.{Concerns, IsMet, IsNameOf, Meets, ShareArgument, rank_by, strictness};
 ghost use Rattle.seccomp_profiles.specs.Types.{AllOnArguments, AreOnArguments};
 
 use crate::scope::applies;
@@ -166,7 +167,7 @@ fn alternatives_of(
     args: &[Argument],
 ) -> Result<Vec<Vec<SeccompCondition>>, AllocError>
     requires { AreOnArguments args.now }
-    ensures { IfOk result (λ all. AreAlternatives args.now (map (λ cs. cs.items) all.items)) }
+    ensures { IfOk result (λ all. AreListsOf args.now (map (λ cs. cs.items) all.items)) }
 {
     if share_argument(args) {
         return each_alone(alloc, args);
@@ -178,7 +179,7 @@ fn alternatives_of(
 // A list of each condition.
 fn each_alone(alloc: Global, args: &[Argument]) -> Result<Vec<Vec<SeccompCondition>>, AllocError>
     requires { AreOnArguments args.now }
-    ensures { IfOk result (λ all. (r : List ℕ) → Any (λ cs. RuleHolds cs r) (map (λ cs. cs.items) all.items) ↔ Any (IsMet r) args.now) }
+    ensures { IfOk result (λ all. map (λ cs. cs.items) all.items ≡ map (λ a. condition_of a ∷ []) args.now) }
 {
     let mut all = Vec::with_capacity(alloc, args.len())?;
     for argument in args {
@@ -191,7 +192,7 @@ fn each_alone(alloc: Global, args: &[Argument]) -> Result<Vec<Vec<SeccompConditi
 // The conditions, in their order.
 fn conditions_of(alloc: Global, args: &[Argument]) -> Result<Vec<SeccompCondition>, AllocError>
     requires { AreOnArguments args.now }
-    ensures { IfOk result (λ all. (r : List ℕ) → RuleHolds all.items r ↔ All (IsMet r) args.now) }
+    ensures { IfOk result (λ all. all.items ≡ map condition_of args.now) }
 {
     let mut all = Vec::with_capacity(alloc, args.len())?;
     for argument in args {
@@ -203,9 +204,10 @@ fn conditions_of(alloc: Global, args: &[Argument]) -> Result<Vec<SeccompConditio
 /// The condition that holds if this one is met.
 pub(crate) fn condition_of(argument: &Argument) -> SeccompCondition
     requires { argument.now.index ≤ 5 }
-    ensures { (r : List ℕ) → Holds result r ↔ IsMet r argument.now }
+    ensures is { result ≡ condition_of argument.now }
+    ensures holds { (r : List ℕ) → Holds result r ↔ IsMet r argument.now }
 {
-    let (operator, value) = comparison(argument);
+    let (operator, value) = compared(argument);
     match SeccompCondition::new(argument.index, SeccompCmpArgLen::Qword, operator, value) {
         Ok(condition) => condition,
         Err(_) => unreachable!(),
@@ -215,6 +217,13 @@ pub(crate) fn condition_of(argument: &Argument) -> SeccompCondition
 /// The operator of a condition, and what it compares with. It takes no memory.
 pub fn comparison(argument: &Argument) -> (SeccompCmpOp, u64)
     ensures { (x : ℕ) → Compares result.0 x result.1 ↔ Meets argument.now.operator x argument.now.value argument.now.value_two }
+{
+    compared(argument)
+}
+
+// The same, between private functions.
+fn compared(argument: &Argument) -> (SeccompCmpOp, u64)
+    ensures { result ≡ compared_by argument.now.operator argument.now.value argument.now.value_two }
 {
     let (value, value_two) = (argument.value, argument.value_two);
     match argument.operator {

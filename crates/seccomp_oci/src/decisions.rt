@@ -1,11 +1,13 @@
 // What a profile decides, as decisions.
 
 ghost use Rattle.std.specs.Prelude.{◌≡◌, ◌↔◌, ◌<◌, ◌+◌, ◌++◌, ℕ, List, All, Contains, IfOk, IsTrue, map};
+ghost use Rattle.std.specs.List.{range_with_len};
 ghost use Rattle.seccompiler.specs.Policy.{word_of};
 ghost use Rattle.seccomp_tree.specs.Decided.{calls_of, rulings_for};
 ghost use Rattle.seccomp_oci.specs.Concerns.{Concern};
+ghost use Rattle.seccomp_oci.specs.OwnDecisions.{AreOwn, each_with};
 ghost use Rattle.seccomp_oci.specs.ProfileDecisions.{DecideAs};
-ghost use Rattle.seccomp_oci.specs.Rulings.{AreRulingsFor, AreRulingsTo, IsPushed, each_with};
+ghost use Rattle.seccomp_oci.specs.Rulings.{AreOwnTo, IsPushed};
 ghost use Rattle.seccomp_profiles.specs.Types.{AllOnArguments};
 
 use crate::concerns::{Concern, concerns_of};
@@ -21,7 +23,9 @@ const NUMBERS: u32 = 463;
 
 /// What a profile decides of each call of the architecture, in a container, as decisions.
 ///
-/// A call of another architecture kills the process.
+/// A call of another architecture kills the process. Of each call those entries that concern it have a ruling for each of
+/// their lists of conditions: first those of entries without conditions, then those of the strictest action, and so on; of
+/// equally strict ones in the profile's order.
 ///
 /// # Errors
 ///
@@ -33,7 +37,8 @@ pub fn decisions_of_profile(
     profile: &Profile,
 ) -> Result<Decisions, AllocError>
     requires { AllOnArguments profile.now.entries }
-    ensures { IfOk result (DecideAs arch container.now profile.now) }
+    ensures decide { IfOk result (DecideAs arch container.now profile.now) }
+    ensures own { IfOk result (AreOwn arch container.now profile.now) }
 {
     let entries = profile.entries.as_slice();
     let concerns = concerns_of(alloc, arch, container, profile.default, entries)?;
@@ -48,7 +53,8 @@ pub fn decisions_of_profile(
 // The rulings of each call.
 fn calls_of(alloc: Global, concerns: &[Concern]) -> Result<BTreeMap<u32, Vec<Decision>>, AllocError>
     requires { All (λ c. All (λ n. n < 463) c.numbers) concerns.now }
-    ensures { IfOk result (λ calls. (n : ℕ) → AreRulingsFor concerns.now n (rulings_for (calls_of calls.entries) n)) }
+    ensures numbers { IfOk result (λ calls. map (λ e. e.0) (calls_of calls.entries) ≡ range_with_len 0 463) }
+    ensures own { IfOk result (λ calls. (n : ℕ) → AreOwnTo 8 concerns.now n (rulings_for (calls_of calls.entries) n)) }
 {
     let mut calls = BTreeMap::new(alloc);
     for number in 0..NUMBERS {
@@ -64,7 +70,7 @@ fn rulings_for(
     concerns: &[Concern],
     number: u32,
 ) -> Result<Vec<Decision>, AllocError>
-    ensures { IfOk result (λ rulings. AreRulingsFor concerns.now number rulings.items) }
+    ensures { IfOk result (λ rulings. AreOwnTo 8 concerns.now number rulings.items) }
 {
     let mut rulings = Vec::new(alloc);
     for rank in 0..8u8 {
@@ -81,7 +87,7 @@ fn push_all(
     number: u32,
     rank: u8,
 ) -> Result<(), AllocError>
-    ensures { IfOk result (λ _. AreRulingsTo rank concerns.now number rulings.old.items → AreRulingsTo (rank + 1) concerns.now number rulings.new.items) }
+    ensures { IfOk result (λ _. AreOwnTo rank concerns.now number rulings.old.items → AreOwnTo (rank + 1) concerns.now number rulings.new.items) }
 {
     for concern in concerns {
         push_concern(alloc, rulings, concern, number, rank)?;

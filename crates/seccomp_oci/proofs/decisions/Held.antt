@@ -5,7 +5,8 @@ use Rattle.std.proofs.lemmas.List.Elements.{All-nil, All-cons, All-head, All-tai
 use Rattle.seccompiler.specs.Policy.{Condition, RuleHolds}
 use Rattle.seccomp_tree.specs.Decisions.{First, Ruling}
 use Rattle.seccomp_tree.specs.Decisions as rulings
-use Rattle.seccomp_oci.specs.Rulings.{each_with, IsHeld, here, behind, NoneHolds}
+use Rattle.seccomp_oci.specs.OwnDecisions.{each_with}
+use Rattle.seccomp_oci.specs.Rulings.{IsHeld, here, behind, NoneHolds}
 use Rattle.seccomp_oci.proofs.Quantified.{any_cases, any_head, any_nil, any_tail}
 
 -- What is first is held, or none holds and it is the default.

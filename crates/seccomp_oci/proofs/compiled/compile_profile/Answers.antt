@@ -24,4 +24,5 @@ returns-clause-compiled c = record {
   };
   flags = search rules;
   program = c.in_ok-program.ensures.program;
+  own = c.in_ok-program.ensures.own;
 }

@@ -1,6 +1,6 @@
 use Rattle.std.proofs.Common.{ap, ◌∙◌, subst}
-use Rattle.seccomp_oci.specs.Concerns.{AreAlternatives}
 use Rattle.seccomp_oci.specs.Decision.{rank, rank_by}
+use Rattle.seccomp_oci.specs.OwnDecisions.{AreListsOf}
 use Rattle.seccomp_profiles.specs.Types.{Entry}
 use Rattle.seccomp_oci.proofs.concerns.Conditions.{lists_of}
 use Rattle.seccomp_oci.proofs.concerns.concern_of.Goals as goal
@@ -12,6 +12,6 @@ returns c =
       numbers = c.in_ok-numbers.ensures;
       action = ap (λ (e : Entry). e.action) c.entry.view_is;
       rank = c.rank.ensures.value ∙ ap (λ args. rank_by args c.entry.inside.action) c.as_slice-2.ensures.value ∙ ap rank c.entry.view_is;
-      alternatives = subst (λ args. AreAlternatives args (lists_of c.in_ok-alternatives.alternatives.items)) args
+      alternatives = subst (λ args. AreListsOf args (lists_of c.in_ok-alternatives.alternatives.items)) args
           c.in_ok-alternatives.ensures;
     }

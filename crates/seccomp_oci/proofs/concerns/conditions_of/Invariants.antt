@@ -1,7 +1,6 @@
-use Rattle.std.proofs.Common.{◌↔◌, ℕ, List, All, take}
-use Rattle.seccompiler.specs.Policy.{RuleHolds}
-use Rattle.seccomp_oci.specs.Decision.{IsMet}
+use Rattle.std.proofs.Common.{◌≡◌, map, take}
+use Rattle.seccomp_oci.specs.OwnDecisions.{condition_of}
 use Rattle.seccomp_oci.proofs.concerns.conditions_of.Given as goal
 
 abbrev pub invariant-loop-argument : goal.invariant-loop-argument
-invariant-loop-argument l = (r : List ℕ) → RuleHolds l.all.items r ↔ All (IsMet r) (take l.argument-index l.args)
+invariant-loop-argument l = l.all.items ≡ map condition_of (take l.argument-index l.args)

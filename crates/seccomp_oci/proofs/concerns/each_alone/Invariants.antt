@@ -1,8 +1,7 @@
-use Rattle.std.proofs.Common.{◌↔◌, ℕ, List, take}
-use Rattle.std.specs.Prelude.{Any}
-use Rattle.seccomp_oci.specs.Decision.{IsMet}
-use Rattle.seccomp_oci.proofs.concerns.Conditions.{lists_of, SomeHold}
+use Rattle.std.proofs.Common.{◌≡◌, ◌∷◌, [], map, take}
+use Rattle.seccomp_oci.specs.OwnDecisions.{condition_of}
+use Rattle.seccomp_oci.proofs.concerns.Conditions.{lists_of}
 use Rattle.seccomp_oci.proofs.concerns.each_alone.Given as goal
 
 abbrev pub invariant-loop-argument : goal.invariant-loop-argument
-invariant-loop-argument l = (r : List ℕ) → SomeHold r (lists_of l.all.items) ↔ Any (IsMet r) (take l.argument-index l.args)
+invariant-loop-argument l = lists_of l.all.items ≡ map (λ a. condition_of a ∷ []) (take l.argument-index l.args)

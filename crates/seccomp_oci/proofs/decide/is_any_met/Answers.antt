@@ -9,7 +9,7 @@ use Rattle.seccomp_oci.proofs.decide.is_any_met.Goals as goal
 pub loop-argument-preserved : goal.loop-argument-preserved
 loop-argument-preserved c = All-more (λ a. IsMet c.args.call.now a → ⊥) c.args.args.now c.loop-argument.argument-index _
     c.loop-argument-test.true c.loop-argument.invariant
-    (λ met. true≢false (sym (c.holds.ensures.holds.1 ((c.condition_of.ensures c.args.call.now).1 met)) ∙ c.if-holds.false))
+    (λ met. true≢false (sym (c.holds.ensures.holds.1 ((c.condition_of.ensures.holds c.args.call.now).1 met)) ∙ c.if-holds.false))
 
 pub returns : goal.returns
 returns c = (

@@ -1,6 +1,6 @@
 use Rattle.std.proofs.Common.{◌≡◌, ◌++◌, take}
 use Rattle.seccompiler.specs.Policy.{word_of}
-use Rattle.seccomp_oci.specs.Rulings.{each_with}
+use Rattle.seccomp_oci.specs.OwnDecisions.{each_with}
 use Rattle.seccomp_oci.proofs.concerns.Conditions.{lists_of}
 use Rattle.seccomp_oci.proofs.decisions.push_rulings.Given as goal
 

@@ -1,5 +1,5 @@
-use Rattle.seccomp_oci.specs.Rulings.{AreRulingsTo}
+use Rattle.seccomp_oci.specs.Rulings.{AreOwnTo}
 use Rattle.seccomp_oci.proofs.decisions.rulings_for.Given as goal
 
 abbrev pub invariant-loop-rank : goal.invariant-loop-rank
-invariant-loop-rank l = AreRulingsTo l.rank l.concerns l.number l.rulings.items
+invariant-loop-rank l = AreOwnTo l.rank l.concerns l.number l.rulings.items

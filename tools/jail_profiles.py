@@ -16,6 +16,7 @@ from jail_running import EXAMPLES, TOOL
 EXAMPLE = EXAMPLES / "oci-profile.json"
 PODMAN = pathlib.Path("/usr/share/containers/seccomp.json")
 PACKAGE = "golang-github-containers-common"
+PODMAN_LENGTH = 84
 
 # Where the pages of a container's program expect it.
 PROGRAM = "container.bpf"
@@ -131,6 +132,10 @@ def try_profiles(results, jailers, folder):
     compiled(results, folder, EXAMPLE, [], PROGRAM)
     if not PODMAN.exists():
         print(f"{PODMAN} of Debian's {PACKAGE} isn't there, so no command is run under it")
+    else:
+        compiled(results, folder, PODMAN, [], "podman.bpf")
+        length = (folder / "podman.bpf").stat().st_size // 8
+        results.tell(f"{PODMAN}: at most {PODMAN_LENGTH} instructions without capabilities", length <= PODMAN_LENGTH, (length,))
     for jailer in jailers:
         try_no_profiles(results, jailer, folder)
     for jailer, way, end in [(it, way, end) for it in jailers for way, end in ((compiled, ".bpf"), (asked, " by --oci"))]:

@@ -18,7 +18,10 @@ SCHEMA = TOP / "docs/answers.schema.json"
 # So much of an answer is shown, and so many are spoilt, of those with a word of each of these.
 SHOWN = 200
 SPOILT = 3
-KINDS = ('"error"', '"warning"')
+KINDS = (
+    '"error"', '"warning"', '"codes"', '"jt"', '"note"', '"measures"', '"decisions"', '"compared"', '"example": {', '"index"', '"notes": ["',
+    '"calls"'
+)
 
 # What no value shows if it is left out: that a diagnostic is an object also follows from its two forms.
 FOLLOWS = ("$defs.diagnostic.type",)

@@ -6,7 +6,7 @@ from the program's output.
 """
 
 from . import (
-    call, calls, check, compile, compiled_profiles, conditions, counts, diff, entries, explain, formats, gone, hostile, initializers, learn, logs, oci,
+    answers, call, calls, check, compile, compiled_profiles, conditions, counts, diff, entries, explain, formats, gone, hostile, initializers, learn, logs, oci,
     outputs, profile_checks, profile_faults, profile_stats, program_diffs, programs, show, stats, subjects, warnings, words
 )
 from .forms import Case
@@ -31,7 +31,7 @@ CASES = [
         for it in (
             show, check, warnings, conditions, calls, entries, explain, logs, programs, stats, call, counts, program_diffs,
             compiled_profiles, initializers, profile_faults, oci, profile_checks, profile_stats, words, gone, hostile, outputs,
-            subjects, learn, formats
+            subjects, learn, formats, answers
         )
         for case in it.CASES
     ],

@@ -9,7 +9,7 @@ import shlex
 
 from program_cases import FILES as SHARED, FRONTEND
 
-from .forms import FULL, LOGS, MISSING, OUTPUT, TOOL, Case
+from .forms import FULL, LOGS, MISSING, OUTPUT, TOOL, Case, as_list
 from .hostile import HOSTILE, NAMES, told
 from .profile_checks import HAS_FLAGS, IS_DEFAULT, SAID_OF_PROFILE
 from .warnings import SAID
@@ -53,8 +53,7 @@ def placed(text, file, sayings):
 
 def as_json(found):
     """Returns the object of what is said, as it is written."""
-    lines = [json.dumps(it, sort_keys=True, separators=(",", ":")).replace("\x7f", r"\u007f") for it in found]
-    return '{"diagnostics":[' + ("\n" + ",\n".join(lines) + "\n" if lines else "") + "]}\n"
+    return as_list("diagnostics", found)
 
 
 def as_gcc(found):

@@ -1,6 +1,7 @@
 """What the cases of several commands name."""
 
 import errno
+import json
 
 from program_cases import FRONTEND
 from running import Case, Failing
@@ -41,6 +42,17 @@ def named(action):
     kind, _, number = action.partition(" ")
     name = {**errno.errorcode, **DEFINED}.get(int(number)) if kind == "errno" else None
     return f"{action} ({name})" if name else action
+
+
+def as_object(value):
+    """Returns the text of a value as `--json` writes it."""
+    return json.dumps(value, sort_keys=True, separators=(",", ":")).replace("\x7f", r"\u007f")
+
+
+def as_list(name, items):
+    """Returns the object of a list as `--json` writes it: each item in a line."""
+    lines = ",\n".join(map(as_object, items))
+    return f'{{"{name}":[' + (f"\n{lines}\n" if lines else "") + "]}\n"
 
 
 def writes(words, given, output):

@@ -2,6 +2,7 @@
 
 pub(crate) mod lines;
 pub mod pair;
+pub(crate) mod values;
 
 ghost use Rattle.std.specs.Prelude.{◌≡◌, All, IfOk, map, option_map, string_bytes};
 ghost use Rattle.std.specs.BTreeMap.{get_by_text};

@@ -1,9 +1,10 @@
 // What a filter of a policy, or a profile, decides on records, and why.
 
 pub mod lines;
-mod log;
+pub(crate) mod log;
 pub(crate) mod made;
 pub mod search;
+pub(crate) mod values;
 
 ghost use Rattle.std.specs.Prelude.{◌≡◌, All, IfOk, OnOk, option_map};
 ghost use Rattle.std.specs.List.{AllZip};

@@ -4,6 +4,7 @@ pub(crate) mod fitting;
 pub(crate) mod lines;
 pub(crate) mod parts;
 mod tries;
+pub(crate) mod values;
 
 ghost use Rattle.std.specs.Prelude.{◌≡◌, ℕ, List, ◌↔◌, IfOk};
 ghost use Rattle.seccomp_compare.specs.Compare.{IsCallOf};

@@ -31,6 +31,29 @@ pub(crate) fn text_or_null(alloc: Global, text: Option<&str>) -> Result<Value, A
     }
 }
 
+// Adds an item of a list: in a line, with a comma behind it.
+pub(crate) fn push_item(
+    items: &mut Vec<u8>,
+    alloc: Global,
+    value: &Value,
+) -> Result<(), AllocError> {
+    push_json(items, alloc, value)?;
+    items.extend_from_slice(b",\n")
+}
+
+// What is written of items: as JSON the object of their list, else their lines as they are.
+pub(crate) fn written(
+    alloc: Global,
+    json: bool,
+    name: &str,
+    items: Vec<u8>,
+) -> Result<Vec<u8>, AllocError> {
+    if json {
+        return list_text(alloc, name, &items);
+    }
+    Ok(items)
+}
+
 // The text of an object with a list under this name. Each item stands in a line, with a comma behind it.
 pub(crate) fn list_text(alloc: Global, name: &str, items: &[u8]) -> Result<Vec<u8>, AllocError> {
     let mut text = format!(in alloc; "{{\"{name}\":[")?.into_bytes();

@@ -1,6 +1,7 @@
 // A policy of the calls that a trace has.
 
 pub(crate) mod notes;
+mod values;
 
 ghost use Rattle.std.specs.Prelude.{◌≡◌, IfOk};
 ghost use Rattle.seccomptool.specs.Chosen.{text_of};
@@ -12,8 +13,10 @@ use crate::chosen::chosen_name;
 use crate::error::{FaultAt, ToolError};
 use crate::findings::Verdict;
 use crate::learn::notes::{notes_of, refuse_strange};
+use crate::learn::values::learned_json;
 use crate::made::Made;
 use crate::record::call_number;
+use crate::words::Inputs;
 use seccomp_learn::{
     Kept, Lesson, Observation, Taken, asked_kept, learn_within, profile_text, read_trace,
     start_and_exit, taken_from, usual_kept, written_policy,
@@ -84,7 +87,7 @@ pub(crate) fn learn_made(
     alloc: Global,
     arch: TargetArch,
     learning: &Learning<'_>,
-    path: &str,
+    inputs: Inputs<'_>,
     given: &[u8],
     policy: &[u8],
 ) -> Result<Made, FaultAt>
@@ -104,13 +107,19 @@ pub(crate) fn learn_made(
         Ok(learned) => learned,
         Err(error) => return Err(FaultAt::in_new(error)),
     };
+    let path = inputs.first.unwrap_or("-");
     let notes = notes_of(alloc, arch, learning, path, &trace, &wanted, &learned)?;
     let filter = &learned.lesson.learned.json;
-    let text = if learning.as_profile {
+    let mut text = if learning.as_profile {
         profile_text(alloc, arch, filter)?
     } else {
         written_policy(alloc, &learned.others, learned.name.as_str(), filter)?
     };
+    if inputs.json {
+        let (observed, kept) = (&trace.observed, &learned.lesson.kept);
+        let is_profile = learning.as_profile;
+        text = learned_json(alloc, arch, observed, kept, &notes, is_profile, &text)?;
+    }
     Ok(Made::noting(text, Verdict::Same, notes))
 }
 

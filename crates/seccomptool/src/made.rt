@@ -9,9 +9,11 @@ use crate::chosen::refuse_name;
 use crate::compile::text::ProgramFormat;
 use crate::compile::{NamedProgram, compiled, program_text};
 use crate::diff::lines::{lines_by_name, pair_lines};
+use crate::diff::values::diff_json;
 use crate::diff::{Diff, Scope, diff_of};
 use crate::error::{FaultAt, ToolError};
 use crate::findings::{Terms, Verdict};
+use crate::json::{push_item, written};
 use crate::kind::{Reading, Subject, subject_of};
 use crate::notes::counted;
 use crate::profile::{compiled_of, profile_notes, uncompiled};
@@ -27,6 +29,7 @@ use seccomp_oci::Container;
 use seccomp_tree::Layout;
 use seccomp_warnings::Code;
 use seccompiler::TargetArch;
+use serde_json::json;
 use std::alloc::{AllocError, Global};
 
 /// What a command makes of the texts that it is given.
@@ -166,16 +169,24 @@ pub(crate) fn show_made(
     filter: Option<&str>,
     layout: Layout,
     measured: bool,
+    json: bool,
     given: &[u8],
 ) -> Result<Made, FaultAt>
     ensures { IfOk result (λ made. IsShown arch reading.now layout measured given.now × (made.verdict ≡ Same)) }
 {
     let subject = subject_of(alloc, reading, given)?;
-    let text = if measured {
-        measured_text(alloc, arch, subject, filter, given)?
+    let (name, text) = if measured {
+        (
+            "measures",
+            measured_text(alloc, arch, json, subject, filter, given)?,
+        )
     } else {
-        shown_text(alloc, arch, layout, subject, filter, given)?
+        (
+            "programs",
+            shown_text(alloc, arch, json, layout, subject, filter, given)?,
+        )
     };
+    let text = written(alloc, json, name, text)?;
     Ok(Made::plain(alloc, text))
 }
 
@@ -183,6 +194,7 @@ pub(crate) fn show_made(
 fn shown_text(
     alloc: Global,
     arch: TargetArch,
+    json: bool,
     layout: Layout,
     subject: Subject<'_>,
     filter: Option<&str>,
@@ -193,17 +205,17 @@ fn shown_text(
     match subject {
         Subject::Policy => {
             let programs = programs_in(alloc, arch, layout, given)?;
-            show::programs_text(alloc, filter, &programs)
+            show::programs_text(alloc, json, filter, &programs)
         }
         Subject::Profile(container) => {
             refuse_name(alloc, filter)?;
             let compiled = compiled_of(alloc, arch, container, false, given)?;
-            Ok(show::program_text(alloc, Some(arch), &compiled.program)?)
+            Ok(show::program_text(alloc, json, "profile", Some(arch), &compiled.program)?)
         }
         Subject::Program => {
             refuse_name(alloc, filter)?;
             let program = program_of(alloc, given)?;
-            Ok(show::program_text(alloc, Some(arch), &program)?)
+            Ok(show::program_text(alloc, json, "program", Some(arch), &program)?)
         }
     }
 }
@@ -212,6 +224,7 @@ fn shown_text(
 fn measured_text(
     alloc: Global,
     arch: TargetArch,
+    json: bool,
     subject: Subject<'_>,
     filter: Option<&str>,
     given: &[u8],
@@ -221,31 +234,38 @@ fn measured_text(
     match subject {
         Subject::Policy => {
             let all = stats_of(alloc, arch, given)?;
-            filters_text(alloc, filter, &all)
+            filters_text(alloc, json, filter, &all)
         }
         Subject::Profile(container) => {
             refuse_name(alloc, filter)?;
             let measure = profile_stats(alloc, arch, container, given)?;
-            Ok(measure_text(alloc, "profile", measure)?)
+            Ok(measure_text(alloc, json, "profile", None, measure)?)
         }
         Subject::Program => {
             refuse_name(alloc, filter)?;
             let program = program_of(alloc, given)?;
             let measure = measure_of(alloc, arch, &program)?;
-            Ok(measure_text(alloc, "program", measure)?)
+            Ok(measure_text(alloc, json, "program", None, measure)?)
         }
     }
 }
 
-// A line for each code of a warning, in the order of `Code::all`: its name, `: `, and what is so if a warning has the code.
-pub(crate) fn codes_made(alloc: Global) -> Result<Made, FaultAt>
+// A line for each code of a warning, in the order of `Code::all`: its name, `: `, and what is so if a warning has the code. As JSON
+// their list.
+pub(crate) fn codes_made(alloc: Global, json: bool) -> Result<Made, FaultAt>
     ensures { IfOk result (λ made. made.verdict ≡ Same) }
 {
     let mut text = Vec::new(alloc);
     for code in Code::all() {
         let (name, paragraph) = (code.name(), code.paragraph());
-        text.extend_from_slice(format!(in alloc; "{name}: {paragraph}\n")?.as_bytes())?;
+        if json {
+            let value = json!(in alloc; { "code": name, "meaning": paragraph })?;
+            push_item(&mut text, alloc, &value)?;
+        } else {
+            text.extend_from_slice(format!(in alloc; "{name}: {paragraph}\n")?.as_bytes())?;
+        }
     }
+    let text = written(alloc, json, "codes", text)?;
     Ok(Made::plain(alloc, text))
 }
 
@@ -254,6 +274,7 @@ pub(crate) fn call_made(
     arch: Option<TargetArch>,
     call: Call<'_>,
     recorded: bool,
+    json: bool,
 ) -> Result<Made, FaultAt>
     ensures { IfOk result (λ made. IsCalled arch call.entry recorded × (made.verdict ≡ Same)) }
 {
@@ -266,7 +287,7 @@ pub(crate) fn call_made(
         Some(arch) => known_calls(alloc, &[arch], call.name)?,
         None => known_calls(alloc, TargetArch::all(), call.name)?,
     };
-    let text = calls_text(alloc, call.name, &calls)?;
+    let text = calls_text(alloc, json, call.name, &calls)?;
     Ok(Made::plain(alloc, text))
 }
 
@@ -302,6 +323,7 @@ pub(crate) fn diff_made<G: Progress>(
     progress.end();
     let found = found?;
     let text = match &found {
+        _ if inputs.json => diff_json(alloc, terms.target, old, new, &found)?,
         Diff::ByName(all) => lines_by_name(alloc, terms, all)?,
         Diff::OfPair(pair) => pair_lines(alloc, terms, old, new, pair)?,
     };

@@ -139,7 +139,16 @@ fn made_by<G: Progress>(
             filter,
             layout,
             measured,
-        } => show_made(alloc, *arch, reading, *filter, *layout, *measured, first),
+        } => show_made(
+            alloc,
+            *arch,
+            reading,
+            *filter,
+            *layout,
+            *measured,
+            inputs.json,
+            first,
+        ),
         Command::Check {
             arch,
             reading,
@@ -149,7 +158,7 @@ fn made_by<G: Progress>(
         } => check_made(
             alloc, *arch, reading, *denied, allowed, *format, path, first,
         ),
-        Command::Codes => codes_made(alloc),
+        Command::Codes => codes_made(alloc, inputs.json),
         Command::Explain {
             arch,
             reading,
@@ -166,7 +175,7 @@ fn made_by<G: Progress>(
             arch,
             call,
             recorded,
-        } => call_made(alloc, *arch, *call, *recorded),
+        } => call_made(alloc, *arch, *call, *recorded, inputs.json),
         Command::Diff {
             terms,
             reading,
@@ -177,7 +186,7 @@ fn made_by<G: Progress>(
             alloc, *terms, reading, *names, *scope, *quiet, inputs, first, second, progress,
         ),
         Command::Learn { arch, learning } => {
-            learn_made(alloc, *arch, learning, path, first, second)
+            learn_made(alloc, *arch, learning, inputs, first, second)
         }
     }
 }

@@ -7,8 +7,10 @@ ghost use Rattle.seccomptool.specs.Record.{IsCall, IsRecordOf, IsUncalled, recor
 
 use crate::error::ToolError;
 use crate::findings::parts::name_of;
+use crate::json::{push_item, written};
 use crate::numbers::read_number;
 use seccompiler::{SyscallTable, TargetArch};
+use serde_json::json;
 use std::alloc::{AllocError, Global};
 
 /// The record of a call as the kernel hands it to a program: the 64 bytes of a
@@ -82,9 +84,10 @@ fn push_known(calls: &mut Vec<KnownCall>, target: TargetArch, call: &str) -> Res
     Ok(())
 }
 
-/// The lines of calls: the architecture, the call's name, as it is given if it is no number, and its number.
+/// The lines of calls: the architecture, the call's name, as it is given if it is no number, and its number. As JSON their list.
 pub(crate) fn calls_text(
     alloc: Global,
+    json: bool,
     given: &str,
     calls: &[KnownCall],
 ) -> Result<Vec<u8>, AllocError> {
@@ -95,9 +98,14 @@ pub(crate) fn calls_text(
             Some(_) => name_of(known.target, number).unwrap_or(given),
             None => given,
         };
-        text.extend_from_slice(format!(in alloc; "{arch} {name} {number}\n")?.as_bytes())?;
+        if json {
+            let value = json!(in alloc; { "architecture": arch, "name": name, "number": number })?;
+            push_item(&mut text, alloc, &value)?;
+        } else {
+            text.extend_from_slice(format!(in alloc; "{arch} {name} {number}\n")?.as_bytes())?;
+        }
     }
-    Ok(text)
+    written(alloc, json, "calls", text)
 }
 
 // The number of the call of this name or number.

@@ -10,8 +10,11 @@ ghost use Rattle.seccomp_compare.specs.Machine.{IsChecked};
 ghost use Rattle.seccomptool.specs.Run.{AreReturned};
 
 use crate::explain::lines::{LineFormat, call_text};
+use crate::explain::log::{Caller, caller_at};
 use crate::explain::search::word_at;
+use crate::explain::values::{Told, decision_value};
 use crate::findings::lines::Word;
+use crate::json::push_item;
 use seccomp_compare::machine;
 use seccompiler::machine::Outcome;
 use seccompiler::{BpfProgramRef, TargetArch};
@@ -40,25 +43,45 @@ pub fn returned(
 /// `trap`, `kill_thread`, `kill_process` and `user_notif`, a space and the low 16 bits in decimal after
 /// `errno` and `trace`, and the name of an errno that has one in brackets; a value that is none of these is written in
 /// hexadecimal digits after `0x`. The call follows, by its name and number. By `LineFormat::Word` the value in 8 hexadecimal
-/// digits, a space, and the steps.
+/// digits, a space, and the steps. As JSON an item for each. Who made a call stands in front.
 pub(crate) fn outcomes_text(
     alloc: Global,
     target: TargetArch,
     format: LineFormat,
     records: &[[u8; 64]],
     outcomes: &[Outcome],
+    callers: &[Caller<'_>],
 ) -> Result<Vec<u8>, AllocError> {
     let mut text = Vec::new(alloc);
-    for (record, outcome) in records.iter().zip(outcomes) {
+    for (index, (record, outcome)) in records.iter().zip(outcomes).enumerate() {
         let Outcome { word, steps } = *outcome;
-        let action = Word(word);
-        let line = match format {
-            LineFormat::Word => format!(in alloc; "{word:08x} {steps}\n")?,
-            LineFormat::Path if word_at(record, 4) == target.get_audit_value() => {
-                let call = call_text(alloc, target, word_at(record, 0))?;
-                format!(in alloc; "{action}: {call}\n")?
+        let (action, caller) = (Word(word), caller_at(callers, index));
+        let number = if word_at(record, 4) == target.get_audit_value() {
+            Some(word_at(record, 0))
+        } else {
+            None
+        };
+        let line = match (format, number) {
+            (LineFormat::Json, _) => {
+                let told = Told {
+                    reason: "program",
+                    number,
+                    entry: None,
+                    condition: None,
+                    steps: Some(steps),
+                };
+                let value = decision_value(alloc, target, word, told, None, caller)?;
+                push_item(&mut text, alloc, &value)?;
+                continue;
             }
-            LineFormat::Path => format!(in alloc; "{action}: another architecture\n")?,
+            (LineFormat::Word, _) => format!(in alloc; "{caller}{word:08x} {steps}\n")?,
+            (LineFormat::Path, Some(number)) => {
+                let call = call_text(alloc, target, number)?;
+                format!(in alloc; "{caller}{action}: {call}\n")?
+            }
+            (LineFormat::Path, None) => {
+                format!(in alloc; "{caller}{action}: another architecture\n")?
+            }
         };
         text.extend_from_slice(line.as_bytes())?;
     }

@@ -12,7 +12,9 @@ ghost use Rattle.seccomptool.specs.Compile.{ArePrograms, IsCompiledAs};
 
 use crate::chosen::{is_asked, some_text};
 use crate::compile::NamedProgram;
+use crate::compile::text::program_value;
 use crate::error::ToolError;
+use crate::json::push_item;
 use crate::show::instruction::words;
 use seccomp_command_line::readable::{TextKind, push_readable};
 use seccomp_tree::{FilterError, Layout, to_bpf_in};
@@ -56,7 +58,7 @@ fn compiled(
     Ok(programs)
 }
 
-/// The text of the programs of a policy's filters.
+/// The text of the programs of a policy's filters; as JSON the items of their list.
 ///
 /// Each filter has a line `filter LENGTH NAME` and a line for each instruction. In NAME each byte of the
 /// control characters (U+0080 to U+009F too) and of the backslash is written as `\x` and two lower-case
@@ -71,31 +73,42 @@ fn compiled(
 /// `NoFilter` with the name that is asked for, if no filter has it; `OutOfMemory` if memory runs out.
 pub(crate) fn programs_text(
     alloc: Global,
+    json: bool,
     asked: Option<&str>,
     programs: &[NamedProgram],
 ) -> Result<Vec<u8>, ToolError> {
     let mut text = Vec::new(alloc);
-    for made in programs {
-        if is_asked(asked, made.name.as_str()) {
-            let count = made.program.len();
-            text.extend_from_slice(format!(in alloc; "filter {count} ")?.as_bytes())?;
-            push_readable(&mut text, made.name.as_str(), TextKind::Name)?;
-            text.push(b'\n')?;
-            text.extend_from_slice(&program_text(alloc, None, &made.program)?)?;
+    for NamedProgram { name, program } in programs {
+        let name = name.as_str();
+        if is_asked(asked, name) {
+            if !json {
+                let count = program.len();
+                text.extend_from_slice(format!(in alloc; "filter {count} ")?.as_bytes())?;
+                push_readable(&mut text, name, TextKind::Name)?;
+                text.push(b'\n')?;
+            }
+            text.extend_from_slice(&program_text(alloc, json, name, None, program)?)?;
         }
     }
     some_text(alloc, asked, text)
 }
 
 /// The text of a program by itself. Its calls have their names on the architecture that it tests for, and on this one if it
-/// tests for none.
+/// tests for none. As JSON an item, with this name.
 pub(crate) fn program_text(
     alloc: Global,
+    json: bool,
+    name: &str,
     arch: Option<TargetArch>,
     program: BpfProgramRef<'_>,
 ) -> Result<Vec<u8>, AllocError> {
     let mut text = Vec::new(alloc);
     let notes = notes::notes(alloc, arch, program)?;
+    if json {
+        let value = program_value(alloc, name, program, Some(notes.as_slice()))?;
+        push_item(&mut text, alloc, &value)?;
+        return Ok(text);
+    }
     for (place, instruction) in program.iter().enumerate() {
         let words = words(alloc, place, instruction)?;
         let note = match notes.get(place) {

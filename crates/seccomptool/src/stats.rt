@@ -12,6 +12,7 @@ ghost use Rattle.seccomptool.specs.Stats.{AreStats, IsMeasureIn, IsMeasureOf, Is
 
 use crate::chosen::{is_asked, some_text};
 use crate::error::ToolError;
+use crate::json::{push_item, text_or_null};
 use crate::profile::compiled_of;
 use crate::stats::ways::most_steps;
 use seccomp_command_line::readable::{TextKind, push_readable};
@@ -19,6 +20,7 @@ use seccomp_compare::machine::run;
 use seccomp_oci::Container;
 use seccomp_tree::{FilterError, Layout, to_bpf_in};
 use seccompiler::{BpfProgramRef, JsonCompiler, SeccompFilter, SyscallTable, TargetArch};
+use serde_json::json;
 use std::alloc::{AllocError, Global};
 use std::collections::BTreeMap;
 
@@ -156,7 +158,7 @@ fn passing_record(target: TargetArch) -> [u8; 64]
     record
 }
 
-/// The lines of filters' numbers, three for each filter:
+/// The lines of filters' numbers, three for each filter; as JSON an item for each program:
 ///
 /// ```text
 /// filter NAME
@@ -176,26 +178,32 @@ fn passing_record(target: TargetArch) -> [u8; 64]
 /// `NoFilter` with the name that is asked for, if no filter has it; `OutOfMemory` if memory runs out.
 pub(crate) fn filters_text(
     alloc: Global,
+    json: bool,
     asked: Option<&str>,
     all: &[FilterStats],
 ) -> Result<Vec<u8>, ToolError> {
     let mut text = Vec::new(alloc);
-    for filter in all {
-        if is_asked(asked, filter.name.as_str()) {
-            text.extend_from_slice(b"filter ")?;
-            push_readable(&mut text, filter.name.as_str(), TextKind::Name)?;
-            text.push(b'\n')?;
-            text.extend_from_slice(&measure_text(alloc, "linear", filter.linear)?)?;
-            text.extend_from_slice(&measure_text(alloc, "tree", filter.tree)?)?;
+    for FilterStats { name, linear, tree } in all {
+        let name = name.as_str();
+        if is_asked(asked, name) {
+            if !json {
+                text.extend_from_slice(b"filter ")?;
+                push_readable(&mut text, name, TextKind::Name)?;
+                text.push(b'\n')?;
+            }
+            text.extend_from_slice(&measure_text(alloc, json, name, Some("linear"), *linear)?)?;
+            text.extend_from_slice(&measure_text(alloc, json, name, Some("tree"), *tree)?)?;
         }
     }
     some_text(alloc, asked, text)
 }
 
-/// The line of the numbers of one program, after a name.
+/// The line of the numbers of one program, after its layout, or after its name if it has none; as JSON an item.
 pub(crate) fn measure_text(
     alloc: Global,
-    front: &str,
+    json: bool,
+    name: &str,
+    layout: Option<&str>,
     measure: Measure,
 ) -> Result<Vec<u8>, AllocError> {
     let Measure {
@@ -203,6 +211,16 @@ pub(crate) fn measure_text(
         most,
         passing,
     } = measure;
+    if json {
+        let mut text = Vec::new(alloc);
+        let layout = text_or_null(alloc, layout)?;
+        let value = json!(in alloc;
+            { "name": name, "layout": layout, "length": length, "most": most, "passing": passing }
+        )?;
+        push_item(&mut text, alloc, &value)?;
+        return Ok(text);
+    }
+    let front = layout.unwrap_or(name);
     let line = format!(in alloc;
         "{front}: {length} instructions, at most {most} steps, {passing} passing\n"
     )?;

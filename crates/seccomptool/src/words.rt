@@ -143,13 +143,15 @@ pub enum Calls<'a> {
     Log,
 }
 
-/// The paths of what a command reads; `-` is standard input.
+/// The paths of what a command reads, `-` of standard input, and how it writes what it makes of that.
 #[derive(Clone, Copy)]
 pub struct Inputs<'a> {
     /// A policy, a profile, a program or a trace; of two that are compared the old one.
     pub first: Option<&'a str>,
     /// Records or a log; of two that are compared the new one; the policy that a trace's calls are added to.
     pub second: Option<&'a str>,
+    /// Whether that is written as JSON; `check`, `compile` and `explain` have formats for it.
+    pub json: bool,
 }
 
 /// What the arguments ask for.

@@ -2,7 +2,7 @@
 
 use crate::check::diagnostic::{Diagnostic, push_path};
 use crate::check::outline::{Outline, Position};
-use crate::json::{push_json, text_or_null};
+use crate::json::{push_item, text_or_null};
 use seccomp_command_line::readable::{TextKind, push_readable};
 use seccomp_warnings::Code;
 use serde_json::{Value, json};
@@ -19,10 +19,11 @@ pub enum CheckFormat {
     Json,
 }
 
-/// A line for each diagnostic of what stands at a path, with this text: `FILE:LINE:COLUMN: SEVERITY: PATH: MESSAGE [CODE]`,
-/// without what it doesn't have. Standard input is `-`.
-pub(crate) fn gcc_lines(
+/// What is said of what stands at a path, with this text: as JSON an object for each diagnostic, in a line, with a comma behind it;
+/// else gcc's lines.
+pub(crate) fn lines_of(
     alloc: Global,
+    json: bool,
     file: &str,
     text: &[u8],
     diagnostics: &[Diagnostic],
@@ -33,26 +34,44 @@ pub(crate) fn gcc_lines(
     }
     let outline = Outline::of(alloc, text)?;
     for diagnostic in diagnostics {
-        push_readable(&mut lines, file, TextKind::Name)?;
-        if let Some(position) = diagnostic.position(alloc, &outline)? {
-            let Position { line, column } = position;
-            let place = format!(in alloc; ":{line}:{column}")?;
-            lines.extend_from_slice(place.as_bytes())?;
+        let position = diagnostic.position(alloc, &outline)?;
+        if json {
+            push_item(
+                &mut lines,
+                alloc,
+                &value_of(alloc, file, position, diagnostic)?,
+            )?;
+        } else {
+            push_line(&mut lines, alloc, file, position, diagnostic)?;
         }
-        let severity = diagnostic.severity();
-        lines.extend_from_slice(format!(in alloc; ": {severity}: ")?.as_bytes())?;
-        push_subject(&mut lines, alloc, diagnostic)?;
-        if !diagnostic.path.is_empty() {
-            lines.extend_from_slice(b": ")?;
-        }
-        push_readable(&mut lines, diagnostic.message.as_str(), TextKind::Line)?;
-        if let Some(code) = diagnostic.code {
-            let code = code.name();
-            lines.extend_from_slice(format!(in alloc; " [{code}]")?.as_bytes())?;
-        }
-        lines.extend_from_slice(b"\n")?;
     }
     Ok(lines)
+}
+
+// Adds the line `FILE:LINE:COLUMN: SEVERITY: PATH: MESSAGE [CODE]`, without what a diagnostic doesn't have. Standard input is `-`.
+fn push_line(
+    lines: &mut Vec<u8>,
+    alloc: Global,
+    file: &str,
+    position: Option<Position>,
+    diagnostic: &Diagnostic,
+) -> Result<(), AllocError> {
+    push_readable(lines, file, TextKind::Name)?;
+    if let Some(Position { line, column }) = position {
+        lines.extend_from_slice(format!(in alloc; ":{line}:{column}")?.as_bytes())?;
+    }
+    let severity = diagnostic.severity();
+    lines.extend_from_slice(format!(in alloc; ": {severity}: ")?.as_bytes())?;
+    push_subject(lines, alloc, diagnostic)?;
+    if !diagnostic.path.is_empty() {
+        lines.extend_from_slice(b": ")?;
+    }
+    push_readable(lines, diagnostic.message.as_str(), TextKind::Line)?;
+    if let Some(code) = diagnostic.code {
+        let code = code.name();
+        lines.extend_from_slice(format!(in alloc; " [{code}]")?.as_bytes())?;
+    }
+    lines.extend_from_slice(b"\n")
 }
 
 /// Adds what a diagnostic is about: its path, and the call behind it. An unknown key of a profile stands in quotes.
@@ -76,34 +95,13 @@ pub(crate) fn push_subject(
     Ok(())
 }
 
-/// An object for each diagnostic of what stands at a path, with this text, each in a line, and with a comma behind it.
-pub(crate) fn json_lines(
-    alloc: Global,
-    file: &str,
-    text: &[u8],
-    diagnostics: &[Diagnostic],
-) -> Result<Vec<u8>, AllocError> {
-    let mut lines = Vec::new(alloc);
-    if diagnostics.is_empty() {
-        return Ok(lines);
-    }
-    let outline = Outline::of(alloc, text)?;
-    for diagnostic in diagnostics {
-        let value = value_of(alloc, file, &outline, diagnostic)?;
-        push_json(&mut lines, alloc, &value)?;
-        lines.extend_from_slice(b",\n")?;
-    }
-    Ok(lines)
-}
-
 // A diagnostic as JSON.
 fn value_of(
     alloc: Global,
     file: &str,
-    outline: &Outline<'_>,
+    position: Option<Position>,
     diagnostic: &Diagnostic,
 ) -> Result<Value, AllocError> {
-    let position = diagnostic.position(alloc, outline)?;
     let mut path = Vec::new(alloc);
     push_path(&mut path, alloc, &diagnostic.path, false)?;
     let path = String::from_utf8_lossy(alloc, &path)?;

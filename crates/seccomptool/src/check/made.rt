@@ -6,7 +6,7 @@ ghost use Rattle.seccomptool.specs.declared.findings.Verdict.TheVariants.{Differ
 
 use crate::check::diagnostic::Diagnostic;
 use crate::check::fault::fault_diagnostic;
-use crate::check::format::{CheckFormat, gcc_lines, json_lines};
+use crate::check::format::{CheckFormat, lines_of};
 use crate::check::policy::{policy_diagnostics, policy_lines};
 use crate::check::profile::lines::{profile_diagnostics, profile_lines};
 use crate::check::profile::profile_checked;
@@ -138,7 +138,7 @@ fn written(
 ) -> Result<Vec<u8>, AllocError> {
     match format {
         CheckFormat::Text => profile_lines(alloc, &front_of(alloc, path)?, diagnostics),
-        CheckFormat::Gcc => gcc_lines(alloc, path, given, diagnostics),
-        CheckFormat::Json => json_lines(alloc, path, given, diagnostics),
+        CheckFormat::Gcc => lines_of(alloc, false, path, given, diagnostics),
+        CheckFormat::Json => lines_of(alloc, true, path, given, diagnostics),
     }
 }

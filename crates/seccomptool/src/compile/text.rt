@@ -4,8 +4,10 @@ ghost use Rattle.std.specs.Prelude.{◌≡◌, ◌++◌, IfOk, OnOk};
 ghost use Rattle.seccomptool.specs.Compile.{instruction_bytes, program_bytes};
 
 use crate::compile::NamedProgram;
+use crate::json::{push_json, text_or_null};
 use seccomp_command_line::listing::push_listing;
 use seccompiler::{BpfProgramRef, sock_filter};
+use serde_json::{Value, json};
 use std::alloc::{AllocError, Global};
 
 /// How `compile` writes a program.
@@ -20,6 +22,8 @@ pub enum ProgramFormat {
     /// `{ CODE, JT, JF, K },`. A file of such lines is included between the braces of an array's
     /// initializer.
     C,
+    /// As JSON: an object with its name, its length and its instructions.
+    Json,
 }
 
 /// A filter's program in this form.
@@ -49,7 +53,37 @@ pub(crate) fn program_text(
             }
             Ok(text)
         }
+        ProgramFormat::Json => {
+            let mut text = Vec::new(alloc);
+            let value = program_value(alloc, made.name.as_str(), &made.program, None)?;
+            push_json(&mut text, alloc, &value)?;
+            text.push(b'\n')?;
+            Ok(text)
+        }
     }
+}
+
+// A program as JSON, with notes on its instructions if they are given.
+pub(crate) fn program_value(
+    alloc: Global,
+    name: &str,
+    program: BpfProgramRef<'_>,
+    notes: Option<&[String]>,
+) -> Result<Value, AllocError> {
+    let mut instructions = Vec::new(alloc);
+    for (place, instruction) in program.iter().enumerate() {
+        let sock_filter { code, jt, jf, k } = *instruction;
+        let value = match notes {
+            None => json!(in alloc; { "code": code, "jt": jt, "jf": jf, "k": k })?,
+            Some(notes) => {
+                let note = notes.get(place).map(|note| note.as_str());
+                let note = text_or_null(alloc, note.filter(|note| !note.is_empty()))?;
+                json!(in alloc; { "code": code, "jt": jt, "jf": jf, "k": k, "note": note })?
+            }
+        };
+        instructions.push(value)?;
+    }
+    json!(in alloc; { "name": name, "length": program.len(), "instructions": instructions })
 }
 
 // The bytes of a program.

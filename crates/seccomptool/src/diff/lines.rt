@@ -72,7 +72,7 @@ pub(crate) fn pair_lines(
     Ok(text)
 }
 
-fn is_program(side: Side<'_>) -> bool {
+pub(super) fn is_program(side: Side<'_>) -> bool {
     matches!(side.kind, Subject::Program)
 }
 

@@ -1,9 +1,12 @@
 // What is printed of what is decided on records.
 
+use crate::explain::log::{Caller, caller_at};
 use crate::explain::search::{Miss, Reason};
+use crate::explain::values::explained_value;
 use crate::explain::{Explained, Explanation, NamedFilter, Why};
 use crate::findings::lines::{CallName, Word};
 use crate::findings::parts::name_of;
+use crate::json::push_item;
 use seccomp_command_line::readable::{TextKind, readable};
 use seccompiler::TargetArch;
 use std::alloc::{AllocError, Global};
@@ -16,6 +19,8 @@ pub enum LineFormat {
     Path,
     /// For scripts: the return value in 8 hexadecimal digits, and the reason in numbers.
     Word,
+    /// As JSON: an item for each decision.
+    Json,
 }
 
 /// The lines of records, one for each.
@@ -28,11 +33,19 @@ pub(crate) fn explained_lines(
     target: TargetArch,
     format: LineFormat,
     explanation: &Explanation,
+    callers: &[Caller<'_>],
 ) -> Result<Vec<u8>, AllocError> {
     let mut text = Vec::new(alloc);
-    for explained in &explanation.records {
+    let filter = &explanation.filter;
+    for (index, explained) in explanation.records.iter().enumerate() {
         let Explained { action, why } = *explained;
-        let reason = match (why, format, &explanation.filter) {
+        let caller = caller_at(callers, index);
+        if let LineFormat::Json = format {
+            let value = explained_value(alloc, target, filter, *explained, caller)?;
+            push_item(&mut text, alloc, &value)?;
+            continue;
+        }
+        let reason = match (why, format, filter) {
             (Why::Filter(reason), LineFormat::Path, Some(filter)) => {
                 path_of(alloc, target, filter, reason)?
             }
@@ -44,8 +57,8 @@ pub(crate) fn explained_lines(
         };
         let action = Word(action.into());
         let line = match format {
-            LineFormat::Path => format!(in alloc; "{action}: {reason}\n")?,
-            LineFormat::Word => format!(in alloc; "{:08x} {reason}\n", action.0)?,
+            LineFormat::Word => format!(in alloc; "{caller}{:08x} {reason}\n", action.0)?,
+            _ => format!(in alloc; "{caller}{action}: {reason}\n")?,
         };
         text.extend_from_slice(line.as_bytes())?;
     }
@@ -63,10 +76,10 @@ fn profile_reason(
     let call = call_text(alloc, target, number)?;
     let name = CallName { target, number };
     match (format, entry) {
-        (LineFormat::Path, None) => format!(in alloc; "defaultAction of {call}"),
-        (LineFormat::Path, Some(place)) => format!(in alloc; "syscalls[{place}] of {call}"),
         (LineFormat::Word, None) => String::from_str(alloc, "defaultAction"),
         (LineFormat::Word, Some(place)) => format!(in alloc; "syscalls[{place}] ({name})"),
+        (_, None) => format!(in alloc; "defaultAction of {call}"),
+        (_, Some(place)) => format!(in alloc; "syscalls[{place}] of {call}"),
     }
 }
 

@@ -3,14 +3,44 @@
 use seccomp_learn::{Line, Told, line_of, told_number};
 use seccompiler::TargetArch;
 use std::alloc::{AllocError, Global};
+use std::fmt;
+
+/// Who made a call: no bytes of what its line doesn't say.
+#[derive(Clone, Copy)]
+pub(crate) struct Caller<'a> {
+    /// The program's name.
+    pub program: &'a str,
+    /// The number of the process.
+    pub process: &'a str,
+}
+
+/// With what stands between that and the decision.
+impl fmt::Display for Caller<'_> {
+    fn fmt<W: fmt::Write>(&self, f: &mut fmt::Formatter<W>) -> fmt::Result {
+        let Caller { program, process } = *self;
+        match (program, process) {
+            ("", _) => Ok(()),
+            (_, "") => write!(f, "{program}: "),
+            _ => write!(f, "{program}[{process}]: "),
+        }
+    }
+}
+
+// Who made the call of a record, if that is known.
+pub(crate) fn caller_at<'a>(callers: &[Caller<'a>], index: usize) -> Caller<'a> {
+    callers.get(index).copied().unwrap_or(Caller {
+        program: "",
+        process: "",
+    })
+}
 
 /// The calls that lines are about.
 #[derive(Drop)]
-pub(super) struct Log {
+pub(super) struct Log<'a> {
     /// The records of the calls, one after the other.
     pub records: Vec<u8>,
-    /// Who made each, with what stands between that and the decision: no bytes if its line doesn't say it.
-    pub heads: Vec<String>,
+    /// Who made each.
+    pub callers: Vec<Caller<'a>>,
     /// How many lines aren't understood.
     pub strange: usize,
     /// The number of the first of these, from 1.
@@ -18,16 +48,20 @@ pub(super) struct Log {
 }
 
 // The calls that these lines are about; a call whose name no call of the architecture has is not understood.
-pub(super) fn log_of(alloc: Global, arch: TargetArch, text: &[u8]) -> Result<Log, AllocError> {
+pub(super) fn log_of<'a>(
+    alloc: Global,
+    arch: TargetArch,
+    text: &'a [u8],
+) -> Result<Log<'a>, AllocError> {
     let mut log = Log {
         records: Vec::new(alloc),
-        heads: Vec::new(alloc),
+        callers: Vec::new(alloc),
         strange: 0,
         first_strange: None,
     };
     for (index, line) in text.split(|byte| *byte == b'\n').enumerate() {
         let understood = match line_of(arch, line) {
-            Line::Call(told) => push_call(alloc, arch, &mut log, &told)?,
+            Line::Call(told) => push_call(arch, &mut log, &told)?,
             Line::Passed => true,
             Line::Strange => false,
         };
@@ -40,20 +74,13 @@ pub(super) fn log_of(alloc: Global, arch: TargetArch, text: &[u8]) -> Result<Log
 }
 
 // Adds a call, if its number is known. Answers whether it is.
-fn push_call(
-    alloc: Global,
-    arch: TargetArch,
-    log: &mut Log,
-    told: &Told<'_>,
-) -> Result<bool, AllocError> {
+fn push_call<'a>(arch: TargetArch, log: &mut Log<'a>, told: &Told<'a>) -> Result<bool, AllocError> {
     let Some(number) = told_number(arch, told.call) else {
         return Ok(false);
     };
-    let (program, process) = (told.program, told.process);
-    log.heads.push(match (program, process) {
-        ("", _) => String::new(alloc),
-        (_, "") => format!(in alloc; "{program}: ")?,
-        _ => format!(in alloc; "{program}[{process}]: ")?,
+    log.callers.push(Caller {
+        program: told.program,
+        process: told.process,
     })?;
     log.records.extend_from_slice(&number.to_le_bytes())?;
     log.records
@@ -64,15 +91,4 @@ fn push_call(
             .extend_from_slice(&argument.unwrap_or(0).to_le_bytes())?;
     }
     Ok(true)
-}
-
-// The lines of a text, each after its head.
-pub(super) fn headed(alloc: Global, heads: &[String], text: &[u8]) -> Result<Vec<u8>, AllocError> {
-    let mut all = Vec::new(alloc);
-    for (head, line) in heads.iter().zip(text.split(|byte| *byte == b'\n')) {
-        all.extend_from_slice(head.as_bytes())?;
-        all.extend_from_slice(line)?;
-        all.push(b'\n')?;
-    }
-    Ok(all)
 }

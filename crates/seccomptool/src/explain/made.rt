@@ -6,11 +6,12 @@ ghost use Rattle.seccomptool.specs.Commands.{IsExplained, IsExplainedAs, OnRecor
 ghost use Rattle.seccomptool.specs.declared.findings.Verdict.TheVariants.{Same};
 
 use super::lines::{LineFormat, explained_lines};
-use super::log::{headed, log_of};
+use super::log::{Caller, log_of};
 use super::{explain_policy, explain_profile};
 use crate::chosen::refuse_name;
 use crate::error::{FaultAt, ToolError};
 use crate::findings::Verdict;
+use crate::json::written;
 use crate::kind::{Reading, Subject, subject_of};
 use crate::learn::notes::strange_note;
 use crate::made::Made;
@@ -37,16 +38,20 @@ pub(crate) fn explain_made(
     match calls {
         Calls::One(call) => {
             let record = called_record(alloc, arch, call.name, &call.arguments)?;
-            explain_records(alloc, arch, reading, filter, format, given, &record)
+            explain_records(alloc, arch, reading, filter, format, given, &record, &[])
         }
-        Calls::Records => explain_records(alloc, arch, reading, filter, format, given, bytes),
+        Calls::Records => {
+            explain_records(alloc, arch, reading, filter, format, given, bytes, &[])
+        }
         // Each line comes after who made the call.
         Calls::Log => {
             let log = log_of(alloc, arch, bytes)?;
-            let made = explain_records(alloc, arch, reading, filter, format, given, &log.records)?;
+            let (records, callers) = (log.records.as_slice(), log.callers.as_slice());
+            let made = explain_records(
+                alloc, arch, reading, filter, format, given, records, callers,
+            )?;
             let notes = strange_note(alloc, path, log.strange, log.first_strange)?;
-            let text = headed(alloc, &log.heads, &made.text)?;
-            Ok(Made::noting(text, made.verdict, notes))
+            Ok(Made::noting(made.text, made.verdict, notes))
         }
     }
 }
@@ -59,12 +64,16 @@ fn explain_records(
     format: LineFormat,
     given: &[u8],
     records: &[u8],
+    callers: &[Caller<'_>],
 ) -> Result<Made, FaultAt>
     ensures { IfOk result (λ made. IsExplained arch reading.now (text_of filter.entry) given.now (records_in records.now) × (made.verdict ≡ Same)) }
 {
     let subject = subject_of(alloc, reading, given)?;
     let (records, rest) = records.as_chunks::<64>();
-    let text = explained_text(alloc, arch, subject, filter, format, given, records)?;
+    let text = explained_text(
+        alloc, arch, subject, filter, format, given, records, callers,
+    )?;
+    let text = written(alloc, matches!(format, LineFormat::Json), "decisions", text)?;
     Ok(Made {
         text,
         rest: rest.len(),
@@ -82,24 +91,25 @@ fn explained_text(
     format: LineFormat,
     given: &[u8],
     records: &[[u8; 64]],
+    callers: &[Caller<'_>],
 ) -> Result<Vec<u8>, ToolError>
     ensures { IfOk result (λ text. IsExplainedAs arch subject.entry (text_of filter.entry) given.now records.now) }
 {
     match subject {
         Subject::Policy => {
             let explanation = explain_policy(alloc, arch, filter, given, records)?;
-            Ok(explained_lines(alloc, arch, format, &explanation)?)
+            Ok(explained_lines(alloc, arch, format, &explanation, callers)?)
         }
         Subject::Profile(container) => {
             refuse_name(alloc, filter)?;
             let explanation = explain_profile(alloc, arch, container, given, records)?;
-            Ok(explained_lines(alloc, arch, format, &explanation)?)
+            Ok(explained_lines(alloc, arch, format, &explanation, callers)?)
         }
         Subject::Program => {
             refuse_name(alloc, filter)?;
             let program = program_of(alloc, given)?;
             let outcomes = returned(alloc, &program, records)?;
-            Ok(outcomes_text(alloc, arch, format, records, &outcomes)?)
+            Ok(outcomes_text(alloc, arch, format, records, &outcomes, callers)?)
         }
     }
 }

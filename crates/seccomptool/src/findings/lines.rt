@@ -91,7 +91,7 @@ fn push(text: &mut Vec<u8>, more: String) -> Result<(), AllocError> {
 }
 
 // Whether the new value permits more than the old one.
-fn kind_of(old: u32, new: u32) -> &'static str {
+pub(super) fn kind_of(old: u32, new: u32) -> &'static str {
     let (old, new) = (rank(old), rank(new));
     if old < new {
         "more"
@@ -106,24 +106,35 @@ fn kind_of(old: u32, new: u32) -> &'static str {
 #[derive(Clone, Copy)]
 pub(crate) struct Word(pub u32);
 
+impl Word {
+    /// The action's name in a policy, if the value stands for one, and its number, if it has one.
+    pub(super) fn action(self) -> (Option<&'static str>, Option<u32>) {
+        let data = Some(self.0 & DATA);
+        match self.0 {
+            ALLOW => (Some("allow"), None),
+            LOG => (Some("log"), None),
+            USER_NOTIF => (Some("user_notif"), None),
+            TRAP => (Some("trap"), None),
+            KILL_THREAD => (Some("kill_thread"), None),
+            KILL_PROCESS => (Some("kill_process"), None),
+            word => match word & ACTION {
+                ERRNO => (Some("errno"), data),
+                TRACE => (Some("trace"), data),
+                _ => (None, None),
+            },
+        }
+    }
+}
+
 impl fmt::Display for Word {
     fn fmt<W: fmt::Write>(&self, f: &mut fmt::Formatter<W>) -> fmt::Result {
         let word = self.0;
-        let data = word & DATA;
-        match word {
-            ALLOW => f.write_str("allow"),
-            LOG => f.write_str("log"),
-            USER_NOTIF => f.write_str("user_notif"),
-            TRAP => f.write_str("trap"),
-            KILL_THREAD => f.write_str("kill_thread"),
-            KILL_PROCESS => f.write_str("kill_process"),
-            _ => match word & ACTION {
-                ERRNO => match error_name(data) {
-                    Some(name) => write!(f, "errno {data} ({name})"),
-                    None => write!(f, "errno {data}"),
-                },
-                TRACE => write!(f, "trace {data}"),
-                _ => write!(f, "0x{word:x}"),
+        match self.action() {
+            (None, _) => write!(f, "0x{word:x}"),
+            (Some(name), None) => f.write_str(name),
+            (Some(name), Some(data)) => match error_name(data) {
+                Some(error) if name == "errno" => write!(f, "{name} {data} ({error})"),
+                _ => write!(f, "{name} {data}"),
             },
         }
     }
@@ -213,7 +224,7 @@ impl fmt::Display for Example {
 }
 
 // The 64-bit number of bytes `k` to `k + 7`.
-fn number_at(call: &[u8; 64], k: usize) -> u64
+pub(super) fn number_at(call: &[u8; 64], k: usize) -> u64
     requires { k ≤ 56 }
 {
     u64::from_le_bytes([

@@ -51,6 +51,7 @@ pub(super) fn learn_in<'a>(alloc: Global, found: &ArgMatches<'a>) -> Result<Aske
     let inputs = Inputs {
         first: traces.first().copied(),
         second: found.get_str("into"),
+        json: found.get_flag("json"),
     };
     Ok(Asked {
         command: Command::Learn {

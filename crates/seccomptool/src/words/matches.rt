@@ -3,9 +3,11 @@
 use super::container::reading_in;
 use super::learning::learn_in;
 use super::values::{
-    arch_in, arguments_in, calls_in, check_format_in, given_arch, layout_in, output_in, path_in,
+    TWO_FORMATS, arch_in, arguments_in, calls_in, check_format_in, given_arch, layout_in,
+    output_in, path_in,
 };
 use super::{Asked, Call, Command, Inputs, Misuse, Names};
+use crate::check::format::CheckFormat;
 use crate::compile::text::ProgramFormat;
 use crate::diff::Scope;
 use crate::explain::lines::LineFormat;
@@ -41,18 +43,26 @@ fn on<'a>(
     command: Command<'a>,
     first: Option<&'a str>,
     second: Option<&'a str>,
+    json: bool,
     output: Option<&'a str>,
 ) -> Read<'a> {
+    let inputs = Inputs {
+        first,
+        second,
+        json,
+    };
     Ok(Asked {
         command,
-        inputs: vec![in alloc; Inputs { first, second }]?,
+        inputs: vec![in alloc; inputs]?,
         output,
     })
 }
 
 fn check_in<'a>(alloc: Global, found: &ArgMatches<'a>) -> Read<'a> {
+    let format = check_format_in(found)?;
     if found.get_flag("list") {
-        return on(alloc, Command::Codes, None, None, None);
+        let json = matches!(format, CheckFormat::Json);
+        return on(alloc, Command::Codes, None, None, json, None);
     }
     let mut inputs = Vec::new(alloc);
     for path in found.get_strs("subject").unwrap_or(&[]) {
@@ -60,6 +70,7 @@ fn check_in<'a>(alloc: Global, found: &ArgMatches<'a>) -> Read<'a> {
         inputs.push(Inputs {
             first,
             second: None,
+            json: false,
         })?;
     }
     let mut allowed = Vec::new(alloc);
@@ -73,7 +84,7 @@ fn check_in<'a>(alloc: Global, found: &ArgMatches<'a>) -> Read<'a> {
         reading: reading_in(alloc, found)?,
         denied: found.get_flag("deny-warnings"),
         allowed,
-        format: check_format_in(found)?,
+        format,
     };
     Ok(Asked {
         command,
@@ -83,21 +94,24 @@ fn check_in<'a>(alloc: Global, found: &ArgMatches<'a>) -> Read<'a> {
 }
 
 fn compile_in<'a>(alloc: Global, found: &ArgMatches<'a>) -> Read<'a> {
+    let json = found.get_flag("json");
     let command = Command::Compile {
         arch: arch_in(found),
         reading: reading_in(alloc, found)?,
         strict: found.get_flag("strict"),
         filter: found.get_str("filter"),
         layout: layout_in(found),
-        format: match found.get_str("format") {
-            Some("listing") => ProgramFormat::Listing,
-            Some("c") => ProgramFormat::C,
+        format: match (found.get_str("format"), json) {
+            (Some("listing" | "c"), true) => return Err(Misuse::Told(TWO_FORMATS)),
+            (_, true) => ProgramFormat::Json,
+            (Some("listing"), _) => ProgramFormat::Listing,
+            (Some("c"), _) => ProgramFormat::C,
             _ => ProgramFormat::Raw,
         },
         quiet: found.get_flag("quiet"),
     };
     let subject = Some(path_in(found, "subject"));
-    on(alloc, command, subject, None, output_in(found))
+    on(alloc, command, subject, None, json, output_in(found))
 }
 
 fn show_in<'a>(alloc: Global, found: &ArgMatches<'a>) -> Read<'a> {
@@ -108,23 +122,27 @@ fn show_in<'a>(alloc: Global, found: &ArgMatches<'a>) -> Read<'a> {
         layout: layout_in(found),
         measured: found.get_flag("stats"),
     };
-    on(alloc, command, Some(path_in(found, "subject")), None, None)
+    let subject = Some(path_in(found, "subject"));
+    on(alloc, command, subject, None, found.get_flag("json"), None)
 }
 
 fn explain_in<'a>(alloc: Global, found: &ArgMatches<'a>) -> Read<'a> {
     let subject = path_in(found, "subject");
     let (calls, second) = calls_in(found, subject)?;
+    let json = found.get_flag("json");
     let command = Command::Explain {
         arch: arch_in(found),
         reading: reading_in(alloc, found)?,
         filter: found.get_str("filter"),
-        format: match found.get_str("format") {
-            Some("word") => LineFormat::Word,
+        format: match (found.get_str("format"), json) {
+            (Some("word"), true) => return Err(Misuse::Told(TWO_FORMATS)),
+            (_, true) => LineFormat::Json,
+            (Some("word"), _) => LineFormat::Word,
             _ => LineFormat::Path,
         },
         calls,
     };
-    on(alloc, command, Some(subject), second, None)
+    on(alloc, command, Some(subject), second, json, None)
 }
 
 fn diff_in<'a>(alloc: Global, found: &ArgMatches<'a>) -> Read<'a> {
@@ -158,7 +176,8 @@ fn diff_in<'a>(alloc: Global, found: &ArgMatches<'a>) -> Read<'a> {
         },
         quiet: found.get_flag("quiet"),
     };
-    on(alloc, command, Some(old), Some(new), None)
+    let json = found.get_flag("json");
+    on(alloc, command, Some(old), Some(new), json, None)
 }
 
 // A path, and the name of a filter, where one stands behind the last colon: none where nothing does.
@@ -176,6 +195,10 @@ fn call_of<'a>(alloc: Global, found: &ArgMatches<'a>) -> Read<'a> {
     if output.is_some() && !recorded {
         return Err(Misuse::Told("--output needs --record"));
     }
+    let json = found.get_flag("json");
+    if json && recorded {
+        return Err(Misuse::Told("--json and --record can't both be given"));
+    }
     let call = Call {
         name: path_in(found, "call"),
         arguments: arguments_in(found)?,
@@ -185,5 +208,5 @@ fn call_of<'a>(alloc: Global, found: &ArgMatches<'a>) -> Read<'a> {
         call,
         recorded,
     };
-    on(alloc, command, None, None, output)
+    on(alloc, command, None, None, json, output)
 }

@@ -69,7 +69,9 @@ const PROGRAM_FORMAT: &str =
 const CHECK_FORMAT: &str =
     "How errors and warnings are written: for people, in lines as gcc's, or as JSON";
 
-const JSON: &str = "The same as --format json";
+const JSON: &str = "Write one JSON object, as docs/answers.schema.json has it";
+
+const AS_JSON: Row<'static> = ("json", Nothing, JSON);
 
 const LINE_FORMAT: &str =
     "How a line is written: with places in the policy, or in numbers for scripts";
@@ -163,13 +165,13 @@ static CHECK: [Row<'static>; 7] = [
     ("deny-warnings", Nothing, DENIED),
     ("allow", Several("CODE", CODES), ALLOWED),
     ("format", OneOf("FORMAT", CHECK_FORMATS, ""), CHECK_FORMAT),
-    ("json", Nothing, JSON),
+    AS_JSON,
     ("list", Nothing, LIST),
     VERBOSE,
     ("subject", Files("SUBJECT"), FILES),
 ];
 
-static COMPILE: [Row<'static>; 8] = [
+static COMPILE: [Row<'static>; 9] = [
     ("filter", Value("FILTER"), ONE_FILTER),
     IN_LAYOUT,
     (
@@ -177,6 +179,7 @@ static COMPILE: [Row<'static>; 8] = [
         OneOf("FORMAT", PROGRAM_FORMATS, "raw"),
         PROGRAM_FORMAT,
     ),
+    AS_JSON,
     ("output", Value("FILE"), OUTPUT),
     QUIET,
     VERBOSE,
@@ -184,16 +187,18 @@ static COMPILE: [Row<'static>; 8] = [
     ("subject", File("SUBJECT"), FILE),
 ];
 
-static SHOW: [Row<'static>; 4] = [
+static SHOW: [Row<'static>; 5] = [
     ("filter", Value("FILTER"), SHOWN_FILTER),
     IN_LAYOUT,
     ("stats", Nothing, STATS),
+    AS_JSON,
     ("subject", File("SUBJECT"), FILE),
 ];
 
-static EXPLAIN: [Row<'static>; 7] = [
+static EXPLAIN: [Row<'static>; 8] = [
     ("filter", Value("FILTER"), ONE_FILTER),
     ("format", OneOf("FORMAT", LINE_FORMATS, "path"), LINE_FORMAT),
+    AS_JSON,
     ("records", Value("FILE"), RECORDS),
     ("log", Value("FILE"), LOG),
     ("subject", Place("SUBJECT", true), FILE),
@@ -201,16 +206,17 @@ static EXPLAIN: [Row<'static>; 7] = [
     ("arguments", Places("ARG", 6), ARGUMENTS),
 ];
 
-static DIFF: [Row<'static>; 6] = [
+static DIFF: [Row<'static>; 7] = [
     ("only-more", Nothing, MORE),
     ("all", Nothing, OTHERS),
     ("most", OneOf("N", &[], "1000000"), MOST),
+    AS_JSON,
     QUIET,
     ("old", Place("OLD", true), OLD),
     ("new", Place("NEW", true), NEW),
 ];
 
-static LEARN: [Row<'static>; 11] = [
+static LEARN: [Row<'static>; 12] = [
     ("arch", OneOf("ARCH", ARCHITECTURES, "x86_64"), ARCH),
     ("name", Value("NAME"), NAME),
     ("otherwise", Value("ACTION"), OTHERWISE),
@@ -220,12 +226,14 @@ static LEARN: [Row<'static>; 11] = [
     ("values", OneOf("N", &[], "16"), VALUES),
     ("runnable", Nothing, RUNNABLE),
     ("strict", Nothing, UNDERSTOOD),
+    AS_JSON,
     ("output", Value("FILE"), LEARNED),
     ("trace", Files("TRACE"), TRACES),
 ];
 
-static CALL: [Row<'static>; 5] = [
+static CALL: [Row<'static>; 6] = [
     ("arch", OneOf("ARCH", ARCHITECTURES, ""), ARCH),
+    AS_JSON,
     ("record", Nothing, "Write the call's record, 64 bytes"),
     ("output", Value("FILE"), RECORD),
     ("call", Place("CALL", true), "The call's name or number"),

@@ -12,6 +12,8 @@ use seccompiler::TargetArch;
 const NO_ARGUMENT: &str =
     "an ARG isn't a number from -9223372036854775808 to 18446744073709551615, decimal or hexadecimal after 0x";
 
+pub(super) const TWO_FORMATS: &str = "--json and another --format can't both be given";
+
 const BOTH: &str =
     "SUBJECT and records can't both be read from standard input: give CALL, --records or --log";
 
@@ -55,7 +57,7 @@ pub(super) fn check_format_in(found: &ArgMatches<'_>) -> Result<CheckFormat, Mis
     match found.get_str("format") {
         Some("json") => Ok(CheckFormat::Json),
         None if json => Ok(CheckFormat::Json),
-        Some(_) if json => Err(Misuse::Told("--json and another --format can't both be given")),
+        Some(_) if json => Err(Misuse::Told(TWO_FORMATS)),
         Some("gcc") => Ok(CheckFormat::Gcc),
         _ => Ok(CheckFormat::Text),
     }

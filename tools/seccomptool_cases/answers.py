@@ -12,6 +12,7 @@ from .diff import LOGS, NO_LONGER_READS, OTHER_ERRNO, READS_5
 from .explain import LINES, NEAR_LINES, SHORT, TWO_LINES, TWO_RECORDS
 from .forms import FULL, INPUT, MISSING, OUTPUT, TOOL, Case, as_list, as_object, rejects, writes
 from .hostile import HOSTILE, named, told
+from .learn import entry as entry_of
 from .learn import FIRST_STRANGE, MANY, MORE, OF_MANY, OF_NAMED, OF_RAW, OF_RAW_AS_PROFILE, filtered, learned
 from .logs import DENIED, ON_DENIED
 from .program_diffs import READS, WRITES, others
@@ -127,7 +128,7 @@ def learns(words, given, text, kept, *notes, key="policy"):
     """Returns the case of `learn` that writes a policy's or a profile's text, with what is kept, and notes this."""
     notes = [TOOL + it for it in notes]
     other = {"policy": "profile", "profile": "policy"}[key]
-    kept = [{"call": call, "number": NUMBERS[call], "index": index, "type": "dword"} for call, index in kept]
+    kept = [{"call": call, "number": NUMBERS[call], "index": index, "type": size[0] if size else "dword"} for call, index, *size in kept]
     output = as_object({"kept": kept, "notes": notes})[:-1] + f',"{other}":null,"{key}":{text[:-1]}}}\n'
     return Case(f"learn --json {words}", 0, output, "".join(f"{it}\n" for it in notes), given)
 
@@ -212,6 +213,7 @@ OF_LESSONS = [
     learns("named.trace", "", OF_NAMED, [("fcntl", 1), ("socket", 0), ("socket", 1), ("socket", 2)]),
     learns("--profile raw.trace", "", OF_RAW_AS_PROFILE, KEPT, key="profile"),
     learns("many.trace", "", OF_MANY, [("fcntl", 1)], "many.trace: " + MORE.format("ioctl", 16)),
+    learns("--args close:0 short.trace", "", learned(*(entry_of("close", (0, "qword", it)) for it in (1, 2)), "getpid"), [("close", 0, "qword")]),
     learns("strange.trace", "", learned("getpid", "getuid"), [], "strange.trace: " + FIRST_STRANGE),
     learns("short.trace -o learned.json && cat learned.json; rm learned.json", "", learned("close", "getpid"), []),
 ]

@@ -2,7 +2,7 @@
 
 use crate::diff::lines::is_program;
 use crate::diff::{Diff, Found, verdict_found};
-use crate::findings::values::{parts_value, verdict_word};
+use crate::findings::values::{parts_value, verdict_name};
 use crate::findings::{Finding, Verdict, verdict_of};
 use crate::json::{list_text, push_item, text_or_null};
 use crate::kind::Subject;
@@ -85,7 +85,7 @@ fn value_of(
         "old": text_or_null(alloc, old)?,
         "new": text_or_null(alloc, new)?,
         "architecture": text_or_null(alloc, arch)?,
-        "verdict": verdict_word(verdict),
+        "verdict": verdict_name(verdict),
         "parts": parts
     })
 }

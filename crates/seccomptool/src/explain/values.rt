@@ -10,7 +10,7 @@ use seccompiler::TargetArch;
 use serde_json::{Value, json};
 use std::alloc::{AllocError, Global};
 
-/// Why a record is decided as it is, as far as that can be told.
+/// The parts of a reason.
 #[derive(Clone, Copy)]
 pub(crate) struct Told {
     /// The kind of the reason.

@@ -15,8 +15,8 @@ pub(crate) fn action_value(alloc: Global, word: u32) -> Result<Value, AllocError
     json!(in alloc; { "name": name, "number": number, "value": word })
 }
 
-/// A verdict in a word.
-pub(crate) fn verdict_word(verdict: Verdict) -> &'static str {
+/// The name of a verdict.
+pub(crate) fn verdict_name(verdict: Verdict) -> &'static str {
     match verdict {
         Verdict::Same => "same",
         Verdict::Different => "different",
@@ -73,7 +73,7 @@ fn part_value(alloc: Global, target: TargetArch, finding: Finding) -> Result<Val
         "number": number,
         "least": least,
         "greatest": greatest,
-        "verdict": verdict_word(verdict),
+        "verdict": verdict_name(verdict),
         "old": old,
         "new": new,
         "change": text_or_null(alloc, change)?,

@@ -69,7 +69,7 @@ const PROGRAM_FORMAT: &str =
 const CHECK_FORMAT: &str =
     "How errors and warnings are written: for people, in lines as gcc's, or as JSON";
 
-const JSON: &str = "Write one JSON object, as docs/answers.schema.json has it";
+const JSON: &str = "Write the answer as one JSON object";
 
 const AS_JSON: Row<'static> = ("json", Nothing, JSON);
 

@@ -31,15 +31,9 @@ pub(crate) fn diff_json(
                     Found::OnlyNew => (None, name, none),
                     Found::Both(findings) => (name, name, findings.as_slice()),
                 };
+                let verdict = verdict_found(&named.found);
                 let parts = parts_value(alloc, target, findings)?;
-                let value = value_of(
-                    alloc,
-                    Some(target),
-                    old,
-                    new,
-                    verdict_found(&named.found),
-                    parts,
-                )?;
+                let value = value_of(alloc, Some(target), old, new, verdict, parts)?;
                 push_item(&mut items, alloc, &value)?;
             }
         }
@@ -77,10 +71,7 @@ fn value_of(
     verdict: Verdict,
     parts: Value,
 ) -> Result<Value, AllocError> {
-    let arch = match arch {
-        Some(arch) => Some(arch.name()),
-        None => None,
-    };
+    let arch = arch.map(|arch| arch.name());
     json!(in alloc; {
         "old": text_or_null(alloc, old)?,
         "new": text_or_null(alloc, new)?,

@@ -34,26 +34,16 @@ pub(crate) fn decision_value(
     path: Option<&str>,
     caller: Caller<'_>,
 ) -> Result<Value, AllocError> {
-    let Told {
-        reason,
-        number,
-        entry,
-        condition,
-        steps,
-    } = told;
-    let call = match number {
-        Some(number) => name_of(target, number),
-        None => None,
-    };
+    let call = told.number.and_then(|number| name_of(target, number));
     json!(in alloc; {
         "action": action_value(alloc, word)?,
         "call": text_or_null(alloc, call)?,
-        "number": number,
-        "reason": reason,
+        "number": told.number,
+        "reason": told.reason,
         "path": text_or_null(alloc, path)?,
-        "entry": entry,
-        "condition": condition,
-        "steps": steps,
+        "entry": told.entry,
+        "condition": told.condition,
+        "steps": told.steps,
         "program": text_or_null(alloc, some(caller.program))?,
         "process": text_or_null(alloc, some(caller.process))?
     })
@@ -85,10 +75,7 @@ pub(super) fn explained_value(
         }
         (_, None, _) => None,
     };
-    let path = match &path {
-        Some(path) => Some(path.as_str()),
-        None => None,
-    };
+    let path = path.as_ref().map(|path| path.as_str());
     decision_value(alloc, target, explained.action.into(), told, path, caller)
 }
 

@@ -47,10 +47,7 @@ fn part_value(alloc: Global, target: TargetArch, finding: Finding) -> Result<Val
             (None, least, greatest)
         }
     };
-    let call = match number {
-        Some(number) => name_of(target, number),
-        None => None,
-    };
+    let call = number.and_then(|number| name_of(target, number));
     let (verdict, old, new, change, example) = match finding.answer {
         Answer::Fails { call, old, new } => (
             Verdict::Different,
@@ -59,14 +56,13 @@ fn part_value(alloc: Global, target: TargetArch, finding: Finding) -> Result<Val
             Some(kind_of(old, new)),
             record_value(alloc, &call)?,
         ),
-        Answer::Undecided => (
+        _ => (
             Verdict::Undecided,
             Value::Null,
             Value::Null,
             None,
             Value::Null,
         ),
-        Answer::Holds => (Verdict::Same, Value::Null, Value::Null, None, Value::Null),
     };
     json!(in alloc; {
         "call": text_or_null(alloc, call)?,

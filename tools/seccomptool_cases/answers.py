@@ -8,13 +8,13 @@ import re
 
 from .compile import LINEAR, TREE, TWO, instructions
 from .compiled_profiles import profile
-from .diff import LOGS, NO_LONGER_READS, OTHER_ERRNO, READS_5
+from .diff import NO_LONGER_READS, OTHER_ERRNO, READS_5
 from .explain import LINES, NEAR_LINES, SHORT, TWO_LINES, TWO_RECORDS
-from .forms import FULL, INPUT, MISSING, OUTPUT, TOOL, Case, as_list, as_object, rejects, writes
-from .hostile import HOSTILE, named, told
+from .forms import FULL, INPUT, LOGS, MISSING, OUTPUT, TOOL, Case, as_list, as_object, rejects, writes
+from .hostile import HOSTILE
 from .learn import entry as entry_of
-from .learn import FIRST_STRANGE, MANY, MORE, OF_MANY, OF_NAMED, OF_RAW, OF_RAW_AS_PROFILE, filtered, learned
-from .logs import DENIED, ON_DENIED
+from .learn import FIRST_STRANGE, MORE, OF_MANY, OF_NAMED, OF_RAW, OF_RAW_AS_PROFILE, filtered, learned
+from .logs import ON_DENIED
 from .program_diffs import READS, WRITES, others
 from .programs import EXPLAINED, JUMP, JUMP_AT_LEAST, JUMP_EQUAL, JUMP_GREATER, JUMP_IF_SET, LOAD, MASK, OF_READ, RETURN
 from .records import X86_64, numbers_on, record_of
@@ -32,8 +32,6 @@ VALUES = {
     "allow": 0x7FFF0000, "log": 0x7FFC0000, "trap": 0x00030000, "kill_thread": 0, "kill_process": 0x80000000, "errno": 0x00050000,
     "trace": 0x7FF00000
 }
-
-X32 = 0x40000000
 
 NUMBERS = numbers_on("x86_64")
 

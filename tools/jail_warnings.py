@@ -22,7 +22,7 @@ WHOLE = 2**64 - 1
 # What `call` prints of a call that is denied with this errno, which no kernel gives; and of one that is made.
 DENIED = answer_of(1000)
 MADE = answer_of(0)
-NO_TERMINAL = answer_of(25)
+NO_TERMINAL, NO_ADDRESS, NO_FILE = answer_of(25), answer_of(14), answer_of(9)
 
 CAT = json.loads((EXAMPLES / "cat-policy.json").read_text(encoding="utf-8"))["cat"]
 
@@ -93,6 +93,7 @@ WARNED = {
     "errno 4095": on_errno([], 4095, 4095),
     "errno 4096": on_errno(["errno-too-large"], 4096, 4095),
     "errno 70000": on_errno(["errno-too-large"], 70000, 4095),
+    "errno 4": on_errno(["endless-retry"], 4, 4),
     "errno 65537": on_errno(["errno-too-large"], 65537, 1),
     "trace": Shown(["trace-without-tracer"], filter_of({"trace": 1}, "allow", "sched_yield"),
                    [("sched_yield", answer_of(38))]),
@@ -131,6 +132,18 @@ WARNED = {
         [("exit 0", KILLED), ("exit_group 0", KILLED)]),
     "allows all": Shown([], filter_of("allow", "kill_process", *NAMES), ENDED),
     "fails at the end": Shown(["kills-exit"] * 2, filter_of({"errno": 1}, "allow", "exit_group", "rt_sigreturn"), []),
+    "denies all": Shown(["denies-everything"] + ["kills-exit"] * 3, filter_of("trap", {"errno": 1}), []),
+    "opens to write": Shown(["flag-evades"], denying(when("openat", (2, "dword", "eq", 1))), [
+        ("openat 0 0 1", DENIED), ("openat 0 0 0x80001", NO_ADDRESS)]),
+    "opens to write, by the bits for that": Shown([], denying(when("openat", (2, "dword", {"masked_eq": 3}, 1))), [
+        ("openat 0 0 1", DENIED), ("openat 0 0 0x80001", DENIED), ("openat 0 0 0x80002", NO_ADDRESS)]),
+    "at an address": Shown(["pointer-compared"], denying(when("openat", (1, "qword", "eq", LOW + 2))), [
+        (f"openat 0 {LOW + 2} 0", DENIED), (f"openat 0 {LOW + 3} 0", NO_ADDRESS)]),
+    "at no address": Shown([], denying(when("openat", (1, "dword", "eq", 0))), [("openat 0 0 0", DENIED), ("openat 0 1 0", NO_ADDRESS)]),
+    "past 9": Shown(["signed-compared"], denying(when("lseek", (1, "qword", "gt", 9))), [
+        ("lseek -1 10 0", DENIED), ("lseek -1 -1 0", DENIED), ("lseek -1 9 0", NO_FILE)]),
+    "at one offset": Shown([], denying(when("lseek", (1, "qword", "eq", LOW + 2))), [
+        (f"lseek -1 {LOW + 2} 0", DENIED), ("lseek -1 -1 0", NO_FILE)]),
     "lists no execve": Shown(["no-execve"], {**CAT, "filter": [it for it in CAT["filter"] if it["syscall"] != "execve"]}, []),
     "denies clone": Shown(["clone-by-clone3"], denying("clone"), [(CLONE, DENIED), (CLONE3, INVALID)]),
     "denies clone and clone3": Shown([], denying("clone", "clone3"), [(CLONE, DENIED), (CLONE3, DENIED)]),

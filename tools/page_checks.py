@@ -269,20 +269,18 @@ def plain(text):
     return re.sub(r"\[([^\]]*)\]\([^)]*\)", r"\1", text).replace("`", "")
 
 
-def defined_texts(text, function):
-    """Returns the texts of a definition on codes, by the codes: each is one or more literals."""
-    clauses = re.findall(rf"^{function} code\.(\w+) =((?:\s+(?:\+\+ )?codes \"(?:[^\"\\]|\\.)*\")+)", text, re.M)
-    literals = {name: re.findall(r"\"((?:[^\"\\]|\\.)*)\"", told) for name, told in clauses}
-    return {name: re.sub(r"\\(.)", r"\1", "".join(told)) for name, told in literals.items()}
+def texts_by_code(path, function):
+    """Returns the texts that a function of seccomp_warnings gives for codes, by the codes."""
+    text = (TOP / "crates/seccomp_warnings/src" / path).read_text(encoding="utf-8")
+    body = text[text.index(f"fn {function}(") :].split("\n}\n")[0]
+    return dict(re.findall(r"Code::(\w+) => (?:\{\s*)?\"((?:[^\"\\]|\\.)*)\"", body))
 
 
 def compare_codes(results):
-    """Compares the sections of docs/CHECKS.md with the definitions of codes."""
+    """Compares the sections of docs/CHECKS.md with what the codes are called and what is said of them."""
     page = TOP / "docs/CHECKS.md"
-    text = (TOP / "crates/seccomp_warnings/specs/Codes.antt").read_text(encoding="utf-8")
-    names, told = defined_texts(text, "code_text"), defined_texts(text, "paragraph_text")
-    all_codes = re.search(r"^all_codes = ([^\[]*)\[\]", text, re.M)[1]
-    order = [names[it] for it in re.findall(r"code\.(\w+)", all_codes)]
+    names, told = texts_by_code("code.rt", "name"), texts_by_code("text.rt", "paragraph")
+    order = list(names.values())
     sections = re.findall(r"^### `([a-z0-9-]+)`$", page.read_text(encoding="utf-8"), re.M)
     table = re.findall(r"^\| \[`([a-z0-9-]+)`\]", page.read_text(encoding="utf-8"), re.M)
     results.compare("docs/CHECKS.md: the sections of codes", order, sections)

@@ -8,7 +8,7 @@ import json
 import random
 
 from .forms import writes
-from .warnings import ALLOWED, EXITS, PERMITS, condition, line, lines_of, warned
+from .warnings import ALLOWED, EXITS, NOT_ALL, PERMITS, condition, line, lines_of, warned
 
 # What an entry may ask of its call.
 ASKED = [condition("dword", "eq", 7)]
@@ -35,7 +35,7 @@ def of_calls(mismatch, match, entries, warnings):
     entries = [entry(it) if isinstance(it, str) else it for it in entries]
     filters = {"a": {"mismatch_action": mismatch, "match_action": match, "filter": entries}}
     default = [("mismatch_action", "allows-by-default")] if mismatch in PERMITS else []
-    return warned(filters, *(line(f"a.{place}", code) for place, code in [*default, *warnings]), allowed=ALLOWED)
+    return warned(filters, *(line(f"a.{place}", code) for place, code in [*default, *warnings]), allowed=f"{ALLOWED} {NOT_ALL}")
 
 
 def killed(*calls):
@@ -80,7 +80,7 @@ NO_EXECVE = [
     ({"errno": 1}, "log", [asking("set_tid_address"), *EXITS], [("mismatch_action (execve)", "no-execve")]),
     ("trap", "allow", ["set_tid_address", "execve", *EXITS], []),
     ("trap", "allow", ["set_tid_address", "execveat", *EXITS], []),
-    ("trap", "allow", ["set_tid_address", asking("execve"), *EXITS], []),
+    ("trap", "allow", ["set_tid_address", asking("execve"), *EXITS], [("filter[1].args[0]", "pointer-compared")]),
     # A filter that a running program installs doesn't list the call by which programs start.
     ("trap", "allow", ["read", *EXITS], []),
     ("allow", {"errno": 1}, ["set_tid_address"], []),
@@ -90,7 +90,7 @@ NO_EXECVE = [
 
 CLONE_BY_CLONE3 = [
     ("allow", {"errno": 1}, ["clone"], PASSED_BY),
-    ("log", "kill_process", ["read", asking("clone")], PASSED_BY),
+    ("log", "kill_process", ["read", asking("clone")], [*PASSED_BY, ("filter[1].args[0]", "flag-evades")]),
     ("allow", {"errno": 1}, ["clone", "clone3"], []),
     # An entry with args names clone3 too.
     ("allow", {"errno": 1}, ["clone", asking("clone3")], []),

@@ -17,10 +17,12 @@ from .forms import OUTPUT, FULL, Case, rejects, writes
 SAID = {
     "fake-success": "the call isn't made, and returns 0 as if it had succeeded; write an errno from 1 to 4095",
     "errno-too-large": "Linux keeps only the low 16 bits, and takes 4095 for a greater number; write an errno from 1 to 4095",
+    "endless-retry": "programs take errno 4, EINTR, for an interruption and make the call anew, forever; write another errno",
     "trace-without-tracer": 'if no tracer is attached, the call fails with ENOSYS; write an errno or "allow" '
     "if there is none",
     "allows-by-default": "calls without an entry are let through, newer ones too; write a denying action, and entries "
     "for what is allowed",
+    "denies-everything": "both actions deny, so that no call is made at all; let one of them allow",
     "high-half-ignored": '"dword" compares only the low 32 bits, and the value has higher ones; write its low 32 bits, '
     'or "qword"',
     "value-outside-mask": "the value has bits outside the mask, which aren't compared; write the value without them, "
@@ -30,7 +32,12 @@ SAID = {
     "the condition",
     "high-half-evades": "a caller evades it by setting a high bit, which the kernel ignores for arguments of 32 bits; "
     'write "dword" for these',
-    "kills-exit": "a process or thread is killed when it ends, or returns from a signal handler, by this call; let exit, "
+    "flag-evades": 'a caller evades it by one flag more, such as a close-on-exec flag; write "masked_eq" with a mask of the flags '
+    "that count",
+    "pointer-compared": "the argument is an address, which says nothing of what stands there; leave the condition out",
+    "signed-compared": 'the argument is signed, and a filter takes negative numbers for large ones; write "eq" or "ne", or a '
+    "second condition that bounds it",
+    "kills-exit": "no process or thread can end, or return from a signal handler, by this call; let exit, "
     "exit_group and rt_sigreturn through",
     "clone-by-clone3": "clone is denied or restricted, and clone3, whose flags no filter sees, is let through; deny "
     "clone3 with errno 38 in a separate filter",
@@ -51,10 +58,14 @@ ALLOWED = " ".join(f"--allow {it}" for it in BESIDE)
 # The same, for filters of one call or none, under which nothing ends: calls.py has the warnings of that.
 OF_PARTS = f"{ALLOWED} --allow kills-exit"
 
+# Most filters of the tables deny whatever is called, which isn't what they are about. DENYING is the table of that.
+NOT_ALL = "--allow denies-everything"
+
 # The key of an action or a condition that a code is about, after its place.
 KEYS = {
     "fake-success": ".errno",
     "errno-too-large": ".errno",
+    "endless-retry": ".errno",
     "trace-without-tracer": ".trace",
     "high-half-ignored": ".val",
     "value-outside-mask": ".val",
@@ -88,7 +99,7 @@ def filter_of(conditions, mismatch="trap", match="allow"):
     return {"mismatch_action": mismatch, "match_action": match, "filter": entries}
 
 
-def warned(filters, *lines, allowed=OF_PARTS):
+def warned(filters, *lines, allowed=f"{OF_PARTS} {NOT_ALL}"):
     """Returns the cases of a policy that has exactly these warnings, if they are denied and if they aren't."""
     text, output = json.dumps(filters), "".join(lines)
     denied = Case(f"check {allowed} --deny-warnings", 1 if lines else 0, output, "", text)
@@ -101,6 +112,21 @@ def of_action(action, codes):
         *warned({"a": filter_of([], action, OTHER)}, *(line("a.mismatch_action", it) for it in codes)),
         *warned({"a": filter_of([], OTHER, action)}, *(line("a.match_action", it) for it in codes)),
     ]
+
+
+def of_both(mismatch, match, codes):
+    """Returns the cases of two actions, together with these codes of the second one."""
+    default = [line("a.mismatch_action", "allows-by-default")] if mismatch in ("allow", "log") else []
+    lines = [*default, *(line("a.match_action", it) for it in codes)]
+    return warned({"a": filter_of([], mismatch, match)}, *lines, allowed=f"{OF_PARTS} --allow trace-without-tracer")
+
+
+def of_argument(name, index, length, operator, value, codes, mismatch="allow", match="trap"):
+    """Returns the cases of a condition on an argument of this call that has these codes."""
+    filters = {"a": filter_of([condition(length, operator, value, index)], mismatch, match)}
+    filters["a"]["filter"][0]["syscall"] = name
+    allowed = f"{OF_PARTS} {NOT_ALL} --allow allows-by-default --allow clone-by-clone3 --allow high-half-evades"
+    return warned(filters, *(line("a.filter[0].args[0]", it) for it in codes), allowed=allowed)
 
 
 def of_condition(length, operator, value, codes, mismatch="trap", match="allow"):
@@ -121,6 +147,9 @@ def masked(mask):
 ACTIONS = [
     ({"errno": 0}, ["fake-success"]),
     ({"errno": 1}, []),
+    ({"errno": 4}, ["endless-retry"]),
+    ({"errno": 65540}, ["errno-too-large", "endless-retry"]),
+    ({"errno": 11}, []),
     ({"errno": 4095}, []),
     ({"errno": 4096}, ["errno-too-large"]),
     ({"errno": 65535}, ["errno-too-large"]),
@@ -131,6 +160,65 @@ ACTIONS = [
     ({"trace": 0}, ["trace-without-tracer"]),
     ({"trace": 4294967295}, ["trace-without-tracer"]),
     ("trap", []),
+]
+
+# Two actions, and what is so of them together.
+DENYING = [
+    ("trap", "kill_process", ["denies-everything"]),
+    ({"errno": 1}, "trap", ["denies-everything"]),
+    ("kill_thread", {"errno": 38}, ["denies-everything"]),
+    ("trap", "allow", []),
+    ("log", "trap", []),
+    ("allow", "log", []),
+    # A tracer may let a call through.
+    ({"trace": 1}, "trap", []),
+    ("kill_process", {"trace": 1}, []),
+]
+
+# Conditions on arguments of calls, and their codes: in a filter that denies what it lists, if no actions are given.
+O_CLOEXEC, SOCK_RAW, SIGCHLD, CLONE_NEWUSER, CLONE_FILES, PROT_EXEC, MS_BIND = 0x80000, 3, 17, 0x10000000, 0x400, 4, 0x1000
+ALLOWING = ("trap", "allow")
+ARGUMENTS = [
+    ("socket", 1, "dword", "eq", SOCK_RAW, ["flag-evades"]),
+    ("socket", 1, "dword", "eq", SOCK_RAW | O_CLOEXEC, []),
+    ("socket", 1, "dword", masked(15), SOCK_RAW, []),
+    ("socket", 1, "dword", masked(LOW), SOCK_RAW, ["flag-evades"]),
+    ("socket", 1, "qword", "le", SOCK_RAW, ["flag-evades"]),
+    ("socket", 1, "dword", "ge", SOCK_RAW, []),
+    ("socket", 0, "dword", "eq", 16, []),
+    ("socket", 1, "dword", "eq", SOCK_RAW, [], *ALLOWING),
+    ("socket", 1, "dword", "ne", SOCK_RAW, ["flag-evades"], *ALLOWING),
+    ("socket", 1, "dword", "eq", SOCK_RAW, [], "allow", "log"),
+    ("socket", 1, "qword", "eq", WHOLE, []),
+    ("open", 1, "dword", "eq", 2, ["flag-evades"]),
+    ("openat", 2, "dword", "eq", 2, ["flag-evades"]),
+    ("openat", 3, "dword", "eq", 2, []),
+    ("accept4", 3, "dword", "eq", 0x800, ["flag-evades"]),
+    ("clone", 0, "dword", "eq", CLONE_NEWUSER | SIGCHLD, ["flag-evades"]),
+    ("clone", 0, "dword", masked(CLONE_NEWUSER), CLONE_NEWUSER, []),
+    ("unshare", 0, "dword", "eq", CLONE_FILES, []),
+    ("mount", 3, "dword", "eq", MS_BIND, ["flag-evades"]),
+    ("mmap", 2, "dword", "eq", PROT_EXEC, ["flag-evades"]),
+    ("mprotect", 2, "dword", "eq", PROT_EXEC | 1, []),
+    ("pkey_mprotect", 2, "dword", "eq", PROT_EXEC, ["flag-evades"]),
+    ("mmap", 3, "dword", "eq", PROT_EXEC, []),
+    ("open", 0, "qword", "eq", 0x1000, ["pointer-compared"]),
+    ("open", 0, "qword", "eq", 0, []),
+    ("openat", 0, "qword", "eq", 0x1000, []),
+    ("openat", 1, "qword", "ne", 0x1000, ["pointer-compared"]),
+    ("execve", 2, "qword", masked(1), 1, ["pointer-compared"]),
+    ("execveat", 3, "qword", "gt", 1, ["pointer-compared"]),
+    ("execveat", 4, "qword", "gt", 1, []),
+    ("sendto", 4, "qword", "ne", 0, [], *ALLOWING),
+    ("sendto", 4, "qword", "ne", 1, ["pointer-compared"], *ALLOWING),
+    ("kill", 0, "dword", "gt", 1, ["signed-compared"]),
+    ("kill", 0, "dword", "eq", 1, []),
+    ("kill", 1, "dword", "gt", 1, []),
+    ("lseek", 1, "qword", "ge", 1, ["signed-compared"]),
+    ("setpriority", 2, "dword", "lt", 5, ["signed-compared"]),
+    ("epoll_wait", 3, "dword", "le", 5, ["signed-compared"], *ALLOWING),
+    ("epoll_wait", 3, "dword", "ne", 5, []),
+    ("poll", 2, "dword", masked(7), 5, []),
 ]
 
 # Conditions, and their codes, in a filter that denies by default.
@@ -242,6 +330,7 @@ IN_ORDER = [
     line("b\\x0a.filter[1].args[0]", "never-holds"),
     line("b\\x0a.filter[1].args[1]", "high-half-ignored"),
     line("b\\x0a.filter[1].args[1]", "always-holds"),
+    line("b\\x0a.filter[1].args[1]", "pointer-compared"),
     line("b\\x0a.filter[2].args[0]", "always-holds"),
 ]
 
@@ -286,8 +375,36 @@ def is_evaded(it, mismatch, match):
     return any(denies[holds(it, x)] and not denies[holds(it, x | high)] for x in low for high in passed)
 
 
-def codes_of(it, mismatch, match):
-    """Returns the codes that a condition has in a filter of these actions, in their order."""
+# The calls that take a flag, at the index of an argument, by the flag; and whose argument of an index is an address, or is signed.
+FLAGS = {
+    0x80000: {1: ("open", "socket", "socketpair"), 2: ("openat",), 3: ("accept4",)},
+    0x400: {0: ("clone", "unshare"), 3: ("mount",)},
+    1: {2: ("mmap", "mprotect", "pkey_mprotect")},
+}
+POINTERS = {
+    0: ("open", "execve", "mount", "umount2", "chroot", "unlink", "rename", "symlink"),
+    1: ("openat", "execve", "execveat", "connect", "bind", "read", "write", "mount", "unlinkat"),
+    2: ("execve", "execveat", "mount"),
+    3: ("execveat",),
+    4: ("mount", "sendto"),
+}
+SIGNED = {
+    0: ("kill", "tkill", "wait4", "openat", "prlimit64"),
+    1: ("lseek",),
+    2: ("setpriority", "poll"),
+    3: ("epoll_wait", "epoll_pwait"),
+}
+
+
+def is_passed_by_a_flag(name, it, mismatch, match):
+    """Returns whether a condition denies its value, and lets it through with a flag that the call takes and the value hasn't."""
+    denies = {True: match not in PERMITS, False: mismatch not in PERMITS}
+    flags = [flag for flag, calls in FLAGS.items() if name in calls.get(it["index"], ()) and not it["val"] & flag]
+    return any(denies[holds(it, it["val"])] and not denies[holds(it, it["val"] | flag)] for flag in flags)
+
+
+def codes_of(name, it, mismatch, match):
+    """Returns the codes that a condition on an argument of a call has in a filter of these actions, in their order."""
     mask = mask_of(it["op"])
     cut = LOW if it["type"] == "dword" else WHOLE
     found = {
@@ -296,8 +413,16 @@ def codes_of(it, mismatch, match):
         "always-holds": all(holds(it, argument) for argument in tries(it)),
         "never-holds": not any(holds(it, argument) for argument in tries(it)),
         "high-half-evades": is_evaded(it, mismatch, match),
+        "flag-evades": is_passed_by_a_flag(name, it, mismatch, match),
+        "pointer-compared": it["val"] != 0 and name in POINTERS.get(it["index"], ()),
+        "signed-compared": it["op"] in ("ge", "gt", "le", "lt") and name in SIGNED.get(it["index"], ()),
     }
     return [code for code, so in found.items() if so]
+
+
+def denies_everything(mismatch, match):
+    """Returns whether both actions deny, and no tracer is asked."""
+    return all(it not in PERMITS and not (isinstance(it, dict) and "trace" in it) for it in (mismatch, match))
 
 
 def codes_of_action(action):
@@ -306,6 +431,7 @@ def codes_of_action(action):
     found = {
         "fake-success": numbered.get("errno", 1) & 65535 == 0,
         "errno-too-large": numbered.get("errno", 1) >= 4096,
+        "endless-retry": numbered.get("errno", 1) & 65535 == 4,
         "trace-without-tracer": "trace" in numbered,
     }
     return [code for code, so in found.items() if so]
@@ -356,11 +482,12 @@ def lines_of_filter(name, it):
     unlisted = codes_of_unlisted(it["filter"], mismatch, match)
     lines += [line(f"{name}.mismatch_action ({call})", code) for call, code in unlisted]
     lines += [line(f"{name}.match_action", code) for code in codes_of_action(match)]
+    lines += [line(f"{name}.match_action", "denies-everything")] * denies_everything(mismatch, match)
     for entry, rule in enumerate(it["filter"]):
         codes = codes_of_entry(rule, it["filter"], mismatch, match)
         lines += [line(f"{name}.filter[{entry}]", code) for code in codes]
         for place, compared in enumerate(rule.get("args") or []):
-            codes = codes_of(compared, mismatch, match)
+            codes = codes_of(rule["syscall"], compared, mismatch, match)
             lines += [line(f"{name}.filter[{entry}].args[{place}]", code) for code in codes]
     return lines
 
@@ -376,6 +503,8 @@ FAULTY = json.dumps({"a": filter_of([condition("dword", "lt", 0)], {"errno": 0},
 
 CASES = [
     *(it for action, codes in ACTIONS for it in of_action(action, codes)),
+    *(it for row in DENYING for it in of_both(*row)),
+    *(it for row in ARGUMENTS for it in of_argument(*row)),
     *(it for row in CONDITIONS for it in of_condition(*row)),
     *(it for row in EVADED for it in of_condition(*row, "allow", {"errno": 1})),
     *(it for row in EVADED_LIST for it in of_condition(*row, {"errno": 1}, "allow")),

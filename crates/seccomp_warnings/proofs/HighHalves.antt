@@ -11,9 +11,9 @@ use Rattle.seccompiler.specs.declared.backend.SeccompCmpOp.{SeccompCmpOp}
 use Rattle.seccompiler.specs.declared.backend.SeccompCmpOp.TheVariants.{Eq, Ge, Gt, Le, Lt, MaskedEq, Ne}
 use Rattle.seccompiler.specs.Policy.{Compares, operator_part, part_of}
 use Rattle.seccomp_warnings.specs.ActionWarnings.{Permits}
-use Rattle.seccomp_warnings.specs.AnyArgument.{HoldsFor}
+use Rattle.seccomp_warnings.specs.AnyArgument.{Decides, HoldsFor, condition_in}
 use Rattle.seccomp_warnings.specs.Halves.{AllowsListed, BeginsAbove, DeniesListed, EndsAbove, PassesAbove}
-use Rattle.seccomp_warnings.specs.Warnings.{Decides, HasNoHighHalf, IsEvaded, condition_in}
+use Rattle.seccomp_warnings.specs.Warnings.{HasNoHighHalf, IsEvaded}
 use Rattle.seccomp_warnings.specs.declared.warning.Actions.{Actions}
 use Rattle.seccomp_warnings.specs.declared.warning.Comparison.{Comparison}
 use Rattle.seccomp_warnings.proofs.ConstantConditions.{masked_self}
@@ -159,69 +159,57 @@ low_of_begins (MaskedEq m) v never = absurd never
 -- ---- conditions
 
 -- A comparison of the whole argument is evaded exactly if a high half passes it.
-abbrev pub whole : ℕ → SeccompCmpOp → ℕ → ℕ → Comparison
-whole entry operator v place = record { entry = entry; place = place; arg_len = Qword; operator = operator; value = v }
+abbrev pub whole : (entry place index : ℕ) → SeccompCmpOp → ℕ → Comparison
+whole entry place index operator v =
+    record { entry = entry; place = place; arg_index = index; arg_len = Qword; operator = operator; value = v }
 
-pub passes_evades : (actions : Actions) (entry place : ℕ) (operator : SeccompCmpOp) (v : ℕ)
-    → ((m : ℕ) → operator ≡ MaskedEq m → m < 2 ^ 64) → PassesAbove actions operator v
-    → IsEvaded actions (whole entry operator v place)
-passes_evades actions entry place operator v fits (inl (listed, ends_above)) =
-    let c = ends operator v fits ends_above in
-    record {
-      value_is_low = low_of_ends operator v ends_above;
-      argument = c.argument;
-      low = c.low;
-      with_high = c.with_high;
-      fits = c.fits;
-      same_low = c.same_low;
-      denied = inl (c.before, listed.1);
-      let_through = inr (c.after, listed.0);
-    }
-passes_evades actions entry place operator v fits (inr (listed, begins_above)) =
-    let c = begins operator v begins_above in
-    record {
-      value_is_low = low_of_begins operator v begins_above;
-      argument = c.argument;
-      low = c.low;
-      with_high = c.with_high;
-      fits = c.fits;
-      same_low = c.same_low;
-      denied = inr (c.before, listed.1);
-      let_through = inl (c.after, listed.0);
-    }
+module _ (actions : Actions) (entry place index : ℕ) (operator : SeccompCmpOp) (v : ℕ) where
+  abbrev pub own : Comparison
+  own = whole entry place index operator v
 
-pub evades_passes : (actions : Actions) (entry place : ℕ) (operator : SeccompCmpOp) (v : ℕ)
-    → IsEvaded actions (whole entry operator v place) → PassesAbove actions operator v
-evades_passes actions entry place operator v e = by e.denied e.let_through
-  where
-    by : Decides (λ action. Permits action → ⊥) actions (whole entry operator v place) e.argument
-        → Decides Permits actions (whole entry operator v place) e.with_high → PassesAbove actions operator v
-    by (inl (holds, denies)) (inl (too, permits)) = absurd (denies permits)
-    by (inl (holds, denies)) (inr (fails, permits)) = inl (
-      (permits, denies),
-      only_ends operator v e.value_is_low (record {
-        argument = e.argument;
-        low = e.low;
-        with_high = e.with_high;
-        fits = e.fits;
-        same_low = e.same_low;
-        before = holds;
-        after = fails;
-      }),
-    )
-    by (inr (fails, denies)) (inl (holds, permits)) = inr (
-      (permits, denies),
-      only_begins operator v e.value_is_low (record {
-        argument = e.argument;
-        low = e.low;
-        with_high = e.with_high;
-        fits = e.fits;
-        same_low = e.same_low;
-        before = fails;
-        after = holds;
-      }),
-    )
-    by (inr (fails, denies)) (inr (too, permits)) = absurd (denies permits)
+  evaded : (P Q : ℕ → Type 0) (c : Changes P Q) → HasNoHighHalf operator v → Decides (λ action. Permits action → ⊥) actions own c.argument
+      → Decides Permits actions own c.with_high → IsEvaded actions own
+  evaded P Q c value_is_low denied let_through = record {
+    value_is_low = value_is_low;
+    argument = c.argument;
+    low = c.low;
+    with_high = c.with_high;
+    fits = c.fits;
+    same_low = c.same_low;
+    denied = denied;
+    let_through = let_through;
+  }
+
+  pub passes_evades : ((m : ℕ) → operator ≡ MaskedEq m → m < 2 ^ 64) → PassesAbove actions operator v → IsEvaded actions own
+  passes_evades fits (inl (listed, ends_above)) =
+      let c = ends operator v fits ends_above in
+      evaded _ _ c (low_of_ends operator v ends_above) (inl (c.before, listed.1)) (inr (c.after, listed.0))
+  passes_evades fits (inr (listed, begins_above)) =
+      let c = begins operator v begins_above in
+      evaded _ _ c (low_of_begins operator v begins_above) (inr (c.before, listed.1)) (inl (c.after, listed.0))
+
+  changed : (P Q : ℕ → Type 0) (e : IsEvaded actions own) → P e.argument → Q e.with_high → Changes P Q
+  changed P Q e before after = record {
+    argument = e.argument;
+    low = e.low;
+    with_high = e.with_high;
+    fits = e.fits;
+    same_low = e.same_low;
+    before = before;
+    after = after;
+  }
+
+  pub evades_passes : IsEvaded actions own → PassesAbove actions operator v
+  evades_passes e = by e.denied e.let_through
+    where
+      by : Decides (λ action. Permits action → ⊥) actions own e.argument → Decides Permits actions own e.with_high
+          → PassesAbove actions operator v
+      by (inl (holds, denies)) (inl (too, permits)) = absurd (denies permits)
+      by (inl (holds, denies)) (inr (fails, permits)) =
+          inl ((permits, denies), only_ends operator v e.value_is_low (changed _ _ e holds fails))
+      by (inr (fails, denies)) (inl (holds, permits)) =
+          inr ((permits, denies), only_begins operator v e.value_is_low (changed _ _ e fails holds))
+      by (inr (fails, denies)) (inr (too, permits)) = absurd (denies permits)
 
 -- A comparison of the low half isn't evaded.
 pub low_half_alone : (actions : Actions) (c : Comparison) → c.arg_len ≡ Dword → IsEvaded actions c → ⊥

@@ -1,6 +1,5 @@
--- Lemmas: of codes, for `code`; of conditions, for `condition`; of lists and comparisons, for `cover` and `verdict`; of entries
--- in drawers, for `filed` and `met`; of the warnings of a filter, for `walk`; and of those of all filters, for `report`.
-pub mod Codes
+-- Lemmas: of conditions, for `condition`; of lists and comparisons, for `cover` and `verdict`; of entries
+-- in drawers, for `filed` and `met`; and of the warnings of a filter, for `walk`.
 pub mod ConstantConditions
 pub mod HighHalves
 pub mod Quantified
@@ -11,4 +10,3 @@ pub mod PolicyVerdicts
 pub mod Others
 pub mod Filing
 pub mod Picked
-pub mod Reported

@@ -46,14 +46,6 @@ DeniesEach name j = ((Permits j.match_action → ⊥) × Any (MatchesEach name) 
 abbrev pub all_unlisted : List Unlisted
 all_unlisted = unlisted.Exit ∷ unlisted.ExitGroup ∷ unlisted.RtSigreturn ∷ unlisted.Clone3 ∷ unlisted.Execve ∷ []
 
--- A call's name.
-abbrev pub unlisted_name : Unlisted → List ℕ
-unlisted_name unlisted.Exit = codes "exit"
-unlisted_name unlisted.ExitGroup = codes "exit_group"
-unlisted_name unlisted.RtSigreturn = codes "rt_sigreturn"
-unlisted_name unlisted.Clone3 = codes "clone3"
-unlisted_name unlisted.Execve = codes "execve"
-
 -- The filter allows what it lists, among it set_tid_address, which a program calls once, as it starts, and it denies the calls by
 -- which a program is started.
 abbrev pub IsUnstartable : JsonFilter → Type 0

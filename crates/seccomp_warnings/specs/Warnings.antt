@@ -1,16 +1,20 @@
 -- The warnings of a filter: of which of its parts something is so that its author may not mean.
 use Rattle.std.specs.Prelude.{◌≡◌, ◌≢◌, ℕ, ◌+◌, ◌%◌, ◌^◌, ◌<◌, ◌≤◌, ◌⊎◌, List, [], ◌∷◌, ◌++◌, map, Contains, Option, Some, None, bit_and}
+use Rattle.std.specs.Prelude.{IsSomeAnd, slice_get}
 use Rattle.seccompiler.specs.declared.backend.SeccompAction.{SeccompAction}
 use Rattle.seccompiler.specs.declared.backend.SeccompCmpArgLen.{SeccompCmpArgLen}
 use Rattle.seccompiler.specs.declared.backend.SeccompCmpArgLen.TheVariants.{Dword}
 use Rattle.seccompiler.specs.declared.backend.SeccompCmpOp.{SeccompCmpOp}
 use Rattle.seccompiler.specs.declared.backend.SeccompCmpOp.TheVariants.{MaskedEq}
+use Rattle.seccompiler.specs.declared.backend.TargetArch.{TargetArch}
 use Rattle.seccompiler.specs.declared.json.types.JsonCondition.{JsonCondition}
 use Rattle.seccompiler.specs.JsonTypes.{JsonRule, JsonFilter}
 use Rattle.seccompiler.specs.Policy.{Condition, part_of}
-use Rattle.seccomp_warnings.specs.ActionWarnings.{Permits, IsSoOfAction}
-use Rattle.seccomp_warnings.specs.AnyArgument.{HoldsFor, HoldsForAll, HoldsForNone}
+use Rattle.seccomp_warnings.specs.ActionWarnings.{Permits, IsSoOfAction, IsSoOfBoth}
+use Rattle.seccomp_warnings.specs.AnyArgument.{Decides, HoldsForAll, HoldsForNone, condition_in}
+use Rattle.seccomp_warnings.specs.Arguments.{IsSoOfArgument}
 use Rattle.seccomp_warnings.specs.CallWarnings.{IsJudged, IsSoOfEntry, IsSoOfUnlisted, all_unlisted}
+use Rattle.seccomp_warnings.specs.Verdicts.{AreVerdicts}
 use Rattle.seccomp_warnings.specs.declared.warning.Actions.{Actions}
 use Rattle.seccomp_warnings.specs.declared.warning.Comparison.{Comparison}
 use Rattle.seccomp_warnings.specs.declared.warning.Subject.{Subject}
@@ -22,10 +26,6 @@ use Rattle.seccomp_warnings.specs.declared.unlisted.Unlisted.{Unlisted}
 use Rattle.seccomp_warnings.specs.declared.verdict.Verdict.{Verdict}
 
 -- ---- what is so of a condition
-
--- The condition's comparison, on some argument: which one plays no part in whether it holds for all values or for none.
-abbrev pub condition_in : Comparison → Condition
-condition_in c = record { arg_index = 0; arg_len = c.arg_len; operator = c.operator; value = c.value }
 
 -- The low half of the argument is compared, and the value has bits above it.
 abbrev pub HasIgnoredHalf : Comparison → Type 0
@@ -43,10 +43,6 @@ HasValueOutside c = IsOutside c.arg_len c.operator c.value
 abbrev pub HasNoHighHalf : SeccompCmpOp → ℕ → Type 0
 HasNoHighHalf (MaskedEq mask) value = bit_and value mask < 2 ^ 32
 HasNoHighHalf operator value = value < 2 ^ 32
-
--- Whether the condition holds for this value of its argument decides for an action that has P.
-abbrev pub Decides : (SeccompAction → Type 0) → Actions → Comparison → ℕ → Type 0
-Decides P actions c x = (HoldsFor (condition_in c) x × P actions.matching) ⊎ ((HoldsFor (condition_in c) x → ⊥) × P actions.mismatch)
 
 -- The condition compares with a value that has no high half. It denies an argument that has none, and lets through an argument with
 -- the same low half and some high half, which is the same number to a kernel that reads 32 bits.
@@ -74,13 +70,18 @@ IsSoOfCondition other actions c = ⊥
 abbrev pub actions_of : JsonFilter → Actions
 actions_of j = record { mismatch = j.mismatch_action; matching = j.match_action }
 
+-- What a code says of a condition on an argument of its entry's call is so.
+abbrev pub IsSoOfEntryArgument : Code → JsonFilter → Comparison → Type 0
+IsSoOfEntryArgument kind j c =
+    IsSomeAnd (slice_get j.rules c.entry) (λ entry. IsSoOfArgument kind (actions_of j) entry.syscall c)
+
 -- What a code says of a part of a filter is so, if these are the verdicts of its entries.
 abbrev pub IsSoOf : List Verdict → JsonFilter → Code → Subject → Type 0
 IsSoOf verdicts j kind (subject.MismatchAction action) = IsSoOfAction kind action
 IsSoOf verdicts j kind (subject.MismatchCall call) = IsSoOfUnlisted kind j call
-IsSoOf verdicts j kind (subject.MatchAction action) = IsSoOfAction kind action
+IsSoOf verdicts j kind (subject.MatchAction action) = IsSoOfAction kind action ⊎ IsSoOfBoth kind (actions_of j)
 IsSoOf verdicts j kind (subject.Entry place) = IsSoOfEntry kind j place ⊎ IsJudged kind verdicts place
-IsSoOf verdicts j kind (subject.Condition c) = IsSoOfCondition kind (actions_of j) c
+IsSoOf verdicts j kind (subject.Condition c) = IsSoOfCondition kind (actions_of j) c ⊎ IsSoOfEntryArgument kind j c
 
 -- The warning is true of the filter.
 abbrev pub IsSo : List Verdict → JsonFilter → Warning → Type 0
@@ -89,10 +90,10 @@ IsSo verdicts j w = IsSoOf verdicts j w.code w.subject
 -- ---- what is asked of a filter, in the order of its text
 
 abbrev pub mismatch_codes : List Code
-mismatch_codes = code.FakeSuccess ∷ code.ErrnoTooLarge ∷ code.TraceWithoutTracer ∷ code.AllowsByDefault ∷ []
+mismatch_codes = code.FakeSuccess ∷ code.ErrnoTooLarge ∷ code.EndlessRetry ∷ code.TraceWithoutTracer ∷ code.AllowsByDefault ∷ []
 
 abbrev pub match_codes : List Code
-match_codes = code.FakeSuccess ∷ code.ErrnoTooLarge ∷ code.TraceWithoutTracer ∷ []
+match_codes = code.FakeSuccess ∷ code.ErrnoTooLarge ∷ code.EndlessRetry ∷ code.TraceWithoutTracer ∷ code.DeniesEverything ∷ []
 
 abbrev pub unlisted_codes : List Code
 unlisted_codes = code.KillsExit ∷ code.CloneByClone3 ∷ code.NoExecve ∷ []
@@ -102,7 +103,8 @@ entry_codes = code.KillsExit ∷ code.CloneByClone3 ∷ code.CrateDiffers ∷ co
     ∷ code.UndecidedEntry ∷ []
 
 abbrev pub condition_codes : List Code
-condition_codes = code.HighHalfIgnored ∷ code.ValueOutsideMask ∷ code.AlwaysHolds ∷ code.NeverHolds ∷ code.HighHalfEvades ∷ []
+condition_codes = code.HighHalfIgnored ∷ code.ValueOutsideMask ∷ code.AlwaysHolds ∷ code.NeverHolds ∷ code.HighHalfEvades
+    ∷ code.FlagEvades ∷ code.PointerCompared ∷ code.SignedCompared ∷ []
 
 -- The warning of a code about a part of a filter.
 abbrev pub about : Subject → Code → Warning
@@ -115,7 +117,8 @@ calls_asked (call ∷ calls) = map (about (subject.MismatchCall call)) unlisted_
 
 -- The condition at a place of the entry at a place.
 abbrev pub comparison_at : ℕ → ℕ → JsonCondition → Comparison
-comparison_at entry place c = record { entry = entry; place = place; arg_len = c.arg_len; operator = c.operator; value = c.value }
+comparison_at entry place c =
+    record { entry = entry; place = place; arg_index = c.arg_index; arg_len = c.arg_len; operator = c.operator; value = c.value }
 
 -- All codes of a condition.
 abbrev pub condition_asked : ℕ → ℕ → JsonCondition → List Warning
@@ -159,3 +162,9 @@ IsGiven allowed verdicts j w = IsSo verdicts j w × (Contains allowed w.code →
 -- of its text.
 abbrev pub AreWarnings : List Code → List Verdict → JsonFilter → List Warning → Type 0
 AreWarnings allowed verdicts j warnings = ArePicked (IsGiven allowed verdicts j) (asked_of j) warnings
+
+-- These are the warnings of the filter with some verdicts on its entries, which are true.
+pub record AreTrueWarnings (arch : TargetArch) (allowed : List Code) (j : JsonFilter) (warnings : List Warning) : Type 0 where
+  pub verdicts : List Verdict
+  pub are_true : AreVerdicts arch j verdicts
+  pub warnings_are : AreWarnings allowed verdicts j warnings

@@ -1,9 +1,10 @@
 // What is so of an action.
 
 ghost use Rattle.std.specs.Prelude.{◌↔◌, IsTrue};
-ghost use Rattle.seccomp_warnings.specs.ActionWarnings.{IsSoOfAction, Permits};
+ghost use Rattle.seccomp_warnings.specs.ActionWarnings.{Denies, IsSoOfAction, IsSoOfBoth, Permits};
 
 use crate::code::Code;
+use crate::warning::Actions;
 use seccompiler::SeccompAction;
 
 // The greatest errno of Linux.
@@ -12,11 +13,31 @@ const GREATEST_ERRNO: u32 = 4095;
 // The return value that fails a call with errno 0.
 const ERRNO_0: u32 = 0x0005_0000;
 
+// The return value that fails a call with errno 4, EINTR.
+const ERRNO_EINTR: u32 = 0x0005_0004;
+
 // Whether the action lets a call through.
 pub(crate) fn permits(action: SeccompAction) -> bool
     ensures { IsTrue result ↔ Permits action }
 {
     matches!(action, SeccompAction::Allow | SeccompAction::Log)
+}
+
+// Whether the action denies a call, whoever is there.
+fn denies(action: SeccompAction) -> bool
+    ensures { IsTrue result ↔ Denies action }
+{
+    !permits(action) && !matches!(action, SeccompAction::Trace(_))
+}
+
+// Whether what a code says is so of both actions together.
+pub(crate) fn is_so_of_both(code: Code, actions: Actions) -> bool
+    ensures { IsTrue result ↔ IsSoOfBoth code actions }
+{
+    match code {
+        Code::DeniesEverything => denies(actions.mismatch) && denies(actions.matching),
+        _ => false,
+    }
 }
 
 // Whether what a code says is so of an action.
@@ -26,6 +47,7 @@ pub(crate) fn is_so_of_action(code: Code, action: SeccompAction) -> bool
     match (code, action) {
         (Code::FakeSuccess, action) => u32::from(action) == ERRNO_0,
         (Code::ErrnoTooLarge, SeccompAction::Errno(number)) => number > GREATEST_ERRNO,
+        (Code::EndlessRetry, action) => u32::from(action) == ERRNO_EINTR,
         (Code::TraceWithoutTracer, SeccompAction::Trace(_)) => true,
         (Code::AllowsByDefault, action) => permits(action),
         _ => false,

@@ -3,9 +3,9 @@
 ghost use Rattle.std.specs.Prelude.{◌≡◌, ◌<◌, ◌^◌, ◌↔◌, ℕ, IsTrue, IsFalse};
 ghost use Rattle.seccompiler.specs.declared.backend.SeccompCmpOp.TheVariants.{MaskedEq};
 ghost use Rattle.seccompiler.specs.Policy.{part_of};
-ghost use Rattle.seccomp_warnings.specs.AnyArgument.{HoldsForAll, HoldsForNone, HoldsForSome, FailsForSome};
+ghost use Rattle.seccomp_warnings.specs.AnyArgument.{HoldsForAll, HoldsForNone, HoldsForSome, FailsForSome, condition_in};
 ghost use Rattle.seccomp_warnings.specs.Halves.{BeginsAbove, EndsAbove, PassesAbove};
-ghost use Rattle.seccomp_warnings.specs.Warnings.{IsSoOfCondition, condition_in, HasIgnoredHalf, HasValueOutside, IsEvaded};
+ghost use Rattle.seccomp_warnings.specs.Warnings.{IsSoOfCondition, HasIgnoredHalf, HasValueOutside, IsEvaded};
 
 use crate::action::permits;
 use crate::code::Code;
@@ -41,7 +41,7 @@ fn has_value_outside(comparison: Comparison) -> bool
 }
 
 // What a length compares of a number.
-fn part_of(length: SeccompCmpArgLen, number: u64) -> u64
+pub(crate) fn part_of(length: SeccompCmpArgLen, number: u64) -> u64
     ensures { result ≡ part_of length number }
 {
     match length {

@@ -1,27 +1,24 @@
 //! Warnings of a policy: places at which it may not say what its author means.
 //!
 //! A policy with a warning is valid. [`verdicts_of`] says which entries of a filter are needed, [`warnings_of`]
-//! gives the filter's warnings, each with its [`Code`] and what it is about, and [`push_lines`] writes their
-//! lines.
-//! [`report_of`] does all this for all filters of a policy; [`report_by_name`] allows one filter other codes than the
-//! rest. `docs/CHECKS.md` has a section for each code.
+//! gives the filter's warnings, each with its [`Code`] and what it is about, and [`said_text`] is what is said of it.
+//! `docs/CHECKS.md` has a section for each code.
 //!
 //! ```
-//! use seccomp_warnings::{Code, Report, report_of};
-//! use seccompiler::TargetArch;
-//! use seccompiler::json::filters_of;
+//! use seccomp_warnings::{Code, Warning, verdicts_of, warnings_of};
+//! use seccompiler::{JsonFilter, TargetArch};
 //! use std::alloc::Global;
 //!
-//! /// The warnings of a policy's text, all but those of `allows-by-default`.
-//! fn warnings_here(alloc: Global, text: &[u8]) -> Result<Report, seccompiler::Error> {
-//!     let filters = filters_of(alloc, text)?;
-//!     let (arch, allowed) = (TargetArch::x86_64, [Code::AllowsByDefault]);
-//!     Ok(report_of(alloc, arch, b"policy.json: ", &filters, &allowed)?)
+//! /// The warnings of a filter, all but those of `allows-by-default`.
+//! fn warnings_here(alloc: Global, filter: &JsonFilter) -> Result<Vec<Warning>, seccompiler::Error> {
+//!     let verdicts = verdicts_of(alloc, TargetArch::x86_64, filter)?;
+//!     Ok(warnings_of(alloc, filter, &verdicts, &[Code::AllowsByDefault])?)
 //! }
 //! ```
 #![tactic(auto)]
 
 mod action;
+mod argument;
 mod beside;
 mod call;
 pub mod code;
@@ -31,8 +28,6 @@ mod entry;
 mod filed;
 mod met;
 mod own;
-mod paragraph;
-pub mod report;
 mod text;
 pub mod unlisted;
 pub mod verdict;
@@ -41,8 +36,7 @@ pub mod warning;
 
 pub use crate::call::denies_each;
 pub use crate::code::Code;
-pub use crate::report::{Report, report_by_name, report_of};
-pub use crate::text::{push_lines, said_text};
+pub use crate::text::{part_of, said_text};
 pub use crate::unlisted::Unlisted;
 pub use crate::verdict::{Verdict, verdicts_of};
 pub use crate::walk::warnings_of;

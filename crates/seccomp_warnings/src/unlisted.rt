@@ -1,7 +1,7 @@
 // Calls that a filter may leave to its mismatch action.
 
 ghost use Rattle.std.specs.Prelude.{◌≡◌};
-ghost use Rattle.seccomp_warnings.specs.CallWarnings.{all_unlisted, unlisted_name};
+ghost use Rattle.seccomp_warnings.specs.CallWarnings.{all_unlisted};
 
 /// A call that it matters of whether a filter has an entry for it.
 #[derive(Clone, Copy, Debug)]
@@ -33,9 +33,7 @@ impl Unlisted {
     }
 
     /// The call's name, the same on all architectures.
-    pub fn name(self) -> &'static str
-        ensures { result.now ≡ unlisted_name self }
-    {
+    pub fn name(self) -> &'static str {
         match self {
             Unlisted::Exit => "exit",
             Unlisted::ExitGroup => "exit_group",

@@ -1,11 +1,12 @@
 // The warnings of a filter, in the order of the policy's text.
 
 ghost use Rattle.std.specs.Prelude.{◌≡◌, ◌↔◌, ◌⊎◌, map, IfOk, OnOk, IsTrue, option_map};
-ghost use Rattle.seccomp_warnings.specs.Warnings.{AreWarnings, IsGiven, IsSo, about, actions_of, calls_asked, entries_asked, entry_asked, args_asked, conditions_asked, condition_asked};
+ghost use Rattle.seccomp_warnings.specs.Warnings.{AreWarnings, IsGiven, IsSo, IsSoOfEntryArgument, about, actions_of, calls_asked, entries_asked, entry_asked, args_asked, conditions_asked, condition_asked};
 ghost use Rattle.seccomp_warnings.specs.CallWarnings.{IsJudged, IsSoOfEntry, all_unlisted};
 ghost use Rattle.seccomp_warnings.specs.Parts.{AddsPicked};
 
-use crate::action::is_so_of_action;
+use crate::action::{is_so_of_action, is_so_of_both};
+use crate::argument::is_so_of_call;
 use crate::call::{is_judged, is_so_of_entry, is_so_of_unlisted};
 use crate::code::{Code, is_among};
 use crate::condition::is_so_of_condition;
@@ -75,18 +76,32 @@ fn is_so_of_place(code: Code, verdicts: &[Verdict], filter: &JsonFilter, place: 
     is_so_of_entry(code, filter, place) || is_judged(code, verdicts, place)
 }
 
+// Whether what a code says is so of the argument of a condition of the filter.
+fn is_so_of_argument(code: Code, filter: &JsonFilter, comparison: Comparison) -> bool
+    ensures { IsTrue result ↔ IsSoOfEntryArgument code filter.now comparison }
+{
+    match filter.rules.get(comparison.entry) {
+        Some(entry) => {
+            is_so_of_call(code, actions_of(filter), entry.syscall.as_str(), comparison)
+        }
+        None => false,
+    }
+}
+
 // Whether a warning is true of the filter.
 fn is_so(verdicts: &[Verdict], filter: &JsonFilter, warning: Warning) -> bool
     ensures { IsTrue result ↔ IsSo verdicts.now filter.now warning }
 {
     match warning.subject {
-        Subject::MismatchAction(action) | Subject::MatchAction(action) => {
-            is_so_of_action(warning.code, action)
+        Subject::MismatchAction(action) => is_so_of_action(warning.code, action),
+        Subject::MatchAction(action) => {
+            is_so_of_action(warning.code, action) || is_so_of_both(warning.code, actions_of(filter))
         }
         Subject::MismatchCall(call) => is_so_of_unlisted(warning.code, filter, call),
         Subject::Entry(place) => is_so_of_place(warning.code, verdicts, filter, place),
         Subject::Condition(comparison) => {
             is_so_of_condition(warning.code, actions_of(filter), comparison)
+                || is_so_of_argument(warning.code, filter, comparison)
         }
     }
 }
@@ -159,6 +174,7 @@ fn push_condition(
     let comparison = Comparison {
         entry,
         place,
+        arg_index: condition.arg_index,
         arg_len: condition.arg_len,
         operator: condition.operator,
         value: condition.value,

@@ -12,7 +12,7 @@ use Rattle.seccompiler.specs.JsonSteps.{AreFilters}
 use Rattle.seccompiler.specs.JsonTypes.{JsonFilter}
 use Rattle.seccomp_check.specs.Checks.{AreAllCompiled, IsPlaced}
 use Rattle.seccomp_check.specs.Texts.{fault_text}
-use Rattle.seccomp_warnings.specs.Reports.{AreTrueWarnings}
+use Rattle.seccomp_warnings.specs.Warnings.{AreTrueWarnings}
 use Rattle.seccomp_warnings.specs.declared.code.Code.{Code}
 use Rattle.seccomptool.specs.declared.error.ToolError.{ToolError}
 use Rattle.seccomptool.specs.declared.check.CheckedPolicy.{CheckedPolicy}

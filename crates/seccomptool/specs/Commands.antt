@@ -1,6 +1,6 @@
 -- What it means that a command is carried out on the texts that it is given, and with which status it ends.
 use Rattle.std.specs.Prelude.{◌≡◌, ◌≢◌, ◌≤◌, ◌⊎◌, ℕ, ◌/◌, All, Bool, true, false, Contains, List, length, Option, Some, None}
-use Rattle.std.specs.Prelude.{string_bytes, ⊤}
+use Rattle.std.specs.Prelude.{⊤}
 use Rattle.std.specs.Borrow.{Bor}
 use Rattle.std.specs.Simd.{first_chunks}
 use Rattle.std.specs.List.{AllZip}
@@ -9,7 +9,9 @@ use Rattle.seccompiler.specs.declared.backend.TargetArch.TheVariants.{x86_64}
 use Rattle.seccompiler.specs.declared.bpf.sock_filter.{sock_filter}
 use Rattle.seccompiler.specs.declared.machine.Outcome.{Outcome}
 use Rattle.seccomp_tree.specs.declared.layout.Layout.{Layout}
-use Rattle.seccompiler.specs.JsonAnswers.{OfValue}
+use Rattle.seccomp_tree.specs.Layouts.{IsCompiledIn}
+use Rattle.seccompiler.specs.JsonAnswers.{ArePoliciesOf, OfValue}
+use Rattle.seccompiler.specs.Policy.{Filter}
 use Rattle.seccomp_compare.specs.Machine.{IsChecked}
 use Rattle.seccomp_oci.specs.declared.compiled.CompiledProfile.{CompiledProfile}
 use Rattle.seccomp_oci.specs.CompiledProfile.{IsCompiledProfile}
@@ -45,22 +47,27 @@ use Rattle.seccomptool.specs.declared.words.Inputs.{Inputs}
 use Rattle.seccomptool.specs.declared.words.Names.{Names}
 use Rattle.seccomptool.specs.Check.{IsCheckOf, IsRefusal, verdict_where}
 use Rattle.seccomptool.specs.CheckProfile.{IsProfileCheckOf, IsRefusedProfile}
-use Rattle.seccomptool.specs.Chosen.{IsChosen, text_of}
-use Rattle.seccomptool.specs.Compile.{ArePrograms, IsProgramUnder}
+use Rattle.seccomptool.specs.Chosen.{text_of}
+use Rattle.seccomptool.specs.Compile.{ArePrograms, name_of}
 use Rattle.seccomptool.specs.Diff.{IsDiff, verdict_in}
 use Rattle.seccomptool.specs.Explain.{IsOfPolicy, IsOfProfile}
 use Rattle.seccomptool.specs.Kinds.{IsTakenAs}
 use Rattle.seccomptool.specs.Learn.{IsLesson}
 use Rattle.seccomptool.specs.Record.{IsCall, IsRecordOf}
 use Rattle.seccomptool.specs.Run.{AreReturned, IsProgramOf, IsRefusedProgram}
+use Rattle.seccomptool.specs.Sides.{IsChosen, Policies}
 use Rattle.seccomptool.specs.Stats.{AreStats, IsMeasureOf, IsProfileMeasure}
 
 -- ---- what each command answers
 
--- The program of the filter that is asked for.
-abbrev pub IsFilterCompiled : TargetArch → Layout → (asked : Option (List ℕ)) → (text : List ℕ) → Type 0
-IsFilterCompiled arch layout asked text =
-    (made : NamedProgram) × IsChosen text asked (string_bytes made.name) × IsProgramUnder arch layout text made
+-- The program is compiled for the filter that is asked for, or the only one, of the policy's text, and has its name.
+pub record IsFilterCompiled (target : TargetArch) (layout : Layout) (asked : Option (List ℕ)) (text : List ℕ) (made : NamedProgram)
+    : Type 0 where
+  pub filters : Policies
+  pub of_text : OfValue text (ArePoliciesOf target filters)
+  pub filter : Filter
+  pub chosen : IsChosen asked filters (name_of made) filter
+  pub compiled : IsCompiledIn layout filter made.program.items
 
 -- The program of a profile.
 abbrev pub IsProfileCompiled : TargetArch → Container → (strict : Bool) → (text : List ℕ) → Type 0
@@ -72,7 +79,7 @@ IsCheckedProgram bytes = (program : List sock_filter) × IsProgramOf bytes progr
 
 -- The program of what is given.
 abbrev pub IsCompiledAs : TargetArch → Subject → Layout → (strict : Bool) → (asked : Option (List ℕ)) → (given : List ℕ) → Type 0
-IsCompiledAs arch subject.Policy layout strict asked text = IsFilterCompiled arch layout asked text
+IsCompiledAs arch subject.Policy layout strict asked text = (made : NamedProgram) × IsFilterCompiled arch layout asked text made
 IsCompiledAs arch (subject.Profile container) layout strict asked text = IsProfileCompiled arch container.now strict text
 IsCompiledAs arch subject.Program layout strict asked bytes = IsCheckedProgram bytes
 

@@ -8,8 +8,7 @@ use Rattle.seccompiler.specs.declared.backend.TargetArch.{TargetArch}
 use Rattle.seccompiler.specs.declared.bpf.sock_filter.{sock_filter}
 use Rattle.seccomp_tree.specs.declared.layout.Layout.{Layout}
 use Rattle.seccomp_tree.specs.Layouts.{IsCompiledIn}
-use Rattle.seccompiler.specs.JsonAnswers.{HasPolicy, OfValue}
-use Rattle.seccompiler.specs.JsonShape.{Under}
+use Rattle.seccompiler.specs.JsonAnswers.{HasPolicy}
 use Rattle.seccompiler.specs.Policy.{Filter}
 use Rattle.seccomptool.specs.declared.compile.NamedProgram.{NamedProgram}
 use Rattle.seccomptool.specs.Named.{AreNamed}
@@ -31,11 +30,6 @@ pub record HasProgram (layout : Layout) (target : TargetArch) (value : Data) (pr
 -- The name of a filter's program.
 abbrev pub name_of : NamedProgram → List ℕ
 name_of made = string_bytes made.name
-
--- The program is compiled for the filter that stands under its name in the text.
-abbrev pub IsProgramUnder : TargetArch → Layout → List ℕ → NamedProgram → Type 0
-IsProgramUnder target layout text made =
-    OfValue text (λ d. Under d (name_of made) (λ value. HasProgram layout target value made.program.items))
 
 -- Each program is compiled for the filter under its name, and each filter of the policy's value has one.
 abbrev pub ArePrograms : Layout → TargetArch → Data → List NamedProgram → Type 0

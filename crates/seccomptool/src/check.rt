@@ -12,7 +12,7 @@ ghost use Rattle.std.specs.Prelude.{◌≡◌, ◌+◌, IfErr, IfOk, OnOk};
 ghost use Rattle.seccompiler.specs.JsonAnswers.{OfValue};
 ghost use Rattle.seccomp_check.specs.Checks.{AreAllCompiled};
 ghost use Rattle.seccomptool.specs.Check as spec;
-ghost use Rattle.seccomp_warnings.specs.Reports.{AreTrueWarnings};
+ghost use Rattle.seccomp_warnings.specs.Warnings.{AreTrueWarnings};
 ghost use Rattle.seccomptool.specs.Check.{AreWarningsIn, IsCheckOf, IsRefusal};
 
 use crate::error::ToolError;
@@ -20,7 +20,7 @@ use crate::findings::Verdict;
 use seccomp_check::{Rejection, check};
 use seccomp_warnings::{Code, Warning, verdicts_of, warnings_of};
 use seccompiler::json::filters_of;
-use seccompiler::{JsonFilter, JsonFilterMap, TargetArch};
+use seccompiler::{JsonFilter, JsonFilterMap, JsonFrontendError, TargetArch};
 use std::alloc::{AllocError, Global};
 
 /// A filter's name, and its warnings.
@@ -76,12 +76,12 @@ pub fn checked(
 }
 
 // The warnings of all filters.
-fn warnings_in(
+pub(crate) fn warnings_in(
     alloc: Global,
     target: TargetArch,
     allowed: &[Code],
     filters: &JsonFilterMap,
-) -> Result<CheckedPolicy, AllocError>
+) -> Result<CheckedPolicy, JsonFrontendError>
     ensures { IfOk result (λ checked. AreWarningsIn target allowed.now filters.now.0.entries checked) }
 {
     let mut all = Vec::new(alloc);
@@ -115,13 +115,11 @@ fn warnings_in_filter(
     target: TargetArch,
     allowed: &[Code],
     filter: &JsonFilter,
-) -> Result<Vec<Warning>, AllocError>
+) -> Result<Vec<Warning>, JsonFrontendError>
     ensures { IfOk result (λ warnings. AreTrueWarnings target allowed.now filter.now warnings.items) }
 {
-    let Ok(verdicts) = verdicts_of(alloc, target, filter) else {
-        return Err(AllocError);
-    };
-    warnings_of(alloc, filter, &verdicts, allowed)
+    let verdicts = verdicts_of(alloc, target, filter)?;
+    Ok(warnings_of(alloc, filter, &verdicts, allowed)?)
 }
 
 // That the library compiles all filters of the text.

@@ -2,13 +2,13 @@
 
 pub mod text;
 
-ghost use Rattle.std.specs.Prelude.{IfOk, string_bytes};
-ghost use Rattle.seccomptool.specs.Chosen.{IsChosen, text_of};
-ghost use Rattle.seccomptool.specs.Compile.{IsProgramUnder};
+ghost use Rattle.std.specs.Prelude.{IfOk};
+ghost use Rattle.seccomptool.specs.Chosen.{text_of};
+ghost use Rattle.seccomptool.specs.Commands.{IsFilterCompiled};
 
-use crate::chosen::chosen_name;
 pub(crate) use crate::compile::text::program_text;
 use crate::error::ToolError;
+use crate::sides::chosen_of;
 use seccomp_command_line::readable::{TextKind, readable};
 use seccomp_tree::{FilterError, Layout, to_bpf_in};
 use seccompiler::{BpfProgram, JsonCompiler, SeccompFilter, TargetArch};
@@ -29,11 +29,10 @@ pub struct NamedProgram {
 ///
 /// # Errors
 ///
-/// The first of these: if no name is asked for, the fault that keeps the names from being read, or `Unchosen` with the names
-/// if it isn't one; `Library` with what `JsonCompiler::policies_of` rejects the text for; `NoFilter` with the name if no
-/// filter has it; `Fault` if the program is too large in this layout, with a text of the filter's name, of the
-/// instructions that it needs, and of those of the other layout, if they fit. `OutOfMemory` is returned instead of any of
-/// these if memory runs out.
+/// The first of these: `Library` with what `JsonCompiler::policies_of` rejects the text for; `NoFilter` with the name if no
+/// filter has it; `Unchosen` with the names if none is asked for and there isn't one; `Fault` if the program is too large in
+/// this layout, with a text of the filter's name, of the instructions that it needs, and of those of the other layout, if they
+/// fit. `OutOfMemory` is returned instead of any of these if memory runs out.
 pub fn compiled(
     alloc: Global,
     target: TargetArch,
@@ -41,14 +40,10 @@ pub fn compiled(
     asked: Option<&str>,
     text: &[u8],
 ) -> Result<NamedProgram, ToolError>
-    ensures chosen { IfOk result (λ made. IsChosen text.now (text_of asked.entry) (string_bytes made.name)) }
-    ensures compiled { IfOk result (IsProgramUnder target layout text.now) }
+    ensures { IfOk result (IsFilterCompiled target layout (text_of asked.entry) text.now) }
 {
-    let name = chosen_name(alloc, text, asked)?;
     let filters = JsonCompiler::new(target).policies_of(alloc, text)?;
-    let Some(filter) = filters.get(name.as_str()) else {
-        return Err(ToolError::NoFilter(name));
-    };
+    let (name, filter) = chosen_of(alloc, asked, &filters)?;
     match to_bpf_in(alloc, filter, layout) {
         Ok(program) => Ok(NamedProgram { name, program }),
         Err(cause) => Err(uncompiled(alloc, filter, name.as_str(), layout, cause)?),

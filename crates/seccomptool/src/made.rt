@@ -1,9 +1,10 @@
 // What each command makes of the bytes that it is given: an answer, and a view of it.
 
-ghost use Rattle.std.specs.Prelude.{◌≡◌, IfOk};
+ghost use Rattle.std.specs.Prelude.{◌≡◌, IfOk, false};
 ghost use Rattle.seccomptool.specs.Chosen.{text_of};
-ghost use Rattle.seccomptool.specs.Commands.{IsCalled, IsCheckedProgram, IsCompared, IsCompiled, IsFilterCompiled, IsMeasuredAs, IsProfileCompiled, IsShown, IsShownAs};
+ghost use Rattle.seccomptool.specs.Commands.{IsCalled, IsCheckedProgram, IsCompared, IsCompiled, IsCompiledAs, IsMeasuredAs, IsProfileCompiled, IsShown, IsShownAs};
 ghost use Rattle.seccomptool.specs.declared.findings.Verdict.TheVariants.{Same};
+ghost use Rattle.seccomptool.specs.declared.kind.Subject.TheVariants.{Policy};
 
 use crate::chosen::refuse_name;
 use crate::compile::text::ProgramFormat;
@@ -106,7 +107,7 @@ fn policy_made(
     path: &str,
     policy: &[u8],
 ) -> Result<Made, FaultAt>
-    ensures { IfOk result (λ made. IsFilterCompiled arch layout (text_of filter.entry) policy.now × (made.verdict ≡ Same)) }
+    ensures { IfOk result (λ made. IsCompiledAs arch Policy layout false (text_of filter.entry) policy.now × (made.verdict ≡ Same)) }
 {
     let program = compiled(alloc, arch, layout, filter, policy)?;
     let text = program_text(alloc, format, &program)?;

@@ -1,7 +1,7 @@
 // Notes on what stands at a path, for standard error.
 
+use crate::check::warnings_in;
 use seccomp_command_line::readable::{TextKind, push_readable, readable as readable_text};
-use seccomp_warnings::report_of;
 use seccompiler::json::filters_of;
 use seccompiler::{JsonFrontendError, TargetArch};
 use std::alloc::{AllocError, Global};
@@ -47,14 +47,14 @@ pub(crate) fn counted(
     if quiet {
         return Ok(Vec::new(alloc));
     }
-    let report = match filters_of(alloc, text) {
-        Ok(filters) => report_of(alloc, arch, b"", &filters, &[]),
+    let checked = match filters_of(alloc, text) {
+        Ok(filters) => warnings_in(alloc, arch, &[], &filters),
         Err(refusal) => Err(refusal),
     };
-    match report {
+    match checked {
         Err(JsonFrontendError::OutOfMemory) => Err(AllocError),
         Err(_) => Ok(Vec::new(alloc)),
-        Ok(report) => match report.count {
+        Ok(checked) => match checked.count {
             0 => Ok(Vec::new(alloc)),
             1 => note(alloc, path, b"1 warning; seccomptool check prints it"),
             count => {

@@ -90,7 +90,7 @@ fn of_policy(
 }
 
 // The filter that is asked for, or the policy's only one.
-fn chosen_of<'a>(
+pub(crate) fn chosen_of<'a>(
     alloc: Global,
     asked: Option<&str>,
     filters: &'a BTreeMap<String, SeccompFilter>,

@@ -19,6 +19,23 @@ pub enum CheckFormat {
     Json,
 }
 
+/// A line for each warning, after this prefix.
+pub(crate) fn text_lines(
+    alloc: Global,
+    front: &[u8],
+    diagnostics: &[Diagnostic],
+) -> Result<Vec<u8>, AllocError> {
+    let mut text = Vec::new(alloc);
+    for diagnostic in diagnostics {
+        text.extend_from_slice(front)?;
+        push_subject(&mut text, alloc, diagnostic)?;
+        let code = diagnostic.code.unwrap_or(Code::UnknownKey).name();
+        let said = &diagnostic.message;
+        text.extend_from_slice(format!(in alloc; ": warning [{code}]: {said}\n")?.as_bytes())?;
+    }
+    Ok(text)
+}
+
 /// What is said of what stands at a path, with this text: as JSON an object for each diagnostic, in a line, with a comma behind it;
 /// else gcc's lines.
 pub(crate) fn lines_of(

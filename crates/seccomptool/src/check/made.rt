@@ -6,11 +6,11 @@ ghost use Rattle.seccomptool.specs.declared.findings.Verdict.TheVariants.{Differ
 
 use crate::check::diagnostic::Diagnostic;
 use crate::check::fault::fault_diagnostic;
-use crate::check::format::{CheckFormat, lines_of};
-use crate::check::policy::{policy_diagnostics, policy_lines};
-use crate::check::profile::lines::{profile_diagnostics, profile_lines};
+use crate::check::format::{CheckFormat, lines_of, text_lines};
+use crate::check::policy::policy_diagnostics;
+use crate::check::profile::lines::profile_diagnostics;
 use crate::check::profile::profile_checked;
-use crate::check::{FilterWarnings, checked, verdict_where};
+use crate::check::{checked, verdict_where};
 use crate::error::{FaultAt, ToolError};
 use crate::failure::rejection;
 use crate::findings::Verdict;
@@ -64,7 +64,8 @@ fn accepted(
     match subject {
         Subject::Policy => {
             let checked = checked(alloc, arch, allowed, given)?;
-            let text = policy_text(alloc, format, path, given, &checked.filters)?;
+            let diagnostics = policy_diagnostics(alloc, &checked.filters)?;
+            let text = written(alloc, format, path, given, &diagnostics)?;
             let verdict = verdict_where(denied, checked.count);
             Ok(Made::noting(text, verdict, Vec::new(alloc)))
         }
@@ -91,20 +92,6 @@ fn accepted(
             let _program = program_of(alloc, given)?;
             Ok(Made::plain(alloc, Vec::new(alloc)))
         }
-    }
-}
-
-// What is said of the warnings of a policy.
-fn policy_text(
-    alloc: Global,
-    format: CheckFormat,
-    path: &str,
-    given: &[u8],
-    all: &[FilterWarnings],
-) -> Result<Vec<u8>, AllocError> {
-    match format {
-        CheckFormat::Text => policy_lines(alloc, &front_of(alloc, path)?, all),
-        _ => written(alloc, format, path, given, &policy_diagnostics(alloc, all)?),
     }
 }
 
@@ -137,7 +124,7 @@ fn written(
     diagnostics: &[Diagnostic],
 ) -> Result<Vec<u8>, AllocError> {
     match format {
-        CheckFormat::Text => profile_lines(alloc, &front_of(alloc, path)?, diagnostics),
+        CheckFormat::Text => text_lines(alloc, &front_of(alloc, path)?, diagnostics),
         CheckFormat::Gcc => lines_of(alloc, false, path, given, diagnostics),
         CheckFormat::Json => lines_of(alloc, true, path, given, diagnostics),
     }

@@ -3,23 +3,10 @@
 use crate::check::FilterWarnings;
 use crate::check::diagnostic::{Diagnostic, Place, key};
 use seccomp_check::Step;
-use seccomp_warnings::{Code, Subject, Warning, push_lines, said_text};
+use seccomp_warnings::{Subject, Warning, part_of, said_text};
 use std::alloc::{AllocError, Global};
 
-/// A line for each warning, after this prefix.
-pub(crate) fn policy_lines(
-    alloc: Global,
-    front: &[u8],
-    all: &[FilterWarnings],
-) -> Result<Vec<u8>, AllocError> {
-    let mut text = Vec::new(alloc);
-    for own in all {
-        push_lines(&mut text, alloc, front, own.name.as_str(), &own.warnings)?;
-    }
-    Ok(text)
-}
-
-/// What the lines say, as values.
+/// What is said of the warnings of all filters.
 pub(crate) fn policy_diagnostics(
     alloc: Global,
     all: &[FilterWarnings],
@@ -60,14 +47,4 @@ fn diagnostic_of(alloc: Global, name: &str, warning: Warning) -> Result<Diagnost
     }
     let message = String::from_str(alloc, said_text(warning.code))?;
     Ok(Diagnostic::warning(warning.code, path, call, message, Place::Value))
-}
-
-// The part of an action or of a condition that a code is about, as in the lines.
-fn part_of(code: Code) -> Option<&'static str> {
-    match code {
-        Code::FakeSuccess | Code::ErrnoTooLarge => Some("errno"),
-        Code::TraceWithoutTracer => Some("trace"),
-        Code::HighHalfIgnored | Code::ValueOutsideMask => Some("val"),
-        _ => None,
-    }
 }

@@ -1,6 +1,5 @@
 use Rattle.std.proofs.Common.{rules, ◌<◌, ◌^◌, ⊎_elim}
-use Rattle.seccomp_warnings.specs.AnyArgument.{FailsForSome}
-use Rattle.seccomp_warnings.specs.Warnings.{condition_in}
+use Rattle.seccomp_warnings.specs.AnyArgument.{FailsForSome, condition_in}
 use Rattle.seccomp_warnings.proofs.ConstantConditions.{exactly_all, eq_fails, ne_fails, gt_fails, lt_fails, masked_eq_fails}
 use Rattle.seccomp_warnings.proofs.condition.always_holds.Goals as goal
 

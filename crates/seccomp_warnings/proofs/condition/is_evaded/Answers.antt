@@ -15,10 +15,13 @@ returns-in-Dword c = (
 pub returns-in-Qword : goal.returns-in-Qword
 returns-in-Qword c =
     let own : Comparison = c.args.comparison in
+    let operator = own.operator in
     let says = c.passes_above.ensures in
+    let evades_by = passes_evades c.args.actions own.entry own.place own.arg_index own.operator own.value in
+    let by_evasion = evades_passes c.args.actions own.entry own.place own.arg_index own.operator own.value in
     let evaded = λ (l : SeccompCmpArgLen). IsEvaded c.args.actions
-    (record { entry = own.entry; place = own.place; arg_len = l; operator = own.operator; value = own.value }) in (
+    (record { entry = own.entry; place = own.place; arg_index = own.arg_index; arg_len = l; operator = operator; value = own.value }) in (
       λ t. subst evaded (sym c.in-Qword.is)
-          (passes_evades c.args.actions own.entry own.place own.operator own.value says.fits (says.exactly.0 t)),
-      λ e. says.exactly.1 (evades_passes c.args.actions own.entry own.place own.operator own.value (subst evaded c.in-Qword.is e)),
+          (evades_by says.fits (says.exactly.0 t)),
+      λ e. says.exactly.1 (by_evasion (subst evaded c.in-Qword.is e)),
     )

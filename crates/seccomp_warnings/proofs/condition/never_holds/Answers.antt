@@ -1,6 +1,5 @@
 use Rattle.std.proofs.Common.{rules, ◌<◌, ◌^◌, ⊎_elim}
-use Rattle.seccomp_warnings.specs.AnyArgument.{HoldsForSome}
-use Rattle.seccomp_warnings.specs.Warnings.{condition_in}
+use Rattle.seccomp_warnings.specs.AnyArgument.{HoldsForSome, condition_in}
 use Rattle.seccomp_warnings.proofs.ConstantConditions.{exactly_none, eq_holds, ne_holds, ge_holds, le_holds, masked_eq_holds}
 use Rattle.seccomp_warnings.proofs.condition.never_holds.Goals as goal
 

@@ -1,7 +1,6 @@
 // What is said of the warnings of a profile.
 
 use crate::check::diagnostic::{Diagnostic, Place, key};
-use crate::check::format::push_subject;
 use crate::check::profile::{ProfilePart, ProfileWarning, code_of};
 use crate::findings::lines::{CallName, Example, Shown};
 use crate::findings::parts::name_of;
@@ -53,23 +52,6 @@ pub(crate) fn profile_diagnostics(
         diagnostics.push(diagnostic)?;
     }
     Ok(diagnostics)
-}
-
-/// A line for each, after this prefix.
-pub(crate) fn profile_lines(
-    alloc: Global,
-    front: &[u8],
-    diagnostics: &[Diagnostic],
-) -> Result<Vec<u8>, AllocError> {
-    let mut text = Vec::new(alloc);
-    for diagnostic in diagnostics {
-        text.extend_from_slice(front)?;
-        push_subject(&mut text, alloc, diagnostic)?;
-        let code = diagnostic.code.unwrap_or(Code::UnknownKey).name();
-        let said = &diagnostic.message;
-        text.extend_from_slice(format!(in alloc; ": warning [{code}]: {said}\n")?.as_bytes())?;
-    }
-    Ok(text)
 }
 
 // Where the line of a warning stands, which is the one at this place among all.
@@ -298,6 +280,12 @@ fn said_of_entries(code: Code) -> &'static str {
         }
         Code::HighHalfEvades => {
             "a caller evades it by setting a high bit, which the kernel ignores for arguments of 32 bits; write SCMP_CMP_MASKED_EQ with the mask 4294967295 for these"
+        }
+        Code::FlagEvades => {
+            "a caller evades it by one flag more, such as a close-on-exec flag; write SCMP_CMP_MASKED_EQ with a mask of the flags that count"
+        }
+        Code::SignedCompared => {
+            "the argument is signed, and a filter takes negative numbers for large ones; write SCMP_CMP_EQ or SCMP_CMP_NE, or a second condition that bounds it"
         }
         Code::CloneByClone3 => {
             "clone is denied or restricted, and clone3, whose flags no filter sees, is let through; deny clone3 with errno 38"

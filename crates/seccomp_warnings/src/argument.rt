@@ -1,0 +1,205 @@
+// What is so of the arguments of calls, by the manual pages of the calls (section 2).
+
+ghost use Rattle.std.specs.Prelude.{◌≡◌, ◌↔◌, IsFalse, IsTrue, map};
+ghost use Rattle.std.specs.List.{list_any};
+ghost use Rattle.std.specs.Str.{bytes_eq};
+ghost use Rattle.seccomp_warnings.specs.ActionWarnings.{Permits};
+ghost use Rattle.seccomp_warnings.specs.AnyArgument.{Decides, HoldsFor, condition_in};
+ghost use Rattle.seccomp_warnings.specs.Arguments as spec;
+
+use crate::action::permits;
+use crate::code::Code;
+use crate::condition::part_of;
+use crate::warning::{Actions, Comparison};
+use seccompiler::SeccompCmpOp;
+
+// The calls whose argument of this index is an address.
+fn pointer_calls(index: u8) -> &'static [&'static str]
+    ensures { map (λ n. n.now) result.now ≡ spec.pointer_calls index }
+{
+    if index == 0 {
+        &[
+            "open", "execve", "mount", "umount2", "chroot", "unlink", "rename", "symlink",
+        ]
+    } else if index == 1 {
+        &[
+            "openat", "execve", "execveat", "connect", "bind", "read", "write", "mount", "unlinkat",
+        ]
+    } else if index == 2 {
+        &["execve", "execveat", "mount"]
+    } else if index == 3 {
+        &["execveat"]
+    } else if index == 4 {
+        &["mount", "sendto"]
+    } else {
+        &[]
+    }
+}
+
+// The calls whose argument of this index is signed.
+fn signed_calls(index: u8) -> &'static [&'static str]
+    ensures { map (λ n. n.now) result.now ≡ spec.signed_calls index }
+{
+    if index == 0 {
+        &["kill", "tkill", "wait4", "openat", "prlimit64"]
+    } else if index == 1 {
+        &["lseek"]
+    } else if index == 2 {
+        &["setpriority", "poll"]
+    } else if index == 3 {
+        &["epoll_wait", "epoll_pwait"]
+    } else {
+        &[]
+    }
+}
+
+// The calls that take O_CLOEXEC, SOCK_CLOEXEC, in the argument of this index.
+fn close_on_exec_calls(index: u8) -> &'static [&'static str]
+    ensures { map (λ n. n.now) result.now ≡ spec.close_on_exec_calls index }
+{
+    if index == 1 {
+        &["open", "socket", "socketpair"]
+    } else if index == 2 {
+        &["openat"]
+    } else if index == 3 {
+        &["accept4"]
+    } else {
+        &[]
+    }
+}
+
+// The calls that take CLONE_FILES, or mount its MS_NOATIME, in the argument of this index.
+fn files_calls(index: u8) -> &'static [&'static str]
+    ensures { map (λ n. n.now) result.now ≡ spec.files_calls index }
+{
+    if index == 0 {
+        &["clone", "unshare"]
+    } else if index == 3 {
+        &["mount"]
+    } else {
+        &[]
+    }
+}
+
+// The calls that take PROT_READ in the argument of this index.
+fn read_calls(index: u8) -> &'static [&'static str]
+    ensures { map (λ n. n.now) result.now ≡ spec.read_calls index }
+{
+    if index == 2 {
+        &["mmap", "mprotect", "pkey_mprotect"]
+    } else {
+        &[]
+    }
+}
+
+// Whether the name is one of these.
+fn is_among(name: &str, names: &[&str]) -> bool
+    ensures { result ≡ list_any (bytes_eq name.now) (map (λ n. n.now) names.now) }
+{
+    for one in names {
+        if name == *one {
+            return true;
+        }
+    }
+    false
+}
+
+// A flag that a call takes in the argument of this index, and that changes nothing of what it is denied for; 0 if none is known.
+fn flag_of(name: &str, index: u8) -> u64
+    ensures { result ≡ spec.flag_of name.now index }
+{
+    if is_among(name, close_on_exec_calls(index)) {
+        0x8_0000
+    } else if is_among(name, files_calls(index)) {
+        0x400
+    } else if is_among(name, read_calls(index)) {
+        1
+    } else {
+        0
+    }
+}
+
+// Whether the condition holds for this value of its argument.
+fn holds_for(comparison: Comparison, argument: u64) -> bool
+    ensures { IsTrue result ↔ HoldsFor (condition_in comparison) argument }
+{
+    let argument = part_of(comparison.arg_len, argument);
+    let value = part_of(comparison.arg_len, comparison.value);
+    match comparison.operator {
+        SeccompCmpOp::Eq => argument == value,
+        SeccompCmpOp::Ne => argument != value,
+        SeccompCmpOp::Ge => argument >= value,
+        SeccompCmpOp::Gt => argument > value,
+        SeccompCmpOp::Le => argument <= value,
+        SeccompCmpOp::Lt => argument < value,
+        SeccompCmpOp::MaskedEq(mask) => {
+            let mask = part_of(comparison.arg_len, mask);
+            argument & mask == value & mask
+        }
+    }
+}
+
+// Whether the condition decides for letting a call through if its argument has this value.
+fn is_let_through(actions: Actions, comparison: Comparison, argument: u64) -> bool
+    ensures through { IsTrue result ↔ Decides Permits actions comparison argument }
+    ensures denied { IsFalse result ↔ Decides (λ action. Permits action → ⊥) actions comparison argument }
+{
+    if holds_for(comparison, argument) {
+        permits(actions.matching)
+    } else {
+        permits(actions.mismatch)
+    }
+}
+
+// Whether a caller gets past the condition by this flag.
+fn is_evaded_by(actions: Actions, comparison: Comparison, flag: u64) -> bool
+    ensures { IsTrue result ↔ spec.IsEvadedBy actions comparison flag }
+{
+    let value = comparison.value;
+    match value.checked_add(flag) {
+        Some(more) => {
+            value & flag == 0
+                && !is_let_through(actions, comparison, value)
+                && is_let_through(actions, comparison, more)
+        }
+        None => false,
+    }
+}
+
+// Whether a caller gets past the condition on an argument of this call by a flag.
+fn is_evaded(actions: Actions, name: &str, comparison: Comparison) -> bool
+    ensures { IsTrue result ↔ spec.IsFlagEvaded actions name.now comparison }
+{
+    let flag = flag_of(name, comparison.arg_index);
+    flag != 0 && is_evaded_by(actions, comparison, flag)
+}
+
+// Whether the operator asks for the order of numbers.
+fn is_order(operator: SeccompCmpOp) -> bool
+    ensures { IsTrue result ↔ spec.IsOrder operator }
+{
+    matches!(
+        operator,
+        SeccompCmpOp::Ge | SeccompCmpOp::Gt | SeccompCmpOp::Le | SeccompCmpOp::Lt
+    )
+}
+
+// Whether what a code says is so of a condition on an argument of this call, in a filter of these actions.
+pub(crate) fn is_so_of_call(
+    code: Code,
+    actions: Actions,
+    name: &str,
+    comparison: Comparison,
+) -> bool
+    ensures { IsTrue result ↔ spec.IsSoOfArgument code actions name.now comparison }
+{
+    let index = comparison.arg_index;
+    match code {
+        Code::FlagEvades => is_evaded(actions, name, comparison),
+        Code::PointerCompared => comparison.value != 0 && is_among(name, pointer_calls(index)),
+        Code::SignedCompared => {
+            is_order(comparison.operator) && is_among(name, signed_calls(index))
+        }
+        _ => false,
+    }
+}

@@ -135,7 +135,7 @@ WARNED = {
     "denies all": Shown(["denies-everything"] + ["kills-exit"] * 3, filter_of("trap", {"errno": 1}), []),
     "opens to write": Shown(["flag-evades"], denying(when("openat", (2, "dword", "eq", 1))), [
         ("openat 0 0 1", DENIED), ("openat 0 0 0x80001", NO_ADDRESS)]),
-    "opens to write, by the bits for that": Shown([], denying(when("openat", (2, "dword", {"masked_eq": 3}, 1))), [
+    "opens to write under a mask": Shown([], denying(when("openat", (2, "dword", {"masked_eq": 3}, 1))), [
         ("openat 0 0 1", DENIED), ("openat 0 0 0x80001", DENIED), ("openat 0 0 0x80002", NO_ADDRESS)]),
     "at an address": Shown(["pointer-compared"], denying(when("openat", (1, "qword", "eq", LOW + 2))), [
         (f"openat 0 {LOW + 2} 0", DENIED), (f"openat 0 {LOW + 3} 0", NO_ADDRESS)]),

@@ -73,7 +73,7 @@ ANSWERS = [
     (alternating, 4000, "explain FILE " + CALLS[1], 0, f"log: syscalls[2] of {CALLS[1]} (..", 1, ""),
     (conditioned, 2000, "compile -o program.bpf FILE", 0, "", 0, ""),
     (conditioned, 2000, f"explain program.bpf {FIRST} 250", 0, f"log: {FIRST} (..", 1, ""),
-    (conditioned, 2000, "check FILE", 0, "", 0, ""),
+    (conditioned, 2000, "check --allow pointer-compared FILE", 0, "", 0, ""),
     (conditioned, 4000, "compile FILE", 2, "", 0, TOO_LONG),
     (conditioned, 4000, "check FILE", 1, "", 0, TOO_LONG),
     (conditioned, 4000, f"explain FILE {FIRST} 3750", 0, f"log: syscalls[3751] of {FIRST} (..", 1, ""),

@@ -1,21 +1,24 @@
 -- For `SyscallTable::lookup`: what one comparison with the middle of a part of a table tells of the look-up in it.
 use Rattle.std.proofs.Common.{◌≡◌, ◌≢◌, ℕ, zero, suc, ◌+◌, ◌-◌, ◌*◌, ◌/◌, ◌^◌, ◌<◌, ◌≤◌, ℤ, pos, List, [], ◌∷◌, true, false, Option, Some}
 use Rattle.std.proofs.Common.{None, Ordering, Less, Equal, Greater, nat_cmp, length, ◌++◌, ◌⊎◌, take, drop, get_or, AllPairs, bytes_eq}
-use Rattle.std.proofs.Common.{if◌then◌else◌, inl, inr, refl, sym, ap, ◌∙◌, subst, arith}
+use Rattle.std.proofs.Common.{if◌then◌else◌, inl, inr, refl, sym, ap, ◌∙◌, subst, arith, Bool, nat_eq, w64}
+use mir.Val.{to_z, of_z}
 use Rattle.std.specs.Borrow.{Bor}
 use Rattle.std.specs.Cmp.Lexicographic.{slice_cmp}
 use Rattle.std.specs.Ordering.{is_eq}
 use Rattle.std.proofs.Math.Nat.{pow-succ'}
 use Rattle.std.proofs.Math.Seq.{drop-cons}
-use Rattle.std.proofs.lemmas.Bool.{cases_lt}
+use Rattle.std.proofs.lemmas.Bool.{cases_lt, eqb-false}
 use Rattle.std.proofs.lemmas.Cmp.{nat_list_cmp_total, tied_itself}
+use Rattle.std.proofs.lemmas.Int.{to_z-of_z, ints}
 use Rattle.std.proofs.lemmas.List.{take-append-drop, get_or-take, get_or-drop, get_or-map, take-map, drop-map, length-take-le, length-drop}
 use Rattle.std.proofs.lemmas.List.{length-map}
 use Rattle.std.proofs.lemmas.Map.Text.{is_eq-slice_cmp}
 use Rattle.std.proofs.lemmas.Nat.{pow_pos}
 use Rattle.std.proofs.lemmas.Slice.Eq.{bytes_eq-Decides}
 use Rattle.seccompiler.specs.SyscallTable.{Pair, IsCallTable, StandsBefore, number_of, pairs_of, ComesBefore, IsMiddle, HalvingCompares}
-use Rattle.seccompiler.specs.SyscallTable.{none_left, at_middle, before_middle, behind_middle}
+use Rattle.seccompiler.specs.SyscallTable.{none_left, at_middle, before_middle, behind_middle, IsTableNumber}
+use Rattle.seccompiler.proofs.TableNames.{found_among}
 
 -- These places of a table have other names.
 abbrev HasNot : List Pair → List ℕ → (ℕ → Type 0) → Type 0
@@ -187,17 +190,19 @@ pub record IsCompared (part : Slice) (name : List ℕ) (middle : ℕ) (answer : 
   pub half : middle ≡ length (pairs_of part) / 2
   pub order : (d : Pair) → slice_cmp nat_cmp name (get_or (pairs_of part) middle d).0 ≡ answer
 
--- the comparison, of a pair of the program
-pub compared_with : (part : Slice) (name : List ℕ) (e : Bor (List ℕ) × ℤ) (order : Ordering)
-    → 0 < length part → slice_cmp nat_cmp name (get_or part (length part / 2) e).0.now ≡ order
-    → IsCompared part name (length part / 2) order
-compared_with part name e order some is =
+-- the comparison, of a pair of the program, by the answers of its calls
+pub compared_with : (part : Slice) (name : List ℕ) {empty : Bool} {order answer : Ordering} → empty ≡ false → empty ≡ nat_eq (length part) 0
+    → order ≡ answer → order ≡ slice_cmp nat_cmp name (get_or part (length part / 2) nothing).0.now
+    → IsCompared part name (length part / 2) answer
+compared_with part name some tested is compared =
     let same : length (pairs_of part) ≡ length part = length-map part _ in
+    let other = eqb-false (length part) 0 (sym tested ∙ some) in
     let inside : length part / 2 < length part = omega arith in
     record {
       here = omega arith;
       half = rw same refl;
-      order = λ d. rw (get_or-map (λ (pair : Bor (List ℕ) × ℤ). (pair.0.now, pair.1)) part (length part / 2) e d inside) is;
+      order = λ d. rw (get_or-map (λ (pair : Bor (List ℕ) × ℤ). (pair.0.now, pair.1)) part (length part / 2) nothing d inside)
+          (sym compared ∙ is);
     }
 
 -- one half of a number less one is the other, or one less
@@ -217,6 +222,12 @@ middle_of pairs middle d here half =
       whole = sym (take-append-drop middle pairs) ∙ ap (λ behind. take middle pairs ++ behind) cut;
       halves = rw (front, back, half) (halves_of (length pairs) (omega (arith, here)));
     }
+
+-- one more comparison is one of nine
+pub counts_on : {table : List Pair} {name : List ℕ} {compared middle : ℕ} {part : Slice} {answer : Ordering}
+    → IsHalf table name compared (pairs_of part) → IsCompared part name middle answer → (1 ≤ compared + 1) × (compared + 1 ≤ 9)
+counts_on {compared = compared} {part = part} is at =
+    let below = below_nine compared (length (pairs_of part)) is.few (omega (arith, at.here)) is.most in (omega arith, omega (arith, below))
 
 -- what is left where the asked name comes before the middle one
 pub lower : (table : List Pair) (name : List ℕ) (compared middle : ℕ) (part : Slice)
@@ -272,15 +283,23 @@ number_of-there part name i e ascends within here =
     let d : Pair = ([], (get_or part i e).1) in
     number_of-at pairs name i d (omega arith) before (named d) ∙ ap (λ (pair : Pair). Some pair.1) (read d)
 
+-- a table's number, written and read back
+kept : (z : ℤ) → IsTableNumber z → to_z w64 (of_z w64 z) ≡ z
+kept z range = to_z-of_z w64 z (grind (arith, ints, range.0, range.1))
+
 -- the number where the asked name is the middle one
-pub found : (table : List Pair) (name : List ℕ) (compared middle : ℕ) (part : Slice) (e : Bor (List ℕ) × ℤ)
-    → IsHalf table name compared (pairs_of part) → middle < length part → IsCompared part name middle Equal
-    → number_of table name ≡ Some (get_or part middle e).1
-found table name compared middle part e is inside equal =
+pub found : (table : List Pair) (name : List ℕ) (compared middle : ℕ) (part : Slice) → IsCallTable table
+    → IsHalf table name compared (pairs_of part) → IsCompared part name middle Equal
+    → Some (to_z w64 (of_z w64 (get_or part middle nothing).1)) ≡ number_of table name
+found table name compared middle part table_is is equal =
     let d : Pair = ([], pos 0) in
-    let read = get_or-map (λ (pair : Bor (List ℕ) × ℤ). (pair.0.now, pair.1)) part middle e d inside in
+    let long : length (pairs_of part) ≡ length part = length-map part _ in
+    let inside : middle < length part = omega (arith, equal.here) in
+    let read = get_or-map (λ (pair : Bor (List ℕ) × ℤ). (pair.0.now, pair.1)) part middle nothing d inside in
     let named = sym (tied name (get_or (pairs_of part) middle d).0 (equal.order d)) in
-    sym is.same ∙ number_of-there part name middle e is.ascending inside (sym (ap (λ (pair : Pair). pair.0) read) ∙ named)
+    let number : Some (get_or part middle nothing).1 ≡ number_of table name =
+    sym (number_of-there part name middle nothing is.ascending inside (sym (ap (λ (pair : Pair). pair.0) read) ∙ named)) ∙ is.same in
+    ap Some (kept (get_or part middle nothing).1 (found_among IsTableNumber table name _ table_is.in_range number)) ∙ number
 
 -- an empty part is left where the table has no such name
 pub absent : (table : List Pair) (name : List ℕ) (compared : ℕ) (part : Slice) → IsHalf table name compared (pairs_of part)

@@ -167,7 +167,9 @@ impl SeccompCondition {
         ensures meets { IfOk result (λ code. IsConditionCode self.now offset code.items) }
         ensures memory { IsOkUnless result OutOfMemory }
     {
-        let mut code = vec![in alloc; return_word(0); self.code_len()]?;
+        let Ok(mut code) = vec![in alloc; return_word(0); self.code_len()] else {
+            return Err(BackendError::OutOfMemory);
+        };
         self.write(&mut code, offset);
         Ok(code)
     }

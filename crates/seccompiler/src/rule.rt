@@ -116,7 +116,9 @@ impl SeccompRule {
         if length == usize::MAX {
             return Err(BackendError::OutOfMemory);
         }
-        let mut code = vec![in alloc; return_word(0); length]?;
+        let Ok(mut code) = vec![in alloc; return_word(0); length] else {
+            return Err(BackendError::OutOfMemory);
+        };
         self.write(&mut code);
         Ok(code)
     }

@@ -5,5 +5,5 @@ use Rattle.seccompiler.proofs.rule.SeccompRule.to_bpf.Goals as goal
 
 pub returns-clause-code : goal.returns-clause-code
 returns-clause-code c =
-    let same = take_at c.write.new.part _ c.in_ok-code.code.len (omega (arith, c.write.auto.part, c.deref_mut.ensures.len)) in
+    let same = take_at c.write.new.part _ c.in-Ok.code.len (omega (arith, c.write.auto.part, c.deref_mut.ensures.len)) in
     subst (IsRuleCode c.args.self.now) (sym same) c.write.ensures.code

@@ -30,12 +30,13 @@ pub struct sock_filter {
 
 impl EqualByParts for sock_filter {
     ghost use Rattle.std.specs.Prelude.{◌≡◌};
-    ghost use Rattle.std.specs.Cmp.Rules.{comparing};
-    ghost use Rattle.std.proofs.Common.{rules};
+    ghost use Rattle.std.specs.Cmp.{unsigned_Decides};
+    ghost use Rattle.std.proofs.Common.{ap};
+    ghost use Rattle.std.proofs.lemmas.Bool.Decides.{Decides-and};
 
     ghost has_same_parts = { λ x y. x ≡ y };
 
-    ghost decides = { Prim.search (comparing, rules) };
+    ghost decides = { λ x y. let parts = Decides-and _ _ (unsigned_Decides x.code y.code) (Decides-and _ _ (unsigned_Decides x.jt y.jt) (Decides-and _ _ (unsigned_Decides x.jf y.jf) (unsigned_Decides x.k y.k))) in (λ same. let e = parts.0 same in λ i. record { code = e.0 i; jt = e.1.0 i; jf = e.1.1.0 i; k = e.1.1.1 i }, λ e. parts.1 (ap (λ s. s.code) e, (ap (λ s. s.jt) e, (ap (λ s. s.jf) e, ap (λ s. s.k) e)))) };
 }
 
 const _: () = prove!(size_of::<sock_filter>() == 8);

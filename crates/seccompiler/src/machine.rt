@@ -22,12 +22,13 @@ pub struct Outcome {
 
 impl EqualByParts for Outcome {
     ghost use Rattle.std.specs.Prelude.{◌≡◌};
-    ghost use Rattle.std.specs.Cmp.Rules.{comparing};
-    ghost use Rattle.std.proofs.Common.{rules};
+    ghost use Rattle.std.specs.Cmp.{unsigned_Decides};
+    ghost use Rattle.std.proofs.Common.{ap};
+    ghost use Rattle.std.proofs.lemmas.Bool.Decides.{Decides-and};
 
     ghost has_same_parts = { λ x y. x ≡ y };
 
-    ghost decides = { Prim.search (comparing, rules) };
+    ghost decides = { λ x y. let parts = Decides-and _ _ (unsigned_Decides x.word y.word) (unsigned_Decides x.steps y.steps) in (λ same. let e = parts.0 same in λ i. record { word = e.0 i; steps = e.1 i }, λ e. parts.1 (ap (λ o. o.word) e, ap (λ o. o.steps) e)) };
 }
 
 /// Says whether a program may be run.

@@ -1,4 +1,5 @@
 use Rattle.std.proofs.Common.{◌≡◌, ◌+◌, ◌<◌, All, length, refl, sym, ap, ◌∙◌, subst, arith}
+use Rattle.std.proofs.lemmas.Grind.{common_steps}
 use Rattle.std.proofs.lemmas.Bool.Decides.{nat_tests}
 use Rattle.seccompiler.specs.Architecture.{audit_word}
 use Rattle.seccompiler.specs.Code.{jump_equal, guard_code}
@@ -48,3 +49,9 @@ returns c =
     _ words some c.requires.compilable.short c.write_chains.ensures.code
     (written ∙ cc (c.load_word.ensures.instruction, c.from.ensures, c.return_word-2.ensures.instruction)) in
     record { compiled = compiled }
+
+pub slice_bounds-write_chains-count : goal.slice_bounds-write_chains-count
+slice_bounds-write_chains-count c = grind (arith, common_steps)
+
+pub slice_bounds-write_chains-start : goal.slice_bounds-write_chains-start
+slice_bounds-write_chains-start c = grind (arith, common_steps)

@@ -91,7 +91,10 @@ impl TargetArch {
         } else if text.eq_ignore_ascii_case("riscv64") {
             Ok(TargetArch::riscv64)
         } else {
-            Err(BackendError::InvalidTargetArch(String::from_str(alloc, text)?))
+            match String::from_str(alloc, text) {
+                Ok(text) => Err(BackendError::InvalidTargetArch(text)),
+                Err(_) => Err(BackendError::OutOfMemory),
+            }
         }
     }
 
@@ -337,7 +340,10 @@ pub fn build_arch_validation_sequence(
     ensures code { IfOk result (λ code. code.items ≡ guard_code (audit_word arch)) }
     ensures memory { IsOkUnless result OutOfMemory }
 {
-    Ok(arch_guard(arch).to_vec(alloc)?)
+    match arch_guard(arch).to_vec(alloc) {
+        Ok(code) => Ok(code),
+        Err(_) => Err(BackendError::OutOfMemory),
+    }
 }
 
 // How many instructions begin each program.

@@ -60,7 +60,10 @@ impl SeccompFilter {
         ensures compilable { OnOk result (IsCompilable self.now) }
         ensures refused { IfErr result (IsRefusal self.now) }
     {
-        let mut program = vec![in alloc; return_word(0); self.compiled_len()?]?;
+        let length = self.compiled_len()?;
+        let Ok(mut program) = vec![in alloc; return_word(0); length] else {
+            return Err(BackendError::OutOfMemory);
+        };
         self.write(&mut program);
         Ok(program)
     }

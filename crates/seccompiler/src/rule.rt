@@ -74,8 +74,10 @@ impl SeccompRule {
         ensures same { IfOk result (λ rule. rule ≡ self.now) }
         ensures memory { IsOkUnless result OutOfMemory }
     {
-        let conditions = self.conditions.as_slice().to_vec(alloc)?;
-        Ok(SeccompRule { conditions })
+        match self.conditions.as_slice().to_vec(alloc) {
+            Ok(conditions) => Ok(SeccompRule { conditions }),
+            Err(_) => Err(BackendError::OutOfMemory),
+        }
     }
 
     /// The conditions, in the order in which they were given.

@@ -1,7 +1,7 @@
 -- For `check` and `run`: what the checker shows of a program, instruction by instruction.
-use Rattle.std.proofs.Common.{◌≡◌, ℕ, ◌+◌, ◌-◌, ◌<◌, ◌≤◌, List, length, get_or, Some, subst, below_more, IsTrue, nat_eq, eq-eqb, ap, sym}
+use Rattle.std.proofs.Common.{◌≡◌, ℕ, ◌+◌, ◌-◌, ◌<◌, ◌≤◌, List, length, get_or, Some, subst, below_more, Bool, false, nat_eq, ap, sym}
 use Rattle.std.proofs.Common.{◌∙◌, arith, ⊎_elim}
-use Rattle.std.proofs.lemmas.Bool.{eqb-true, cases_lt}
+use Rattle.std.proofs.lemmas.Bool.{eqb-false, cases_lt}
 use Rattle.std.specs.Prelude.{slice_get}
 use Rattle.std.proofs.lemmas.Option.{get_or_from_slice_get, slice_get-get_or, slice_get_within}
 use Rattle.seccompiler.specs.declared.bpf.sock_filter.{sock_filter}
@@ -15,22 +15,23 @@ one_more P p j default below here =
     below_more (λ place. (i : sock_filter) → slice_get p place ≡ Some i → P place i) j below
     (λ i found. subst (P j) (get_or_from_slice_get p j i default found) here)
 
+-- A program that isn't empty has an instruction.
+pub not_empty : (p : List sock_filter) {empty : Bool} → empty ≡ nat_eq (length p) 0 → empty ≡ false → 1 ≤ length p
+not_empty p tested some = omega (arith, eqb-false (length p) 0 (sym tested ∙ some))
+
 -- A program of one fine instruction to the greatest length is checked exactly if the last of them returns.
-pub checked_if : (p : List sock_filter) (j : ℕ) (default : sock_filter) → 0 < length p → length p ≤ greatest_length → length p ≤ j
+pub checked_if : (p : List sock_filter) (j : ℕ) (default : sock_filter) → 1 ≤ length p → j ≤ greatest_length → length p ≤ j
     → ((place : ℕ) → place < j → (i : sock_filter) → slice_get p place ≡ Some i → IsFine i place (length p) × IsInRange i)
-    → (IsTrue (nat_eq (get_or p (length p - 1) default).code 6) → IsChecked p)
-    × (IsChecked p → IsTrue (nat_eq (get_or p (length p - 1) default).code 6))
+    → ((get_or p (length p - 1) default).code ≡ 6 → IsChecked p) × (IsChecked p → (get_or p (length p - 1) default).code ≡ 6)
 checked_if p j default some few all_passed passed = (
   λ returns. record {
-    some = omega arith;
-    few = few;
+    some = some;
+    few = omega arith;
     ranges = record { each = λ place i found. let within = slice_get_within p place i found in (passed place (omega arith) i found).1 };
     each = λ place i found. let within = slice_get_within p place i found in (passed place (omega arith) i found).0;
-    last = λ i found. ap (λ (x : sock_filter). x.code) (sym (get_or_from_slice_get p (length p - 1) i default found))
-        ∙ eqb-true _ 6 returns;
+    last = λ i found. ap (λ (x : sock_filter). x.code) (sym (get_or_from_slice_get p (length p - 1) i default found)) ∙ returns;
   },
-  λ checked. eq-eqb _ 6 (checked.last _ (let within : length p - 1 < length p = omega arith in
-      slice_get-get_or p (length p - 1) default within)),
+  λ checked. checked.last _ (let within : length p - 1 < length p = omega arith in slice_get-get_or p (length p - 1) default within),
 )
 
 -- An instruction of a checked program that does not return is not the last.

@@ -1,10 +1,9 @@
-use Rattle.std.proofs.Common.{◌≡◌, ◌-◌, ◌+◌, ◌<◌, ◌≤◌, length, refl, sym, ◌∙◌, arith, eqb-true, eq-eqb}
-use Rattle.std.proofs.lemmas.Bool.Decides.{nat_tests}
+use Rattle.std.proofs.Common.{◌-◌, length, refl, sym, ◌∙◌, arith}
 use Rattle.std.proofs.lemmas.Bool.{false≢true, true≢false}
 use Rattle.std.proofs.lemmas.Option.{slice_get-get_or}
-use Rattle.seccompiler.specs.Machine.{greatest_length, IsFine, IsInRange}
+use Rattle.seccompiler.specs.Machine.{IsFine, IsInRange}
 use Rattle.seccompiler.specs.FirstUnfit.{not_fine, no_return}
-use Rattle.seccompiler.proofs.machine.CheckedLemmas.{one_more, checked_if}
+use Rattle.seccompiler.proofs.machine.CheckedLemmas.{one_more, not_empty, checked_if}
 use Rattle.seccompiler.proofs.machine.first_unfit.Goals as goal
 
 pub returns-then-not-is_fine-clause-unfit : goal.returns-then-not-is_fine-clause-unfit
@@ -31,29 +30,25 @@ loop-place-preserved c = record {
 
 pub returns-then-prog-eq-RETURN-clause-checked : goal.returns-then-prog-eq-RETURN-clause-checked
 returns-then-prog-eq-RETURN-clause-checked c =
-    let some : 0 < length c.args.prog.now = grind (arith, nat_tests) in
-    let few : length c.args.prog.now ≤ greatest_length = omega (arith, c.loop-place.invariant.few, c.loop-place-test.false) in
-    let whole = checked_if c.args.prog.now c.loop-place.place _ some few c.loop-place-test.false c.loop-place.invariant.each in (
-      λ _. whole.0 (eq-eqb _ 6 c.if-prog-eq-RETURN.true),
-      λ _. refl,
-    )
+    let whole = checked_if c.args.prog.now c.loop-place.place _ (not_empty _ c.is_empty.ensures c.if-is_empty.false)
+    c.loop-place.invariant.few c.loop-place-test.false c.loop-place.invariant.each in
+    (λ _. whole.0 c.if-prog-eq-RETURN.true, λ _. refl)
+
+pub overflow_sub-result : goal.overflow_sub-result
+overflow_sub-result c = not_empty _ c.is_empty.ensures c.if-is_empty.false
 
 pub returns-else-prog-eq-RETURN-clause-unfit : goal.returns-else-prog-eq-RETURN-clause-unfit
 returns-else-prog-eq-RETURN-clause-unfit c =
-    let some : 0 < length c.args.prog.now = grind (arith, nat_tests) in
-    let last : length c.args.prog.now - 1 < length c.args.prog.now = omega arith in
-    let end : length c.args.prog.now - 1 + 1 ≡ length c.args.prog.now = omega arith in
+    let some = overflow_sub-result c in
     record {
       few = omega (arith, c.loop-place.invariant.few, c.loop-place-test.false);
       before = λ earlier i below found. (c.loop-place.invariant.each earlier (omega (arith, below, c.loop-place-test.false)) i found).0;
-      unfit = no_return _ (slice_get-get_or c.args.prog.now (length c.args.prog.now - 1) _ last) end c.if-prog-eq-RETURN.false;
+      unfit = no_return _ (slice_get-get_or c.args.prog.now (length c.args.prog.now - 1) _ (omega (arith, some)))
+          (omega (arith, some)) c.if-prog-eq-RETURN.false;
     }
 
 pub returns-else-prog-eq-RETURN-clause-checked : goal.returns-else-prog-eq-RETURN-clause-checked
 returns-else-prog-eq-RETURN-clause-checked c =
-    let some : 0 < length c.args.prog.now = grind (arith, nat_tests) in
-    let few : length c.args.prog.now ≤ greatest_length = omega (arith, c.loop-place.invariant.few, c.loop-place-test.false) in
-    let whole = checked_if c.args.prog.now c.loop-place.place _ some few c.loop-place-test.false c.loop-place.invariant.each in (
-      λ e. absurd (true≢false e),
-      λ checked. absurd (c.if-prog-eq-RETURN.false (eqb-true _ 6 (whole.1 checked))),
-    )
+    let whole = checked_if c.args.prog.now c.loop-place.place _ (overflow_sub-result c)
+    c.loop-place.invariant.few c.loop-place-test.false c.loop-place.invariant.each in
+    (λ e. absurd (true≢false e), λ checked. absurd (c.if-prog-eq-RETURN.false (whole.1 checked)))

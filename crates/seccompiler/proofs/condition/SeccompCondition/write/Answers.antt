@@ -1,17 +1,12 @@
-use Rattle.std.proofs.Common.{rules}
+use Rattle.std.proofs.Common.{◌≡◌, rules}
+use Rattle.seccompiler.specs.ConditionCode.{condition_code}
 use Rattle.seccompiler.proofs.condition.ConditionCode.{written_meets}
 use Rattle.seccompiler.proofs.condition.SeccompCondition.write.Goals as goal
 
-pub returns-in-Dword-clause-code : goal.returns-in-Dword-clause-code
-returns-in-Dword-clause-code c = search rules
+pub returns-in-Dword : goal.returns-in-Dword
+returns-in-Dword c = let code : c.write_dword.new.part ≡ condition_code c.args.self.now c.args.offset = search rules in
+    record { code = code; meets = written_meets c.self.view_is c.self.invariant.0 code c.write_dword.ensures.ranges }
 
-pub returns-in-Dword-clause-meets : goal.returns-in-Dword-clause-meets
-returns-in-Dword-clause-meets c =
-    written_meets c.self.view_is c.self.invariant.0 (returns-in-Dword-clause-code c) c.write_dword.ensures.ranges
-
-pub returns-in-Qword-clause-code : goal.returns-in-Qword-clause-code
-returns-in-Qword-clause-code c = search rules
-
-pub returns-in-Qword-clause-meets : goal.returns-in-Qword-clause-meets
-returns-in-Qword-clause-meets c =
-    written_meets c.self.view_is c.self.invariant.0 (returns-in-Qword-clause-code c) c.write_qword.ensures.ranges
+pub returns-in-Qword : goal.returns-in-Qword
+returns-in-Qword c = let code : c.write_qword.new.part ≡ condition_code c.args.self.now c.args.offset = search rules in
+    record { code = code; meets = written_meets c.self.view_is c.self.invariant.0 code c.write_qword.ensures.ranges }

@@ -1,3 +1,2 @@
--- Lemmas for the functions of `chain`.
 pub mod RulesCode
 pub mod CallNumbers

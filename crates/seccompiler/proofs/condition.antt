@@ -1,3 +1,2 @@
--- Lemmas for the functions of `condition`.
 pub mod Comparisons
 pub mod ConditionCode

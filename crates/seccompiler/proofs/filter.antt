@@ -1,4 +1,3 @@
--- Lemmas for the functions of `filter`.
 pub mod Chains
 pub mod FilterEquality
 pub mod Reordering

@@ -1,2 +1,1 @@
--- Lemmas for the functions of `machine`.
 pub mod CheckedLemmas

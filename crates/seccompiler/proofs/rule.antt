@@ -1,4 +1,3 @@
--- Lemmas for the functions of `rule`.
 pub mod GroupCuts
 pub mod RuleCode
 pub mod RelayCount

@@ -1,3 +1,2 @@
--- Lemmas for the functions of `syscall_table`.
 pub mod Halving
 pub mod HalvingOnly

@@ -16,29 +16,25 @@ loop-part-init c =
     let same = c.pairs-part.ensures in
     record { half = rw same (whole table c.args.name.now is); short = as_short table c.pairs-part.result.now is.short same }
 
-pub returns-in-Equal-clause-number : goal.returns-in-Equal-clause-number
-returns-in-Equal-clause-number c = found (table_of c.args.self.now) c.args.name.now c.loop-part.compared _ c.loop-part.part.now
-    (is_call_table c.args.self.now) c.loop-part.invariant.half
-    (compared_with c.loop-part.part.now c.args.name.now c.loop-part-test.true c.is_empty.ensures c.in-Equal.is c.cmp.ensures)
-
-pub returns-in-Equal-clause-found : goal.returns-in-Equal-clause-found
-returns-in-Equal-clause-found c = found_first (table_of c.args.self.now) c.args.name.now _ (returns-in-Equal-clause-number c)
-
-pub returns-in-Equal-clause-in_range : goal.returns-in-Equal-clause-in_range
-returns-in-Equal-clause-in_range c = found_among IsTableNumber (table_of c.args.self.now) c.args.name.now _
-    (is_call_table c.args.self.now).in_range (returns-in-Equal-clause-number c)
-
-pub returns-in-Equal-clause-compared : goal.returns-in-Equal-clause-compared
-returns-in-Equal-clause-compared c =
-    counted_here (table_of c.args.self.now) c.args.name.now c.loop-part.compared _ c.loop-part.part.now c.loop-part.invariant.half
-    (compared_with c.loop-part.part.now c.args.name.now c.loop-part-test.true c.is_empty.ensures c.in-Equal.is c.cmp.ensures)
-
-pub returns-in-Equal-clause-only : goal.returns-in-Equal-clause-only
-returns-in-Equal-clause-only c n compares = compares_only c.args.name.now compares (returns-in-Equal-clause-compared c) refl
-
-pub returns-in-Equal-clause-few : goal.returns-in-Equal-clause-few
-returns-in-Equal-clause-few c = counts_on c.loop-part.invariant.half
-    (compared_with c.loop-part.part.now c.args.name.now c.loop-part-test.true c.is_empty.ensures c.in-Equal.is c.cmp.ensures)
+pub returns-in-Equal : goal.returns-in-Equal
+returns-in-Equal c =
+    let table = table_of c.args.self.now in
+    let name = c.args.name.now in
+    let is = is_call_table c.args.self.now in
+    let half = c.loop-part.invariant.half in
+    let with_middle = compared_with c.loop-part.part.now name c.loop-part-test.true c.is_empty.ensures c.in-Equal.is c.cmp.ensures in
+    let number = found table name c.loop-part.compared _ c.loop-part.part.now is half with_middle in
+    let compared = counted_here table name c.loop-part.compared _ c.loop-part.part.now half with_middle in
+    record {
+      number = number;
+      found = found_first table name _ number;
+      not_found = tt;
+      in_range = found_among IsTableNumber table name _ is.in_range number;
+      compared = compared;
+      only = λ n compares. compares_only name compares compared refl;
+      few = counts_on half with_middle;
+      missed = tt;
+    }
 
 pub loop-part-preserved-in-Less : goal.loop-part-preserved-in-Less
 loop-part-preserved-in-Less c = record {
@@ -60,23 +56,22 @@ loop-part-preserved c =
       short = omega (arith, long, ap length whole);
     }
 
-pub returns-clause-number : goal.returns-clause-number
-returns-clause-number c = absent (table_of c.args.self.now) c.args.name.now c.loop-part.compared c.loop-part.part.now
-    c.loop-part.invariant.half (eqb-true _ 0 (sym c.is_empty.ensures ∙ c.loop-part-test.false))
-
-pub returns-clause-not_found : goal.returns-clause-not_found
-returns-clause-not_found c = found_nowhere (table_of c.args.self.now) c.args.name.now (returns-clause-number c)
-
-pub returns-clause-missed : goal.returns-clause-missed
-returns-clause-missed c = missed (table_of c.args.self.now) c.args.name.now c.loop-part.compared
-    c.loop-part.part.now c.loop-part.invariant.half (eqb-true _ 0 (sym c.is_empty.ensures ∙ c.loop-part-test.false))
-
-pub returns-clause-compared : goal.returns-clause-compared
-returns-clause-compared c = counted_all (table_of c.args.self.now) c.args.name.now c.loop-part.compared
-    c.loop-part.part.now c.loop-part.invariant.half (eqb-true _ 0 (sym c.is_empty.ensures ∙ c.loop-part-test.false))
-
-pub returns-clause-only : goal.returns-clause-only
-returns-clause-only c n compares = compares_only c.args.name.now compares (returns-clause-compared c) refl
-
-pub returns-clause-few : goal.returns-clause-few
-returns-clause-few c = (omega (arith, returns-clause-missed c), c.loop-part.invariant.half.few)
+pub returns : goal.returns
+returns c =
+    let table = table_of c.args.self.now in
+    let name = c.args.name.now in
+    let half = c.loop-part.invariant.half in
+    let none = eqb-true (length c.loop-part.part.now) 0 (sym c.is_empty.ensures ∙ c.loop-part-test.false) in
+    let number = absent table name c.loop-part.compared c.loop-part.part.now half none in
+    let many = missed table name c.loop-part.compared c.loop-part.part.now half none in
+    let compared = counted_all table name c.loop-part.compared c.loop-part.part.now half none in
+    record {
+      number = number;
+      found = tt;
+      not_found = found_nowhere table name number;
+      in_range = tt;
+      compared = compared;
+      only = λ n compares. compares_only name compares compared refl;
+      few = (omega (arith, many), half.few);
+      missed = many;
+    }

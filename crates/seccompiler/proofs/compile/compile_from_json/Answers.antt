@@ -16,21 +16,19 @@ returns-in_err-text-clause-fault g c =
     rw (p.1, p.2) (reads_some (g.R.Read.remaining c.args.reader) _
     (λ text. told_by_frontend c.args.arch text c.in_err-text.field-0.0 (c.in_err-text.ensures.fault c.args.arch text)))
 
-pub returns-clause-programs : goal.returns-clause-programs
-returns-clause-programs g c =
+pub returns : goal.returns
+returns g c =
     let found = c.in_ok-programs.programs in
     let m = c.in_ok-collect.field-0 in
     let made : IsFromIterResult string_eq found.entries m = search rules in
     let same = rehashed found m c.into_iter.ensures.into_iter_gives.5 made in
     let are = rw c.as_slice.ensures.value at c.in_ok-programs.ensures.programs in
-    reads_this (g.R.Read.remaining c.args.reader) _ _ c.in_ok-text.ensures.text
-    (subst (λ (find : List ℕ → Option (Vec sock_filter Global)). OfValue c.in_ok-text.text.items (AreProgramsOf c.args.arch find))
-    (λ i name. sym (same name) i) are)
-
-pub returns-clause-checked : goal.returns-clause-checked
-returns-clause-checked g c = λ name.
-    let found = c.in_ok-programs.programs in
-    let m = c.in_ok-collect.field-0 in
-    let made : IsFromIterResult string_eq found.entries m = search rules in
-    subst (λ (o : Option (Vec sock_filter Global)). IfSome o (λ program. IsChecked program.items))
-    (sym (rehashed found m c.into_iter.ensures.into_iter_gives.5 made name)) (c.in_ok-programs.ensures.checked name)
+    record {
+      programs = reads_this (g.R.Read.remaining c.args.reader) _ _ c.in_ok-text.ensures.text
+          (subst (λ (find : List ℕ → Option (Vec sock_filter Global)). OfValue c.in_ok-text.text.items (AreProgramsOf c.args.arch find))
+          (λ i name. sym (same name) i) are);
+      checked = λ name. subst (λ (o : Option (Vec sock_filter Global)). IfSome o (λ program. IsChecked program.items))
+          (sym (same name)) (c.in_ok-programs.ensures.checked name);
+      fault = tt;
+      memory = tt;
+    }

@@ -1,6 +1,6 @@
 use Rattle.std.proofs.Common.{◌≡◌, ◌+◌, ◌-◌, add-one, arith, slice_index_or, refl}
 use Rattle.std.proofs.lemmas.Option.{slice_get-get_or}
-use Rattle.seccompiler.specs.Machine.{stays, then_step}
+use Rattle.seccompiler.specs.Machine.{Ends, stays, then_step}
 use Rattle.seccompiler.proofs.machine.CheckedLemmas.{not_last}
 use Rattle.seccompiler.proofs.Determinism.{ends_only}
 use Rattle.seccompiler.proofs.machine.run.Goals as goal
@@ -29,17 +29,21 @@ loop-place-preserved c = record {
   fits = c.step.ensures.fits;
 }
 
-pub returns-clause-ends : goal.returns-clause-ends
-returns-clause-ends c = record {
-  place = c.loop-place.place;
-  accumulator = c.loop-place.accumulator;
-  instruction = slice_index_or c.args.prog.now c.loop-place.place _;
-  some = omega arith;
-  goes = let steps : c.loop-place.steps + 1 - 1 ≡ c.loop-place.steps = omega arith in rw steps c.loop-place.invariant.goes;
-  here = slice_get-get_or c.args.prog.now c.loop-place.place _ c.loop-place.invariant.within;
-  returns = c.loop-place-test.false;
-  value = refl;
-}
-
-pub returns-clause-only : goal.returns-clause-only
-returns-clause-only c = λ n w other. ends_only c.args.prog.now c.args.call.now other (returns-clause-ends c)
+pub returns : goal.returns
+returns c =
+    let steps : c.loop-place.steps + 1 - 1 ≡ c.loop-place.steps = omega arith in
+    let ends : Ends c.args.prog.now c.args.call.now (c.loop-place.steps + 1) _ = record {
+      place = c.loop-place.place;
+      accumulator = c.loop-place.accumulator;
+      instruction = slice_index_or c.args.prog.now c.loop-place.place _;
+      some = omega arith;
+      goes = rw steps c.loop-place.invariant.goes;
+      here = slice_get-get_or c.args.prog.now c.loop-place.place _ c.loop-place.invariant.within;
+      returns = c.loop-place-test.false;
+      value = refl;
+    } in
+    record {
+      ends = ends;
+      steps = omega (arith, c.loop-place.invariant.few);
+      only = λ n w other. ends_only c.args.prog.now c.args.call.now other ends;
+    }

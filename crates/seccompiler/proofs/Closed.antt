@@ -73,9 +73,6 @@ range_at (x ∷ is) (suc k) i h e = range_at is k i h.1 e
 pub ranges_from : (is : List sock_filter) → EachInRange is → AreInRange is
 ranges_from is h = record { each = λ k i e. range_at is k i h e }
 
-pub ranges_of : {is code : List sock_filter} → code ≡ is → EachInRange is → AreInRange code
-ranges_of {is} same h = subst AreInRange (sym same) (ranges_from is h)
-
 -- the range of a jump
 pub jump_in_range : (k : ℕ) → k < 2 ^ 32 → IsInRange (jump k)
 jump_in_range k h = record { code = omega arith; jt = omega arith; jf = omega arith; k = h }

@@ -143,7 +143,7 @@ enough (suc k) n half many halved =
     rw below (omega arith)
 
 -- a part that isn't empty is left by fewer than nine comparisons
-below_nine : (compared n : ℕ) → compared ≤ 9 → 0 < n → n < 2 ^ (9 - compared) → compared < 9
+pub below_nine : (compared n : ℕ) → compared ≤ 9 → 0 < n → n < 2 ^ (9 - compared) → compared < 9
 below_nine compared n few some most = elim (cases_lt compared 9) [
   | inl below ↦ below
   | inr from ↦
@@ -173,12 +173,6 @@ halved table name compared part half is some same ascends most least counts = re
 -- A part as the program holds it, its names behind references.
 abbrev Slice : Type 0
 Slice = List (Bor (List ℕ) × ℤ)
-
--- a table is as short as its slice
-pub as_short : (table : List Pair) (part : Slice) → length table < 512 → pairs_of part ≡ table → length part < 512
-as_short table part short same =
-    let long : length (pairs_of part) ≡ length part = length-map part _ in
-    omega (arith, ap length same)
 
 -- what a read past the end would give
 abbrev pub nothing : Bor (List ℕ) × ℤ
@@ -222,12 +216,6 @@ middle_of pairs middle d here half =
       whole = sym (take-append-drop middle pairs) ∙ ap (λ behind. take middle pairs ++ behind) cut;
       halves = rw (front, back, half) (halves_of (length pairs) (omega (arith, here)));
     }
-
--- one more comparison is one of nine
-pub counts_on : {table : List Pair} {name : List ℕ} {compared middle : ℕ} {part : Slice} {answer : Ordering}
-    → IsHalf table name compared (pairs_of part) → IsCompared part name middle answer → (1 ≤ compared + 1) × (compared + 1 ≤ 9)
-counts_on {compared = compared} {part = part} is at =
-    let below = below_nine compared (length (pairs_of part)) is.few (omega (arith, at.here)) is.most in (omega arith, omega (arith, below))
 
 -- what is left where the asked name comes before the middle one
 pub lower : (table : List Pair) (name : List ℕ) (compared middle : ℕ) (part : Slice)
@@ -283,10 +271,6 @@ number_of-there part name i e ascends within here =
     let d : Pair = ([], (get_or part i e).1) in
     number_of-at pairs name i d (omega arith) before (named d) ∙ ap (λ (pair : Pair). Some pair.1) (read d)
 
--- a table's number, written and read back
-kept : (z : ℤ) → IsTableNumber z → to_z w64 (of_z w64 z) ≡ z
-kept z range = to_z-of_z w64 z (grind (arith, ints, range.0, range.1))
-
 -- the number where the asked name is the middle one
 pub found : (table : List Pair) (name : List ℕ) (compared middle : ℕ) (part : Slice) → IsCallTable table
     → IsHalf table name compared (pairs_of part) → IsCompared part name middle Equal
@@ -299,7 +283,8 @@ found table name compared middle part table_is is equal =
     let named = sym (tied name (get_or (pairs_of part) middle d).0 (equal.order d)) in
     let number : Some (get_or part middle nothing).1 ≡ number_of table name =
     sym (number_of-there part name middle nothing is.ascending inside (sym (ap (λ (pair : Pair). pair.0) read) ∙ named)) ∙ is.same in
-    ap Some (kept (get_or part middle nothing).1 (found_among IsTableNumber table name _ table_is.in_range number)) ∙ number
+    let range = found_among IsTableNumber table name (get_or part middle nothing).1 table_is.in_range number in
+    ap Some (to_z-of_z w64 (get_or part middle nothing).1 (grind (arith, ints, range.0, range.1))) ∙ number
 
 -- an empty part is left where the table has no such name
 pub absent : (table : List Pair) (name : List ℕ) (compared : ℕ) (part : Slice) → IsHalf table name compared (pairs_of part)

@@ -1,11 +1,11 @@
 use Rattle.std.proofs.Common.{◌≡◌, ◌+◌, ◌-◌, ◌/◌, length, take, drop, eqb-true, refl, sym, ◌∙◌, ap, subst, arith}
-use Rattle.std.proofs.lemmas.List.{take_all, length-take, length-drop}
+use Rattle.std.proofs.lemmas.List.{take_all, length-take, length-drop, length-map}
 use Rattle.seccompiler.specs.Architecture.{table_of}
 use Rattle.seccompiler.specs.SyscallTable.{IsTableNumber, pairs_of}
 use Rattle.seccompiler.proofs.TableFacts.{is_call_table}
 use Rattle.seccompiler.proofs.TableNames.{found_first, found_among, found_nowhere}
-use Rattle.seccompiler.proofs.syscall_table.Halving.{IsHalf, lower, upper, found, missed, absent, whole, as_short, compared_with}
-use Rattle.seccompiler.proofs.syscall_table.Halving.{counted_here, counted_all, counts_on}
+use Rattle.seccompiler.proofs.syscall_table.Halving.{IsHalf, lower, upper, found, missed, absent, whole, compared_with}
+use Rattle.seccompiler.proofs.syscall_table.Halving.{counted_here, counted_all, below_nine}
 use Rattle.seccompiler.proofs.syscall_table.HalvingOnly.{compares_only}
 use Rattle.seccompiler.proofs.syscall_table.SyscallTable.lookup.Goals as goal
 
@@ -14,7 +14,8 @@ loop-part-init c =
     let table = table_of c.args.self.now in
     let is = is_call_table c.args.self.now in
     let same = c.pairs-part.ensures in
-    record { half = rw same (whole table c.args.name.now is); short = as_short table c.pairs-part.result.now is.short same }
+    let long : length (pairs_of c.pairs-part.result.now) ≡ length c.pairs-part.result.now = length-map c.pairs-part.result.now _ in
+    record { half = rw same (whole table c.args.name.now is); short = omega (arith, is.short, ap length same) }
 
 pub returns-in-Equal : goal.returns-in-Equal
 returns-in-Equal c =
@@ -32,7 +33,7 @@ returns-in-Equal c =
       in_range = found_among IsTableNumber table name _ is.in_range number;
       compared = compared;
       only = λ n compares. compares_only name compares compared refl;
-      few = counts_on half with_middle;
+      few = (omega arith, omega (arith, below_nine c.loop-part.compared _ half.few (omega (arith, with_middle.here)) half.most));
       missed = tt;
     }
 

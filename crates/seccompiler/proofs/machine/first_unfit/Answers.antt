@@ -34,12 +34,9 @@ returns-then-prog-eq-RETURN-clause-checked c =
     c.loop-place.invariant.few c.loop-place-test.false c.loop-place.invariant.each in
     (λ _. whole.0 c.if-prog-eq-RETURN.true, λ _. refl)
 
-pub overflow_sub-result : goal.overflow_sub-result
-overflow_sub-result c = not_empty _ c.is_empty.ensures c.if-is_empty.false
-
 pub returns-else-prog-eq-RETURN-clause-unfit : goal.returns-else-prog-eq-RETURN-clause-unfit
 returns-else-prog-eq-RETURN-clause-unfit c =
-    let some = overflow_sub-result c in
+    let some = not_empty c.args.prog.now c.is_empty.ensures c.if-is_empty.false in
     record {
       few = omega (arith, c.loop-place.invariant.few, c.loop-place-test.false);
       before = λ earlier i below found. (c.loop-place.invariant.each earlier (omega (arith, below, c.loop-place-test.false)) i found).0;
@@ -49,6 +46,6 @@ returns-else-prog-eq-RETURN-clause-unfit c =
 
 pub returns-else-prog-eq-RETURN-clause-checked : goal.returns-else-prog-eq-RETURN-clause-checked
 returns-else-prog-eq-RETURN-clause-checked c =
-    let whole = checked_if c.args.prog.now c.loop-place.place _ (overflow_sub-result c)
+    let whole = checked_if c.args.prog.now c.loop-place.place _ (not_empty _ c.is_empty.ensures c.if-is_empty.false)
     c.loop-place.invariant.few c.loop-place-test.false c.loop-place.invariant.each in
     (λ e. absurd (true≢false e), λ checked. absurd (c.if-prog-eq-RETURN.false (whole.1 checked)))

@@ -2,23 +2,29 @@ use Rattle.std.proofs.Common.{◌++◌, codes, rules, refl}
 use Rattle.std.proofs.Output.{has_written_append}
 use Rattle.seccompiler.proofs.error.ErrorDisplay.fmt.Goals as goal
 
-pub returns-in-Backend-clause-text : goal.returns-in-Backend-clause-text
-returns-in-Backend-clause-text g c plain ok = rw c.in-Backend.is (_, refl, c.write.ensures.writes plain ok)
+pub returns-in-Backend : goal.returns-in-Backend
+returns-in-Backend g c = let writes = c.write.ensures.writes in
+    record { writes = rw c.in-Backend.is writes; text = λ plain ok. rw c.in-Backend.is (_, refl, writes plain ok) }
 
-pub returns-in-EmptyFilter-clause-text : goal.returns-in-EmptyFilter-clause-text
-returns-in-EmptyFilter-clause-text g c plain ok = rw c.in-EmptyFilter.is (_, refl, c.write_str.ensures.writes plain ok)
+pub returns-in-EmptyFilter : goal.returns-in-EmptyFilter
+returns-in-EmptyFilter g c = let writes = c.write_str.ensures.writes in
+    record { writes = rw c.in-EmptyFilter.is writes; text = λ plain ok. rw c.in-EmptyFilter.is (_, refl, writes plain ok) }
 
-pub returns-in-Prctl-clause-text : goal.returns-in-Prctl-clause-text
-returns-in-Prctl-clause-text g c plain ok = rw c.in-Prctl.is (_, refl, c.write-in-Prctl.ensures.writes plain ok)
+pub returns-in-Prctl : goal.returns-in-Prctl
+returns-in-Prctl g c = let writes = c.write-in-Prctl.ensures.writes in
+    record { writes = rw c.in-Prctl.is writes; text = λ plain ok. rw c.in-Prctl.is (_, refl, writes plain ok) }
 
-pub returns-in-Seccomp-clause-text : goal.returns-in-Seccomp-clause-text
-returns-in-Seccomp-clause-text g c plain ok = rw c.in-Seccomp.is (_, refl, c.write-in-Seccomp.ensures.writes plain ok)
+pub returns-in-Seccomp : goal.returns-in-Seccomp
+returns-in-Seccomp g c = let writes = c.write-in-Seccomp.ensures.writes in
+    record { writes = rw c.in-Seccomp.is writes; text = λ plain ok. rw c.in-Seccomp.is (_, refl, writes plain ok) }
 
-pub returns-in-ThreadSync-clause-text : goal.returns-in-ThreadSync-clause-text
-returns-in-ThreadSync-clause-text g c plain ok = rw c.in-ThreadSync.is (_, refl, c.write-in-ThreadSync.ensures.writes plain ok)
+pub returns-in-ThreadSync : goal.returns-in-ThreadSync
+returns-in-ThreadSync g c = let writes = c.write-in-ThreadSync.ensures.writes in
+    record { writes = rw c.in-ThreadSync.is writes; text = λ plain ok. rw c.in-ThreadSync.is (_, refl, writes plain ok) }
 
-pub returns-in-OutOfMemory-clause-text : goal.returns-in-OutOfMemory-clause-text
-returns-in-OutOfMemory-clause-text g c plain ok = rw c.in-OutOfMemory.is (_, refl, c.write_str-in-OutOfMemory.ensures.writes plain ok)
+pub returns-in-OutOfMemory : goal.returns-in-OutOfMemory
+returns-in-OutOfMemory g c = let writes = c.write_str-in-OutOfMemory.ensures.writes in
+    record { writes = rw c.in-OutOfMemory.is writes; text = λ plain ok. rw c.in-OutOfMemory.is (_, refl, writes plain ok) }
 
 pub returns-in_ok-write_str-in-JsonFrontend-clause-text : goal.returns-in_ok-write_str-in-JsonFrontend-clause-text
 returns-in_ok-write_str-in-JsonFrontend-clause-text g c plain ok =

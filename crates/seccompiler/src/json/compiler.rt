@@ -20,7 +20,7 @@ ghost use Rattle.seccompiler.specs.JsonWidened.{DecideAlikeOff, KeepsMatches, Ma
 use crate::backend::TargetArch;
 use crate::filter::SeccompFilter;
 use crate::json::error::JsonFrontendError;
-use crate::json::policy::{seccomp_filter, widened_numbers};
+use crate::json::policy::{filter_of, seccomp_filter, widened_numbers};
 use crate::json::texts::{filters_of, text_of};
 use crate::json::types::{JsonFilter, JsonFilterMap};
 use std::alloc::Global;
@@ -214,7 +214,7 @@ fn policies_under(
 {
     let mut found = Vec::new(alloc);
     for (name, filter) in filters.0 {
-        let policy = seccomp_filter(alloc, arch, &filter)?;
+        let policy = filter_of(alloc, arch, filter)?;
         found.push((name, policy))?;
     }
     Ok(found.into_iter().collect(alloc)?)

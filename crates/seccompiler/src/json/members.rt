@@ -55,18 +55,15 @@ pub fn members_under<'v>(
     let Value::Object(members) = value else {
         return None;
     };
-    let (mut first, mut second, mut third, mut fourth, mut fifth) = (None, None, None, None, None);
+    let mut found = [None, None, None, None, None];
     for (name, member) in members.iter() {
         let place = place_among(name.as_str(), names);
         if place >= count {
             return None;
         }
-        first = first.or((place == 0).then_some(member));
-        second = second.or((place == 1).then_some(member));
-        third = third.or((place == 2).then_some(member));
-        fourth = fourth.or((place == 3).then_some(member));
-        fifth = fifth.or((place == 4).then_some(member));
+        found[place] = found[place].or(Some(member));
     }
+    let [first, second, third, fourth, fifth] = found;
     Some((first, second, third, fourth, fifth))
 }
 

@@ -240,12 +240,10 @@ fn read_one_action(first: Option<&Value>, second: Option<&Value>) -> Option<Secc
     }
 }
 
-// The actions of an object that has no other names than a filter.
-fn read_actions(value: &Value) -> Option<(SeccompAction, SeccompAction)>
-    ensures names { IsSome result → HasOnly (view value.now) (codes "mismatch_action" ∷ codes "default_action" ∷ codes "match_action" ∷ codes "filter_action" ∷ codes "filter" ∷ []) }
-    ensures mismatch { IfSome result (λ a. IsOneAction (get (codes "mismatch_action") (view value.now)) (get (codes "default_action") (view value.now)) a.0) }
-    ensures matching { IfSome result (λ a. IsOneAction (get (codes "match_action") (view value.now)) (get (codes "filter_action") (view value.now)) a.1) }
-    ensures none { IfNone result ((f : JsonFilter) → IsFilter (view value.now) f → ⊥) }
+/// The filter that the value is, or `None` if it is none; an error only if memory runs out.
+pub fn read_filter(alloc: Global, mut value: Value) -> Result<Option<JsonFilter>, AllocError>
+    ensures found { IfOk result (λ o. IfSome o (IsFilter (view value))) }
+    ensures none { IfOk result (λ o. IfNone o ((f : JsonFilter) → IsFilter (view value) f → ⊥)) }
 {
     let names = (
         "mismatch_action",
@@ -254,18 +252,13 @@ fn read_actions(value: &Value) -> Option<(SeccompAction, SeccompAction)>
         "filter_action",
         "filter",
     );
-    let found = members_under(value, names, 5)?;
-    let mismatch_action = read_one_action(found.0, found.1)?;
-    let match_action = read_one_action(found.2, found.3)?;
-    Some((mismatch_action, match_action))
-}
-
-/// The filter that the value is, or `None` if it is none; an error only if memory runs out.
-pub fn read_filter(alloc: Global, mut value: Value) -> Result<Option<JsonFilter>, AllocError>
-    ensures found { IfOk result (λ o. IfSome o (IsFilter (view value))) }
-    ensures none { IfOk result (λ o. IfNone o ((f : JsonFilter) → IsFilter (view value) f → ⊥)) }
-{
-    let Some((mismatch_action, match_action)) = read_actions(&value) else {
+    let Some(found) = members_under(&value, names, 5) else {
+        return Ok(None);
+    };
+    let Some(mismatch_action) = read_one_action(found.0, found.1) else {
+        return Ok(None);
+    };
+    let Some(match_action) = read_one_action(found.2, found.3) else {
         return Ok(None);
     };
     let Some(filter) = value.get_mut("filter") else {

@@ -9,7 +9,7 @@ ghost use Rattle.seccompiler.specs.Policy.{chains_of};
 ghost use Rattle.seccompiler.specs.JsonPolicyOf.{chain_at, condition_of, AreFineArgs, IsFaultIn, IsFaultOf, IsFineEntry, IsFirstOf, IsPolicyOf};
 ghost use Rattle.seccompiler.specs.JsonGathered.{added, AreGathered, HasAdded, HasChains, is_always_at, rules_at};
 ghost use Rattle.seccompiler.specs.JsonWidened.{IsWidened};
-ghost use Rattle.seccompiler.specs.JsonSteps.{IsConditionOf, IsPolicyRefusal, Tells};
+ghost use Rattle.seccompiler.specs.JsonSteps.{IsPolicyRefusal, Tells};
 
 use crate::backend::{BackendError, TargetArch};
 use crate::condition::SeccompCondition;
@@ -19,7 +19,7 @@ use crate::json::types::{JsonCondition, JsonFilter, JsonRule};
 use crate::rule::SeccompRule;
 use crate::syscall_table::SyscallTable;
 use std::alloc::{AllocError, Global};
-use std::collections::{BTreeMap, BTreeSet};
+use std::collections::BTreeMap;
 
 /// The condition of the same four parts.
 ///
@@ -34,7 +34,13 @@ impl TryFrom<JsonCondition> for SeccompCondition {
     ghost try_from_gives = { IsConditionOf };
 
     fn try_from(condition: JsonCondition) -> Result<SeccompCondition, JsonFrontendError> {
-        condition_of(&condition)
+        let JsonCondition {
+            arg_index,
+            arg_len,
+            operator,
+            value,
+        } = condition;
+        Ok(SeccompCondition::new(arg_index, arg_len, operator, value)?)
     }
 }
 
@@ -49,18 +55,6 @@ struct Gathered {
     near: usize,
 }
 
-// The condition of a JSON condition.
-fn condition_of(condition: &JsonCondition) -> Result<SeccompCondition, JsonFrontendError>
-    ensures { IsConditionOf condition.now result }
-{
-    Ok(SeccompCondition::new(
-        condition.arg_index,
-        condition.arg_len,
-        condition.operator,
-        condition.value,
-    )?)
-}
-
 // The rule of the conditions, in their order.
 fn rule_of(alloc: Global, conditions: &[JsonCondition]) -> Result<SeccompRule, JsonFrontendError>
     ensures made { IfOk result (λ rule. rule ≡ map condition_of conditions.now) }
@@ -69,7 +63,12 @@ fn rule_of(alloc: Global, conditions: &[JsonCondition]) -> Result<SeccompRule, J
 {
     let mut found = Vec::with_capacity(alloc, conditions.len())?;
     for condition in conditions {
-        found.push(condition_of(condition)?)?;
+        found.push(SeccompCondition::new(
+            condition.arg_index,
+            condition.arg_len,
+            condition.operator,
+            condition.value,
+        )?)?;
     }
     Ok(SeccompRule::new(found)?)
 }
@@ -169,15 +168,43 @@ fn both_kinds(alloc: Global, gathered: Gathered) -> Result<Vec<i64>, AllocError>
     ensures numbers { IfOk result (λ numbers. (number : ℤ) → list_any (int_eq number) numbers.items ≡ (is_always_at gathered number && is_some (rules_at gathered number))) }
     ensures ascending { IfOk result (λ numbers. IsStrictlySortedBy int_cmp numbers.items) }
 {
-    let Gathered { rules, always, .. } = gathered;
-    let always: BTreeSet<i64> = always.into_iter().collect(alloc)?;
+    let Gathered {
+        rules,
+        mut always,
+        ..
+    } = gathered;
+    always.sort_unstable();
+    always.dedup();
     let mut numbers = Vec::new(alloc);
-    for number in &always {
-        if rules.contains_key(number) {
-            numbers.push(*number)?;
+    for number in always {
+        if rules.contains_key(&number) {
+            numbers.push(number)?;
         }
     }
     Ok(numbers)
+}
+
+// The same of entries that are no longer needed. Each is dropped before the next one's rule takes memory,
+// so that this is the memory of one that is gone.
+fn gather_all(
+    alloc: Global,
+    arch: TargetArch,
+    entries: Vec<JsonRule>,
+) -> Result<Gathered, JsonFrontendError>
+    ensures fine { OnOk result (All (IsFineEntry arch) entries.items) }
+    ensures gathered { IfOk result (AreGathered arch entries.items) }
+    ensures refused { IfErr result (Tells (IsFirstOf arch entries.items)) }
+{
+    let mut gathered = Gathered {
+        rules: BTreeMap::new(alloc),
+        always: Vec::new(alloc),
+        near: 0,
+    };
+    for entry in entries {
+        add_entry(alloc, arch, &mut gathered, &entry)?;
+        drop(entry);
+    }
+    Ok(gathered)
 }
 
 /// The filter of a JSON filter on an architecture.
@@ -192,6 +219,25 @@ pub fn seccomp_filter(
     let gathered = gather(alloc, arch, filter.rules.as_slice())?;
     let chains = chains_of_numbers(alloc, gathered)?;
     Ok(SeccompFilter::new(chains, filter.mismatch_action, filter.match_action, arch)?)
+}
+
+/// The same of a JSON filter that is no longer needed.
+pub fn filter_of(
+    alloc: Global,
+    arch: TargetArch,
+    filter: JsonFilter,
+) -> Result<SeccompFilter, JsonFrontendError>
+    ensures policy { IfOk result (IsPolicyOf arch filter) }
+    ensures refused { IfErr result (IsPolicyRefusal arch filter) }
+{
+    let JsonFilter {
+        mismatch_action,
+        match_action,
+        rules,
+    } = filter;
+    let gathered = gather_all(alloc, arch, rules)?;
+    let chains = chains_of_numbers(alloc, gathered)?;
+    Ok(SeccompFilter::new(chains, mismatch_action, match_action, arch)?)
 }
 
 /// The numbers that have both an entry without conditions and one with conditions, ascending.

@@ -50,7 +50,13 @@ fn after_names(value: &Value, mut left: usize) -> usize
         }
         Value::Object(members) => {
             for (_, member) in members.iter() {
-                left = after_names(member, left).saturating_sub(1);
+                // Most members have no names of their own.
+                match member {
+                    Value::Array(_) | Value::Object(_) => {
+                        left = after_names(member, left).saturating_sub(1);
+                    }
+                    _ => left = left.saturating_sub(1),
+                }
             }
         }
         Value::Null | Value::Bool(_) | Value::Number(_) | Value::String(_) => {}

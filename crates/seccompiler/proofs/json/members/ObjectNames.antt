@@ -1,12 +1,14 @@
 -- For `members_under`: what an object has under a name, and whether its names are all among some.
-use Rattle.std.proofs.Common.{◌≡◌, ℕ, zero, suc, ◌≤◌, List, [], ◌∷◌, ◌++◌, length, take, true, false, nat_eq, nat_lt, Option, Some, None}
-use Rattle.std.proofs.Common.{option_map, refl, sym, ◌∙◌, subst, arith, bytes_eq, ◌↔◌, ◌⊎◌, inl, inr, Contains, string_bytes}
+use Rattle.std.proofs.Common.{◌≡◌, ℕ, zero, suc, ◌≤◌, ◌<◌, List, [], ◌∷◌, ◌++◌, length, take, get_or, true, false, nat_eq, nat_lt, Option, Some, None}
+use Rattle.std.proofs.Common.{option_map, refl, sym, ap, ◌∙◌, subst, arith, bytes_eq, ◌↔◌, ◌⊎◌, inl, inr, Contains, string_bytes}
+use Rattle.std.specs.Prelude.{slice_set}
 use Rattle.std.specs.List.{list_any, position_or_len}
 use Rattle.std.specs.Option.{option_or}
 use Rattle.std.specs.Bool.{then_some}
-use Rattle.std.proofs.lemmas.Bool.{true≢false, cases_Bool, le-ltb, lt-ltb, ne_eqb}
+use Rattle.std.proofs.lemmas.Bool.{true≢false, cases_Bool, cases_eq, le-ltb, lt-ltb, eq-eqb, ne_eqb}
 use Rattle.std.proofs.lemmas.Bool.Decides.{nat_tests}
 use Rattle.std.proofs.lemmas.Cmp.{nat_list_eq_equiv}
+use Rattle.std.proofs.lemmas.List.{get_or_default, get_or-set_same, get_or-set_other}
 use Rattle.std.proofs.lemmas.Map.Views.{Contains-from_any, list_any-from_Contains}
 use Rattle.std.proofs.lemmas.Slice.Eq.{bytes_eq-Decides}
 use Rattle.serde_json.specs.Data.{Data, object}
@@ -44,6 +46,17 @@ own_place (n ∷ front) key back name apart = elim (cases_Bool (bytes_eq key n))
     | inl own ↦ rw own (ne_eqb _ _ (λ e. omega arith) ∙ sym (subst (λ m. bytes_eq key m ≡ false) ((bytes_eq-Decides n name).0 own) differs))
     | inr other ↦ rw other (grind (arith, nat_tests) ∙ own_place front key back name (rw differs at apart))
   ]
+]
+
+-- What was found is kept, and what there was nothing of is found at a place.
+pub updated : {X : Type 0} (found : List (Option X)) (place k : ℕ) (v : X) (was new : Option X) → place < length found
+    → new ≡ option_or (get_or found place was) (Some v)
+    → get_or (slice_set found place new) k None ≡ option_or (get_or found k None) (then_some (nat_eq place k) v)
+updated found place k v was new within is = elim (cases_eq place k) [
+  | inl same ↦ rw (← same, eq-eqb place place refl) (get_or-set_same found place new None within ∙ is
+      ∙ ap (λ o. option_or o (Some v)) (get_or_default found place was None within))
+  | inr other ↦ rw (ne_eqb place k other) (get_or-set_other found place k new None (λ e. other (sym e))
+      ∙ elim (get_or found k None) as (λ o. o ≡ option_or o None) [ None ↦ refl | Some x ↦ refl ])
 ]
 
 -- The member of an object that is first, and those behind it.

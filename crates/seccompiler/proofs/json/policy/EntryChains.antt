@@ -2,17 +2,18 @@
 use Rattle.std.proofs.Common.{◌≡◌, ℤ, ◌++◌, List, [], ◌∷◌, Vec, Global, Bool, true, false, ◌||◌, cond, Option, Some, None, option_map, refl}
 use Rattle.std.proofs.Common.{sym, ap, ◌∙◌, unwrap_or}
 use Rattle.std.specs.BTreeMap.{BTreeMap, is_at, InsertsAll, IsFromIterResult}
-use Rattle.std.specs.List.{filter, list_any}
+use Rattle.std.specs.List.{dedup, filter, list_any}
 use Rattle.std.specs.Map.{lookup, keys_of, update, update_all}
 use Rattle.std.specs.Option.{is_some, option_or}
 use Rattle.std.specs.Ordering.{int_cmp, int_eq}
-use Rattle.std.proofs.lemmas.Bool.Decides.{Decides-int_eq}
+use Rattle.std.proofs.lemmas.Bool.Decides.{Decides-int_eq, Decides-like, same_from_decides}
 use Rattle.std.proofs.lemmas.Cmp.{int_eq_equiv}
 use Rattle.std.proofs.lemmas.List.Elements.{filter-append}
 use Rattle.std.proofs.lemmas.List.Folds.{list_any-append}
 use Rattle.std.proofs.lemmas.List.Sums.{fold_push}
 use Rattle.std.proofs.lemmas.Map.Keys.{IsDistinct-from_sorted}
-use Rattle.std.proofs.lemmas.Map.Made.{lookup-map_values, update_all_distinct}
+use Rattle.std.proofs.lemmas.List.Kept.{Contains-dedup, Contains-from_dedup}
+use Rattle.std.proofs.lemmas.Map.Made.{is_member-Decides, lookup-map_values, update_all_distinct}
 use Rattle.seccompiler.specs.Policy.{Rule, Chain, chains_of}
 use Rattle.seccompiler.specs.JsonGathered.{added, chain_of}
 use Rattle.seccompiler.specs.JsonPolicyOf.{chain_at}
@@ -80,8 +81,7 @@ pub made_more : (pairs : Pairs) (done : List ℤ) (number : ℤ) (empty : Vec Ru
     → made_at (pairs ++ (number, empty) ∷ []) q ≡ chain_of (list_any (int_eq q) (done ++ number ∷ [])) None
 made_more pairs done number empty q is_empty so_far =
     ap (λ g. list_of (g q)) (fold_push (λ g p. update int_eq g p.0 (Some p.1)) (λ _. None) pairs (number, empty))
-    ∙ by_case (int_eq number q)
-    ∙ ap (λ b. chain_of b (chain_of (list_any (int_eq q) done) None)) (int_eq_equiv.symm number q)
+    ∙ by_case (int_eq number q) ∙ ap (λ b. chain_of b (chain_of (list_any (int_eq q) done) None)) (int_eq_equiv.symm number q)
     ∙ chain_of_more done number q None
   where
     by_case : (b : Bool) → list_of (cond b (Some empty) (update_all int_eq (λ _. None) pairs q))
@@ -116,3 +116,10 @@ some_held entries number = ap is_some (chain_held entries number)
 pub filter_more : (p : ℤ → Bool) (done : List ℤ) (x : ℤ) (b : Bool) → p x ≡ b
     → filter p (done ++ x ∷ []) ≡ filter p done ++ cond b (x ∷ []) []
 filter_more p done x b is = filter-append p done (x ∷ []) ∙ ap (λ b. filter p done ++ cond b (x ∷ []) []) is
+
+-- A list has the same numbers when repeats of each are gone.
+pub same_members : (q : ℤ) (xs : List ℤ) → list_any (int_eq q) (dedup int_eq xs) ≡ list_any (int_eq q) xs
+same_members q xs =
+    same_from_decides _ _ (Decides-like _ (Contains-from_dedup int_eq xs q)
+    (Contains-dedup int_eq_equiv (λ x y. (Decides-int_eq x y).0) xs q) (is_member-Decides Decides-int_eq (dedup int_eq xs) q))
+    (is_member-Decides Decides-int_eq xs q)

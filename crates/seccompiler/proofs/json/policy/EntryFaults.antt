@@ -1,6 +1,6 @@
 -- For `JsonCompiler::make_seccomp_filter`, `JsonCompiler::widened`, `add_entry`, `seccomp_filter` and
 -- `widened_numbers`: the entries of a JSON filter: nothing is wrong with any, or one fault is the first.
-use Rattle.std.proofs.Common.{◌≡◌, ℕ, ◌+◌, ◌<◌, ℤ, length, get_or, take, drop, List, [], ◌∷◌, ◌++◌, Option, Some, None, All, refl, sym, ap}
+use Rattle.std.proofs.Common.{◌≡◌, ℕ, ℤ, List, [], ◌∷◌, ◌++◌, Option, Some, None, All, refl, sym, ap}
 use Rattle.std.proofs.Common.{◌∙◌, subst, ◌⊎◌, inl, inr, arith}
 use Rattle.std.proofs.lemmas.List.Elements.{All-nil, All-cons, All-head, All-tail, All-contains, Contains-append_right}
 use Rattle.seccompiler.specs.declared.backend.TargetArch.{TargetArch}
@@ -13,7 +13,6 @@ use Rattle.seccompiler.specs.SyscallTable.{number_of}
 use Rattle.seccompiler.specs.JsonPolicyOf.{Fault, unknown_call, IsFaultIn, IsFor, IsFineEntry, IsFaultOf, unknown_name, wrong_args}
 use Rattle.seccompiler.specs.JsonPolicyOf.{IsFirstOf}
 use Rattle.seccompiler.specs.JsonSteps.{Tells}
-use Rattle.seccompiler.proofs.Parts.{around}
 use Rattle.seccompiler.proofs.json.policy.EntryRules.{fine_or_fault_in, not_both_in, one_fault_in}
 
 -- An error that tells a fault tells one of which more is known.
@@ -89,19 +88,11 @@ module _ (arch : TargetArch) where
   ]
 
   -- What is wrong with an entry behind others with which nothing is wrong is the first fault of them all.
-  pub first_wrong : (entries : List JsonRule) (place : ℕ) (entry : JsonRule) (error : JsonFrontendError)
-      → place < length entries → entry ≡ get_or entries place entry → All (IsFineEntry arch) (take place entries)
+  pub first_wrong : (entries front : List JsonRule) (entry : JsonRule) (back : List JsonRule) → entries ≡ front ++ entry ∷ back
+      → (error : JsonFrontendError) → All (IsFineEntry arch) front
       → Tells (IsFaultOf arch entry) error → Tells (IsFirstOf arch entries) error
-  first_wrong entries place entry error within is fine told =
-      tells_more (IsFaultOf arch entry) (IsFirstOf arch entries)
-      (λ fault wrong. record {
-        front = take place entries;
-        entry = entry;
-        back = drop (place + 1) entries;
-        whole = around entries place entry within is;
-        fine = fine;
-        wrong = wrong;
-      }) error told
+  first_wrong entries front entry back whole error fine told = tells_more (IsFaultOf arch entry) (IsFirstOf arch entries)
+      (λ fault wrong. record { front = front; entry = entry; back = back; whole = whole; fine = fine; wrong = wrong }) error told
 
   -- Entries with which nothing is wrong have no fault.
   pub none_wrong : (entries : List JsonRule) (fault : Fault) → All (IsFineEntry arch) entries → IsFirstOf arch entries fault → ⊥
@@ -130,6 +121,5 @@ module _ (arch : TargetArch) where
 
   -- Entries have one first fault.
   pub one_first : (entries : List JsonRule) (a b : Fault) → IsFirstOf arch entries a → IsFirstOf arch entries b → a ≡ b
-  one_first entries a b first second =
-      same_first first.front second.front first.entry second.entry first.back second.back a b
+  one_first entries a b first second = same_first first.front second.front first.entry second.entry first.back second.back a b
       (sym first.whole ∙ second.whole) first.fine second.fine first.wrong second.wrong

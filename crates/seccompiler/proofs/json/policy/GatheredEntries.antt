@@ -1,15 +1,15 @@
--- For `gather`: what is gathered of entries, one after the other.
-use Rattle.std.proofs.Common.{◌≡◌, ℕ, ◌+◌, ◌<◌, length, get_or, take, ◌++◌, List, [], ◌∷◌, ◌||◌, Some, None, refl, sym, ap, subst, ◌∙◌}
-use Rattle.std.proofs.Common.{append-nil}
+-- For `gather` and `gather_all`: what is gathered of entries, one after the other.
+use Rattle.std.proofs.Common.{◌≡◌, ◌++◌, List, [], ◌∷◌, ◌||◌, Some, None, All, refl, sym, ap, ◌∙◌, append-nil}
 use Rattle.std.specs.List.{flat_map, list_any}
 use Rattle.std.proofs.Math.Bool.{or-false}
-use Rattle.std.proofs.lemmas.List.{take_more, flat_map_more}
+use Rattle.std.proofs.lemmas.List.{flat_map_more}
+use Rattle.std.proofs.lemmas.List.Elements.{All-push}
 use Rattle.std.proofs.lemmas.List.Folds.{list_any-append}
 use Rattle.seccompiler.specs.declared.backend.TargetArch.{TargetArch}
 use Rattle.seccompiler.specs.declared.json.policy.Gathered.{Gathered}
 use Rattle.seccompiler.specs.JsonTypes.{JsonRule}
 use Rattle.seccompiler.specs.JsonGathered.{added, HasAdded, AreGathered}
-use Rattle.seccompiler.specs.JsonPolicyOf.{is_always, rules_for}
+use Rattle.seccompiler.specs.JsonPolicyOf.{is_always, rules_for, IsFineEntry}
 
 -- Items added at two times are added as one list.
 pub added_twice : {X : Type 0} (front own : List X) → added own (added front None) ≡ added (front ++ own) None
@@ -29,10 +29,15 @@ gathered_push arch entries entry old new so_far more = record {
       ∙ sym (list_any-append (is_always arch number) entries (entry ∷ []));
 }
 
--- The same of the first entries of a list.
-pub gathered_more : (arch : TargetArch) (entries : List JsonRule) (place : ℕ) (entry : JsonRule) (old new : Gathered)
-    → place < length entries → entry ≡ get_or entries place entry
-    → AreGathered arch (take place entries) old → HasAdded arch entry old new → AreGathered arch (take (place + 1) entries) new
-gathered_more arch entries place entry old new within is so_far more =
-    let longer = ap (λ (x : JsonRule). take place entries ++ x ∷ []) is ∙ sym (take_more entries place entry within) in
-    subst (λ (done : List JsonRule). AreGathered arch done new) longer (gathered_push arch (take place entries) entry old new so_far more)
+-- Nothing is wrong with these entries, and this was gathered of them.
+pub record AreDone (arch : TargetArch) (entries : List JsonRule) (made : Gathered) : Type 0 where
+  pub fine : All (IsFineEntry arch) entries
+  pub gathered : AreGathered arch entries made
+
+-- The same of one more behind them.
+pub done_more : (arch : TargetArch) (entries : List JsonRule) (entry : JsonRule) (old new : Gathered)
+    → AreDone arch entries old → IsFineEntry arch entry → HasAdded arch entry old new → AreDone arch (entries ++ entry ∷ []) new
+done_more arch entries entry old new so_far fine more = record {
+  fine = All-push (IsFineEntry arch) entries entry so_far.fine fine;
+  gathered = gathered_push arch entries entry old new so_far.gathered more;
+}

@@ -74,8 +74,7 @@ module _ (arch : TargetArch) (r : List ℕ) where
     where
       by : (b : Bool) (o : Option (List JsonCondition)) → is_for arch here entry ≡ b → entry.conditions ≡ o
           → (Meet entries → (list_any (is_always arch here) entries ≡ true) ⊎ Hold (all_rules arch entries here))
-          → MeetsEntry arch r entry ⊎ Meet entries
-          → (((b && is_none o) || list_any (is_always arch here) entries) ≡ true)
+          → MeetsEntry arch r entry ⊎ Meet entries → (((b && is_none o) || list_any (is_always arch here) entries) ≡ true)
           ⊎ Hold (cond b (rules_of o) [] ++ all_rules arch entries here)
       by false o is are rest (inl own) = absurd (true≢false (sym ((for_decides arch here entry).1 own.call) ∙ is))
       by false o is are rest (inr later) = rest later

@@ -80,6 +80,5 @@ numbered chain_for numbers =
 -- Chains in ascending order of their numbers are the same where each number has the same.
 pub same_chains : (xs ys : List (ℤ × Chain)) → IsStrictlySortedBy int_cmp (keys_of xs)
     → IsStrictlySortedBy int_cmp (keys_of ys) → ((q : ℤ) → chain_at xs q ≡ chain_at ys q) → xs ≡ ys
-same_chains xs ys first second same =
-    same_entries int_cmp int_cmp_total exact_signed xs ys ((ascends xs).1 first) ((ascends ys).1 second)
+same_chains xs ys first second same = same_entries int_cmp int_cmp_total exact_signed xs ys ((ascends xs).1 first) ((ascends ys).1 second)
     (λ q. sym (as_found q xs) ∙ same q ∙ as_found q ys)

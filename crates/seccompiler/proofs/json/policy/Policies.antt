@@ -67,8 +67,7 @@ module _ (arch : TargetArch) where
       ≡ list_any (is_for arch number) entries
   any_number number [] = refl
   any_number number (entry ∷ entries) =
-      elim (number_of (table_of arch) entry.syscall) as
-      (λ o. list_any (int_eq number) (option_to_list o ++ numbers_of_entries entries)
+      elim (number_of (table_of arch) entry.syscall) as (λ o. list_any (int_eq number) (option_to_list o ++ numbers_of_entries entries)
       ≡ (option_eq int_eq (Some number) o || list_any (is_for arch number) entries)) [
         | None ↦ any_number number entries
         | Some other ↦ ap (λ b. int_eq number other || b) (any_number number entries)
@@ -83,13 +82,11 @@ module _ (arch : TargetArch) where
   pub for_either : (number : ℤ) (entries : List JsonRule) → list_any (is_for arch number) entries
       ≡ (list_any (is_always arch number) entries || some_rules (all_rules arch entries number))
   for_either number [] = refl
-  for_either number (entry ∷ entries) =
-      both (is_for arch number entry) entry.conditions (list_any (is_always arch number) entries)
+  for_either number (entry ∷ entries) = both (is_for arch number entry) entry.conditions (list_any (is_always arch number) entries)
       (all_rules arch entries number) (for_either number entries)
     where
       both : (b : Bool) (conditions : Option (List JsonCondition)) (always : Bool) (rules : List Rule)
-          → list_any (is_for arch number) entries ≡ (always || some_rules rules)
-          → (b || list_any (is_for arch number) entries)
+          → list_any (is_for arch number) entries ≡ (always || some_rules rules) → (b || list_any (is_for arch number) entries)
           ≡ (((b && is_none conditions) || always) || some_rules (cond b (rules_of conditions) [] ++ rules))
       both false conditions always rules rest = rest
       both true None always rules rest = refl
@@ -112,8 +109,7 @@ module _ (arch : TargetArch) where
     -- What was gathered of the entries gives the policy's chains.
     gathered_chain : (number : ℤ) → chain_of (list_any (is_always arch number) j.rules) (added (all_rules arch j.rules number) None)
         ≡ at_number (chain_for arch j.rules) number
-    gathered_chain number =
-        by_case (list_any (is_always arch number) j.rules) (all_rules arch j.rules number)
+    gathered_chain number = by_case (list_any (is_always arch number) j.rules) (all_rules arch j.rules number)
         ∙ ap (λ b. cond b (Some (chain_for arch j.rules number)) None) (sym (for_either number j.rules))
       where
         by_case : (always : Bool) (rules : List Rule) → chain_of always (added rules None)
@@ -166,8 +162,7 @@ module _ (arch : TargetArch) where
         (λ number. has.each number ∙ ap (λ b. chain_of b (rules_at gathered number)) (all.always number)
         ∙ ap (chain_of (list_any (is_always arch number) j.rules)) (all.rules number) ∙ gathered_chain number)
         (subst (IsStrictlySortedBy int_cmp) (sym (keys_of-map_values (λ (v : Vec Rule Global). v.items) chains.entries))
-        has.ordered)
-        (subst (All (IsFineEntry arch)) these fine) apart
+        has.ordered) (subst (All (IsFineEntry arch)) these fine) apart
 
     -- What each number has in such a filter.
     pub found_in : (meant : ℤ → Chain) (f : Filter) → IsMadeOf meant arch j f → (number : ℤ)

@@ -66,8 +66,7 @@ module _ (arch : TargetArch) where
     widened_decides : (number : ℤ) → Decides (of_both j.rules number) (IsWidened arch j number)
     widened_decides number =
         let parts = Decides-and (list_any (is_always arch number) j.rules) (some_rules arch (all_rules arch j.rules number))
-        (always_decides number j.rules)
-        (Decides-at _ _ (rules_from_conditions number j.rules) (conditions_decide number j.rules)) in
+        (always_decides number j.rules) (Decides-at _ _ (rules_from_conditions number j.rules) (conditions_decide number j.rules)) in
         (λ h. record { without = (parts.0 h).0; with_conditions = (parts.0 h).1 }, λ is. parts.1 (is.without, is.with_conditions))
 
     -- The numbers that were gathered of both kinds are those.
@@ -101,12 +100,10 @@ module _ (arch : TargetArch) where
     module _ (before now : Filter) (old : IsPolicyBefore arch j before) (new : IsPolicyOf arch j now) where
       -- A number without entries of both kinds has the same chain in both.
       same_chain : (number : ℤ) → (IsWidened arch j number → ⊥) → chain_at before.chains number ≡ chain_at now.chains number
-      same_chain number apart =
-          found_in arch j (all_rules arch j.rules) before old number
+      same_chain number apart = found_in arch j (all_rules arch j.rules) before old number
           ∙ ap (λ chain. cond (list_any (is_for arch number) j.rules) (Some chain) None)
           (by_case (list_any (is_always arch number) j.rules) (all_rules arch j.rules number)
-          (λ both. apart ((widened_decides number).0 both)))
-          ∙ sym (found_in arch j (chain_for arch j.rules) now new number)
+          (λ both. apart ((widened_decides number).0 both))) ∙ sym (found_in arch j (chain_for arch j.rules) now new number)
         where
           by_case : (always : Bool) (rules : List Rule) → ((always && some_rules arch rules) ≡ true → ⊥) → rules ≡ cond always [] rules
           by_case false rules apart = refl

@@ -49,8 +49,7 @@ cut_from Inside string (b ∷ text) = elim (cases_eq b 34) [
         (flat_map_more item_bytes (34 ∷ []) string item) (cut_from Inside (string ++ item ∷ []) text)
   ]
 ]
-cut_from Escaped string (b ∷ text) =
-    goes_on (34 ∷ (items_bytes string ++ 92 ∷ [])) (34 ∷ items_bytes (string ++ escaped b ∷ [])) b text
+cut_from Escaped string (b ∷ text) = goes_on (34 ∷ (items_bytes string ++ 92 ∷ [])) (34 ∷ items_bytes (string ++ escaped b ∷ [])) b text
     (ap (λ t. 34 ∷ t) (append_assoc (items_bytes string) (92 ∷ []) (b ∷ [])) ∙ flat_map_more item_bytes (34 ∷ []) string (escaped b))
     (cut_from Inside (string ++ escaped b ∷ []) text)
 

@@ -1,14 +1,12 @@
-use Rattle.std.proofs.Common.{◌≡◌, ◌∷◌, [], List, ℕ, true, false, take, ap, bytes_eq, refl, string_bytes, subst, ◌∙◌, ◌↔◌, arith}
+use Rattle.std.proofs.Common.{◌≡◌, ◌∷◌, [], List, ℕ, true, false, take, bytes_eq, refl, string_bytes, arith, ◌<◌, length}
 use Rattle.std.specs.Borrow.{Bor}
 use Rattle.std.specs.List.{list_any}
-use Rattle.std.specs.Option.{option_or}
 use Rattle.std.proofs.lemmas.Bool.{le-ltb, lt-ltb}
-use Rattle.serde_json.specs.Data.{Data, object, no_members}
-use Rattle.serde_json.specs.View.{view, members_view}
+use Rattle.serde_json.specs.Data.{Data, no_members}
+use Rattle.serde_json.specs.View.{view}
 use Rattle.serde_json.specs.declared.value.Value.{Value}
 use Rattle.serde_json.proofs.Views.{Entry}
-use Rattle.seccompiler.specs.JsonShape.{HasOnly}
-use Rattle.seccompiler.proofs.json.members.ObjectNames.{place_in, only_left, only_fails, sought_more, among}
+use Rattle.seccompiler.proofs.json.members.ObjectNames.{place_in, updated, only_left, only_fails, sought_more, among}
 use Rattle.seccompiler.proofs.json.members.members_under.Goals as goal
 
 pub returns-then-place-count-clause-none : goal.returns-then-place-count-clause-none
@@ -16,13 +14,12 @@ returns-then-place-count-clause-none c =
     let n = c.args.names in
     let five : List (List ℕ) = n.0.now ∷ n.1.now ∷ n.2.now ∷ n.3.now ∷ n.4.now ∷ [] in
     let names = take c.args.count five in
-    let so_far = subst (λ es. HasOnly (object (members_view es)) names ↔ HasOnly (view c.args.value.now) names)
-    c.in-Some.ensures.steps c.loop-name.invariant.only in
+    let l = rw c.in-Some.ensures.steps at c.loop-name.invariant in
     let placed : c.place_among-place.result ≡ place_in five c.as_str.result.now = c.place_among-place.ensures in
     let none : list_any (bytes_eq (string_bytes c.in-Some.name.now)) names ≡ false =
     rw (← c.as_str.ensures.value, among c.args.count five c.as_str.result.now c.requires.count)
     (le-ltb _ _ (omega (arith, placed, c.if-place-count.true))) in
-    only_fails (c.in-Some.name.now, c.in-Some.member.now) c.next.new.self names so_far none
+    only_fails (c.in-Some.name.now, c.in-Some.member.now) c.next.new.self names l.only none
 
 pub loop-name-preserved : goal.loop-name-preserved
 loop-name-preserved c =
@@ -41,18 +38,20 @@ loop-name-preserved c =
     rw (← same, among c.args.count five name c.requires.count) (lt-ltb _ _ (omega (arith, placed, c.if-place-count.false))) in
     let v = c.in-Some.member in
     let m = c.loop-name in
+    let within : c.place_among-place.result < length m.found = omega (arith, c.if-place-count.array_long, c.if-place-count.false, c.requires.count) in
+    let at = λ (k : ℕ). updated m.found c.place_among-place.result k v _ _ within c.or.ensures in
     record {
       only = only_left e left names l.only some;
-      first = sought_more e left f d ([]) n.0.now (n.1.now ∷ n.2.now ∷ n.3.now ∷ n.4.now ∷ []) name _ m.first _ v same refl placed
-          refl (c.or-first.ensures ∙ ap (option_or m.first) c.then_some.ensures) l.first;
-      second = sought_more e left f d (n.0.now ∷ []) n.1.now (n.2.now ∷ n.3.now ∷ n.4.now ∷ []) name _ m.second _ v same refl placed
-          c.requires.second (c.or-second.ensures ∙ ap (option_or m.second) c.then_some-in-loop-name.ensures) l.second;
-      third = sought_more e left f d (n.0.now ∷ n.1.now ∷ []) n.2.now (n.3.now ∷ n.4.now ∷ []) name _ m.third _ v same refl placed
-          c.requires.third (c.or-third.ensures ∙ ap (option_or m.third) c.then_some-in-loop-name-2.ensures) l.third;
-      fourth = sought_more e left f d (n.0.now ∷ n.1.now ∷ n.2.now ∷ []) n.3.now (n.4.now ∷ []) name _ m.fourth _ v same refl placed
-          c.requires.fourth (c.or-fourth.ensures ∙ ap (option_or m.fourth) c.then_some-in-loop-name-3.ensures) l.fourth;
-      fifth = sought_more e left f d (n.0.now ∷ n.1.now ∷ n.2.now ∷ n.3.now ∷ []) n.4.now ([]) name _ m.fifth _ v same refl placed
-          c.requires.fifth (c.or-fifth.ensures ∙ ap (option_or m.fifth) c.then_some-in-loop-name-4.ensures) l.fifth;
+      first = sought_more e left f d ([]) n.0.now (n.1.now ∷ n.2.now ∷ n.3.now ∷ n.4.now ∷ []) name _ _ _ v same refl placed refl (at 0)
+          l.first;
+      second = sought_more e left f d (n.0.now ∷ []) n.1.now (n.2.now ∷ n.3.now ∷ n.4.now ∷ []) name _ _ _ v same refl placed
+          c.requires.second (at 1) l.second;
+      third = sought_more e left f d (n.0.now ∷ n.1.now ∷ []) n.2.now (n.3.now ∷ n.4.now ∷ []) name _ _ _ v same refl placed
+          c.requires.third (at 2) l.third;
+      fourth = sought_more e left f d (n.0.now ∷ n.1.now ∷ n.2.now ∷ []) n.3.now (n.4.now ∷ []) name _ _ _ v same refl placed
+          c.requires.fourth (at 3) l.fourth;
+      fifth = sought_more e left f d (n.0.now ∷ n.1.now ∷ n.2.now ∷ n.3.now ∷ []) n.4.now ([]) name _ _ _ v same refl placed
+          c.requires.fifth (at 4) l.fifth;
     }
 
 pub returns-clause-names : goal.returns-clause-names

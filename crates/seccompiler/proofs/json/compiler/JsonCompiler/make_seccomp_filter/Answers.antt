@@ -22,9 +22,7 @@ returns-clause-one_of_both c = policy_or_fault c.args.self.now c.args.filter.now
 
 pub returns-clause-numbers : goal.returns-clause-numbers
 returns-clause-numbers c =
-    IfOk-weaker c.seccomp_filter.result (IsPolicyOf c.self.inside.arch c.args.filter.now)
-    (λ (f : Filter). All IsTableNumber (numbers_of f.chains))
-    (numbers_in_range c.self.inside.arch c.args.filter.now) c.seccomp_filter.ensures.policy
+    IfOk-weaker _ _ _ (numbers_in_range c.self.inside.arch c.args.filter.now) c.seccomp_filter.ensures.policy
 
 pub returns-clause-entries : goal.returns-clause-entries
 returns-clause-entries c = policies_match_entries c.args.self.now

@@ -19,43 +19,31 @@ returns-in_err-filters-clause-fault c =
 pub returns-clause-policies : goal.returns-clause-policies
 returns-clause-policies c =
     let same : c.args.self.now ≡ c.self.inside.arch = search rules in
-    let arch = c.self.inside.arch in
     let read = c.in_ok-filters.ensures.filters in
-    rw same (IfOk-weaker c.policies_under.result
-    (λ m. (d : Data) → AreFilters d c.in_ok-filters.filters → ArePoliciesOf arch (get_by_text m) d)
-    (λ m. OfValue c.args.text.now (ArePoliciesOf arch (get_by_text m)))
+    rw same (IfOk-weaker _ _ (λ m. OfValue c.args.text.now (ArePoliciesOf c.self.inside.arch (get_by_text m)))
     (λ m h. (read.0, read.1, h read.0 read.2)) c.policies_under.ensures.policies)
 
 pub returns-clause-numbers : goal.returns-clause-numbers
 returns-clause-numbers c =
-    let arch = c.self.inside.arch in
     let read = c.in_ok-filters.ensures.filters in
-    IfOk-weaker c.policies_under.result (λ m. (d : Data) → AreFilters d c.in_ok-filters.filters → ArePoliciesOf arch (get_by_text m) d)
-    (λ m. (name : List ℕ) → IfSome (get_by_text m name) (λ f. All IsTableNumber (numbers_of f.chains)))
-    (λ m h. have_table_numbers arch read.0 (get_by_text m) (h read.0 read.2))
+    IfOk-weaker _ _ _ (λ m h. have_table_numbers c.self.inside.arch read.0 (get_by_text m) (h read.0 read.2))
     c.policies_under.ensures.policies
 
 pub returns-clause-fault : goal.returns-clause-fault
 returns-clause-fault c =
     let same : c.args.self.now ≡ c.self.inside.arch = search rules in
-    let arch = c.self.inside.arch in
     let read = c.in_ok-filters.ensures.filters in
-    rw same (IfErr-weaker c.policies_under.result (λ e. (d : Data) → AreFilters d c.in_ok-filters.filters
-    → Tells (λ fault. IsLeastRefused arch fault d) e) (TellsFrontendFault arch c.args.text.now)
-    (λ e h. refused_told arch read.0 c.args.text.now read.1 e (h read.0 read.2)) c.policies_under.ensures.refused)
+    rw same (IfErr-weaker _ _ _ (λ e h. refused_told c.self.inside.arch read.0 c.args.text.now read.1 e (h read.0 read.2))
+    c.policies_under.ensures.refused)
 
 pub returns-clause-no_reader : goal.returns-clause-no_reader
 returns-clause-no_reader c =
-    let arch = c.self.inside.arch in
     let read = c.in_ok-filters.ensures.filters in
-    IfErr-weaker c.policies_under.result (λ e. (d : Data) → AreFilters d c.in_ok-filters.filters
-    → Tells (λ fault. IsLeastRefused arch fault d) e) IsNoFailedRead
-    (λ e h. told_no_read (λ fault. IsLeastRefused arch fault read.0) e (h read.0 read.2)) c.policies_under.ensures.refused
+    IfErr-weaker _ _ _ (λ e h. told_no_read (λ fault. IsLeastRefused c.self.inside.arch fault read.0) e (h read.0 read.2))
+    c.policies_under.ensures.refused
 
 pub returns-clause-memory : goal.returns-clause-memory
 returns-clause-memory c =
-    let arch = c.self.inside.arch in
     let read = c.in_ok-filters.ensures.filters in
-    IfErr-weaker c.policies_under.result (λ e. (d : Data) → AreFilters d c.in_ok-filters.filters
-    → Tells (λ fault. IsLeastRefused arch fault d) e) IsNoMemoryInFrontend
-    (λ e h. told_no_memory (λ fault. IsLeastRefused arch fault read.0) e (h read.0 read.2)) c.policies_under.ensures.refused
+    IfErr-weaker _ _ _ (λ e h. told_no_memory (λ fault. IsLeastRefused c.self.inside.arch fault read.0) e (h read.0 read.2))
+    c.policies_under.ensures.refused

@@ -16,20 +16,12 @@ returns-clause-policies c =
 pub returns-clause-same_elsewhere : goal.returns-clause-same_elsewhere
 returns-clause-same_elsewhere c =
     let same : c.args.self.now ≡ c.self.inside.arch = search rules in
-    let arch = c.self.inside.arch in
-    let j = c.args.filter.now in
-    rw same (IfOk-weaker c.widened_numbers.result (λ (numbers : Vec ℤ Global). (number : ℤ)
-    → Contains numbers.items number ↔ IsWidened arch j number)
-    (λ numbers. DecideAlikeOff numbers.items arch j) (λ numbers. alike_off arch j numbers.items) c.widened_numbers.ensures.numbers)
+    rw same (IfOk-weaker _ _ _ (λ numbers. alike_off c.self.inside.arch c.args.filter.now numbers.items) c.widened_numbers.ensures.numbers)
 
 pub returns-clause-matches_there : goal.returns-clause-matches_there
 returns-clause-matches_there c =
     let same : c.args.self.now ≡ c.self.inside.arch = search rules in
-    let arch = c.self.inside.arch in
-    let j = c.args.filter.now in
-    rw same (IfOk-weaker c.widened_numbers.result (λ (numbers : Vec ℤ Global). (number : ℤ)
-    → Contains numbers.items number ↔ IsWidened arch j number)
-    (λ numbers. MatchesOn numbers.items arch j) (λ numbers. matches_on arch j numbers.items) c.widened_numbers.ensures.numbers)
+    rw same (IfOk-weaker _ _ _ (λ numbers. matches_on c.self.inside.arch c.args.filter.now numbers.items) c.widened_numbers.ensures.numbers)
 
 pub returns-clause-keeps_matches : goal.returns-clause-keeps_matches
 returns-clause-keeps_matches c = keeps_matches c.args.self.now c.args.filter.now

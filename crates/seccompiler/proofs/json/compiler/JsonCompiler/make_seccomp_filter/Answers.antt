@@ -1,9 +1,4 @@
-use Rattle.std.proofs.Common.{All}
 use Rattle.std.proofs.lemmas.Result.{IfOk-weaker}
-use Rattle.seccompiler.specs.JsonPolicyOf.{IsPolicyOf}
-use Rattle.seccompiler.specs.Policy.{Filter}
-use Rattle.seccompiler.specs.Compiled.{numbers_of}
-use Rattle.seccompiler.specs.SyscallTable.{IsTableNumber}
 use Rattle.seccompiler.proofs.json.policy.MetEntries.{policies_match_entries}
 use Rattle.seccompiler.proofs.json.policy.Policies.{one_policy, one_fault, not_both, policy_or_fault, numbers_in_range}
 use Rattle.seccompiler.proofs.json.compiler.JsonCompiler.make_seccomp_filter.Goals as goal

@@ -1,13 +1,7 @@
-use Rattle.std.proofs.Common.{rules, ◌≡◌, ℕ, List, IfSome}
-use Rattle.std.specs.Prelude.{All}
+use Rattle.std.proofs.Common.{rules, ◌≡◌}
 use Rattle.std.proofs.lemmas.Result.{IfOk-weaker, IfErr-weaker, err_from_is_err_and}
 use Rattle.std.specs.BTreeMap.{get_by_text}
-use Rattle.serde_json.specs.Data.{Data}
-use Rattle.seccompiler.specs.Errors.{IsNoMemoryInFrontend}
-use Rattle.seccompiler.specs.JsonAnswers.{OfValue, ArePoliciesOf, IsLeastRefused, TellsFrontendFault}
-use Rattle.seccompiler.specs.Compiled.{numbers_of}
-use Rattle.seccompiler.specs.SyscallTable.{IsTableNumber}
-use Rattle.seccompiler.specs.JsonSteps.{AreFilters, IsNoFailedRead, Tells}
+use Rattle.seccompiler.specs.JsonAnswers.{OfValue, ArePoliciesOf, IsLeastRefused}
 use Rattle.seccompiler.proofs.json.compiler.TextPolicies.{have_table_numbers, refused_told, told_no_read, told_no_memory}
 use Rattle.seccompiler.proofs.json.compiler.JsonCompiler.policies_of.Goals as goal
 

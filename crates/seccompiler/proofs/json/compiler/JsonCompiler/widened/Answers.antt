@@ -1,6 +1,5 @@
-use Rattle.std.proofs.Common.{rules, ◌≡◌, ◌↔◌, ℤ, Vec, Global, Contains}
+use Rattle.std.proofs.Common.{rules, ◌≡◌}
 use Rattle.std.proofs.lemmas.Result.{IfOk-weaker, on_ok_weaker}
-use Rattle.seccompiler.specs.JsonWidened.{IsWidened, DecideAlikeOff, MatchesOn}
 use Rattle.seccompiler.proofs.json.policy.Policies.{both_made}
 use Rattle.seccompiler.proofs.json.policy.WidenedNumbers.{alike_off, matches_on, keeps_matches}
 use Rattle.seccompiler.proofs.json.compiler.JsonCompiler.widened.Goals as goal

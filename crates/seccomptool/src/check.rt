@@ -12,13 +12,12 @@ ghost use Rattle.std.specs.Prelude.{◌≡◌, ◌+◌, IfErr, IfOk, OnOk};
 ghost use Rattle.seccompiler.specs.JsonAnswers.{OfValue};
 ghost use Rattle.seccomp_check.specs.Checks.{AreAllCompiled};
 ghost use Rattle.seccomptool.specs.Check as spec;
-ghost use Rattle.seccomp_warnings.specs.Warnings.{AreTrueWarnings};
-ghost use Rattle.seccomptool.specs.Check.{AreWarningsIn, IsCheckOf, IsRefusal};
+ghost use Rattle.seccomptool.specs.Check.{AreWarningsIn, AreWarningsOf, IsCheckOf, IsRefusal};
 
 use crate::error::ToolError;
 use crate::findings::Verdict;
 use seccomp_check::{Rejection, check};
-use seccomp_warnings::{Code, Warning, verdicts_of, warnings_of};
+use seccomp_warnings::{Code, Judgement, Warning, judgements_of, warnings_of};
 use seccompiler::json::filters_of;
 use seccompiler::{JsonFilter, JsonFilterMap, JsonFrontendError, TargetArch};
 use std::alloc::{AllocError, Global};
@@ -28,6 +27,8 @@ use std::alloc::{AllocError, Global};
 pub struct FilterWarnings {
     /// The name.
     pub name: String,
+    /// What is so of its entries beside each other.
+    pub judgements: Vec<Judgement>,
     /// The warnings.
     pub warnings: Vec<Warning>,
 }
@@ -87,11 +88,10 @@ pub(crate) fn warnings_in(
     let mut all = Vec::new(alloc);
     let mut count = 0;
     for (name, filter) in &filters.0 {
-        let warnings = warnings_in_filter(alloc, target, allowed, filter)?;
-        let more = sum_of(count, warnings.len())?;
+        let own = warnings_in_filter(alloc, target, allowed, name, filter)?;
+        let more = sum_of(count, own.warnings.len())?;
         count = more;
-        let name = name.clone()?;
-        all.push(FilterWarnings { name, warnings })?;
+        all.push(own)?;
     }
     Ok(CheckedPolicy {
         filters: all,
@@ -114,12 +114,19 @@ fn warnings_in_filter(
     alloc: Global,
     target: TargetArch,
     allowed: &[Code],
+    name: &String,
     filter: &JsonFilter,
-) -> Result<Vec<Warning>, JsonFrontendError>
-    ensures { IfOk result (λ warnings. AreTrueWarnings target allowed.now filter.now warnings.items) }
+) -> Result<FilterWarnings, JsonFrontendError>
+    ensures { IfOk result (AreWarningsOf target allowed.now (name.now, filter.now)) }
 {
-    let verdicts = verdicts_of(alloc, target, filter)?;
-    Ok(warnings_of(alloc, filter, &verdicts, allowed)?)
+    let judgements = judgements_of(alloc, target, filter)?;
+    let warnings = warnings_of(alloc, filter, &judgements, allowed)?;
+    let name = name.clone()?;
+    Ok(FilterWarnings {
+        name,
+        judgements,
+        warnings,
+    })
 }
 
 // That the library compiles all filters of the text.

@@ -143,7 +143,7 @@ WARNED = '''{
         { "index": 0, "type": "qword", "op": { "masked_eq": 1 }, "val": \u20202 },
         \u2020{ "index": 1, "type": "dword", "op": "ge", "val": 0 }
       ] },
-      \u2020{ "syscall": "open" }, \u2020{ "syscall": "open" }
+      \u2020{ "syscall": "stat" }, \u2020{ "syscall": "stat" }
     ],
     "filter_action": { "errno": \u20200 },
     "default_action": \u2020"allow"

@@ -227,21 +227,12 @@ fn push_keys(
         return Ok(());
     };
     for (key, _) in members.iter() {
-        if !is_key(key.as_str()) {
+        if !KEYS.contains(&key.as_str()) {
             let key = String::from_str(alloc, key.as_str())?;
             push(all, allowed, ProfileWarning::UnknownKey(key))?;
         }
     }
     Ok(())
-}
-
-fn is_key(key: &str) -> bool {
-    for known in &KEYS {
-        if key == *known {
-            return true;
-        }
-    }
-    false
 }
 
 // Adds the warnings of the filters of a profile's entries.

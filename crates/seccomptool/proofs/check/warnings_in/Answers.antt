@@ -21,7 +21,7 @@ loop-name-preserved c =
       each = subst (AllZip (AreWarningsOf c.args.target c.args.allowed.now) (done ++ e ∷ [])) (sym c.in_ok-push.ensures.items)
           (all_zipped_more (AreWarningsOf c.args.target c.args.allowed.now) done l.all.items e own l.invariant.each
           c.in_ok-own.ensures);
-      count_is = c.in_ok-more.ensures ∙ ap (λ n. n + c.len.result) l.invariant.count_is
+      count_is = c.in-Some-checked_add.ensures.1 ∙ ap (λ n. n + c.len.result) l.invariant.count_is
           ∙ ap (λ n. count_of l.all.items + n) (c.len.ensures ∙ own.warnings.ok.0) ∙ sym (sum_by_push counted l.all.items own)
           ∙ ap count_of (sym c.in_ok-push.ensures.items);
     }

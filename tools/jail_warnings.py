@@ -47,6 +47,8 @@ YIELD_OF_X32 = str(X32_BIT + X32_CALLS["sched_yield"])
 # structure of no size.
 CLONE, CLONE3, INVALID = "clone 0x800", "clone3 0 0", answer_of(22)
 
+TGKILL = "tgkill -1 -1 0"
+
 # Calls by which `call` ends, with its exit status.
 ENDED = [("exit 6", 6), ("exit_group 7", 7)]
 
@@ -131,6 +133,8 @@ WARNED = {
         ["kills-exit"] * 3, filter_of("allow", "kill_process", *(it for it in NAMES if it not in EXITS)),
         [("exit 0", KILLED), ("exit_group 0", KILLED)]),
     "allows all": Shown([], filter_of("allow", "kill_process", *NAMES), ENDED),
+    "allows all but a restart": Shown(
+        ["no-restart"], filter_of("allow", "kill_process", *(it for it in NAMES if it != "restart_syscall")), ENDED),
     "fails at the end": Shown(["kills-exit"] * 2, filter_of({"errno": 1}, "allow", "exit_group", "rt_sigreturn"), []),
     "denies all": Shown(["denies-everything"] + ["kills-exit"] * 3, filter_of("trap", {"errno": 1}), []),
     "opens to write": Shown(["flag-evades"], denying(when("openat", (2, "dword", "eq", 1))), [
@@ -150,6 +154,8 @@ WARNED = {
     "allows clone3": Shown(["clone-by-clone3"], allowing("clone3"), [(CLONE, DENIED), (CLONE3, INVALID)]),
     "allows clone and clone3": Shown([], allowing("clone3", "clone"), [(CLONE, INVALID), (CLONE3, INVALID)]),
     "allows clone": Shown([], allowing("clone"), [(CLONE, INVALID), (CLONE3, DENIED)]),
+    "denies kill": Shown(["sibling-allowed"], denying("kill"), [("kill 0 0", DENIED), (TGKILL, INVALID)]),
+    "denies kill and its siblings": Shown([], denying("kill", "tgkill", "pidfd_send_signal"), [("kill 0 0", DENIED), (TGKILL, DENIED)]),
     "with and without args": Shown(
         ["crate-differs", "redundant-entry"], denying("sched_yield", when("sched_yield", (0, "dword", "eq", 5))),
         [("sched_yield 5", DENIED), ("sched_yield 4", DENIED)]),
@@ -181,6 +187,9 @@ SET_USER = "import os; os.setuid(os.getuid() + 1); print(os.getuid())"
 
 # Handles a signal, and ends.
 HANDLED = "trap 'echo caught' USR1; kill -USR1 $$; exit 7"
+
+# Stops a command while it sleeps, goes on with it, and prints how it ends.
+STOPPED = "exec 2>/dev/null; sleep 0.5 & sleep 0.1; kill -STOP $!; sleep 0.1; kill -CONT $!; wait $!; echo $?"
 
 
 def try_warned(results, jailer, folder):
@@ -219,6 +228,13 @@ def try_ended(results, jailer, folder):
         jailed = [*jailer.words, "warned.json", name]
         results.compare(f"{jailer} {name}: true", at_end, run([*jailed, "true"], folder))
         results.compare(f"{jailer} {name}: a signal handler", at_return, run([*jailed, "sh", "-c", HANDLED], folder))
+
+
+def try_stopped(results, jailer, folder):
+    """Stops a command and goes on with it: it is killed if the filter denies the call by which Linux does that."""
+    for name, status in [("allows all but a restart", 128 - KILLED), ("allows all", 0)]:
+        found = run([*jailer.words, "warned.json", name, "sh", "-c", STOPPED], folder)
+        results.compare(f"{jailer} {name}: a command that is stopped", (f"{status}\n", "", 0), found)
 
 
 def try_codes(results, folder):

@@ -282,7 +282,8 @@ def compare_codes(results):
     names, told = texts_by_code("code.rt", "name"), texts_by_code("text.rt", "paragraph")
     order = list(names.values())
     sections = re.findall(r"^### `([a-z0-9-]+)`$", page.read_text(encoding="utf-8"), re.M)
-    table = re.findall(r"^\| \[`([a-z0-9-]+)`\]", page.read_text(encoding="utf-8"), re.M)
+    rows = re.findall(r"^\| [a-z ]+ \| (\[`.*) \|$", page.read_text(encoding="utf-8"), re.M)
+    table = re.findall(r"\[`([a-z0-9-]+)`\]\(#\1\)", "\n".join(rows))
     results.compare("docs/CHECKS.md: the sections of codes", order, sections)
     results.compare("docs/CHECKS.md: the table of codes", order, table)
     for name, code in names.items():

@@ -15,7 +15,7 @@ ASKED = [condition("dword", "eq", 7)]
 
 # How many filters come by chance, how many a policy has of them, and the most entries of one.
 BY_CHANCE, FILTERS, ENTRIES = 960, 48, 6
-NAMES = (*EXITS, "clone", "clone3", "execve", "set_tid_address", "fork", "rt_sigaction")
+NAMES = (*EXITS, "clone", "clone3", "execve", "set_tid_address", "futex", "unshare")
 ACTIONS = ("allow", "log", "kill_process", "kill_thread", "trap", {"errno": 38})
 
 
@@ -88,6 +88,19 @@ NO_EXECVE = [
     ("trap", "kill_process", ["set_tid_address"], killed(*EXITS)),
 ]
 
+NO_RESTART = [
+    *(("trap", "allow", [it, *EXITS], [("mismatch_action (restart_syscall)", "no-restart")])
+      for it in ("nanosleep", "clock_nanosleep", "poll", "futex")),
+    ({"errno": 1}, "log", [asking("futex"), *EXITS], [("mismatch_action (restart_syscall)", "no-restart")]),
+    ("trap", "allow", ["nanosleep", "restart_syscall", *EXITS], []),
+    ("trap", "allow", ["poll", asking("restart_syscall"), *EXITS], []),
+    # Linux goes on with this one by itself.
+    ("trap", "allow", ["ppoll", *EXITS], []),
+    ("allow", {"errno": 1}, ["nanosleep"], []),
+    ("log", "allow", ["nanosleep"], []),
+    ("trap", "kill_process", ["nanosleep"], killed(*EXITS)),
+]
+
 CLONE_BY_CLONE3 = [
     ("allow", {"errno": 1}, ["clone"], PASSED_BY),
     ("log", "kill_process", ["read", asking("clone")], [*PASSED_BY, ("filter[1].args[0]", "flag-evades")]),
@@ -107,6 +120,40 @@ CLONE_BY_CLONE3 = [
     ("trap", "allow", ["clone", "read", *EXITS], []),
     ("log", "allow", ["clone3"], []),
     ("trap", "kill_process", ["clone3"], killed(*EXITS)),
+]
+
+def let_through(place, call):
+    """Returns the warning of the entry at this place that this call does the same."""
+    return (f"filter[{place}] ({call})", "sibling-allowed")
+
+
+SIBLING_ALLOWED = [
+    ("allow", {"errno": 1}, ["open"], [let_through(0, "openat")]),
+    ("log", "kill_process", ["read", "open", "openat"], [let_through(1, "openat2"), let_through(2, "openat2")]),
+    ("allow", {"errno": 1}, ["openat", "openat2"], [let_through(0, "open")]),
+    ("allow", {"errno": 1}, ["openat2", "openat", "open"], [let_through(1, "io_uring_setup"), let_through(2, "io_uring_setup")]),
+    ("allow", {"errno": 1}, ["io_uring_setup", "openat2", "openat", "open"], []),
+    # An entry with args names its call too, and denies only some of its calls.
+    ("allow", {"errno": 1}, ["kill", "pidfd_send_signal", asking("tgkill")], []),
+    ("allow", {"errno": 1}, [asking("kill")], []),
+    ("allow", "trap", ["kill", "tgkill", "kill"], [let_through(0, "pidfd_send_signal"), let_through(2, "pidfd_send_signal")]),
+    ("allow", {"errno": 1}, ["execve"], [let_through(0, "execveat")]),
+    ("allow", {"errno": 1}, ["execveat"], []),
+    ("allow", {"errno": 1}, ["mount"], [let_through(0, "move_mount")]),
+    ("allow", {"errno": 1}, ["mount", "move_mount"], [let_through(0, "fsmount")]),
+    ("allow", {"errno": 1}, ["mount", "move_mount", "fsmount"], []),
+    ("allow", {"errno": 1}, ["ptrace"], [let_through(0, "process_vm_writev")]),
+    ("allow", {"errno": 1}, ["mprotect", "unshare", "socket", "connect"], [
+        let_through(0, "pkey_mprotect"), let_through(1, "clone"), let_through(2, "io_uring_setup"), let_through(3, "io_uring_setup")]),
+    ("allow", {"errno": 1}, ["unshare", "clone"], [*PASSED_BY, let_through(0, "clone3")]),
+    ("allow", {"errno": 1}, ["unshare", "clone", "clone3"], []),
+    # Nothing is let through that isn't listed, or what is listed isn't denied.
+    ("trap", "allow", ["open", *EXITS], []),
+    ("trap", {"errno": 1}, ["open"], killed(*EXITS)),
+    ("allow", "log", ["open"], []),
+    # It comes before what else is so of an entry beside others.
+    ("allow", {"errno": 1}, ["ptrace", asking("ptrace")], [
+        let_through(0, "process_vm_writev"), *at("crate-differs", 0)]),
 ]
 
 CRATE_DIFFERS = [
@@ -140,6 +187,6 @@ def policies_by_chance():
 
 
 CASES = [
-    *(it for row in (*KILLS_EXIT, *NO_EXECVE, *CLONE_BY_CLONE3, *CRATE_DIFFERS) for it in of_calls(*row)),
+    *(it for row in (*KILLS_EXIT, *NO_EXECVE, *NO_RESTART, *CLONE_BY_CLONE3, *SIBLING_ALLOWED, *CRATE_DIFFERS) for it in of_calls(*row)),
     *(writes(f"check {ALLOWED}", it, lines_of(it)) for it in policies_by_chance()),
 ]

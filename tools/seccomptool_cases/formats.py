@@ -9,8 +9,10 @@ import shlex
 
 from program_cases import FILES as SHARED, FRONTEND
 
+from .compiled_profiles import LARGE, TOO_LONG, entry, profile
 from .forms import FULL, LOGS, MISSING, OUTPUT, TOOL, Case, as_list
 from .hostile import HOSTILE, NAMES, told
+from .long_filters import of_rules
 from .profile_checks import HAS_FLAGS, IS_DEFAULT, SAID_OF_PROFILE
 from .warnings import SAID
 
@@ -33,15 +35,19 @@ def places(text):
     return found
 
 
-def said(message, path="", code=None, **more):
+def said(severity, code, message, path, **more):
     """Returns what is said of a place, without the place."""
-    severity = "warning" if code else "error"
     return {"path": path, "code": code, "severity": severity, "message": message, "call": None, "suggestion": None, **more}
 
 
-def warned(code, path, **more):
+def wrong(code, message, path="", **more):
+    """Returns the error of a code."""
+    return said("error", code, message, path, **more)
+
+
+def warned(code, path, message=None, **more):
     """Returns the warning of a code."""
-    return said(SAID[code], path, code, **more)
+    return said("warning", code, message or SAID[code], path, **more)
 
 
 def placed(text, file, sayings):
@@ -64,8 +70,7 @@ def as_gcc(found):
         call = f" ({it['call']})" if it["call"] else ""
         path = f'"{it["path"]}"' if it["code"] == "unknown-key" else it["path"]
         about = f"{told(path)}{call}: " if it["path"] else ""
-        code = f" [{it['code']}]" if it["code"] else ""
-        lines.append(f"{told(it['file'])}{place}: {it['severity']}: {about}{told(it['message'])}{code}\n")
+        lines.append(f"{told(it['file'])}{place}: {it['severity']}: {about}{told(it['message'])} [{it['code']}]\n")
     return "".join(lines)
 
 
@@ -95,44 +100,53 @@ CONDITION = '{"index":%s,"type":"dword","op":%s,"val":%s}'
 UNKNOWN = 'unknown system call "fnctl" on x86_64; did you mean "fcntl"?'
 NAME = "\u00e9\U0001f600"
 
+OBJECT_OF_FILTER = "expected an object with the actions and the entries of a filter, found "
+REPEATED = FRONTEND + "Repeated key in Json."
+PARSING = FRONTEND + "Error parsing Json: invalid JSON at "
+
 OF_ERRORS = [
     # What stands at a place: its first byte, behind spaces, tabs and line feeds.
-    *cases_of(filters('\n\t {"syscall" :\n\u2020"fnctl"}'), (0, said(UNKNOWN, "a.filter[0].syscall", suggestion="fcntl"))),
+    *cases_of(filters('\n\t {"syscall" :\n\u2020"fnctl"}'),
+              (0, wrong("unknown-call", UNKNOWN, "a.filter[0].syscall", suggestion="fcntl"))),
     *cases_of(filters('{"syscall":"read","args":[' + CONDITION % (0, '"eq"', 1) + "," + CONDITION % (MARK + "6", '"eq"', 1) + "]}"),
-              (0, said("expected 0 to 5, found 6", "a.filter[0].args[1].index"))),
+              (0, wrong("wrong-value", "expected 0 to 5, found 6", "a.filter[0].args[1].index"))),
     *cases_of(filters('{"syscall":"read","args":\u2020[]}'),
-              (0, said("expected null or at least one condition, found an empty array", "a.filter[0].args"))),
+              (0, wrong("wrong-value", "expected null or at least one condition, found an empty array", "a.filter[0].args"))),
     *cases_of(filters('{"syscall":"read","args":[' + CONDITION % (0, '{ "masked_eq" : \u2020-1}', 1) + "]}"),
-              (0, said("expected 0 to 18446744073709551615, found -1", "a.filter[0].args[0].op.masked_eq"))),
+              (0, wrong("wrong-value", "expected 0 to 18446744073709551615, found -1", "a.filter[0].args[0].op.masked_eq"))),
     *cases_of(filters("", mismatch='{"errno": \u20204294967296}'),
-              (0, said("expected 0 to 4294967295, found 4294967296", "a.mismatch_action.errno"))),
-    # An object that lacks something; one with a key that isn't known, where the key stands.
-    *cases_of(filters('{"syscall":"read"}, \u2020{"args":null}'), (0, said('missing "syscall"', "a.filter[1]"))),
+              (0, wrong("wrong-value", "expected 0 to 4294967295, found 4294967296", "a.mismatch_action.errno"))),
+    # An object that lacks something; one with a key that isn't known, where the key stands; one with both keys of one thing.
+    *cases_of(filters('{"syscall":"read"}, \u2020{"args":null}'), (0, wrong("missing-key", 'missing "syscall"', "a.filter[1]"))),
+    *cases_of('{"a":\u2020{"match_action":"log","filter":[]}}',
+              (0, wrong("missing-key", 'missing "mismatch_action" or "default_action"', "a"))),
     *cases_of(filters('{"syscall":"read", \u2020"arg":[]}'),
-              (0, said('"arg": unknown key; expected syscall, args or comment', "a.filter[0]"))),
+              (0, wrong("unexpected-key", '"arg": unknown key; expected syscall, args or comment', "a.filter[0]"))),
     *cases_of(filters('{"syscall":"read", \u2020"\\u0061rg":[]}'),
-              (0, said('"arg": unknown key; expected syscall, args or comment', "a.filter[0]"))),
+              (0, wrong("unexpected-key", '"arg": unknown key; expected syscall, args or comment', "a.filter[0]"))),
+    *cases_of('{"a":\u2020{"match_action":"log","mismatch_action":"log","filter_action":"log","filter":[]}}',
+              (0, wrong("both-keys", 'expected one of "match_action" and "filter_action", found both', "a"))),
     *cases_of('{"a":\u2020{"mismatch_action":"log","match_action":"log","filter":[]}}',
-              (0, said("expected two actions that differ, found the same one twice", "a"))),
+              (0, wrong("identical-actions", "expected two actions that differ, found the same one twice", "a"))),
     # Columns are those of bytes, and names are read as JSON writes them.
-    *cases_of('{"' + NAME + '":\u2020[]}', (0, said(
-        "expected an object with the actions and the entries of a filter, found an empty array", NAME))),
-    *cases_of('{"\\u00e9\\ud83d\\ude00" :\u2020[]}', (0, said(
-        "expected an object with the actions and the entries of a filter, found an empty array", NAME))),
-    *cases_of('{"a\\"{[:,]}":\r\n\u20201, "b":{}}', (0, said(
-        "expected an object with the actions and the entries of a filter, found 1", 'a"{[:,]}'))),
-    *cases_of(" \u2020[1]", (0, said("expected an object of filters, found an array of 1 value"))),
-    *cases_of("\n\n  \u20207 ", (0, said("expected an object of filters, found 7"))),
+    *cases_of('{"' + NAME + '":\u2020[]}', (0, wrong("wrong-value", OBJECT_OF_FILTER + "an empty array", NAME))),
+    *cases_of('{"\\u00e9\\ud83d\\ude00" :\u2020[]}', (0, wrong("wrong-value", OBJECT_OF_FILTER + "an empty array", NAME))),
+    *cases_of('{"a\\"{[:,]}":\r\n\u20201, "b":{}}', (0, wrong("wrong-value", OBJECT_OF_FILTER + "1", 'a"{[:,]}'))),
+    *cases_of(" \u2020[1]", (0, wrong("wrong-value", "expected an object of filters, found an array of 1 value"))),
+    *cases_of("\n\n  \u20207 ", (0, wrong("wrong-value", "expected an object of filters, found 7"))),
     # A key that an object has twice, at its second place; of several the first.
-    *cases_of('{"a":1,\n \u2020"a":2}', (0, said(FRONTEND + "Repeated key in Json.", "a"))),
-    *cases_of('{"b":{"x":[{"k":1,"l":2},{"l":3,"k":4,\u2020"\\u006c":5}]},"b":2}',
-              (0, said(FRONTEND + "Repeated key in Json.", "b.x[1].l"))),
+    *cases_of('{"a":1,\n \u2020"a":2}', (0, wrong("repeated-key", REPEATED, "a"))),
+    *cases_of('{"b":{"x":[{"k":1,"l":2},{"l":3,"k":4,\u2020"\\u006c":5}]},"b":2}', (0, wrong("repeated-key", REPEATED, "b.x[1].l"))),
     *cases_of('{"a":{"a":[{"a":{"a":1}}],"b":1},"b":[[],[7,{"c":0}],{"a":0,\u2020"a":1}]}',
-              (0, said(FRONTEND + "Repeated key in Json.", "b[2].a"))),
+              (0, wrong("repeated-key", REPEATED, "b[2].a"))),
     # No JSON: where its reader says.
-    *cases_of('{"a":\n [1,\u2020]}', (0, said(FRONTEND + "Error parsing Json: invalid JSON at line 2 column 5"))),
-    *cases_of('\u2020// no comments\n{}', (0, said(FRONTEND + "Error parsing Json: invalid JSON at line 1 column 1"))),
-    *cases_of('{"a":{"mismatch_action":{"errno":\u20200x1}}}', (0, said(FRONTEND + "Error parsing Json: invalid JSON at line 1 column 34"))),
+    *cases_of('{"a":\n [1,\u2020]}', (0, wrong("not-json", PARSING + "line 2 column 5"))),
+    *cases_of('\u2020// no comments\n{}', (0, wrong("not-json", PARSING + "line 1 column 1"))),
+    *cases_of('{"a":{"mismatch_action":{"errno":\u20200x1}}}', (0, wrong("not-json", PARSING + "line 1 column 34"))),
+    # A program that is too large, and bytes that are none.
+    *cases_of("{" + of_rules("a", 816).replace("{", MARK + "{", 1) + "}", (0, wrong(
+        "program-too-large", "needs 4101 instructions in the linear layout; 4096 fit; 17 in the tree layout", "a"))),
+    *cases_of("{ 6, 0, 0, 0 }," * 4097, (None, wrong("not-a-program", "expected 1 to 4096 instructions, found 4097"))),
 ]
 
 # A policy with each kind of place, and its warnings.
@@ -143,7 +157,7 @@ WARNED = '''{
         { "index": 0, "type": "qword", "op": { "masked_eq": 1 }, "val": \u20202 },
         \u2020{ "index": 1, "type": "dword", "op": "ge", "val": 0 }
       ] },
-      \u2020{ "syscall": "open" }, \u2020{ "syscall": "open" }
+      \u2020{ "syscall": "stat" }, \u2020{ "syscall": "stat" }
     ],
     "filter_action": { "errno": \u20200 },
     "default_action": \u2020"allow"
@@ -186,16 +200,18 @@ PROFILE = '''{ "defaultAction": "SCMP_ACT_ERRNO", \u2020"sysCalls": [],
 OF_PROFILES = [
     *cases_of(
         PROFILE,
-        (1, said(HAS_FLAGS, "flags", "runtimes-differ")),
-        (0, said(SAID_OF_PROFILE["unknown-key"], "sysCalls", "unknown-key")),
-        (2, said(IS_DEFAULT, "syscalls[1].action", "no-effect")),
+        (1, warned("runtimes-differ", "flags", HAS_FLAGS)),
+        (0, warned("unknown-key", "sysCalls", SAID_OF_PROFILE["unknown-key"])),
+        (2, warned("no-effect", "syscalls[1].action", IS_DEFAULT)),
     ),
     *cases_of('{"defaultAction":"SCMP_ACT_ALLOW","syscalls":[{"names":["read"],"action":"SCMP_ACT_ERRNO","args":[\n'
-              '{"index":\u20206,"value":1,"op":"SCMP_CMP_EQ"}]}]}', (0, said("expected 0 to 5, found 6", "syscalls[0].args[0].index"))),
-    *cases_of('{"defaultAction":\u2020"ALLOW"}', (0, said(
-        "expected SCMP_ACT_ALLOW, SCMP_ACT_ERRNO, SCMP_ACT_KILL, SCMP_ACT_KILL_PROCESS, SCMP_ACT_KILL_THREAD, SCMP_ACT_LOG, "
+              '{"index":\u20206,"value":1,"op":"SCMP_CMP_EQ"}]}]}', (0, wrong("not-a-profile", "expected 0 to 5, found 6", "syscalls[0].args[0].index"))),
+    *cases_of('{"defaultAction":\u2020"ALLOW"}', (0, wrong(
+        "not-a-profile", "expected SCMP_ACT_ALLOW, SCMP_ACT_ERRNO, SCMP_ACT_KILL, SCMP_ACT_KILL_PROCESS, SCMP_ACT_KILL_THREAD, SCMP_ACT_LOG, "
         'SCMP_ACT_TRACE or SCMP_ACT_TRAP, found "ALLOW"', "defaultAction"))),
-    *cases_of(" \u2020[]", (0, said("expected an object, found an array")), words=" --oci"),
+    *cases_of(" \u2020[]", (0, wrong("not-a-profile", "expected an object, found an array")), words=" --oci"),
+    *cases_of("[\u2020}", (0, wrong("not-json", "Error parsing Json: invalid JSON at line 1 column 2")), words=" --oci"),
+    *cases_of(json.dumps(profile(entry("read", args=LARGE))), (None, wrong("program-too-large", TOO_LONG.rstrip()))),
 ]
 
 # Several are one object, in their order; what can't be read is told on standard error as ever.

@@ -43,6 +43,8 @@ SAID = {
     "clone3 with errno 38 in a separate filter",
     "no-execve": "a jailer can't start the program, which the filter lets make set_tid_address; let execve through, or leave out "
     "set_tid_address if the program installs the filter",
+    "no-restart": "after SIGSTOP and SIGCONT Linux goes on with nanosleep, poll or futex by this call; let it through",
+    "sibling-allowed": "the entry denies a call, and another one that does the same is let through; add an entry for that one too",
     "crate-differs": "the call also has entries with args, and matches here whatever its arguments are; the Rust crate "
     "checks these args: leave out those entries or this one",
     "unreachable-entry": "no call meets all of its conditions; correct them, or leave the entry out",
@@ -437,6 +439,23 @@ def codes_of_action(action):
     return [code for code, so in found.items() if so]
 
 
+# The calls that Linux goes on with by restart_syscall (-ERESTART_RESTARTBLOCK in its sources).
+WAITING = ("nanosleep", "clock_nanosleep", "poll", "futex")
+
+# The calls of x86_64 by which what a call does can be done too: by another call of the same kind, or by a ring of io_uring.
+SIBLINGS = {
+    "open": ["openat", "openat2", "io_uring_setup"],
+    "openat": ["openat2", "open", "io_uring_setup"],
+    "execve": ["execveat"],
+    "mount": ["move_mount", "fsmount"],
+    "ptrace": ["process_vm_writev"],
+    "mprotect": ["pkey_mprotect"],
+    "kill": ["tgkill", "pidfd_send_signal"],
+    "unshare": ["clone", "clone3"],
+    "socket": ["io_uring_setup"],
+    "connect": ["io_uring_setup"],
+}
+
 # The calls by which a thread or a process ends, or a signal handler returns.
 EXITS = ("exit", "exit_group", "rt_sigreturn")
 
@@ -452,24 +471,35 @@ def codes_of_unlisted(entries, mismatch, match):
     starts = match in PERMITS and mismatch not in PERMITS and asked_of(entries, "set_tid_address")
     if starts and not asked_of(entries, "execve") and not asked_of(entries, "execveat"):
         killed.append(("execve", "no-execve"))
+    waits = match in PERMITS and mismatch not in PERMITS and any(asked_of(entries, it) for it in WAITING)
+    if waits and not asked_of(entries, "restart_syscall"):
+        killed.append(("restart_syscall", "no-restart"))
     is_list_of_denied = mismatch in PERMITS and match not in PERMITS
     if is_list_of_denied and asked_of(entries, "clone") and not asked_of(entries, "clone3"):
         return [*killed, ("clone3", "clone-by-clone3")]
     return killed
 
 
+def siblings_left(name, entries):
+    """Returns the calls by which what this call does can be done too, and that no entry names, in their order."""
+    return [it for it in SIBLINGS.get(name, ()) if not asked_of(entries, it)]
+
+
 def codes_of_entry(entry, entries, mismatch, match):
-    """Returns the codes of one of these entries, in their order. One with args has none."""
+    """Returns the codes of one of these entries, each with the call that it tells, in their order. One with args has none."""
     if entry.get("args") is not None:
         return []
     name = entry["syscall"]
     is_list_of_allowed = match in PERMITS and mismatch not in PERMITS
+    is_list_of_denied = mismatch in PERMITS and match not in PERMITS
+    left = siblings_left(name, entries) if is_list_of_denied else []
     found = {
         "kills-exit": match not in PERMITS and name in EXITS,
         "clone-by-clone3": is_list_of_allowed and name == "clone3" and None not in asked_of(entries, "clone"),
+        "sibling-allowed": left,
         "crate-differs": any(args is not None for args in asked_of(entries, name)),
     }
-    return [code for code, so in found.items() if so]
+    return [(f" ({left[0]})" if code == "sibling-allowed" else "", code) for code, so in found.items() if so]
 
 
 def lines_of_filter(name, it):
@@ -485,7 +515,7 @@ def lines_of_filter(name, it):
     lines += [line(f"{name}.match_action", "denies-everything")] * denies_everything(mismatch, match)
     for entry, rule in enumerate(it["filter"]):
         codes = codes_of_entry(rule, it["filter"], mismatch, match)
-        lines += [line(f"{name}.filter[{entry}]", code) for code in codes]
+        lines += [line(f"{name}.filter[{entry}]{call}", code) for call, code in codes]
         for place, compared in enumerate(rule.get("args") or []):
             codes = codes_of(rule["syscall"], compared, mismatch, match)
             lines += [line(f"{name}.filter[{entry}].args[{place}]", code) for code in codes]

@@ -1,26 +1,17 @@
--- For `check`, `place` and `placed`: what is answered, from what the library answers and from what is found.
-use Rattle.std.proofs.Common.{◌≡◌, ℕ, List, Option, Some, Vec, Global}
+-- For `placed`: what is answered, from what the library answers and from what is found.
+use Rattle.std.proofs.Common.{◌≡◌, ℕ, List, Some}
 use Rattle.serde_json.specs.Data.{Data}
 use Rattle.seccompiler.specs.declared.backend.BackendError.TheVariants as backend
 use Rattle.seccompiler.specs.declared.backend.TargetArch.{TargetArch}
-use Rattle.seccompiler.specs.declared.bpf.sock_filter.{sock_filter}
 use Rattle.seccompiler.specs.declared.error.Error.{Error}
 use Rattle.seccompiler.specs.declared.error.Error.TheVariants as library
 use Rattle.seccompiler.specs.declared.json.error.JsonFrontendError.{JsonFrontendError}
 use Rattle.seccompiler.specs.declared.json.error.JsonFrontendError.TheVariants as json
 use Rattle.seccompiler.specs.Errors.{IsNoMemoryInside}
-use Rattle.seccompiler.specs.JsonAnswers.{IsReadAs, IsValueOf, OfValue, TellsFrontendFault}
-use Rattle.seccompiler.specs.JsonPrograms.{AreProgramsOf, IsProgramOf, TellsFirstFault}
-use Rattle.seccomp_check.specs.Checks.{AreAllCompiled, IsPlaced, IsRejection, TellsFaultOf, cause_told, frontend_cause, from_library}
+use Rattle.seccompiler.specs.JsonAnswers.{IsReadAs, IsValueOf, TellsFrontendFault}
+use Rattle.seccompiler.specs.JsonPrograms.{TellsFirstFault}
+use Rattle.seccomp_check.specs.Checks.{IsPlaced, IsRejection, TellsFaultOf, cause_told, frontend_cause, from_library}
 use Rattle.seccomp_check.specs.declared.fault.Cause.{Cause}
-use Rattle.seccomp_command_line.proofs.Found.{all_values}
-
--- Values that have programs are all compiled.
-pub all_compiled : (target : TargetArch) (text : List ℕ) (find : List ℕ → Option (Vec sock_filter Global))
-    → OfValue text (AreProgramsOf target find) → OfValue text (AreAllCompiled target)
-all_compiled target text find value =
-    let Compiled : Data → Type 0 = λ v. (program : List sock_filter) × IsProgramOf target v program in
-    (value.0, value.1, all_values _ find value.0 value.2 Compiled (λ v program is. (program.items, is)))
 
 module _ (target : TargetArch) (text : List ℕ) where
   -- A text of which a fault of the front end with a place is reported has a value.

@@ -1,5 +1,6 @@
 -- What `check` answers of a policy's text: the first fault, with its place if it has one.
-use Rattle.std.specs.Prelude.{◌≡◌, ◌≢◌, ℕ, List, Option, Some, None, string_bytes, ⊤}
+use Rattle.std.specs.Prelude.{◌≡◌, ◌≢◌, ◌⊎◌, ℕ, List, ◌∷◌, ◌++◌, All, Option, Some, None, String, string_bytes, ⊤}
+use Rattle.std.specs.declared.alloc.Global.{Global}
 use Rattle.serde_json.specs.Data.{Data}
 use Rattle.seccompiler.specs.declared.backend.BackendError.TheVariants as backend
 use Rattle.seccompiler.specs.declared.backend.TargetArch.{TargetArch}
@@ -12,6 +13,8 @@ use Rattle.seccompiler.specs.Errors.{IsNoMemoryInside}
 use Rattle.seccompiler.specs.JsonAnswers.{OfValue}
 use Rattle.seccompiler.specs.JsonFilters.{AreAll}
 use Rattle.seccompiler.specs.JsonPrograms.{IsProgramOf, TellsFirstFault}
+use Rattle.seccompiler.specs.JsonSteps.{IsFaultless, IsPolicyRefusal}
+use Rattle.seccompiler.specs.JsonTypes.{JsonFilter}
 use Rattle.seccomp_check.specs.declared.fault.Cause.{Cause}
 use Rattle.seccomp_check.specs.declared.fault.Cause.TheVariants as cause
 use Rattle.seccomp_check.specs.declared.fault.Fault.{Fault}
@@ -52,6 +55,19 @@ pub record IsPlaced (target : TargetArch) (text told : List ℕ) : Type 0 where
 -- All filters of the value have programs.
 abbrev pub AreAllCompiled : TargetArch → Data → Type 0
 AreAllCompiled target d = AreAll (λ value. (program : List sock_filter) × IsProgramOf target value program) d
+
+-- A filter has no policy, for this, and all filters in front of it have one.
+pub record RefusesFirst (target : TargetArch) (filters : List (String Global × JsonFilter)) (e : JsonFrontendError) : Type 0 where
+  pub front : List (String Global × JsonFilter)
+  pub own : String Global × JsonFilter
+  pub back : List (String Global × JsonFilter)
+  pub are : filters ≡ front ++ own ∷ back
+  pub fine : All (λ (named : String Global × JsonFilter). IsFaultless target named.1) front
+  pub refused : IsPolicyRefusal target own.1 e
+
+-- Why filters have no policies: the first one that has none; or lack of memory.
+abbrev pub IsFirstRefused : TargetArch → List (String Global × JsonFilter) → JsonFrontendError → Type 0
+IsFirstRefused target filters e = (e ≡ frontend.OutOfMemory) ⊎ RefusesFirst target filters e
 
 -- The first fault is reported: with its place, or as the library reports it. Lack of memory may come in place of both.
 abbrev pub IsRejection : TargetArch → List ℕ → Rejection → Type 0

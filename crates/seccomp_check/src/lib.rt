@@ -3,15 +3,16 @@
 //! The library's errors say what is wrong with a policy, and this crate finds where: [`check`] reads a policy's
 //! text, and reports the first fault by its path, what is there and what may, as
 //! `main_thread.filter[1].syscall: unknown system call "fnctl" on x86_64; did you mean "fcntl"?`.
-//! [`place`] finds the place of an error that the library already gave.
+//! [`place`] finds the place of an error that the library already gave, and [`policies_in`] makes the policies of
+//! filters that are read.
 //!
 //! ```
 //! use seccomp_check::{Rejection, check};
-//! use seccompiler::TargetArch;
+//! use seccompiler::{JsonFilterMap, TargetArch};
 //! use std::alloc::Global;
 //!
-//! /// Checks a policy for x86_64.
-//! fn check_here(alloc: Global, policy: &[u8]) -> Result<(), Rejection> {
+//! /// Checks a policy for x86_64, and gives its filters.
+//! fn check_here(alloc: Global, policy: &[u8]) -> Result<JsonFilterMap, Rejection> {
 //!     check(alloc, TargetArch::x86_64, policy)
 //! }
 //! ```
@@ -22,15 +23,17 @@ pub mod fault;
 mod length;
 mod near;
 pub mod part;
+mod policies;
 pub mod rejection;
 mod text;
 mod walk;
 
-ghost use Rattle.std.specs.Prelude.{◌≡◌, IfSome, IfOk, IfErr, OnOk, string_bytes};
+ghost use Rattle.std.specs.Prelude.{◌≡◌, IfSome, IfOk, IfErr, string_bytes};
 ghost use Rattle.serde_json.specs.Data.{Data};
 ghost use Rattle.seccompiler.specs.Errors.{IsNoMemoryInside};
 ghost use Rattle.seccompiler.specs.JsonAnswers.{OfValue, IsReadAs};
 ghost use Rattle.seccompiler.specs.JsonPrograms.{TellsFirstFault};
+ghost use Rattle.seccompiler.specs.JsonSteps.{AreFilters};
 ghost use Rattle.seccomp_check.specs.Checks.{AreAllCompiled, IsRejection, TellsFaultOf, frontend_cause, cause_told};
 ghost use Rattle.seccomp_check.specs.Faults.{Tells};
 ghost use Rattle.seccomp_check.specs.Texts as spec;
@@ -39,18 +42,19 @@ ghost use Rattle.seccomp_check.specs.declared.part.Part.TheVariants.{Policy};
 pub use crate::fault::{Cause, Expected, Fault, Finding, Problem, Step};
 pub use crate::near::near_name;
 pub use crate::part::{Kind, Part};
+pub use crate::policies::policies_in;
 pub use crate::rejection::Rejection;
 use crate::text::fault_text;
 pub use crate::text::push_problem;
 use crate::walk::in_policy;
-use seccompiler::json::JsonFrontendError;
-use seccompiler::{BackendError, Error, TargetArch, programs_of};
+use seccompiler::json::{JsonFrontendError, filters_of};
+use seccompiler::{BackendError, Error, JsonFilterMap, TargetArch, programs_of};
 use serde_json::Value;
 use std::alloc::{AllocError, Global};
 
-/// Looks for the first fault of a policy's text, and reports its place.
+/// Reads a policy's text, and reports the place of its first fault.
 ///
-/// It is Ok only if `compile_from_json` compiles all filters.
+/// It gives the text's filters, as `filters_of` does, and only if `compile_from_json` compiles all of them.
 ///
 /// A fault's text is one line: a path, a colon, a space and what is wrong there. The path is the filter's name,
 /// then `.` and a name for each member of an object, and `[` PLACE `]` for each element of an array, counted
@@ -69,14 +73,30 @@ use std::alloc::{AllocError, Global};
 /// The contract promises any one fault of that kind, and lets it be reported as `Library`. That it is the first
 /// in the order of docs/CHECKS.md, and that a fault with a place is reported as `Placed`, is tested and not
 /// proved.
-pub fn check(alloc: Global, target: TargetArch, text: &[u8]) -> Result<(), Rejection>
-    ensures compiled { OnOk result (OfValue text.now (AreAllCompiled target)) }
+pub fn check(alloc: Global, target: TargetArch, text: &[u8]) -> Result<JsonFilterMap, Rejection>
+    ensures compiled { IfOk result (λ filters. OfValue text.now (λ d. AreFilters d filters × AreAllCompiled target d)) }
     ensures rejected { IfErr result (IsRejection target text.now) }
 {
+    if let Ok(filters) = compiled_filters(alloc, target, text) {
+        return Ok(filters);
+    }
     match programs_of(alloc, text, target) {
-        Ok(_) => Ok(()),
+        // Memory that was lacking is there again.
+        Ok(_) => Err(Rejection::OutOfMemory),
         Err(refusal) => Err(placed(alloc, target, text, refusal)),
     }
+}
+
+// The filters of a text, if all of them compile.
+fn compiled_filters(alloc: Global, target: TargetArch, text: &[u8]) -> Result<JsonFilterMap, Error>
+    ensures { IfOk result (λ filters. OfValue text.now (λ d. AreFilters d filters × AreAllCompiled target d)) }
+{
+    let filters = filters_of(alloc, text)?;
+    let policies = policies_in(alloc, target, &filters)?;
+    for (_name, policy) in &policies {
+        let _program = policy.to_bpf(alloc)?;
+    }
+    Ok(filters)
 }
 
 /// Finds the first fault of a kind in a policy's text, and reports its place as [`check`] does.

@@ -6,7 +6,6 @@ use Rattle.seccomp_compare.specs.declared.Comparison.TheVariants as comparison
 use Rattle.seccomp_warnings.proofs.Covered.{beside_met, its_number, says_beside}
 use Rattle.seccomp_warnings.proofs.Quantified.{any_append, any_nil, any_one}
 use Rattle.seccomp_warnings.specs.Verdicts.{Entry, IsCovered, Meets}
-use Rattle.std.specs.Prelude.{Any}
 use Rattle.seccomp_warnings.specs.VerdictParts.{Answers, AreAmong, IsAmong, SaysBeside, rules_beside}
 
 -- None of no entries is met; and one more of these is one of these.

@@ -10,7 +10,7 @@ use Rattle.seccompiler.specs.declared.backend.SeccompCmpArgLen.{SeccompCmpArgLen
 use Rattle.seccompiler.specs.declared.backend.SeccompCmpArgLen.TheVariants.{Dword, Qword}
 use Rattle.seccompiler.specs.declared.backend.SeccompCmpOp.{SeccompCmpOp}
 use Rattle.seccompiler.specs.declared.backend.SeccompCmpOp.TheVariants.{Eq}
-use Rattle.seccomp_warnings.specs.Filed.{Drawers, Files, FilesEntry, Fixes, IsFiled, IsFiledAt, IsIn, IsIndex, IsOfKind, IsOtherMet}
+use Rattle.seccomp_warnings.specs.Filed.{Drawers, Files, FilesEntry, Fixes, IsFiledAt, IsIn, IsIndex, IsOfKind, IsOtherMet}
 use Rattle.seccomp_warnings.specs.Filed.{drawer_of, low_of}
 use Rattle.seccomp_warnings.specs.VerdictParts.{IsAmong, IsMet}
 use Rattle.seccomp_warnings.specs.Verdicts.{Entry, Meets, without}

@@ -1,18 +1,16 @@
 -- For `is_evaded`: arguments that differ in their high halves, of which a condition holds for one alone.
-use Rattle.std.proofs.Common.{◌≡◌, ◌≢◌, ◌↔◌, ℕ, ◌+◌, ◌*◌, ◌/◌, ◌%◌, ◌^◌, ◌<◌, ◌≤◌, refl, sym, subst, ap, ◌∙◌, arith}
-use Rattle.std.proofs.Common.{◌⊎◌, inl, inr, ⊎_elim}
+use Rattle.std.proofs.Common.{◌≡◌, ℕ, ◌+◌, ◌*◌, ◌/◌, ◌%◌, ◌^◌, ◌<◌, ◌≤◌, refl, sym, subst, ap, ◌∙◌, arith}
+use Rattle.std.proofs.Common.{inl, inr, ⊎_elim}
 use Rattle.std.specs.Prelude.{bit_and}
 use Rattle.std.proofs.lemmas.Bool.{cases_lt}
 use Rattle.std.proofs.lemmas.Nat.{and_assoc, and_le_l, and_le_r, and_mod, and_shr}
-use Rattle.seccompiler.specs.declared.backend.SeccompAction.{SeccompAction}
-use Rattle.seccompiler.specs.declared.backend.SeccompCmpArgLen.{SeccompCmpArgLen}
 use Rattle.seccompiler.specs.declared.backend.SeccompCmpArgLen.TheVariants.{Dword, Qword}
 use Rattle.seccompiler.specs.declared.backend.SeccompCmpOp.{SeccompCmpOp}
 use Rattle.seccompiler.specs.declared.backend.SeccompCmpOp.TheVariants.{Eq, Ge, Gt, Le, Lt, MaskedEq, Ne}
 use Rattle.seccompiler.specs.Policy.{Compares, operator_part, part_of}
 use Rattle.seccomp_warnings.specs.ActionWarnings.{Permits}
-use Rattle.seccomp_warnings.specs.AnyArgument.{Decides, HoldsFor, condition_in}
-use Rattle.seccomp_warnings.specs.Halves.{AllowsListed, BeginsAbove, DeniesListed, EndsAbove, PassesAbove}
+use Rattle.seccomp_warnings.specs.AnyArgument.{Decides}
+use Rattle.seccomp_warnings.specs.Halves.{BeginsAbove, EndsAbove, PassesAbove}
 use Rattle.seccomp_warnings.specs.Warnings.{HasNoHighHalf, IsEvaded}
 use Rattle.seccomp_warnings.specs.declared.warning.Actions.{Actions}
 use Rattle.seccomp_warnings.specs.declared.warning.Comparison.{Comparison}

@@ -8,10 +8,10 @@ use Rattle.seccompiler.specs.declared.backend.TargetArch.{TargetArch}
 use Rattle.seccomp_warnings.specs.Verdicts.{Entry, IsVerdict, IsVerdictAt, without}
 use Rattle.seccomp_warnings.specs.declared.verdict.Verdict.{Verdict}
 
--- What holds of the verdicts so far, and of one more.
-pub each_push : (P : ℕ → Verdict → Type 0) (vs : List Verdict) (v : Verdict) → P (length vs) v
-    → ((k : ℕ) (w : Verdict) → slice_get vs k ≡ Some w → P k w)
-    → (k : ℕ) (w : Verdict) → slice_get (vs ++ v ∷ []) k ≡ Some w → P k w
+-- What holds of the items so far, and of one more.
+pub each_push : {X : Type 0} (P : ℕ → X → Type 0) (vs : List X) (v : X) → P (length vs) v
+    → ((k : ℕ) (w : X) → slice_get vs k ≡ Some w → P k w)
+    → (k : ℕ) (w : X) → slice_get (vs ++ v ∷ []) k ≡ Some w → P k w
 each_push P [] v here before zero w got =
     let same : v ≡ w = cc in
     subst (P 0) same here

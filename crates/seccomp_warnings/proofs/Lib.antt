@@ -6,6 +6,7 @@ pub mod Quantified
 pub mod Covered
 pub mod Among
 pub mod Judged
+pub mod Numbered
 pub mod PolicyVerdicts
 pub mod Others
 pub mod Filing

@@ -10,7 +10,7 @@ use Rattle.seccomp_warnings.specs.Parts.{AddsPicked}
 use Rattle.seccomp_warnings.specs.declared.unlisted.Unlisted.{Unlisted}
 use Rattle.seccomp_warnings.specs.declared.warning.Subject.{Subject}
 use Rattle.seccomp_warnings.specs.declared.warning.Subject.TheVariants.{MismatchCall}
-use Rattle.seccomp_warnings.specs.declared.verdict.Verdict.{Verdict}
+use Rattle.seccomp_warnings.specs.declared.judgement.Judgement.{Judgement}
 use Rattle.seccomp_warnings.specs.declared.warning.Warning.{Warning}
 use Rattle.seccomp_warnings.specs.declared.code.Code.{Code}
 
@@ -24,53 +24,54 @@ picked_append P (x ∷ xs) ys ps qs first own = ⊎_elim
     (λ h. inl (h.0 ++ qs, h.1, ap (λ (l : List Warning). l ++ qs) h.2, picked_append P xs ys h.0 qs h.3 own))
     (λ h. inr (h.0, picked_append P xs ys ps qs h.1 own)) first
 
-module _ (allowed : List Code) (verdicts : List Verdict) (j : JsonFilter) where
+module _ (allowed : List Code) (judgements : List Judgement) (j : JsonFilter) where
   -- Nothing is asked, and nothing added.
-  pub adds_none : (old new : List Warning) → new ≡ old → AddsPicked allowed verdicts j [] old new
+  pub adds_none : (old new : List Warning) → new ≡ old → AddsPicked allowed judgements j [] old new
   adds_none old new same = record { picked = []; are = refl; added = same ∙ sym (append-nil old) }
 
   -- One list of what is asked after the other.
-  pub adds_more : (xs ys begun old new : List Warning) → AddsPicked allowed verdicts j xs begun old
-      → AddsPicked allowed verdicts j ys old new
-      → AddsPicked allowed verdicts j (xs ++ ys) begun new
+  pub adds_more : (xs ys begun old new : List Warning) → AddsPicked allowed judgements j xs begun old
+      → AddsPicked allowed judgements j ys old new
+      → AddsPicked allowed judgements j (xs ++ ys) begun new
   adds_more xs ys begun old new first own = record {
     picked = first.picked ++ own.picked;
-    are = picked_append (IsGiven allowed verdicts j) xs ys first.picked own.picked first.are own.are;
+    are = picked_append (IsGiven allowed judgements j) xs ys first.picked own.picked first.are own.are;
     added = own.added ∙ ap (λ (l : List Warning). l ++ own.picked) first.added ∙ append_assoc begun first.picked own.picked;
   }
 
   -- A warning that is given is added.
-  pub adds_so : (w : Warning) (old new : List Warning) → IsGiven allowed verdicts j w → new ≡ old ++ w ∷ []
-      → AddsPicked allowed verdicts j (w ∷ []) old new
+  pub adds_so : (w : Warning) (old new : List Warning) → IsGiven allowed judgements j w → new ≡ old ++ w ∷ []
+      → AddsPicked allowed judgements j (w ∷ []) old new
   adds_so w old new is added = record { picked = w ∷ []; are = inl ([], is, refl, refl); added = added }
 
   -- One that isn't is not.
-  pub adds_not : (w : Warning) (old new : List Warning) → (IsGiven allowed verdicts j w → ⊥) → new ≡ old
-      → AddsPicked allowed verdicts j (w ∷ []) old new
+  pub adds_not : (w : Warning) (old new : List Warning) → (IsGiven allowed judgements j w → ⊥) → new ≡ old
+      → AddsPicked allowed judgements j (w ∷ []) old new
   adds_not w old new isnt same = record { picked = []; are = inr (isnt, refl); added = same ∙ sym (append-nil old) }
 
   -- ---- the codes of a part
 
   -- One code more of a front. The default is any.
   pub codes_more : (part : Subject) (codes : List Code) (at : ℕ) (default : Code) (begun old new : List Warning) → at < length codes
-      → AddsPicked allowed verdicts j (map (about part) (take at codes)) begun old
-      → AddsPicked allowed verdicts j (about part (get_or codes at default) ∷ []) old new
-      → AddsPicked allowed verdicts j (map (about part) (take (at + 1) codes)) begun new
+      → AddsPicked allowed judgements j (map (about part) (take at codes)) begun old
+      → AddsPicked allowed judgements j (about part (get_or codes at default) ∷ []) old new
+      → AddsPicked allowed judgements j (map (about part) (take (at + 1) codes)) begun new
   codes_more part codes at default begun old new room so_far own =
       let code = get_or codes at default in
       let all : map (about part) (take (at + 1) codes) ≡ map (about part) (take at codes) ++ about part code ∷ [] =
       ap (map (about part)) (take_more codes at default room) ∙ map-append (about part) (take at codes) (code ∷ []) in
-      subst (λ (l : List Warning). AddsPicked allowed verdicts j l begun new) (sym all)
+      subst (λ (l : List Warning). AddsPicked allowed judgements j l begun new) (sym all)
       (adds_more (map (about part) (take at codes)) (about part code ∷ []) begun old new so_far own)
 
   -- Those of codes that are these.
   pub of_codes : (part : Subject) (found codes : List Code) (old new : List Warning) → found ≡ codes
-      → AddsPicked allowed verdicts j (map (about part) found) old new → AddsPicked allowed verdicts j (map (about part) codes) old new
-  of_codes part found codes old new same adds = subst (λ ks. AddsPicked allowed verdicts j (map (about part) ks) old new) same adds
+      → AddsPicked allowed judgements j (map (about part) found) old new → AddsPicked allowed judgements j (map (about part) codes) old new
+  of_codes part found codes old new same adds = subst (λ ks. AddsPicked allowed judgements j (map (about part) ks) old new) same adds
 
   -- All that is asked of a filter, if there was nothing before.
-  pub all_picked : (asked ws : List Warning) → AddsPicked allowed verdicts j asked [] ws → ArePicked (IsGiven allowed verdicts j) asked ws
-  all_picked asked ws adds = subst (ArePicked (IsGiven allowed verdicts j) asked) (sym adds.added) adds.are
+  pub all_picked : (asked ws : List Warning) → AddsPicked allowed judgements j asked [] ws
+      → ArePicked (IsGiven allowed judgements j) asked ws
+  all_picked asked ws adds = subst (ArePicked (IsGiven allowed judgements j) asked) (sym adds.added) adds.are
 
 -- ---- what is asked of more
 
@@ -85,18 +86,18 @@ calls_push (t ∷ us) u = ap (λ (l : List Warning). call_asked t ++ l) (calls_p
     ∙ sym (append_assoc (call_asked t) (calls_asked us) (call_asked u))
 
 -- A step of the loop over calls. The default is any.
-pub calls_more : (allowed : List Code) (verdicts : List Verdict) (j : JsonFilter) (us : List Unlisted) (at : ℕ)
+pub calls_more : (allowed : List Code) (judgements : List Judgement) (j : JsonFilter) (us : List Unlisted) (at : ℕ)
     (default : Unlisted) (begun old new : List Warning)
     → at < length us
-    → AddsPicked allowed verdicts j (calls_asked (take at us)) begun old
-    → AddsPicked allowed verdicts j (call_asked (get_or us at default)) old new
-    → AddsPicked allowed verdicts j (calls_asked (take (at + 1) us)) begun new
-calls_more allowed verdicts j us at default begun old new room so_far own =
+    → AddsPicked allowed judgements j (calls_asked (take at us)) begun old
+    → AddsPicked allowed judgements j (call_asked (get_or us at default)) old new
+    → AddsPicked allowed judgements j (calls_asked (take (at + 1) us)) begun new
+calls_more allowed judgements j us at default begun old new room so_far own =
     let u = get_or us at default in
     let all : calls_asked (take (at + 1) us) ≡ calls_asked (take at us) ++ call_asked u =
     ap calls_asked (take_more us at default room) ∙ calls_push (take at us) u in
-    subst (λ (l : List Warning). AddsPicked allowed verdicts j l begun new) (sym all)
-    (adds_more allowed verdicts j (calls_asked (take at us)) (call_asked u) begun old new so_far own)
+    subst (λ (l : List Warning). AddsPicked allowed judgements j l begun new) (sym all)
+    (adds_more allowed judgements j (calls_asked (take at us)) (call_asked u) begun old new so_far own)
 
 -- Of one condition more.
 conditions_push : (entry place : ℕ) (cs : List JsonCondition) (c : JsonCondition)
@@ -121,14 +122,14 @@ conditions_taken entry at cs default room =
     ∙ ap (λ k. conditions_asked entry 0 done ++ condition_asked entry k c) place
 
 -- A step of the loop over conditions.
-pub conditions_more : (allowed : List Code) (verdicts : List Verdict) (j : JsonFilter) (entry at : ℕ)
+pub conditions_more : (allowed : List Code) (judgements : List Judgement) (j : JsonFilter) (entry at : ℕ)
     (cs : List JsonCondition) (default : JsonCondition) (begun old new : List Warning) → at < length cs
-    → AddsPicked allowed verdicts j (conditions_asked entry 0 (take at cs)) begun old
-    → AddsPicked allowed verdicts j (condition_asked entry at (get_or cs at default)) old new
-    → AddsPicked allowed verdicts j (conditions_asked entry 0 (take (at + 1) cs)) begun new
-conditions_more allowed verdicts j entry at cs default begun old new room so_far own =
-    subst (λ (l : List Warning). AddsPicked allowed verdicts j l begun new) (sym (conditions_taken entry at cs default room))
-    (adds_more allowed verdicts j (conditions_asked entry 0 (take at cs))
+    → AddsPicked allowed judgements j (conditions_asked entry 0 (take at cs)) begun old
+    → AddsPicked allowed judgements j (condition_asked entry at (get_or cs at default)) old new
+    → AddsPicked allowed judgements j (conditions_asked entry 0 (take (at + 1) cs)) begun new
+conditions_more allowed judgements j entry at cs default begun old new room so_far own =
+    subst (λ (l : List Warning). AddsPicked allowed judgements j l begun new) (sym (conditions_taken entry at cs default room))
+    (adds_more allowed judgements j (conditions_asked entry 0 (take at cs))
     (condition_asked entry at (get_or cs at default)) begun old new so_far own)
 
 -- Of one entry more.
@@ -153,12 +154,12 @@ entries_taken at rs r room is =
     ap (entries_asked 0) more ∙ entries_push 0 done r ∙ ap (λ k. entries_asked 0 done ++ entry_asked k r) place
 
 -- A step of the loop over entries.
-pub entries_more : (allowed : List Code) (verdicts : List Verdict) (j : JsonFilter) (at : ℕ) (rs : List JsonRule)
+pub entries_more : (allowed : List Code) (judgements : List Judgement) (j : JsonFilter) (at : ℕ) (rs : List JsonRule)
     (r : JsonRule) (begun old new : List Warning)
     → at < length rs
     → r ≡ get_or rs at r
-    → AddsPicked allowed verdicts j (entries_asked 0 (take at rs)) begun old → AddsPicked allowed verdicts j (entry_asked at r) old new
-    → AddsPicked allowed verdicts j (entries_asked 0 (take (at + 1) rs)) begun new
-entries_more allowed verdicts j at rs r begun old new room is so_far own =
-    subst (λ (l : List Warning). AddsPicked allowed verdicts j l begun new) (sym (entries_taken at rs r room is))
-    (adds_more allowed verdicts j (entries_asked 0 (take at rs)) (entry_asked at r) begun old new so_far own)
+    → AddsPicked allowed judgements j (entries_asked 0 (take at rs)) begun old → AddsPicked allowed judgements j (entry_asked at r) old new
+    → AddsPicked allowed judgements j (entries_asked 0 (take (at + 1) rs)) begun new
+entries_more allowed judgements j at rs r begun old new room is so_far own =
+    subst (λ (l : List Warning). AddsPicked allowed judgements j l begun new) (sym (entries_taken at rs r room is))
+    (adds_more allowed judgements j (entries_asked 0 (take at rs)) (entry_asked at r) begun old new so_far own)

@@ -1,5 +1,5 @@
 -- For `verdicts_of`: what verdicts on the entries of a filter say of its policy.
-use Rattle.std.proofs.Common.{◌≡◌, ◌≢◌, ◌↔◌, ◌+◌, ℕ, zero, suc, List, [], ◌∷◌, ◌++◌, Option, Some, None, refl, sym, ap, ◌∙◌, subst}
+use Rattle.std.proofs.Common.{◌≡◌, ◌↔◌, ◌+◌, ℕ, zero, suc, List, [], ◌∷◌, ◌++◌, Option, Some, None, refl, sym, ap, ◌∙◌, subst}
 use Rattle.std.proofs.Common.{◌⊎◌, inl, inr, map, take, drop, arith}
 use Rattle.std.specs.Prelude.{Any, slice_get, IsSomeAnd}
 use Rattle.std.proofs.lemmas.List.Elements.{All-nil}

@@ -1,12 +1,12 @@
 -- What is so of the calls that a filter names, and of those that it doesn't, that its author may not mean.
-use Rattle.std.specs.Prelude.{◌≡◌, ℕ, ◌⊎◌, List, [], ◌∷◌, Any, IsSome, IsSomeAnd, codes, slice_get, ⊤}
+use Rattle.std.specs.Prelude.{◌≡◌, ℕ, ◌⊎◌, List, [], ◌∷◌, Any, IsSome, IsSomeAnd, IsTrue, codes, slice_get}
 use Rattle.seccompiler.specs.JsonTypes.{JsonRule, JsonFilter}
 use Rattle.seccomp_warnings.specs.ActionWarnings.{Permits}
 use Rattle.seccomp_warnings.specs.declared.code.Code.{Code}
 use Rattle.seccomp_warnings.specs.declared.code.Code.TheVariants as code
 use Rattle.seccomp_warnings.specs.declared.unlisted.Unlisted.{Unlisted}
 use Rattle.seccomp_warnings.specs.declared.unlisted.Unlisted.TheVariants as unlisted
-use Rattle.seccomp_warnings.specs.declared.verdict.Verdict.{Verdict}
+use Rattle.seccomp_warnings.specs.declared.judgement.Judgement.{Judgement}
 use Rattle.seccomp_warnings.specs.declared.verdict.Verdict.TheVariants as verdict
 
 -- ---- the entries of a filter
@@ -22,10 +22,6 @@ HasArgs entry = IsSome entry.conditions
 -- The entry matches every call of this name.
 abbrev pub MatchesEach : List ℕ → JsonRule → Type 0
 MatchesEach name entry = Names name entry × (HasArgs entry → ⊥)
-
--- The entry matches some calls of this name, by their arguments.
-abbrev pub MatchesSome : List ℕ → JsonRule → Type 0
-MatchesSome name entry = HasArgs entry × Names name entry
 
 -- Some entry names the call.
 abbrev pub NamesCall : JsonFilter → List ℕ → Type 0
@@ -44,13 +40,19 @@ DeniesEach name j = ((Permits j.match_action → ⊥) × Any (MatchesEach name) 
 
 -- The calls that are looked for, in the order in which they are asked about.
 abbrev pub all_unlisted : List Unlisted
-all_unlisted = unlisted.Exit ∷ unlisted.ExitGroup ∷ unlisted.RtSigreturn ∷ unlisted.Clone3 ∷ unlisted.Execve ∷ []
+all_unlisted = unlisted.Exit ∷ unlisted.ExitGroup ∷ unlisted.RtSigreturn ∷ unlisted.Clone3 ∷ unlisted.Execve ∷ unlisted.RestartSyscall ∷ []
 
 -- The filter allows what it lists, among it set_tid_address, which a program calls once, as it starts, and it denies the calls by
 -- which a program is started.
 abbrev pub IsUnstartable : JsonFilter → Type 0
 IsUnstartable j = Permits j.match_action × NamesCall j (codes "set_tid_address") × IsDeniedUnlisted j (codes "execve")
     × (NamesCall j (codes "execveat") → ⊥)
+
+-- The filter allows what it lists, among it a call that Linux goes on with by restart_syscall after the process was stopped and
+-- continued (restart_syscall(2)), and it denies that one.
+abbrev pub IsUnrestartable : JsonFilter → Type 0
+IsUnrestartable j = Permits j.match_action × IsDeniedUnlisted j (codes "restart_syscall")
+    × (NamesCall j (codes "nanosleep") ⊎ NamesCall j (codes "clock_nanosleep") ⊎ NamesCall j (codes "poll") ⊎ NamesCall j (codes "futex"))
 
 -- Calls that an entry matches are denied, and an entry names clone; the others are let through, and no entry names clone3.
 abbrev pub IsCloneEvaded : JsonFilter → Type 0
@@ -64,6 +66,7 @@ IsSoOfUnlisted code.KillsExit j unlisted.ExitGroup = IsDeniedUnlisted j (codes "
 IsSoOfUnlisted code.KillsExit j unlisted.RtSigreturn = IsDeniedUnlisted j (codes "rt_sigreturn")
 IsSoOfUnlisted code.CloneByClone3 j unlisted.Clone3 = IsCloneEvaded j
 IsSoOfUnlisted code.NoExecve j unlisted.Execve = IsUnstartable j
+IsSoOfUnlisted code.NoRestart j unlisted.RestartSyscall = IsUnrestartable j
 IsSoOfUnlisted other j call = ⊥
 
 -- ---- what is so of an entry
@@ -82,28 +85,29 @@ abbrev pub LetsClone3Through : JsonFilter → JsonRule → Type 0
 LetsClone3Through j entry = Permits j.match_action × (Permits j.mismatch_action → ⊥) × MatchesEach (codes "clone3") entry
     × (Any (MatchesEach (codes "clone")) j.rules → ⊥)
 
--- The entry matches each call of its name, and another one asks for arguments of the same call.
-abbrev pub IsWithAndWithoutArgs : JsonFilter → JsonRule → Type 0
-IsWithAndWithoutArgs j entry = (HasArgs entry → ⊥) × Any (MatchesSome entry.syscall) j.rules
+-- Calls that an entry matches are denied, the others are let through, and this entry matches each call of its name.
+abbrev pub IsDeniedAlone : JsonFilter → JsonRule → Type 0
+IsDeniedAlone j entry = (Permits j.match_action → ⊥) × Permits j.mismatch_action × (HasArgs entry → ⊥)
 
 -- What a code says of an entry of the filter is so.
 abbrev pub IsSoOfRule : Code → JsonFilter → JsonRule → Type 0
 IsSoOfRule code.KillsExit j entry = KillsAtExit j entry
 IsSoOfRule code.CloneByClone3 j entry = LetsClone3Through j entry
-IsSoOfRule code.CrateDiffers j entry = IsWithAndWithoutArgs j entry
 IsSoOfRule other j entry = ⊥
 
 -- The filter has an entry at the place, of which what a code says is so.
 abbrev pub IsSoOfEntry : Code → JsonFilter → ℕ → Type 0
 IsSoOfEntry kind j place = IsSomeAnd (slice_get j.rules place) (IsSoOfRule kind j)
 
--- What a code says of an entry with this verdict is so.
-abbrev pub IsOfVerdict : Code → Verdict → Type 0
-IsOfVerdict code.UnreachableEntry verdict.Unreachable = ⊤
-IsOfVerdict code.RedundantEntry verdict.Redundant = ⊤
-IsOfVerdict code.UndecidedEntry verdict.Undecided = ⊤
-IsOfVerdict other v = ⊥
+-- What a code says of an entry with this judgement is so.
+abbrev pub IsOfJudgement : Code → Judgement → Type 0
+IsOfJudgement code.SiblingAllowed own = IsSome own.sibling
+IsOfJudgement code.CrateDiffers own = IsTrue own.differs
+IsOfJudgement code.UnreachableEntry own = own.verdict ≡ verdict.Unreachable
+IsOfJudgement code.RedundantEntry own = own.verdict ≡ verdict.Redundant
+IsOfJudgement code.UndecidedEntry own = own.verdict ≡ verdict.Undecided
+IsOfJudgement other own = ⊥
 
--- There is a verdict at the place, by which what a code says is so.
-abbrev pub IsJudged : Code → List Verdict → ℕ → Type 0
-IsJudged kind verdicts place = IsSomeAnd (slice_get verdicts place) (IsOfVerdict kind)
+-- There is a judgement at the place, by which what a code says is so.
+abbrev pub IsJudged : Code → List Judgement → ℕ → Type 0
+IsJudged kind judgements place = IsSomeAnd (slice_get judgements place) (IsOfJudgement kind)

@@ -3,6 +3,7 @@ pub mod ActionWarnings
 pub mod AnyArgument
 pub mod Arguments
 pub mod CallWarnings
+pub mod Judgements
 pub mod Verdicts
 pub mod VerdictPolicies
 pub mod Warnings

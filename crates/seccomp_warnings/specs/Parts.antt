@@ -3,11 +3,11 @@ use Rattle.std.specs.Prelude.{◌≡◌, List, ◌++◌}
 use Rattle.seccompiler.specs.JsonTypes.{JsonFilter}
 use Rattle.seccomp_warnings.specs.Warnings.{ArePicked, IsGiven}
 use Rattle.seccomp_warnings.specs.declared.code.Code.{Code}
-use Rattle.seccomp_warnings.specs.declared.verdict.Verdict.{Verdict}
+use Rattle.seccomp_warnings.specs.declared.judgement.Judgement.{Judgement}
 use Rattle.seccomp_warnings.specs.declared.warning.Warning.{Warning}
 
 -- The warnings grew by those of some that are true of a filter, and aren't allowed.
-pub record AddsPicked (allowed : List Code) (verdicts : List Verdict) (j : JsonFilter) (asked old new : List Warning) : Type 0 where
+pub record AddsPicked (allowed : List Code) (judgements : List Judgement) (j : JsonFilter) (asked old new : List Warning) : Type 0 where
   pub picked : List Warning
-  pub are : ArePicked (IsGiven allowed verdicts j) asked picked
+  pub are : ArePicked (IsGiven allowed judgements j) asked picked
   pub added : new ≡ old ++ picked

@@ -1,7 +1,6 @@
 -- The warnings of a filter: of which of its parts something is so that its author may not mean.
 use Rattle.std.specs.Prelude.{◌≡◌, ◌≢◌, ℕ, ◌+◌, ◌%◌, ◌^◌, ◌<◌, ◌≤◌, ◌⊎◌, List, [], ◌∷◌, ◌++◌, map, Contains, Option, Some, None, bit_and}
 use Rattle.std.specs.Prelude.{IsSomeAnd, slice_get}
-use Rattle.seccompiler.specs.declared.backend.SeccompAction.{SeccompAction}
 use Rattle.seccompiler.specs.declared.backend.SeccompCmpArgLen.{SeccompCmpArgLen}
 use Rattle.seccompiler.specs.declared.backend.SeccompCmpArgLen.TheVariants.{Dword}
 use Rattle.seccompiler.specs.declared.backend.SeccompCmpOp.{SeccompCmpOp}
@@ -9,12 +8,12 @@ use Rattle.seccompiler.specs.declared.backend.SeccompCmpOp.TheVariants.{MaskedEq
 use Rattle.seccompiler.specs.declared.backend.TargetArch.{TargetArch}
 use Rattle.seccompiler.specs.declared.json.types.JsonCondition.{JsonCondition}
 use Rattle.seccompiler.specs.JsonTypes.{JsonRule, JsonFilter}
-use Rattle.seccompiler.specs.Policy.{Condition, part_of}
+use Rattle.seccompiler.specs.Policy.{part_of}
 use Rattle.seccomp_warnings.specs.ActionWarnings.{Permits, IsSoOfAction, IsSoOfBoth}
 use Rattle.seccomp_warnings.specs.AnyArgument.{Decides, HoldsForAll, HoldsForNone, condition_in}
 use Rattle.seccomp_warnings.specs.Arguments.{IsSoOfArgument}
 use Rattle.seccomp_warnings.specs.CallWarnings.{IsJudged, IsSoOfEntry, IsSoOfUnlisted, all_unlisted}
-use Rattle.seccomp_warnings.specs.Verdicts.{AreVerdicts}
+use Rattle.seccomp_warnings.specs.Judgements.{AreJudgements}
 use Rattle.seccomp_warnings.specs.declared.warning.Actions.{Actions}
 use Rattle.seccomp_warnings.specs.declared.warning.Comparison.{Comparison}
 use Rattle.seccomp_warnings.specs.declared.warning.Subject.{Subject}
@@ -23,7 +22,7 @@ use Rattle.seccomp_warnings.specs.declared.warning.Warning.{Warning}
 use Rattle.seccomp_warnings.specs.declared.code.Code.{Code}
 use Rattle.seccomp_warnings.specs.declared.code.Code.TheVariants as code
 use Rattle.seccomp_warnings.specs.declared.unlisted.Unlisted.{Unlisted}
-use Rattle.seccomp_warnings.specs.declared.verdict.Verdict.{Verdict}
+use Rattle.seccomp_warnings.specs.declared.judgement.Judgement.{Judgement}
 
 -- ---- what is so of a condition
 
@@ -75,17 +74,17 @@ abbrev pub IsSoOfEntryArgument : Code → JsonFilter → Comparison → Type 0
 IsSoOfEntryArgument kind j c =
     IsSomeAnd (slice_get j.rules c.entry) (λ entry. IsSoOfArgument kind (actions_of j) entry.syscall c)
 
--- What a code says of a part of a filter is so, if these are the verdicts of its entries.
-abbrev pub IsSoOf : List Verdict → JsonFilter → Code → Subject → Type 0
-IsSoOf verdicts j kind (subject.MismatchAction action) = IsSoOfAction kind action
-IsSoOf verdicts j kind (subject.MismatchCall call) = IsSoOfUnlisted kind j call
-IsSoOf verdicts j kind (subject.MatchAction action) = IsSoOfAction kind action ⊎ IsSoOfBoth kind (actions_of j)
-IsSoOf verdicts j kind (subject.Entry place) = IsSoOfEntry kind j place ⊎ IsJudged kind verdicts place
-IsSoOf verdicts j kind (subject.Condition c) = IsSoOfCondition kind (actions_of j) c ⊎ IsSoOfEntryArgument kind j c
+-- What a code says of a part of a filter is so, if these are the judgements of its entries.
+abbrev pub IsSoOf : List Judgement → JsonFilter → Code → Subject → Type 0
+IsSoOf judgements j kind (subject.MismatchAction action) = IsSoOfAction kind action
+IsSoOf judgements j kind (subject.MismatchCall call) = IsSoOfUnlisted kind j call
+IsSoOf judgements j kind (subject.MatchAction action) = IsSoOfAction kind action ⊎ IsSoOfBoth kind (actions_of j)
+IsSoOf judgements j kind (subject.Entry place) = IsSoOfEntry kind j place ⊎ IsJudged kind judgements place
+IsSoOf judgements j kind (subject.Condition c) = IsSoOfCondition kind (actions_of j) c ⊎ IsSoOfEntryArgument kind j c
 
 -- The warning is true of the filter.
-abbrev pub IsSo : List Verdict → JsonFilter → Warning → Type 0
-IsSo verdicts j w = IsSoOf verdicts j w.code w.subject
+abbrev pub IsSo : List Judgement → JsonFilter → Warning → Type 0
+IsSo judgements j w = IsSoOf judgements j w.code w.subject
 
 -- ---- what is asked of a filter, in the order of its text
 
@@ -96,11 +95,11 @@ abbrev pub match_codes : List Code
 match_codes = code.FakeSuccess ∷ code.ErrnoTooLarge ∷ code.EndlessRetry ∷ code.TraceWithoutTracer ∷ code.DeniesEverything ∷ []
 
 abbrev pub unlisted_codes : List Code
-unlisted_codes = code.KillsExit ∷ code.CloneByClone3 ∷ code.NoExecve ∷ []
+unlisted_codes = code.KillsExit ∷ code.CloneByClone3 ∷ code.NoExecve ∷ code.NoRestart ∷ []
 
 abbrev pub entry_codes : List Code
-entry_codes = code.KillsExit ∷ code.CloneByClone3 ∷ code.CrateDiffers ∷ code.UnreachableEntry ∷ code.RedundantEntry
-    ∷ code.UndecidedEntry ∷ []
+entry_codes = code.KillsExit ∷ code.CloneByClone3 ∷ code.SiblingAllowed ∷ code.CrateDiffers ∷ code.UnreachableEntry
+    ∷ code.RedundantEntry ∷ code.UndecidedEntry ∷ []
 
 abbrev pub condition_codes : List Code
 condition_codes = code.HighHalfIgnored ∷ code.ValueOutsideMask ∷ code.AlwaysHolds ∷ code.NeverHolds ∷ code.HighHalfEvades
@@ -155,16 +154,16 @@ ArePicked P (w ∷ asked) picked = ((rest : List Warning) × P w × (picked ≡ 
     ⊎ ((P w → ⊥) × ArePicked P asked picked)
 
 -- The warning is true of the filter, and its code isn't allowed.
-abbrev pub IsGiven : List Code → List Verdict → JsonFilter → Warning → Type 0
-IsGiven allowed verdicts j w = IsSo verdicts j w × (Contains allowed w.code → ⊥)
+abbrev pub IsGiven : List Code → List Judgement → JsonFilter → Warning → Type 0
+IsGiven allowed judgements j w = IsSo judgements j w × (Contains allowed w.code → ⊥)
 
--- The warnings of a filter with these verdicts: exactly those that are true of it and whose codes aren't allowed, in the order
+-- The warnings of a filter with these judgements: exactly those that are true of it and whose codes aren't allowed, in the order
 -- of its text.
-abbrev pub AreWarnings : List Code → List Verdict → JsonFilter → List Warning → Type 0
-AreWarnings allowed verdicts j warnings = ArePicked (IsGiven allowed verdicts j) (asked_of j) warnings
+abbrev pub AreWarnings : List Code → List Judgement → JsonFilter → List Warning → Type 0
+AreWarnings allowed judgements j warnings = ArePicked (IsGiven allowed judgements j) (asked_of j) warnings
 
--- These are the warnings of the filter with some verdicts on its entries, which are true.
+-- These are the warnings of the filter with some judgements of its entries, which are true.
 pub record AreTrueWarnings (arch : TargetArch) (allowed : List Code) (j : JsonFilter) (warnings : List Warning) : Type 0 where
-  pub verdicts : List Verdict
-  pub are_true : AreVerdicts arch j verdicts
-  pub warnings_are : AreWarnings allowed verdicts j warnings
+  pub judgements : List Judgement
+  pub are_true : AreJudgements arch j judgements
+  pub warnings_are : AreWarnings allowed judgements j warnings

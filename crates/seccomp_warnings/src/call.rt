@@ -2,10 +2,11 @@
 
 ghost use Rattle.std.specs.Prelude.{◌↔◌, Any, IsTrue};
 ghost use Rattle.seccomp_warnings.specs.ActionWarnings.{Permits};
-ghost use Rattle.seccomp_warnings.specs.CallWarnings.{DeniesEach, HasArgs, IsCloneEvaded, IsDeniedUnlisted, IsExit, IsJudged, IsOfVerdict, IsSoOfEntry, IsSoOfRule, IsSoOfUnlisted, IsUnstartable, IsWithAndWithoutArgs, KillsAtExit, LetsClone3Through, MatchesEach, MatchesSome, Names, NamesCall};
+ghost use Rattle.seccomp_warnings.specs.CallWarnings.{DeniesEach, HasArgs, IsCloneEvaded, IsDeniedAlone, IsDeniedUnlisted, IsExit, IsJudged, IsOfJudgement, IsSoOfEntry, IsSoOfRule, IsSoOfUnlisted, IsUnrestartable, IsUnstartable, KillsAtExit, LetsClone3Through, MatchesEach, Names, NamesCall};
 
 use crate::action::permits;
 use crate::code::Code;
+use crate::judgement::Judgement;
 use crate::unlisted::Unlisted;
 use crate::verdict::Verdict;
 use seccompiler::{JsonFilter, JsonRule};
@@ -31,13 +32,6 @@ fn matches_each(entry: &JsonRule, name: &str) -> bool
     names(entry, name) && !has_args(entry)
 }
 
-// Whether the entry matches some calls of this name, by their arguments.
-fn matches_some(entry: &JsonRule, name: &str) -> bool
-    ensures { IsTrue result ↔ MatchesSome name.now entry.now }
-{
-    has_args(entry) && names(entry, name)
-}
-
 // Whether some entry names the call.
 fn is_named(entries: &[JsonRule], name: &str) -> bool
     ensures { IsTrue result ↔ Any (Names name.now) entries.now }
@@ -50,13 +44,6 @@ fn is_matched(entries: &[JsonRule], name: &str) -> bool
     ensures { IsTrue result ↔ Any (MatchesEach name.now) entries.now }
 {
     entries.iter().any(|entry| matches_each(entry, name))
-}
-
-// Whether some entry matches calls of this name by their arguments.
-fn is_matched_by_args(entries: &[JsonRule], name: &str) -> bool
-    ensures { IsTrue result ↔ Any (MatchesSome name.now) entries.now }
-{
-    entries.iter().any(|entry| matches_some(entry, name))
 }
 
 // Whether some entry of the filter names the call.
@@ -97,6 +84,18 @@ fn is_unstartable(filter: &JsonFilter) -> bool
         && !names_call(filter, "execveat")
 }
 
+// Whether the filter lists a call that Linux goes on with by restart_syscall, and denies that one.
+fn is_unrestartable(filter: &JsonFilter) -> bool
+    ensures { IsTrue result ↔ IsUnrestartable filter.now }
+{
+    permits(filter.match_action)
+        && is_denied_unlisted(filter, "restart_syscall")
+        && (names_call(filter, "nanosleep")
+            || names_call(filter, "clock_nanosleep")
+            || names_call(filter, "poll")
+            || names_call(filter, "futex"))
+}
+
 // Whether clone is denied by entries, and clone3 is let through as no entry names it.
 fn is_clone_evaded(filter: &JsonFilter) -> bool
     ensures { IsTrue result ↔ IsCloneEvaded filter.now }
@@ -117,6 +116,7 @@ pub(crate) fn is_so_of_unlisted(code: Code, filter: &JsonFilter, call: Unlisted)
         (Code::KillsExit, Unlisted::RtSigreturn) => is_denied_unlisted(filter, "rt_sigreturn"),
         (Code::CloneByClone3, Unlisted::Clone3) => is_clone_evaded(filter),
         (Code::NoExecve, Unlisted::Execve) => is_unstartable(filter),
+        (Code::NoRestart, Unlisted::RestartSyscall) => is_unrestartable(filter),
         _ => false,
     }
 }
@@ -145,11 +145,11 @@ fn lets_clone3_through(filter: &JsonFilter, entry: &JsonRule) -> bool
         && !is_matched(&filter.rules, "clone")
 }
 
-// Whether the entry has no conditions, and another one of the same call has some.
-fn is_with_and_without_args(filter: &JsonFilter, entry: &JsonRule) -> bool
-    ensures { IsTrue result ↔ IsWithAndWithoutArgs filter.now entry.now }
+// Whether the filter denies what entries match and lets the rest through, and the entry matches each call of its name.
+pub(crate) fn is_denied_alone(filter: &JsonFilter, entry: &JsonRule) -> bool
+    ensures { IsTrue result ↔ IsDeniedAlone filter.now entry.now }
 {
-    !has_args(entry) && is_matched_by_args(&filter.rules, entry.syscall.as_str())
+    !permits(filter.match_action) && permits(filter.mismatch_action) && !has_args(entry)
 }
 
 // Whether what a code says is so of an entry of the filter.
@@ -159,7 +159,6 @@ fn is_so_of_rule(code: Code, filter: &JsonFilter, entry: &JsonRule) -> bool
     match code {
         Code::KillsExit => kills_at_exit(filter, entry),
         Code::CloneByClone3 => lets_clone3_through(filter, entry),
-        Code::CrateDiffers => is_with_and_without_args(filter, entry),
         _ => false,
     }
 }
@@ -174,24 +173,26 @@ pub(crate) fn is_so_of_entry(code: Code, filter: &JsonFilter, place: usize) -> b
     }
 }
 
-// Whether what a code says is so of an entry with this verdict.
-fn is_of_verdict(code: Code, verdict: Verdict) -> bool
-    ensures { IsTrue result ↔ IsOfVerdict code verdict }
+// Whether what a code says is so of an entry with this judgement.
+fn is_of_judgement(code: Code, judgement: Judgement) -> bool
+    ensures { IsTrue result ↔ IsOfJudgement code judgement }
 {
-    match (code, verdict) {
-        (Code::UnreachableEntry, Verdict::Unreachable) => true,
-        (Code::RedundantEntry, Verdict::Redundant) => true,
-        (Code::UndecidedEntry, Verdict::Undecided) => true,
+    match code {
+        Code::SiblingAllowed => judgement.sibling.is_some(),
+        Code::CrateDiffers => judgement.differs,
+        Code::UnreachableEntry => matches!(judgement.verdict, Verdict::Unreachable),
+        Code::RedundantEntry => matches!(judgement.verdict, Verdict::Redundant),
+        Code::UndecidedEntry => matches!(judgement.verdict, Verdict::Undecided),
         _ => false,
     }
 }
 
-// Whether there is a verdict at the place, by which what a code says is so.
-pub(crate) fn is_judged(code: Code, verdicts: &[Verdict], place: usize) -> bool
-    ensures { IsTrue result ↔ IsJudged code verdicts.now place }
+// Whether there is a judgement at the place, by which what a code says is so.
+pub(crate) fn is_judged(code: Code, judgements: &[Judgement], place: usize) -> bool
+    ensures { IsTrue result ↔ IsJudged code judgements.now place }
 {
-    match verdicts.get(place) {
-        Some(verdict) => is_of_verdict(code, *verdict),
+    match judgements.get(place) {
+        Some(judgement) => is_of_judgement(code, *judgement),
         None => false,
     }
 }

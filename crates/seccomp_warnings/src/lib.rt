@@ -1,18 +1,18 @@
 //! Warnings of a policy: places at which it may not say what its author means.
 //!
-//! A policy with a warning is valid. [`verdicts_of`] says which entries of a filter are needed, [`warnings_of`]
+//! A policy with a warning is valid. [`judgements_of`] says what is so of entries beside the others, [`warnings_of`]
 //! gives the filter's warnings, each with its [`Code`] and what it is about, and [`said_text`] is what is said of it.
 //! `docs/CHECKS.md` has a section for each code.
 //!
 //! ```
-//! use seccomp_warnings::{Code, Warning, verdicts_of, warnings_of};
+//! use seccomp_warnings::{Code, Warning, judgements_of, warnings_of};
 //! use seccompiler::{JsonFilter, TargetArch};
 //! use std::alloc::Global;
 //!
 //! /// The warnings of a filter, all but those of `allows-by-default`.
 //! fn warnings_here(alloc: Global, filter: &JsonFilter) -> Result<Vec<Warning>, seccompiler::Error> {
-//!     let verdicts = verdicts_of(alloc, TargetArch::x86_64, filter)?;
-//!     Ok(warnings_of(alloc, filter, &verdicts, &[Code::AllowsByDefault])?)
+//!     let judgements = judgements_of(alloc, TargetArch::x86_64, filter)?;
+//!     Ok(warnings_of(alloc, filter, &judgements, &[Code::AllowsByDefault])?)
 //! }
 //! ```
 #![tactic(auto)]
@@ -26,8 +26,10 @@ mod condition;
 mod cover;
 mod entry;
 mod filed;
+pub mod judgement;
 mod met;
 mod own;
+mod sibling;
 mod text;
 pub mod unlisted;
 pub mod verdict;
@@ -36,6 +38,7 @@ pub mod warning;
 
 pub use crate::call::denies_each;
 pub use crate::code::Code;
+pub use crate::judgement::{Judgement, judgements_of};
 pub use crate::text::{part_of, said_text};
 pub use crate::unlisted::Unlisted;
 pub use crate::verdict::{Verdict, verdicts_of};

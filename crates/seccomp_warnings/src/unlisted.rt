@@ -16,6 +16,8 @@ pub enum Unlisted {
     Clone3,
     /// `execve`, by which a program is started.
     Execve,
+    /// `restart_syscall`, by which Linux goes on with a call after the process was stopped.
+    RestartSyscall,
 }
 
 impl Unlisted {
@@ -29,6 +31,7 @@ impl Unlisted {
             Unlisted::RtSigreturn,
             Unlisted::Clone3,
             Unlisted::Execve,
+            Unlisted::RestartSyscall,
         ]
     }
 
@@ -40,6 +43,7 @@ impl Unlisted {
             Unlisted::RtSigreturn => "rt_sigreturn",
             Unlisted::Clone3 => "clone3",
             Unlisted::Execve => "execve",
+            Unlisted::RestartSyscall => "restart_syscall",
         }
     }
 }

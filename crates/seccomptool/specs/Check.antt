@@ -39,9 +39,8 @@ pub record AreWarningsIn (target : TargetArch) (allowed : List Code) (filters : 
 
 -- All filters of the text have programs, and these are their warnings, but for those of the allowed codes.
 pub record IsCheckOf (target : TargetArch) (allowed : List Code) (text : List ℕ) (checked : CheckedPolicy) : Type 0 where
-  pub compiled : OfValue text (AreAllCompiled target)
   pub filters : JsonFilterMap
-  pub of_text : OfValue text (λ d. AreFilters d filters)
+  pub of_text : OfValue text (λ d. AreFilters d filters × AreAllCompiled target d)
   pub are : AreWarningsIn target allowed filters.0.entries checked
 
 -- Why a policy is rejected: its first fault, with its place or as the library tells it; or want of memory.

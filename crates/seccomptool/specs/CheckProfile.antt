@@ -8,11 +8,11 @@ use Rattle.seccomp_oci.specs.Types.{Container, Profile}
 use Rattle.seccomp_profile_checks.specs.Doubts.{IsDoubt}
 use Rattle.seccomp_profile_checks.specs.declared.doubts.Doubt.{Doubt}
 use Rattle.seccomp_profile_checks.specs.declared.doubts.Doubt.TheVariants as doubt
-use Rattle.seccomp_warnings.specs.Verdicts.{AreVerdicts}
+use Rattle.seccomp_warnings.specs.Judgements.{AreJudgements}
 use Rattle.seccomp_warnings.specs.Warnings.{IsSo}
 use Rattle.seccomp_warnings.specs.declared.code.Code.{Code}
 use Rattle.seccomp_warnings.specs.declared.code.Code.TheVariants as code
-use Rattle.seccomp_warnings.specs.declared.verdict.Verdict.{Verdict}
+use Rattle.seccomp_warnings.specs.declared.judgement.Judgement.{Judgement}
 use Rattle.seccomp_warnings.specs.declared.warning.Warning.{Warning}
 use Rattle.seccomptool.specs.declared.check.profile.CheckedProfile.{CheckedProfile}
 use Rattle.seccomptool.specs.declared.check.profile.ProfileWarning.{ProfileWarning}
@@ -39,9 +39,9 @@ code_of (OfEntries w part) = w.code
 
 -- ---- warnings
 
--- The warning is true of the filter, with some verdicts on its entries, which are true.
+-- The warning is true of the filter, with some judgements of its entries, which are true.
 abbrev pub IsTrueOf : TargetArch → JsonFilter → Warning → Type 0
-IsTrueOf arch j w = (verdicts : List Verdict) × AreVerdicts arch j verdicts × IsSo verdicts j w
+IsTrueOf arch j w = (judgements : List Judgement) × AreJudgements arch j judgements × IsSo judgements j w
 
 -- What the warning says of a profile is so; or it is true of some filter. That this is one of the profile's entries is tested, and
 -- so is that the profile has the key.

@@ -8,26 +8,24 @@ pub(crate) mod outline;
 pub(crate) mod policy;
 pub mod profile;
 
-ghost use Rattle.std.specs.Prelude.{◌≡◌, ◌+◌, IfErr, IfOk, OnOk};
-ghost use Rattle.seccompiler.specs.JsonAnswers.{OfValue};
-ghost use Rattle.seccomp_check.specs.Checks.{AreAllCompiled};
+ghost use Rattle.std.specs.Prelude.{◌≡◌, IfErr, IfOk};
 ghost use Rattle.seccomptool.specs.Check as spec;
-ghost use Rattle.seccomp_warnings.specs.Warnings.{AreTrueWarnings};
-ghost use Rattle.seccomptool.specs.Check.{AreWarningsIn, IsCheckOf, IsRefusal};
+ghost use Rattle.seccomptool.specs.Check.{AreWarningsIn, AreWarningsOf, IsCheckOf, IsRefusal};
 
 use crate::error::ToolError;
 use crate::findings::Verdict;
 use seccomp_check::{Rejection, check};
-use seccomp_warnings::{Code, Warning, verdicts_of, warnings_of};
-use seccompiler::json::filters_of;
+use seccomp_warnings::{Code, Judgement, Warning, judgements_of, warnings_of};
 use seccompiler::{JsonFilter, JsonFilterMap, JsonFrontendError, TargetArch};
-use std::alloc::{AllocError, Global};
+use std::alloc::Global;
 
 /// A filter's name, and its warnings.
 #[derive(Drop)]
 pub struct FilterWarnings {
     /// The name.
     pub name: String,
+    /// What is so of its entries beside each other.
+    pub judgements: Vec<Judgement>,
     /// The warnings.
     pub warnings: Vec<Warning>,
 }
@@ -64,11 +62,13 @@ pub fn checked(
     ensures checked { IfOk result (IsCheckOf target allowed.now text.now) }
     ensures refused { IfErr result (IsRefusal target text.now) }
 {
-    judge(alloc, target, text)?;
-    // The policy is taken, so that each of its filters is one of the architecture: an error is want of memory.
-    let Ok(filters) = filters_of(alloc, text) else {
-        return Err(ToolError::OutOfMemory);
+    let filters = match check(alloc, target, text) {
+        Ok(filters) => filters,
+        Err(Rejection::Library(refusal)) => return Err(ToolError::Library(refusal)),
+        Err(Rejection::Placed(told, fault)) => return Err(ToolError::Placed(told, fault)),
+        Err(Rejection::OutOfMemory) => return Err(ToolError::OutOfMemory),
     };
+    // The policy is taken, so that each of its filters is one of the architecture: an error is want of memory.
     match warnings_in(alloc, target, allowed, &filters) {
         Ok(checked) => Ok(checked),
         Err(_) => Err(ToolError::OutOfMemory),
@@ -85,13 +85,14 @@ pub(crate) fn warnings_in(
     ensures { IfOk result (λ checked. AreWarningsIn target allowed.now filters.now.0.entries checked) }
 {
     let mut all = Vec::new(alloc);
-    let mut count = 0;
+    let mut count: usize = 0;
     for (name, filter) in &filters.0 {
-        let warnings = warnings_in_filter(alloc, target, allowed, filter)?;
-        let more = sum_of(count, warnings.len())?;
-        count = more;
-        let name = name.clone()?;
-        all.push(FilterWarnings { name, warnings })?;
+        let own = warnings_in_filter(alloc, target, allowed, name, filter)?;
+        let Some(sum) = count.checked_add(own.warnings.len()) else {
+            return Err(JsonFrontendError::OutOfMemory);
+        };
+        count = sum;
+        all.push(own)?;
     }
     Ok(CheckedPolicy {
         filters: all,
@@ -99,40 +100,24 @@ pub(crate) fn warnings_in(
     })
 }
 
-// The sum of two counts of what is in memory, where it has room.
-fn sum_of(first: usize, second: usize) -> Result<usize, AllocError>
-    ensures { IfOk result (λ sum. sum ≡ first + second) }
-{
-    match first.checked_add(second) {
-        Some(sum) => Ok(sum),
-        None => Err(AllocError),
-    }
-}
-
 // The warnings of a filter.
 fn warnings_in_filter(
     alloc: Global,
     target: TargetArch,
     allowed: &[Code],
+    name: &String,
     filter: &JsonFilter,
-) -> Result<Vec<Warning>, JsonFrontendError>
-    ensures { IfOk result (λ warnings. AreTrueWarnings target allowed.now filter.now warnings.items) }
+) -> Result<FilterWarnings, JsonFrontendError>
+    ensures { IfOk result (AreWarningsOf target allowed.now (name.now, filter.now)) }
 {
-    let verdicts = verdicts_of(alloc, target, filter)?;
-    Ok(warnings_of(alloc, filter, &verdicts, allowed)?)
-}
-
-// That the library compiles all filters of the text.
-fn judge(alloc: Global, target: TargetArch, text: &[u8]) -> Result<(), ToolError>
-    ensures compiled { OnOk result (OfValue text.now (AreAllCompiled target)) }
-    ensures refused { IfErr result (IsRefusal target text.now) }
-{
-    match check(alloc, target, text) {
-        Ok(()) => Ok(()),
-        Err(Rejection::Library(refusal)) => Err(ToolError::Library(refusal)),
-        Err(Rejection::Placed(told, fault)) => Err(ToolError::Placed(told, fault)),
-        Err(Rejection::OutOfMemory) => Err(ToolError::OutOfMemory),
-    }
+    let judgements = judgements_of(alloc, target, filter)?;
+    let warnings = warnings_of(alloc, filter, &judgements, allowed)?;
+    let name = name.clone()?;
+    Ok(FilterWarnings {
+        name,
+        judgements,
+        warnings,
+    })
 }
 
 // The verdict where warnings are denied or not, and there are so many.

@@ -2,13 +2,13 @@
 
 ghost use Rattle.std.specs.Prelude.{◌≡◌, IfOk, false};
 ghost use Rattle.seccomptool.specs.Chosen.{text_of};
-ghost use Rattle.seccomptool.specs.Commands.{IsCalled, IsCheckedProgram, IsCompared, IsCompiled, IsCompiledAs, IsMeasuredAs, IsProfileCompiled, IsShown, IsShownAs};
+ghost use Rattle.seccomptool.specs.Commands.{IsCalled, IsCompared, IsCompiled, IsCompiledAs, IsMeasuredAs, IsProfileCompiled, IsShown, IsShownAs};
 ghost use Rattle.seccomptool.specs.declared.findings.Verdict.TheVariants.{Same};
 ghost use Rattle.seccomptool.specs.declared.kind.Subject.TheVariants.{Policy};
 
 use crate::chosen::refuse_name;
 use crate::compile::text::ProgramFormat;
-use crate::compile::{NamedProgram, compiled, program_text};
+use crate::compile::{NamedProgram, program_text, too_large};
 use crate::diff::lines::{lines_by_name, pair_lines};
 use crate::diff::values::diff_json;
 use crate::diff::{Diff, Scope, diff_of};
@@ -23,13 +23,15 @@ use crate::record::{called_record, calls_text, known_calls};
 use crate::run::program::program_of;
 use crate::show;
 use crate::show::programs_in;
-use crate::sides::Side;
+use crate::sides::{Side, chosen_of};
 use crate::stats::{filters_text, measure_of, measure_text, profile_stats, stats_of};
 use crate::words::{Call, Inputs, Names};
+use seccomp_check::policies_in;
 use seccomp_oci::Container;
-use seccomp_tree::Layout;
+use seccomp_tree::{Layout, to_bpf_in};
 use seccomp_warnings::Code;
-use seccompiler::TargetArch;
+use seccompiler::json::filters_of;
+use seccompiler::{JsonFrontendError, TargetArch};
 use serde_json::json;
 use std::alloc::{AllocError, Global};
 
@@ -92,11 +94,17 @@ pub(crate) fn compile_made(
         }
         Subject::Program => {
             refuse_name(alloc, filter)?;
-            program_made(alloc, format, given)
+            let program = NamedProgram {
+                name: String::from_str(alloc, "program")?,
+                program: program_of(alloc, given)?,
+            };
+            Ok(Made::plain(alloc, program_text(alloc, format, &program)?))
         }
     }
 }
 
+// Compiles a filter of a policy: the one of the name that is asked for, or else the only one. Only this filter is compiled, so that
+// another one is too large is no error.
 fn policy_made(
     alloc: Global,
     arch: TargetArch,
@@ -109,9 +117,21 @@ fn policy_made(
 ) -> Result<Made, FaultAt>
     ensures { IfOk result (λ made. IsCompiledAs arch Policy layout false (text_of filter.entry) policy.now × (made.verdict ≡ Same)) }
 {
-    let program = compiled(alloc, arch, layout, filter, policy)?;
+    let filters = filters_of(alloc, policy)?;
+    let policies = policies_in(alloc, arch, &filters)?;
+    let (name, chosen) = chosen_of(alloc, filter, &policies)?;
+    let program = match to_bpf_in(alloc, chosen, layout) {
+        Ok(program) => NamedProgram { name, program },
+        Err(cause) => {
+            return Err(too_large(alloc, chosen, name.as_str(), layout, cause)?.into());
+        }
+    };
     let text = program_text(alloc, format, &program)?;
-    let notes = counted(alloc, quiet, arch, path, policy)?;
+    let notes = if quiet {
+        Vec::new(alloc)
+    } else {
+        counted(alloc, arch, path, &filters)?
+    };
     Ok(Made::noting(text, Verdict::Same, notes))
 }
 
@@ -150,17 +170,6 @@ fn profile_made(
     };
     let text = program_text(alloc, format, &program)?;
     Ok(Made::noting(text, Verdict::Same, notes))
-}
-
-fn program_made(alloc: Global, format: ProgramFormat, given: &[u8]) -> Result<Made, FaultAt>
-    ensures { IfOk result (λ made. IsCheckedProgram given.now × (made.verdict ≡ Same)) }
-{
-    let program = NamedProgram {
-        name: String::from_str(alloc, "program")?,
-        program: program_of(alloc, given)?,
-    };
-    let text = program_text(alloc, format, &program)?;
-    Ok(Made::plain(alloc, text))
 }
 
 pub(crate) fn show_made(
@@ -331,7 +340,7 @@ pub(crate) fn diff_made<G: Progress>(
     Ok(Made::noting(text, found.verdict(scope), notes))
 }
 
-// The note on how many warnings a side has, if it is a policy.
+// The note on how many warnings a side has, if it is a policy and the note isn't to be left out.
 fn side_counted(
     alloc: Global,
     quiet: bool,
@@ -340,7 +349,11 @@ fn side_counted(
     side: Side<'_>,
 ) -> Result<Vec<u8>, AllocError> {
     match side.kind {
-        Subject::Policy => counted(alloc, quiet, arch, path.unwrap_or("-"), side.given),
+        Subject::Policy if !quiet => match filters_of(alloc, side.given) {
+            Ok(filters) => counted(alloc, arch, path.unwrap_or("-"), &filters),
+            Err(JsonFrontendError::OutOfMemory) => Err(AllocError),
+            Err(_) => Ok(Vec::new(alloc)),
+        },
         _ => Ok(Vec::new(alloc)),
     }
 }

@@ -2,8 +2,7 @@
 
 use crate::check::warnings_in;
 use seccomp_command_line::readable::{TextKind, push_readable, readable as readable_text};
-use seccompiler::json::filters_of;
-use seccompiler::{JsonFrontendError, TargetArch};
+use seccompiler::{JsonFilterMap, JsonFrontendError, TargetArch};
 use std::alloc::{AllocError, Global};
 
 // The line of a note on what stands at this path.
@@ -35,23 +34,15 @@ pub(crate) fn readable(alloc: Global, text: &[u8], kind: TextKind) -> Result<Str
     readable_text(alloc, text.as_str(), kind)
 }
 
-// The note on how many warnings `check` has for the policy of this path and text. There is none where it has no warning, where it is
-// to be left out, and where the text has a fault, which is for the command to report.
+// The note on how many warnings `check` has for the policy of this path, which has these filters. There is none where it has no
+// warning, and where a filter is refused, which is for the command to report.
 pub(crate) fn counted(
     alloc: Global,
-    quiet: bool,
     arch: TargetArch,
     path: &str,
-    text: &[u8],
+    filters: &JsonFilterMap,
 ) -> Result<Vec<u8>, AllocError> {
-    if quiet {
-        return Ok(Vec::new(alloc));
-    }
-    let checked = match filters_of(alloc, text) {
-        Ok(filters) => warnings_in(alloc, arch, &[], &filters),
-        Err(refusal) => Err(refusal),
-    };
-    match checked {
+    match warnings_in(alloc, arch, &[], filters) {
         Err(JsonFrontendError::OutOfMemory) => Err(AllocError),
         Err(_) => Ok(Vec::new(alloc)),
         Ok(checked) => match checked.count {

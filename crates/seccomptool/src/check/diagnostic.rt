@@ -9,8 +9,10 @@ use std::alloc::{AllocError, Global};
 /// An error or a warning.
 #[derive(Drop)]
 pub(crate) struct Diagnostic {
-    /// The code of a warning; an error has none.
-    pub code: Option<Code>,
+    /// What it is: `error` or `warning`.
+    pub severity: &'static str,
+    /// The name of its code.
+    pub code: &'static str,
     /// The way to what it is about: none of all of a text.
     pub path: Vec<Step>,
     /// The name of the call that it is about, if it is about one of several.
@@ -28,7 +30,7 @@ pub(crate) struct Diagnostic {
 pub(crate) enum Place {
     /// Where the value begins to which its path leads.
     Value,
-    /// Where the key of this value begins.
+    /// Where the key of this value begins, which is what it is about.
     Key,
     /// Here.
     At(Position),
@@ -46,7 +48,8 @@ impl Diagnostic {
         place: Place,
     ) -> Diagnostic {
         Diagnostic {
-            code: Some(code),
+            severity: "warning",
+            code: code.name(),
             path,
             call,
             message,
@@ -56,22 +59,20 @@ impl Diagnostic {
     }
 
     /// An error at a place.
-    pub(crate) fn error(path: Vec<Step>, message: String, place: Place) -> Diagnostic {
+    pub(crate) fn error(
+        code: &'static str,
+        path: Vec<Step>,
+        message: String,
+        place: Place,
+    ) -> Diagnostic {
         Diagnostic {
-            code: None,
+            severity: "error",
+            code,
             path,
             call: None,
             message,
             suggestion: None,
             place,
-        }
-    }
-
-    /// What it is.
-    pub(crate) fn severity(&self) -> &'static str {
-        match self.code {
-            Some(_) => "warning",
-            None => "error",
         }
     }
 

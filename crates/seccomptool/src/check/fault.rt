@@ -3,88 +3,81 @@
 use crate::check::diagnostic::{Diagnostic, Place, key};
 use crate::check::outline::{Outline, Position};
 use crate::error::ToolError;
-use seccomp_check::{Fault, Problem, Step, push_problem};
+use seccomp_check::{Expected, Fault, Problem, Step, push_problem};
 use seccomp_oci::{CompileError, ProfileError};
 use seccompiler::{Error, JsonFrontendError};
 use std::alloc::{AllocError, Global};
 
-/// An error of this text.
+/// An error of this text. A text that is no JSON and ends early has its fault behind its last byte.
 pub(crate) fn fault_diagnostic(
     alloc: Global,
     text: &[u8],
-    error: &ToolError,
+    error: ToolError,
 ) -> Result<Diagnostic, AllocError> {
     let told = format!(in alloc; "{error}")?;
-    match error {
-        ToolError::Placed(_, fault) => of_fault(alloc, text, fault),
+    let (code, place) = match error {
+        ToolError::Placed(_, fault) => return of_fault(alloc, text, fault),
         ToolError::Library(Error::JsonFrontend(JsonFrontendError::RepeatedKey)) => {
-            of_repeated(alloc, text, told)
+            return of_repeated(alloc, text, told);
+        }
+        ToolError::Profile(CompileError::Profile(ProfileError::NotAProfile(_))) => {
+            return of_profile(alloc, told.as_str());
         }
         ToolError::Library(Error::JsonFrontend(JsonFrontendError::SerdeJson(error)))
         | ToolError::Profile(CompileError::Profile(ProfileError::Json(error))) => {
-            Ok(of_json(alloc, error, told))
+            let position = Position {
+                line: error.line().max(1),
+                column: error.column().max(1),
+            };
+            ("not-json", Place::At(position))
         }
-        ToolError::Profile(CompileError::Profile(ProfileError::NotAProfile(_))) => {
-            of_profile(alloc, told.as_str())
-        }
-        _ => Ok(Diagnostic::error(Vec::new(alloc), told, Place::None)),
-    }
+        ToolError::Profile(CompileError::TooLarge) => ("program-too-large", Place::None),
+        ToolError::Program(_) => ("not-a-program", Place::None),
+        _ => ("wrong-value", Place::None),
+    };
+    Ok(Diagnostic::error(code, Vec::new(alloc), told, place))
 }
 
 // A fault of a policy. An unknown key is found where the key is.
-fn of_fault(alloc: Global, text: &[u8], fault: &Fault) -> Result<Diagnostic, AllocError> {
+fn of_fault(alloc: Global, text: &[u8], fault: Fault) -> Result<Diagnostic, AllocError> {
+    let Fault { mut path, problem } = fault;
     let mut message = Vec::new(alloc);
-    push_problem(&mut message, alloc, &fault.problem)?;
-    let place = match &fault.problem {
-        Problem::Strange(strange, _) => key_place(alloc, text, &fault.path, strange.as_str())?,
-        _ => Place::Value,
+    push_problem(&mut message, alloc, &problem)?;
+    let (mut place, mut suggestion) = (Place::Value, None);
+    let code = match &problem {
+        Problem::Stands(_, Expected::Call(_), near) => {
+            suggestion = *near;
+            "unknown-call"
+        }
+        Problem::Stands(_, _, _) => "wrong-value",
+        Problem::Strange(strange, _) => {
+            path.push(key(alloc, strange.as_str())?)?;
+            if let Some(position) = Outline::of(alloc, text)?.key_at(alloc, &path)? {
+                place = Place::At(position);
+            }
+            drop(path.pop());
+            "unexpected-key"
+        }
+        Problem::Missing(_) | Problem::Neither(_, _) => "missing-key",
+        Problem::Both(_, _) => "both-keys",
+        Problem::SameActions => "identical-actions",
+        Problem::TooLong(_, _, _) => "program-too-large",
     };
-    let path = copied(alloc, &fault.path)?;
-    let mut diagnostic = Diagnostic::error(path, text_of(alloc, message), place);
-    if let Problem::Stands(_, _, near) = &fault.problem {
-        diagnostic.suggestion = *near;
-    }
+    let message = String::from_utf8_lossy(alloc, &message)?;
+    let mut diagnostic = Diagnostic::error(code, path, message, place);
+    diagnostic.suggestion = suggestion;
     Ok(diagnostic)
-}
-
-// Where a key begins of the object at the end of a path.
-fn key_place(alloc: Global, text: &[u8], path: &[Step], name: &str) -> Result<Place, AllocError> {
-    let mut path = copied(alloc, path)?;
-    path.push(key(alloc, name)?)?;
-    let outline = Outline::of(alloc, text)?;
-    Ok(match outline.key_at(alloc, &path)? {
-        Some(position) => Place::At(position),
-        None => Place::Value,
-    })
-}
-
-fn copied(alloc: Global, path: &[Step]) -> Result<Vec<Step>, AllocError> {
-    let mut copy = Vec::new(alloc);
-    for step in path {
-        copy.push(match step {
-            Step::Key(name) => key(alloc, name.as_str())?,
-            Step::Item(place) => Step::Item(*place),
-        })?;
-    }
-    Ok(copy)
 }
 
 // A key that is repeated, where it stands the second time.
 fn of_repeated(alloc: Global, text: &[u8], told: String) -> Result<Diagnostic, AllocError> {
     let outline = Outline::of(alloc, text)?;
     Ok(match outline.repeated(alloc)? {
-        Some((path, position)) => Diagnostic::error(path, told, Place::At(position)),
-        None => Diagnostic::error(Vec::new(alloc), told, Place::None),
+        Some((path, position)) => {
+            Diagnostic::error("repeated-key", path, told, Place::At(position))
+        }
+        None => Diagnostic::error("repeated-key", Vec::new(alloc), told, Place::None),
     })
-}
-
-// A text that is no JSON. A text that ends early has its fault behind its last byte.
-fn of_json(alloc: Global, error: &serde_json::Error, told: String) -> Diagnostic {
-    let position = Position {
-        line: error.line().max(1),
-        column: error.column().max(1),
-    };
-    Diagnostic::error(Vec::new(alloc), told, Place::At(position))
 }
 
 // A fault of a profile, whose text has the path in front: of names without colons, and of places.
@@ -97,7 +90,7 @@ fn of_profile(alloc: Global, told: &str) -> Result<Diagnostic, AllocError> {
         }
     }
     let message = String::from_str(alloc, message)?;
-    Ok(Diagnostic::error(path, message, Place::Value))
+    Ok(Diagnostic::error("not-a-profile", path, message, Place::Value))
 }
 
 // Adds the steps of a name, with the places behind it.
@@ -115,11 +108,4 @@ fn push_part(path: &mut Vec<Step>, alloc: Global, part: &str) -> Result<(), Allo
         }
     }
     Ok(())
-}
-
-fn text_of(alloc: Global, bytes: Vec<u8>) -> String {
-    match String::from_utf8(bytes) {
-        Ok(text) => text,
-        Err(_) => String::new(alloc),
-    }
 }

@@ -1,10 +1,9 @@
 // The forms of what `check` says.
 
-use crate::check::diagnostic::{Diagnostic, push_path};
+use crate::check::diagnostic::{Diagnostic, Place, push_path};
 use crate::check::outline::{Outline, Position};
 use crate::json::{push_item, text_or_null};
 use seccomp_command_line::readable::{TextKind, push_readable};
-use seccomp_warnings::Code;
 use serde_json::{Value, json};
 use std::alloc::{AllocError, Global};
 
@@ -29,8 +28,7 @@ pub(crate) fn text_lines(
     for diagnostic in diagnostics {
         text.extend_from_slice(front)?;
         push_subject(&mut text, alloc, diagnostic)?;
-        let code = diagnostic.code.unwrap_or(Code::UnknownKey).name();
-        let said = &diagnostic.message;
+        let (code, said) = (diagnostic.code, &diagnostic.message);
         text.extend_from_slice(format!(in alloc; ": warning [{code}]: {said}\n")?.as_bytes())?;
     }
     Ok(text)
@@ -65,7 +63,7 @@ pub(crate) fn lines_of(
     Ok(lines)
 }
 
-// Adds the line `FILE:LINE:COLUMN: SEVERITY: PATH: MESSAGE [CODE]`, without what a diagnostic doesn't have. Standard input is `-`.
+// Adds the line `FILE:LINE:COLUMN: SEVERITY: PATH: MESSAGE [CODE]`, without a place or path that there isn't. Standard input is `-`.
 fn push_line(
     lines: &mut Vec<u8>,
     alloc: Global,
@@ -77,28 +75,24 @@ fn push_line(
     if let Some(Position { line, column }) = position {
         lines.extend_from_slice(format!(in alloc; ":{line}:{column}")?.as_bytes())?;
     }
-    let severity = diagnostic.severity();
+    let (severity, code) = (diagnostic.severity, diagnostic.code);
     lines.extend_from_slice(format!(in alloc; ": {severity}: ")?.as_bytes())?;
     push_subject(lines, alloc, diagnostic)?;
     if !diagnostic.path.is_empty() {
         lines.extend_from_slice(b": ")?;
     }
     push_readable(lines, diagnostic.message.as_str(), TextKind::Line)?;
-    if let Some(code) = diagnostic.code {
-        let code = code.name();
-        lines.extend_from_slice(format!(in alloc; " [{code}]")?.as_bytes())?;
-    }
-    lines.extend_from_slice(b"\n")
+    lines.extend_from_slice(format!(in alloc; " [{code}]\n")?.as_bytes())
 }
 
-/// Adds what a diagnostic is about: its path, and the call behind it. An unknown key of a profile stands in quotes.
+/// Adds what a diagnostic is about: its path, and the call behind it. A key stands in quotes.
 pub(crate) fn push_subject(
     line: &mut Vec<u8>,
     alloc: Global,
     diagnostic: &Diagnostic,
 ) -> Result<(), AllocError> {
-    let quote: &[u8] = match diagnostic.code {
-        Some(Code::UnknownKey) => b"\"",
+    let quote: &[u8] = match diagnostic.place {
+        Place::Key => b"\"",
         _ => b"",
     };
     line.extend_from_slice(quote)?;
@@ -126,10 +120,6 @@ fn value_of(
         Some(Position { line, column }) => (Some(line), Some(column)),
         None => (None, None),
     };
-    let code = match diagnostic.code {
-        Some(code) => Some(code.name()),
-        None => None,
-    };
     let call = match &diagnostic.call {
         Some(call) => Some(call.as_str()),
         None => None,
@@ -140,8 +130,8 @@ fn value_of(
         "column": column,
         "path": path.as_str(),
         "call": text_or_null(alloc, call)?,
-        "code": text_or_null(alloc, code)?,
-        "severity": diagnostic.severity(),
+        "code": diagnostic.code,
+        "severity": diagnostic.severity,
         "message": &diagnostic.message,
         "suggestion": text_or_null(alloc, diagnostic.suggestion)?
     })

@@ -110,7 +110,7 @@ fn rejected(
         made.notes = rejection(alloc, path, &error)?;
         return Ok(made);
     }
-    let diagnostics = vec![in alloc; fault_diagnostic(alloc, given, &error)?]?;
+    let diagnostics = vec![in alloc; fault_diagnostic(alloc, given, error)?]?;
     made.text = written(alloc, format, path, given, &diagnostics)?;
     Ok(made)
 }

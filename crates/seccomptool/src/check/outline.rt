@@ -181,19 +181,17 @@ impl<'a> Outline<'a> {
         step: &Step,
     ) -> Result<Option<&Spot>, AllocError> {
         let key = match step {
-            Step::Item(place) => return Ok(self.inner_of(spot, *place)),
             Step::Key(key) => key.as_str(),
+            Step::Item(place) => {
+                return Ok(match spot.inner.get(*place) {
+                    Some(inner) => self.spots.get(*inner),
+                    None => None,
+                });
+            }
         };
         match (self.under(alloc, spot, key)?, other_name(key)) {
             (None, Some(other)) => self.under(alloc, spot, other),
             (found, _) => Ok(found),
-        }
-    }
-
-    fn inner_of(&self, spot: &Spot, place: usize) -> Option<&Spot> {
-        match spot.inner.get(place) {
-            Some(inner) => self.spots.get(*inner),
-            None => None,
         }
     }
 
@@ -312,7 +310,12 @@ impl Scan {
     // Begins a string, which is a key if it stands in an object and behind no other.
     fn begin_string(&mut self, alloc: Global, at: usize) -> Result<(), AllocError> {
         self.mode = Mode::Quoted;
-        if self.key.is_none() && self.is_in_object() {
+        let outer = match self.open.last() {
+            Some(outer) => self.spots.get(*outer),
+            None => None,
+        };
+        let is_in_object = matches!(outer, Some(outer) if outer.is_object);
+        if self.key.is_none() && is_in_object {
             self.key = Some(Key {
                 begins: self.position(at),
                 from: at,
@@ -330,16 +333,6 @@ impl Scan {
             if key.from == key.to {
                 key.to = at.saturating_add(1);
             }
-        }
-    }
-
-    fn is_in_object(&self) -> bool {
-        match self.open.last() {
-            Some(outer) => match self.spots.get(*outer) {
-                Some(outer) => outer.is_object,
-                None => false,
-            },
-            None => false,
         }
     }
 

@@ -3,7 +3,7 @@
 use crate::check::FilterWarnings;
 use crate::check::diagnostic::{Diagnostic, Place, key};
 use seccomp_check::Step;
-use seccomp_warnings::{Subject, Warning, part_of, said_text};
+use seccomp_warnings::{Code, Subject, Warning, part_of, said_text};
 use std::alloc::{AllocError, Global};
 
 /// What is said of the warnings of all filters.
@@ -14,15 +14,19 @@ pub(crate) fn policy_diagnostics(
     let mut diagnostics = Vec::new(alloc);
     for own in all {
         for warning in &own.warnings {
-            diagnostics.push(diagnostic_of(alloc, own.name.as_str(), *warning)?)?;
+            diagnostics.push(diagnostic_of(alloc, own, *warning)?)?;
         }
     }
     Ok(diagnostics)
 }
 
-// What is said of a warning of the filter of this name.
-fn diagnostic_of(alloc: Global, name: &str, warning: Warning) -> Result<Diagnostic, AllocError> {
-    let mut path = vec![in alloc; key(alloc, name)?]?;
+// What is said of a warning of a filter.
+fn diagnostic_of(
+    alloc: Global,
+    own: &FilterWarnings,
+    warning: Warning,
+) -> Result<Diagnostic, AllocError> {
+    let mut path = vec![in alloc; key(alloc, own.name.as_str())?]?;
     let mut call = None;
     match warning.subject {
         Subject::MismatchAction(_) => path.push(key(alloc, "mismatch_action")?)?,
@@ -34,6 +38,14 @@ fn diagnostic_of(alloc: Global, name: &str, warning: Warning) -> Result<Diagnost
         Subject::Entry(entry) => {
             path.push(key(alloc, "filter")?)?;
             path.push(Step::Item(entry))?;
+            if let (Code::SiblingAllowed, Some(judgement)) = (
+                warning.code,
+                own.judgements.get(entry),
+            ) {
+                if let Some(sibling) = judgement.sibling {
+                    call = Some(String::from_str(alloc, sibling)?);
+                }
+            }
         }
         Subject::Condition(comparison) => {
             path.push(key(alloc, "filter")?)?;

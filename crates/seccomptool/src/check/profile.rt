@@ -12,7 +12,7 @@ use crate::error::ToolError;
 use crate::profile::compiled_of;
 use seccomp_oci::{CompiledProfile, Container, Profile, profile_of};
 use seccomp_profile_checks::{Doubt, EntryFilter, Origin, doubts_of, entry_filters_of};
-use seccomp_warnings::{Code, Subject, Warning, denies_each, verdicts_of, warnings_of};
+use seccomp_warnings::{Code, Subject, Warning, denies_each, judgements_of, warnings_of};
 use seccompiler::{JsonFilter, SeccompAction, TargetArch};
 use serde_json::Value;
 use std::alloc::{AllocError, Global};
@@ -227,21 +227,12 @@ fn push_keys(
         return Ok(());
     };
     for (key, _) in members.iter() {
-        if !is_key(key.as_str()) {
+        if !KEYS.contains(&key.as_str()) {
             let key = String::from_str(alloc, key.as_str())?;
             push(all, allowed, ProfileWarning::UnknownKey(key))?;
         }
     }
     Ok(())
-}
-
-fn is_key(key: &str) -> bool {
-    for known in &KEYS {
-        if key == *known {
-            return true;
-        }
-    }
-    false
 }
 
 // Adds the warnings of the filters of a profile's entries.
@@ -284,7 +275,11 @@ fn left_out_of(
     default: SeccompAction,
     is_base: bool,
 ) -> Result<Vec<Code>, AllocError> {
-    let mut codes = vec![in alloc; Code::CrateDiffers, Code::ErrnoTooLarge]?;
+    let mut codes = vec![in alloc;
+        Code::CrateDiffers,
+        Code::ErrnoTooLarge,
+        Code::SiblingAllowed,
+    ]?;
     if denied {
         codes.push(Code::CloneByClone3)?;
     }
@@ -329,10 +324,10 @@ fn true_of(
 ) -> Result<Vec<Warning>, AllocError>
     ensures { IfOk result (λ all. All (IsTrueOf target filter.now) all.items) }
 {
-    let Ok(verdicts) = verdicts_of(alloc, target, filter) else {
+    let Ok(judgements) = judgements_of(alloc, target, filter) else {
         return Err(AllocError);
     };
-    warnings_of(alloc, filter, &verdicts, left_out)
+    warnings_of(alloc, filter, &judgements, left_out)
 }
 
 // Adds a warning of a filter, for each part of the profile that it is about.

@@ -38,6 +38,8 @@ const CODES: &[&str] = &[
     "kills-exit",
     "clone-by-clone3",
     "no-execve",
+    "no-restart",
+    "sibling-allowed",
     "crate-differs",
     "unreachable-entry",
     "redundant-entry",

@@ -8,5 +8,5 @@ use Rattle.seccomp_warnings.proofs.walk.push_calls.Given as goal
 abbrev pub invariant-loop-call : goal.invariant-loop-call
 invariant-loop-call l = record {
   whole : l.call-items ≡ all_unlisted;
-  adds : AddsPicked l.allowed l.verdicts l.filter (calls_asked (take l.call-index l.call-items)) l.fn.warnings.items l.warnings.items;
+  adds : AddsPicked l.allowed l.judgements l.filter (calls_asked (take l.call-index l.call-items)) l.fn.warnings.items l.warnings.items;
 }

@@ -6,4 +6,4 @@ use Rattle.seccomp_warnings.proofs.walk.push_conditions.Given as goal
 -- the warnings grew by those of the conditions so far
 abbrev pub invariant-loop-place : goal.invariant-loop-place
 invariant-loop-place l =
-    AddsPicked l.allowed l.verdicts l.filter (conditions_asked l.entry 0 (take l.place l.conditions)) l.fn.warnings.items l.warnings.items
+    AddsPicked l.allowed l.judgements l.filter (conditions_asked l.entry 0 (take l.place l.conditions)) l.fn.warnings.items l.warnings.items

@@ -6,4 +6,4 @@ use Rattle.seccomp_warnings.proofs.walk.push_entries.Given as goal
 -- the warnings grew by those of the entries so far
 abbrev pub invariant-loop-place : goal.invariant-loop-place
 invariant-loop-place l =
-    AddsPicked l.allowed l.verdicts l.filter (entries_asked 0 (take l.place l.entries)) l.fn.warnings.items l.warnings.items
+    AddsPicked l.allowed l.judgements l.filter (entries_asked 0 (take l.place l.entries)) l.fn.warnings.items l.warnings.items

@@ -12,7 +12,7 @@ use Rattle.seccomp_warnings.proofs.walk.warnings_of.Goals as goal
 pub returns : goal.returns
 returns c =
     let allowed = c.args.allowed.now in
-    let verdicts = c.args.verdicts.now in
+    let judgements = c.args.judgements.now in
     let filter : JsonFilter = c.args.filter.now in
     let own = c.filter.inside in
     let begun : List Warning = c.new-warnings.result.items in
@@ -23,18 +23,18 @@ returns c =
     let mismatch : Subject = MismatchAction own.mismatch_action in
     let matching : Subject = MatchAction own.match_action in
     let of_mismatch =
-    of_codes allowed verdicts filter mismatch _ mismatch_codes begun first c.of_mismatch.ensures c.in_ok-push_those.ensures in
-    let of_match = of_codes allowed verdicts filter matching _ match_codes second third c.of_match.ensures c.in_ok-push_those-2.ensures in
-    let of_entries = subst (λ rs. AddsPicked allowed verdicts filter (entries_asked 0 rs) third all) c.deref.ensures.value
+    of_codes allowed judgements filter mismatch _ mismatch_codes begun first c.of_mismatch.ensures c.in_ok-push_those.ensures in
+    let of_match = of_codes allowed judgements filter matching _ match_codes second third c.of_match.ensures c.in_ok-push_those-2.ensures in
+    let of_entries = subst (λ rs. AddsPicked allowed judgements filter (entries_asked 0 rs) third all) c.deref.ensures.value
     c.in_ok-push_entries.ensures in
     let first_asked = map (about mismatch) mismatch_codes in
     let second_asked = calls_asked all_unlisted in
     let third_asked = map (about matching) match_codes in
     let last_asked = entries_asked 0 own.rules.items in
-    let adds = adds_more allowed verdicts filter first_asked (second_asked ++ third_asked ++ last_asked) begun first all of_mismatch
-    (adds_more allowed verdicts filter second_asked (third_asked ++ last_asked) first second all c.in_ok-push_calls.ensures
-    (adds_more allowed verdicts filter third_asked last_asked second third all of_match of_entries)) in
+    let adds = adds_more allowed judgements filter first_asked (second_asked ++ third_asked ++ last_asked) begun first all of_mismatch
+    (adds_more allowed judgements filter second_asked (third_asked ++ last_asked) first second all c.in_ok-push_calls.ensures
+    (adds_more allowed judgements filter third_asked last_asked second third all of_match of_entries)) in
     let asked = first_asked ++ second_asked ++ third_asked ++ last_asked in
-    subst (λ j. ArePicked (IsGiven allowed verdicts filter) (asked_of j) all) c.filter.view_is
-    (all_picked allowed verdicts filter asked all
-    (subst (λ b. AddsPicked allowed verdicts filter asked b all) c.new-warnings.ensures.items adds))
+    subst (λ j. ArePicked (IsGiven allowed judgements filter) (asked_of j) all) c.filter.view_is
+    (all_picked allowed judgements filter asked all
+    (subst (λ b. AddsPicked allowed judgements filter asked b all) c.new-warnings.ensures.items adds))

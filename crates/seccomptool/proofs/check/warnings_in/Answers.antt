@@ -12,7 +12,7 @@ loop-name-preserved c =
     let l = c.loop-name in
     let done : List (String Global × JsonFilter) = l.invariant.done in
     let e : String Global × JsonFilter = (c.in-Some.name.now, c.in-Some.filter.now) in
-    let own : FilterWarnings = record { name = c.in_ok-name.name; warnings = c.in_ok-warnings.warnings } in
+    let own : FilterWarnings = c.in_ok-own.own in
     let counted = λ (o : FilterWarnings). length o.warnings.items in
     record {
       done = done ++ e ∷ [];
@@ -20,8 +20,8 @@ loop-name-preserved c =
           ∙ sym (append_assoc done (e ∷ []) c.next.new.self);
       each = subst (AllZip (AreWarningsOf c.args.target c.args.allowed.now) (done ++ e ∷ [])) (sym c.in_ok-push.ensures.items)
           (all_zipped_more (AreWarningsOf c.args.target c.args.allowed.now) done l.all.items e own l.invariant.each
-          (record { name = c.in_ok-name.ensures.cases; warnings = c.in_ok-warnings.ensures }));
-      count_is = c.in_ok-more.ensures ∙ ap (λ n. n + c.len.result) l.invariant.count_is
-          ∙ ap (λ n. count_of l.all.items + n) (c.len.ensures ∙ c.in_ok-warnings.warnings.ok.0) ∙ sym (sum_by_push counted l.all.items own)
+          c.in_ok-own.ensures);
+      count_is = c.in-Some-checked_add.ensures.1 ∙ ap (λ n. n + c.len.result) l.invariant.count_is
+          ∙ ap (λ n. count_of l.all.items + n) (c.len.ensures ∙ own.warnings.ok.0) ∙ sym (sum_by_push counted l.all.items own)
           ∙ ap count_of (sym c.in_ok-push.ensures.items);
     }

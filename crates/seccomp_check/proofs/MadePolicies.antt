@@ -1,0 +1,98 @@
+-- For `policies_in` and `compiled_filters`: policies under the names of their filters, and their programs.
+use Rattle.std.proofs.Common.{◌≡◌, ℕ, List, [], ◌∷◌, true, false, cond, Option, Some, None, All, String, Global, Less, string_bytes}
+use Rattle.std.proofs.Common.{string_cmp, bytes_eq, refl, sym, ◌∙◌}
+use Rattle.std.specs.BTreeMap.{BTreeMap, get_by_text}
+use Rattle.std.specs.List.{AllByRecursion, AllZip}
+use Rattle.std.specs.List.Sorted.{IsStrictlySortedBy}
+use Rattle.std.specs.Map.{keys_of, lookup}
+use Rattle.std.specs.Option.{MatchOption}
+use Rattle.std.proofs.lemmas.List.Elements.{All-nil, All-cons}
+use Rattle.std.proofs.lemmas.Map.Text.{is_text}
+use Rattle.serde_json.specs.Data.{Data}
+use Rattle.seccompiler.specs.Compiled.{IsCompiled}
+use Rattle.seccompiler.specs.declared.backend.TargetArch.{TargetArch}
+use Rattle.seccompiler.specs.declared.bpf.sock_filter.{sock_filter}
+use Rattle.seccompiler.specs.declared.json.types.JsonFilterMap.{JsonFilterMap}
+use Rattle.seccompiler.specs.JsonAnswers.{ArePoliciesOf, HasPolicy}
+use Rattle.seccompiler.specs.JsonPolicyOf.{IsPolicyOf}
+use Rattle.seccompiler.specs.JsonSteps.{AreFilters, IsFaultless}
+use Rattle.seccompiler.specs.JsonTypes.{JsonFilter}
+use Rattle.seccompiler.specs.Policy.{Filter}
+use Rattle.seccomp_check.specs.Checks.{AreAllCompiled}
+use Rattle.seccomp_command_line.proofs.ByName.{by_text}
+use Rattle.seccomp_command_line.proofs.Found.{all_listed}
+
+-- ---- policies
+
+abbrev pub Filters : Type 0
+Filters = List (String Global × JsonFilter)
+
+abbrev pub Policies : Type 0
+Policies = List (String Global × Filter)
+
+module _ (target : TargetArch) where
+  -- The policy is the filter's, and has its name.
+  abbrev pub IsMade : String Global × JsonFilter → String Global × Filter → Type 0
+  IsMade x y = (string_bytes y.0 ≡ string_bytes x.0) × IsPolicyOf target x.1 y.1
+
+  abbrev Faultless : String Global × JsonFilter → Type 0
+  Faultless x = IsFaultless target x.1
+
+  -- Filters of which policies are made have them.
+  pub are_faultless : (xs : Filters) (ys : Policies) → AllZip IsMade xs ys → All Faultless xs
+  are_faultless [] ys h = All-nil Faultless
+  are_faultless (x ∷ xs) [] h = absurd h
+  are_faultless (x ∷ xs) (y ∷ ys) h = All-cons Faultless x xs (y.1, h.0.1) (are_faultless xs ys h.1)
+
+  -- The names are in the same order.
+  above : (x y : String Global) → string_bytes y ≡ string_bytes x → (xs : Filters) (ys : Policies) → AllZip IsMade xs ys
+      → AllByRecursion (λ k. string_cmp x k ≡ Less) (keys_of xs) → AllByRecursion (λ k. string_cmp y k ≡ Less) (keys_of ys)
+  above x y same xs [] h all = tt
+  above x y same [] (b ∷ ys) h all = absurd h
+  above x y same (a ∷ xs) (b ∷ ys) h all = (rw (same, h.0.0) all.0, above x y same xs ys h.1 all.1)
+
+  pub made_in_order : (xs : Filters) (ys : Policies) → AllZip IsMade xs ys → IsStrictlySortedBy string_cmp (keys_of xs)
+      → IsStrictlySortedBy string_cmp (keys_of ys)
+  unfolding IsStrictlySortedBy
+  made_in_order xs [] h order = tt
+  made_in_order [] (y ∷ ys) h order = absurd h
+  made_in_order (x ∷ xs) (y ∷ ys) h order = (above x.0 y.0 h.0.0 xs ys h.1 order.0, made_in_order xs ys h.1 order.1)
+
+  -- Under a name there is the policy of the filter that is found; where none is found, there is nothing.
+  made_under : (xs : Filters) (ys : Policies) → AllZip IsMade xs ys → (q : List ℕ)
+      → MatchOption (lookup (is_text q) xs) (lookup (is_text q) ys ≡ None)
+      (λ x. (y : Filter) × (lookup (is_text q) ys ≡ Some y) × IsPolicyOf target x y)
+  made_under [] [] h q = refl
+  made_under [] (b ∷ ys) h q = absurd h
+  made_under (a ∷ xs) [] h q = absurd h
+  made_under (a ∷ xs) (b ∷ ys) h q =
+      rw h.0.0 (elim (bytes_eq q (string_bytes a.0)) as
+      (λ t. MatchOption (cond t (Some a.1) (lookup (is_text q) xs)) (cond t (Some b.1) (lookup (is_text q) ys) ≡ None)
+      (λ x. (y : Filter) × (cond t (Some b.1) (lookup (is_text q) ys) ≡ Some y) × IsPolicyOf target x y))
+      [ true ↦ (b.1, refl, h.0.1) | false ↦ made_under xs ys h.1 q ])
+
+  -- The policies of a value's filters are the value's.
+  pub are_policies : (filters : JsonFilterMap) (made : Policies) → AllZip IsMade filters.0.entries made → (find : List ℕ → Option Filter)
+      → ((name : List ℕ) → find name ≡ lookup (is_text name) made) → (d : Data) → AreFilters d filters → ArePoliciesOf target find d
+  are_policies filters made h find same d are = record {
+    is_object = are.is_object;
+    each = λ name value there.
+        let known = are.each name value there in
+        let own = made_under filters.0.entries made h name in
+        let own = rw (sym (by_text name filters.0.entries) ∙ known.there) at own in
+        record { found = own.0; there = same name ∙ own.1; own = (known.found, known.own, own.2) };
+    no_other = λ name none.
+        let own = made_under filters.0.entries made h name in
+        same name ∙ rw (sym (by_text name filters.0.entries) ∙ are.no_other name none) at own;
+  }
+
+  -- ---- programs
+
+  -- Where each policy has a program, all filters of the value are compiled.
+  pub all_compiled : (policies : BTreeMap (String Global) Filter) → IsStrictlySortedBy string_cmp (keys_of policies.entries)
+      → All (λ (e : String Global × Filter). (program : List sock_filter) × IsCompiled e.1 program) policies.entries
+      → (d : Data) → ArePoliciesOf target (get_by_text policies) d → AreAllCompiled target d
+  all_compiled policies order all d are =
+      all_listed (HasPolicy target) (get_by_text policies) d are policies.entries order (λ name. by_text name policies.entries)
+      (λ f. (program : List sock_filter) × IsCompiled f program) _ all
+      (λ value f has is. (is.0, record { policy = f; is_policy = has; compiled = is.1 }))

@@ -1,0 +1,70 @@
+-- For `judgement` and `sibling`: the numbers of entries in a set, and judgements, one by one.
+use Rattle.std.proofs.Common.{◌≡◌, ℕ, ℤ, ◌+◌, ◌↔◌, ◌<◌, List, [], ◌∷◌, ◌++◌, Bool, Some, length, map, take, get_or, sym, ap, ◌∙◌}
+use Rattle.std.proofs.Common.{subst, inl, inr, ⊎_elim}
+use Rattle.std.proofs.Common.{Option, None, arith}
+use Rattle.std.specs.Borrow.{Bor}
+use Rattle.std.specs.Prelude.{All, Any, Contains, IfNone, IfSome}
+use Rattle.std.proofs.lemmas.List.{get_or-map, length-map, take_more}
+use Rattle.std.proofs.lemmas.List.Elements.{Contains-append_left, Contains-push, Contains-push_cases}
+use Rattle.seccompiler.specs.JsonTypes.{JsonRule}
+use Rattle.seccompiler.specs.declared.backend.TargetArch.{TargetArch}
+use Rattle.seccomp_warnings.specs.Judgements.{IsOfNumber}
+use Rattle.seccomp_warnings.proofs.Quantified.{any_append, any_one}
+
+module _ (arch : TargetArch) (w : Bool) where
+  -- The numbers are those of the entries.
+  abbrev pub HasNumbers : List JsonRule → List ℤ → Type 0
+  HasNumbers es numbers = (n : ℤ) → Contains numbers n ↔ Any (IsOfNumber arch w n) es
+
+  -- One entry more, of a number.
+  pub some_more : (es : List JsonRule) (e : JsonRule) (numbers : List ℤ) (number : ℤ) → HasNumbers es numbers
+      → ((n : ℤ) → (number ≡ n) ↔ IsOfNumber arch w n e) → HasNumbers (es ++ e ∷ []) (numbers ++ number ∷ [])
+  some_more es e numbers number so_far own n =
+      let P = IsOfNumber arch w n in (
+        λ has. (any_append P es (e ∷ [])).1 (⊎_elim (λ before. inl ((so_far n).0 before)) (λ here. inr ((any_one P e).1 ((own n).0 here)))
+            (Contains-push_cases numbers number n has)),
+        λ any. ⊎_elim (λ before. Contains-append_left numbers (number ∷ []) n ((so_far n).1 before))
+            (λ here. subst (λ m. Contains (numbers ++ number ∷ []) m) ((own n).1 ((any_one P e).0 here)) (Contains-push numbers number))
+            ((any_append P es (e ∷ [])).0 any),
+      )
+
+  -- One entry more, of none.
+  pub none_more : (es : List JsonRule) (e : JsonRule) (numbers : List ℤ) → HasNumbers es numbers
+      → ((n : ℤ) → IsOfNumber arch w n e → ⊥) → HasNumbers (es ++ e ∷ []) numbers
+  none_more es e numbers so_far none n =
+      let P = IsOfNumber arch w n in (
+        λ has. (any_append P es (e ∷ [])).1 (inl ((so_far n).0 has)),
+        λ any. ⊎_elim (so_far n).1 (λ here. absurd (none n ((any_one P e).0 here))) ((any_append P es (e ∷ [])).0 any),
+      )
+
+  -- Those of a front.
+  pub front_more : (es : List JsonRule) (at : ℕ) (e : JsonRule) (numbers : List ℤ) → at < length es → e ≡ get_or es at e
+      → HasNumbers (take at es ++ e ∷ []) numbers → HasNumbers (take (at + 1) es) numbers
+  front_more es at e numbers room is has =
+      let more : take (at + 1) es ≡ take at es ++ e ∷ [] = take_more es at e room ∙ ap (λ (x : JsonRule). take at es ++ x ∷ []) (sym is) in
+      subst (λ (xs : List JsonRule). HasNumbers xs numbers) (sym more) has
+
+-- ---- what is found of names
+
+-- What is found has more.
+pub if_some : {X : Type 0} {P Q : X → Type 0} (found : Option X) → ((x : X) → P x → Q x) → IfSome found P → IfSome found Q
+if_some None gives of = tt
+if_some (Some x) gives of = gives x of
+
+-- That nothing is found says more.
+pub if_none : {X : Type 0} {P Q : Type 0} (found : Option X) → (P → Q) → IfNone found P → IfNone found Q
+if_none None gives of = gives of
+if_none (Some x) gives of = tt
+
+-- A name of a list is one of its texts.
+pub contained_now : (names : List (Bor (List ℕ))) (name : Bor (List ℕ)) → Contains names name → Contains (map (λ n. n.now) names) name.now
+contained_now names name (k, within, is) = (
+  k,
+  (let long : length (map (λ (n : Bor (List ℕ)). n.now) names) ≡ length names =
+      length-map names (λ (n : Bor (List ℕ)). n.now) in omega arith),
+  get_or-map (λ (n : Bor (List ℕ)). n.now) names k name name.now within ∙ ap (λ (n : Bor (List ℕ)). n.now) is,
+)
+
+-- What none of a list has isn't so of one that it contains.
+pub none_of_all : {X : Type 0} (P : X → Type 0) (xs : List X) → All (λ x. P x → ⊥) xs → (x : X) → Contains xs x → P x → ⊥
+none_of_all P xs none x (k, within, is) has = none k x within (subst P (sym is) has)

@@ -1,0 +1,53 @@
+use Rattle.std.proofs.Common.{◌≡◌, ◌+◌, ◌<◌, ◌∷◌, ◌++◌, [], ℕ, List, Some, length, map, take, get_or, false, true, ap, sym, refl, ◌∙◌}
+use Rattle.std.proofs.Common.{subst, arith, length-append}
+use Rattle.std.specs.Prelude.{IsSomeAnd, slice_get}
+use Rattle.std.proofs.lemmas.List.{length-map, map-append, take_more}
+use Rattle.std.proofs.lemmas.Option.{slice_get_read}
+use Rattle.seccompiler.specs.JsonTypes.{JsonRule, JsonFilter}
+use Rattle.seccomp_warnings.specs.Judgements.{IsJudgement, IsSetOf}
+use Rattle.seccomp_warnings.specs.Verdicts.{entry_of}
+use Rattle.seccomp_warnings.specs.declared.judgement.Judgement.{Judgement}
+use Rattle.seccomp_warnings.specs.declared.verdict.Verdict.{Verdict}
+use Rattle.seccomp_warnings.proofs.Judged.{each_push}
+use Rattle.seccomp_warnings.proofs.judgement.judgements_by.Goals as goal
+
+pub judgement_of-judgement-requires-clause-named : goal.judgement_of-judgement-requires-clause-named
+judgement_of-judgement-requires-clause-named c =
+    let same : c.deref.result.now ≡ c.args.filter.now.rules = c.deref.ensures.value ∙ ap (λ (j : JsonFilter). j.rules) c.filter.view_is in
+    subst (λ (es : List JsonRule). IsSetOf c.args.arch false es c.in_ok-named.named) same c.in_ok-named.ensures
+
+pub judgement_of-judgement-requires-clause-with_args : goal.judgement_of-judgement-requires-clause-with_args
+judgement_of-judgement-requires-clause-with_args c =
+    let same : c.deref-2.result.now ≡ c.args.filter.now.rules = c.deref-2.ensures.value
+    ∙ ap (λ (j : JsonFilter). j.rules) c.filter.view_is in
+    subst (λ (es : List JsonRule). IsSetOf c.args.arch true es c.in_ok-with_args.with_args) same c.in_ok-with_args.ensures
+
+pub loop-place-preserved : goal.loop-place-preserved
+loop-place-preserved c =
+    let filter : JsonFilter = c.args.filter.now in
+    let js : List Judgement = c.loop-place.judgements.items in
+    let j : Judgement = c.judgement_of-judgement.result in
+    let new : List Judgement = c.push.new.self.items in
+    let pushed : new ≡ js ++ j ∷ [] = c.in_ok-push.ensures.items in
+    let P = λ (k : ℕ) (own : Judgement). IsSomeAnd (slice_get filter.rules k) (λ e. IsJudgement c.args.arch filter e own) in
+    let place = c.loop-place.place in
+    let vs : List Verdict = c.args.verdicts.now in
+    let entries : List JsonRule = c.args.filter.now.rules in
+    let many : length js ≡ place = c.loop-place.invariant.many in
+    let long : length (map (entry_of c.args.arch) entries) ≡ length entries = length-map entries (entry_of c.args.arch) in
+    let before : place < length vs = c.loop-place-test.true in
+    let as_many : length vs ≡ length (map (entry_of c.args.arch) entries) = c.requires.many in
+    let within : place < length entries = omega arith in
+    let entry : JsonRule = c.index.result.now in
+    let is : entry ≡ get_or entries place entry =
+    c.index.ensures ∙ ap (λ (f : JsonFilter). get_or f.rules place entry) c.filter.view_is in
+    let got = sym (slice_get_read entries (length entries) place entry refl within is) in
+    let here = subst (λ o. IsSomeAnd o (λ e. IsJudgement c.args.arch c.args.filter.now e j)) got c.judgement_of-judgement.ensures.judged in
+    record {
+      many = ap (λ (l : List Judgement). length l) pushed ∙ length-append js (j ∷ []) ∙ ap (λ k. k + 1) many;
+      verdicts = ap (map (λ (own : Judgement). own.verdict)) pushed ∙ map-append (λ (own : Judgement). own.verdict) js (j ∷ [])
+          ∙ ap (λ (l : List Verdict). l ++ j.verdict ∷ []) c.loop-place.invariant.verdicts
+          ∙ ap (λ (v : Verdict). take place vs ++ v ∷ []) c.judgement_of-judgement.ensures.verdict ∙ sym (take_more vs place _ before);
+      each = subst (λ (all : List Judgement). (k : ℕ) (own : Judgement) → slice_get all k ≡ Some own → P k own) (sym pushed)
+          (each_push P js j (subst (λ k. P k j) (sym many) here) c.loop-place.invariant.each);
+    }

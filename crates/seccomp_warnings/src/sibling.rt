@@ -1,0 +1,77 @@
+// Calls by which the same can be done.
+
+ghost use Rattle.std.specs.Prelude.{◌≡◌, ◌↔◌, All, Contains, IfNone, IfSome, IsTrue, List, false, map};
+ghost use Rattle.seccompiler.specs.JsonTypes.{JsonRule};
+ghost use Rattle.seccomp_warnings.specs.Judgements as spec;
+ghost use Rattle.seccomp_warnings.specs.Judgements.{IsSetOf, IsUnnamed};
+
+use seccompiler::{SyscallTable, TargetArch};
+use std::collections::BTreeSet;
+
+// The calls by which what the call of this name does can be done too.
+fn siblings_of(name: &str) -> &'static [&'static str]
+    ensures { map (λ n. n.now) result.now ≡ spec.siblings_of name.now }
+{
+    if name == "open" {
+        &["openat", "openat2", "io_uring_setup"]
+    } else if name == "openat" {
+        &["openat2", "open", "io_uring_setup"]
+    } else if name == "execve" {
+        &["execveat"]
+    } else if name == "mount" {
+        &["move_mount", "fsmount"]
+    } else if name == "ptrace" {
+        &["process_vm_writev"]
+    } else if name == "mprotect" {
+        &["pkey_mprotect"]
+    } else if name == "kill" {
+        &["tgkill", "pidfd_send_signal"]
+    } else if name == "unshare" {
+        &["clone", "clone3"]
+    } else if name == "socket" {
+        &["io_uring_setup"]
+    } else if name == "connect" {
+        &["io_uring_setup"]
+    } else {
+        &[]
+    }
+}
+
+// Whether the architecture has the call, and its number isn't among these.
+fn is_unnamed(arch: TargetArch, named: &BTreeSet<i64>, name: &str) -> bool
+    ensures { (entries : List JsonRule) → IsSetOf arch false entries named.now → (IsTrue result ↔ IsUnnamed arch entries name.now) }
+{
+    match SyscallTable::new(arch).get_syscall_nr(name) {
+        Some(number) => !named.contains(&number),
+        None => false,
+    }
+}
+
+// The first of these names of which that is so.
+fn first_unnamed(
+    arch: TargetArch,
+    named: &BTreeSet<i64>,
+    names: &[&'static str],
+) -> Option<&'static str>
+    ensures found { (entries : List JsonRule) → IsSetOf arch false entries named.now → IfSome result (λ other. Contains names.now other × IsUnnamed arch entries other.now) }
+    ensures none { (entries : List JsonRule) → IsSetOf arch false entries named.now → IfNone result (All (λ other. IsUnnamed arch entries other.now → ⊥) names.now) }
+{
+    for name in names {
+        if is_unnamed(arch, named, name) {
+            return Some(*name);
+        }
+    }
+    None
+}
+
+// The first call by which what the call of this name does can be done too, and of which that is so.
+pub(crate) fn unnamed_sibling(
+    arch: TargetArch,
+    named: &BTreeSet<i64>,
+    name: &str,
+) -> Option<&'static str>
+    ensures found { (entries : List JsonRule) → IsSetOf arch false entries named.now → IfSome result (λ other. Contains (spec.siblings_of name.now) other.now × IsUnnamed arch entries other.now) }
+    ensures none { (entries : List JsonRule) → IsSetOf arch false entries named.now → IfNone result (All (λ other. IsUnnamed arch entries other → ⊥) (spec.siblings_of name.now)) }
+{
+    first_unnamed(arch, named, siblings_of(name))
+}

@@ -38,7 +38,8 @@ loop-name-preserved c =
     rw (← same, among c.args.count five name c.requires.count) (lt-ltb _ _ (omega (arith, placed, c.if-place-count.false))) in
     let v = c.in-Some.member in
     let m = c.loop-name in
-    let within : c.place_among-place.result < length m.found = omega (arith, c.if-place-count.array_long, c.if-place-count.false, c.requires.count) in
+    let within : c.place_among-place.result < length m.found =
+    omega (arith, c.if-place-count.array_long, c.if-place-count.false, c.requires.count) in
     let at = λ (k : ℕ). updated m.found c.place_among-place.result k v _ _ within c.or.ensures in
     record {
       only = only_left e left names l.only some;

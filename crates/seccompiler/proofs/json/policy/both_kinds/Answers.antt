@@ -1,4 +1,5 @@
-use Rattle.std.proofs.Common.{rules, ◌++◌, ◌∷◌, [], List, ℤ, Bool, true, false, ◌&&◌, w64, sym, ap, ◌∙◌, subst, refl, append_assoc, append-nil}
+use Rattle.std.proofs.Common.{rules, ◌++◌, ◌∷◌, [], List, ℤ, Bool, true, false, ◌&&◌, w64, sym, ap, ◌∙◌, subst, refl}
+use Rattle.std.proofs.Common.{append_assoc, append-nil}
 use mir.Val.{SFits}
 use Rattle.std.specs.List.{filter, list_any}
 use Rattle.std.specs.List.Sorted.{IsStrictlySortedBy}
@@ -23,7 +24,8 @@ loop-number-preserved-in-Continue-1 c =
     let l = c.loop-number in
     let some = some_held c.args.gathered.rules.entries number ∙ sym (simp to_z-of_z at c.contains_key.ensures) ∙ c.if-contains_key.true in
     record {
-      all = l.invariant.all ∙ ap (λ (rest : List ℤ). l.yielded ++ rest) c.in-Some.ensures.steps.0 ∙ sym (append_assoc l.yielded (number ∷ []) _);
+      all = l.invariant.all ∙ ap (λ (rest : List ℤ). l.yielded ++ rest) c.in-Some.ensures.steps.0
+          ∙ sym (append_assoc l.yielded (number ∷ []) _);
       kept = simp to_z-of_z at c.in_ok-push.ensures.items ∙ ap (λ (numbers : List ℤ). numbers ++ number ∷ []) l.invariant.kept
           ∙ sym (filter_more (λ n. is_some (rules_at c.args.gathered n)) l.yielded number true some);
     }
@@ -35,7 +37,8 @@ loop-number-preserved c =
     let l = c.loop-number in
     let none = some_held c.args.gathered.rules.entries number ∙ sym (simp to_z-of_z at c.contains_key.ensures) ∙ c.if-contains_key.false in
     record {
-      all = l.invariant.all ∙ ap (λ (rest : List ℤ). l.yielded ++ rest) c.in-Some.ensures.steps.0 ∙ sym (append_assoc l.yielded (number ∷ []) _);
+      all = l.invariant.all ∙ ap (λ (rest : List ℤ). l.yielded ++ rest) c.in-Some.ensures.steps.0
+          ∙ sym (append_assoc l.yielded (number ∷ []) _);
       kept = l.invariant.kept ∙ sym (filter_more (λ n. is_some (rules_at c.args.gathered n)) l.yielded number false none ∙ append-nil _);
     }
 

@@ -14,9 +14,12 @@ pub(crate) fn fault_diagnostic(
     text: &[u8],
     error: ToolError,
 ) -> Result<Diagnostic, AllocError> {
+    let error = match error {
+        ToolError::Placed(_told, fault) => return of_fault(alloc, text, fault),
+        error => error,
+    };
     let told = format!(in alloc; "{error}")?;
-    let (code, place) = match error {
-        ToolError::Placed(_, fault) => return of_fault(alloc, text, fault),
+    let (code, place) = match &error {
         ToolError::Library(Error::JsonFrontend(JsonFrontendError::RepeatedKey)) => {
             return of_repeated(alloc, text, told);
         }

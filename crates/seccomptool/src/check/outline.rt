@@ -310,11 +310,12 @@ impl Scan {
     // Begins a string, which is a key if it stands in an object and behind no other.
     fn begin_string(&mut self, alloc: Global, at: usize) -> Result<(), AllocError> {
         self.mode = Mode::Quoted;
-        let outer = match self.open.last() {
-            Some(outer) => self.spots.get(*outer),
-            None => None,
-        };
-        let is_in_object = matches!(outer, Some(outer) if outer.is_object);
+        let mut is_in_object = false;
+        if let Some(outer) = self.open.last() {
+            if let Some(outer) = self.spots.get(*outer) {
+                is_in_object = outer.is_object;
+            }
+        }
         if self.key.is_none() && is_in_object {
             self.key = Some(Key {
                 begins: self.position(at),

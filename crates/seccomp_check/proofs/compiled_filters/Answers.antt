@@ -26,7 +26,8 @@ loop-name-preserved c =
     let e : String Global × Filter = (c.in-Some._name.now, c.in-Some.policy.now) in
     record {
       done = done ++ e ∷ [];
-      whole = so_far.whole ∙ ap (λ (es : Policies). done ++ es) c.in-Some.ensures.steps ∙ sym {A = Policies} (append_assoc done (e ∷ []) c.next.new.self);
+      whole = so_far.whole ∙ ap (λ (es : Policies). done ++ es) c.in-Some.ensures.steps
+          ∙ sym {A = Policies} (append_assoc done (e ∷ []) c.next.new.self);
       each = All-push Compiles done e so_far.each (c.in_ok-_program._program.items, c.in_ok-_program.ensures.compiled);
     }
 
@@ -36,7 +37,8 @@ returns c =
     let done : Policies = so_far.done in
     let policies = c.in_ok-policies.policies in
     let read = c.in_ok-filters.ensures.filters in
-    let whole = sym c.into_iter-name-iterator.ensures.into_iter_gives.0 ∙ so_far.whole ∙ ap (λ (es : Policies). done ++ es) c.in-None.ensures.steps.0 ∙ append-nil done in
+    let whole = sym c.into_iter-name-iterator.ensures.into_iter_gives.0 ∙ so_far.whole
+    ∙ ap (λ (es : Policies). done ++ es) c.in-None.ensures.steps.0 ∙ append-nil done in
     let order : IsStrictlySortedBy string_cmp (keys_of policies.entries) = search rules in (
       read.0,
       read.1,

@@ -1,7 +1,8 @@
 -- What is given: which bytes are a program's, and which texts are those of profiles of container runtimes.
-use Rattle.std.specs.Prelude.{◌≡◌, ℕ, ◌≤◌, ◌⊎◌, Bool, true, false, List, ◌++◌, Option, Some, codes, drop, slice_get, ⊤}
+use Rattle.std.specs.Prelude.{◌≡◌, ℕ, ◌≤◌, ◌⊎◌, Bool, true, false, List, Option, Some, codes, drop, slice_get, ⊤}
 use Rattle.std.specs.Char.{is_ascii_whitespace}
 use Rattle.std.specs.List.{prefix_len}
+use Rattle.memchr.specs.Find.{OccursAt}
 use Rattle.serde_json.specs.Data.{Data, string}
 use Rattle.seccompiler.specs.declared.backend.TargetArch.{TargetArch}
 use Rattle.seccompiler.specs.JsonAnswers.{ArePoliciesOf, IsReadAs, OfValue}
@@ -13,7 +14,7 @@ use Rattle.seccomptool.specs.declared.kind.Subject.TheVariants as subject
 
 -- The bytes stand somewhere in the text.
 abbrev pub StandsIn : (part text : List ℕ) → Type 0
-StandsIn part text = (front : List ℕ) × (rest : List ℕ) × (text ≡ front ++ part ++ rest)
+StandsIn part text = (place : ℕ) × OccursAt text part place
 
 -- The value is a text.
 abbrev pub IsText : Data → Type 0

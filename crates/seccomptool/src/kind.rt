@@ -6,6 +6,7 @@ ghost use Rattle.seccompiler.specs.declared.backend.TargetArch.{TargetArch};
 ghost use Rattle.seccomptool.specs.Kinds.{BeginsAsProgram, IsOfProfile, IsPolicyText, IsTakenAs, NamesDefault, StandsIn};
 
 use crate::run::initializers::begins_as_initializers;
+use memchr::memmem::find;
 use seccomp_oci::Container;
 use serde_json::Value;
 use std::alloc::{AllocError, Global};
@@ -79,12 +80,7 @@ fn is_of_profile(alloc: Global, text: &[u8]) -> Result<bool, AllocError>
 fn has_key(text: &[u8]) -> bool
     ensures { IsTrue result ↔ StandsIn (codes "\"defaultAction\"") text.now }
 {
-    for start in 0..text.len() {
-        if text[start..].starts_with(b"\"defaultAction\"") {
-            return true;
-        }
-    }
-    false
+    find(text, b"\"defaultAction\"").is_some()
 }
 
 // Whether a value is an object that names its default action.

@@ -1,38 +1,20 @@
 -- For `has_key` and `names_default`: whether bytes stand in a text, and whether a value is an object that names its default action.
-use Rattle.std.proofs.Common.{◌≡◌, ◌∙◌, ℕ, ◌+◌, ◌<◌, Bool, true, List, ◌++◌, Some, length, take, drop}
-use Rattle.std.proofs.Common.{append_assoc, ap, arith, codes, length-append, refl, subst, sym}
-use Rattle.std.proofs.Math.Seq.{drop-append_seam}
-use borrow.Author.Count.{below_more}
-use Rattle.std.proofs.lemmas.List.{take-append-drop}
+use Rattle.std.proofs.Common.{◌≡◌, ◌∙◌, ℕ, Bool, true, List, Option, None, Some, arith, codes, refl, subst, sym}
+use Rattle.std.proofs.lemmas.Bool.{false≢true}
 use Rattle.std.specs.Option.{is_some}
+use Rattle.memchr.specs.Find.{FindsNeedle}
 use Rattle.serde_json.specs.Data.{Data, null, boolean, number, string, array, object}
 use Rattle.serde_json.specs.Find.{as_str, get}
 use Rattle.seccomptool.specs.Kinds.{IsText, NamesDefault, StandsIn}
 
--- The bytes don't stand in the text at any place in front of this one.
-abbrev pub StandsBefore : (part text : List ℕ) → ℕ → Type 0
-StandsBefore part text start = (k : ℕ) → k < start → (rest : List ℕ) → drop k text ≡ part ++ rest → ⊥
-
-module _ (part text : List ℕ) where
-  -- Where they stand at a place, they stand somewhere.
-  pub stand_there : (start : ℕ) (rest : List ℕ) → drop start text ≡ part ++ rest → StandsIn part text
-  stand_there start rest is =
-      (take start text, rest, sym (take-append-drop start text) ∙ ap (λ l. take start text ++ l) is ∙ sym (append_assoc _ part rest))
-
-  -- Where they stand somewhere, and there are some, they stand at a place in front of the end.
-  pub stand_nowhere : 0 < length part → StandsBefore part text (length text) → StandsIn part text → ⊥
-  stand_nowhere some none there =
-      let front = there.0 in
-      let rest = there.1 in
-      let whole : text ≡ front ++ (part ++ rest) = there.2 ∙ append_assoc front part rest in
-      let long : length text ≡ length front + (length part + length rest) =
-      ap length whole ∙ length-append front (part ++ rest) ∙ ap (λ n. length front + n) (length-append part rest) in
-      none (length front) (omega arith) rest (ap (drop (length front)) whole ∙ drop-append_seam front (part ++ rest))
-
-  -- One place more, at which they don't stand.
-  pub one_more : (start : ℕ) → StandsBefore part text start → ((rest : List ℕ) → drop start text ≡ part ++ rest → ⊥)
-      → StandsBefore part text (start + 1)
-  one_more start none here = below_more (λ k. (rest : List ℕ) → drop k text ≡ part ++ rest → ⊥) start none here
+-- They do if they are found.
+pub stands_if : (text part : List ℕ) (found : Option ℕ) (is : Bool) → is ≡ is_some found → FindsNeedle text part 0 found
+    → (is ≡ true → StandsIn part text) × (StandsIn part text → is ≡ true)
+stands_if text part None is none nowhere = (
+  λ yes. absurd (false≢true (sym none ∙ yes)),
+  λ there. let fits = there.1.fits in absurd (nowhere there.0 (omega arith) (omega (arith, fits)) there.1),
+)
+stands_if text part (Some place) is some found = (λ yes. (place, found.1), λ there. some)
 
 -- A value is a text where serde_json's test says so.
 string_tests : (value : Data) → (is_some (as_str value) ≡ true → IsText value) × (IsText value → is_some (as_str value) ≡ true)

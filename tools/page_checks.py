@@ -14,7 +14,8 @@ usage: tools/page_checks.py
 - README.md has at most README_WORDS outside its blocks of code; README.md, CONTRIBUTING.md and the pages of docs/ together
   have at most PAGES_WORDS, blocks included; CHANGELOG.md has at most CHANGES_WORDS.
 - docs/CHECKS.md has the codes of warnings in the order of the definitions, in its table and as sections, and the first
-  line of each section, without its marks, is what the code's definition says.
+  line of each section, without its marks, is what the code's definition says; its tables of siblings and of signed
+  arguments are those of crates/seccomp_warnings.
 - The picture in docs/ is what tools/make-picture makes of its source.
 - A line of proofs or definitions has at most 140 characters, in each crate.
 
@@ -276,6 +277,29 @@ def texts_by_code(path, function):
     return dict(re.findall(r"Code::(\w+) => (?:\{\s*)?\"((?:[^\"\\]|\\.)*)\"", body))
 
 
+def calls_of(text, function):
+    """Returns what a function of seccomp_warnings gives for each name or index that it compares with: the calls."""
+    body = text.partition(f"fn {function}(")[2].partition("\n}\n")[0]
+    found = re.findall(r"if \w+ == \"?(\w+)\"? \{\s*&\[(.*?)\]", body, re.S)
+    return {asked: set(re.findall(r"\"(\w+)\"", calls)) for asked, calls in found}
+
+
+def compare_tables(results):
+    """Compares the tables of calls in docs/CHECKS.md with those of crates/seccomp_warnings."""
+    page, crate = TOP / "docs/CHECKS.md", TOP / "crates/seccomp_warnings/src"
+    siblings = {}
+    for _, line in section_of(page, "`sibling-allowed`"):
+        cells = [re.findall(r"`(\w+)`", it) for it in line.split("|")[1:3]]
+        for name in cells[0] if len(cells) == 2 else ():
+            siblings.setdefault(name, set()).update(it for it in cells[1] if it != name)
+    stated = calls_of((crate / "sibling.rt").read_text(encoding="utf-8"), "siblings_of")
+    results.compare("docs/CHECKS.md: the table of siblings", stated, siblings)
+    told = " ".join(line for _, line in section_of(page, "`signed-compared`") if line.startswith("These arguments"))
+    signed = {index: set(re.findall(r"`(\w+)`", calls)) for index, calls in re.findall(r"(\d) of ((?:`\w+`(?:, | and )?)+)", told)}
+    stated = calls_of((crate / "argument.rt").read_text(encoding="utf-8"), "signed_calls")
+    results.compare("docs/CHECKS.md: the arguments of signed-compared", stated, signed)
+
+
 def compare_codes(results):
     """Compares the sections of docs/CHECKS.md with what the codes are called and what is said of them."""
     page = TOP / "docs/CHECKS.md"
@@ -308,6 +332,7 @@ def compare_pages(results):
     compare_terms(results)
     compare_lengths(results)
     compare_codes(results)
+    compare_tables(results)
     compare_picture(results)
     compare_proofs(results)
 

@@ -1,5 +1,7 @@
 -- Which JSON values are which parts of a filter. Nothing but the forms given here is one.
-use Rattle.std.specs.Prelude.{◌≡◌, ℕ, ◌-◌, ◌^◌, ◌≤◌, List, [], ◌∷◌, Contains, Option, Some, None, codes, ⊤}
+use Rattle.std.specs.Prelude.{◌≡◌, ℕ, ◌-◌, ◌^◌, ◌≤◌, List, [], ◌∷◌, Contains, Option, Some, None, codes, ⊤, false}
+use Rattle.std.specs.List.{list_any}
+use Rattle.std.specs.Str.{bytes_eq}
 use Rattle.serde_json.specs.Data.{Data, null, number, string, array, object, unsigned, Items, no_items, item, Members}
 use Rattle.serde_json.specs.Find.{get}
 use Rattle.seccompiler.specs.declared.backend.SeccompAction.{SeccompAction}
@@ -31,6 +33,11 @@ Lacks d name = get name d ≡ None
 pub record HasOnly (d : Data) (names : List (List ℕ)) : Type 0 where
   pub is_object : IsObject d
   pub no_other : (name : List ℕ) (value : Data) → Has d name value → Contains names name
+
+-- None of these names comes twice.
+abbrev pub AreApart : List (List ℕ) → Type 0
+AreApart [] = ⊤
+AreApart (name ∷ names) = (list_any (bytes_eq name) names ≡ false) × AreApart names
 
 -- The value is this number, which serde_json holds as a whole number, at most `most`.
 pub record IsWhole (most : ℕ) (d : Data) (n : ℕ) : Type 0 where

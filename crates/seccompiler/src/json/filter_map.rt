@@ -53,8 +53,10 @@ pub fn filters_in(alloc: Global, value: Value) -> Result<JsonFilterMap, JsonFron
         return Err(JsonFrontendError::NotAnObject);
     };
     let mut found = BTreeMap::new(alloc);
-    for (name, value) in members {
-        match read_filter(alloc, value)? {
+    for (name, mut value) in members {
+        let read = read_filter(alloc, &mut value);
+        drop(value);
+        match read? {
             Some(filter) => drop(found.insert(name, filter)?),
             None => return Err(JsonFrontendError::Shape(name)),
         }

@@ -18,6 +18,7 @@ use crate::json::members::{is_comment, members_under, number_alone, whole_number
 use crate::json::types::{JsonCondition, JsonFilter, JsonRule};
 use serde_json::Value;
 use std::alloc::{AllocError, Global};
+use std::mem;
 
 // The greatest number of an action, and of an argument's index.
 const GREATEST_DATA: u64 = 0xffff_ffff;
@@ -110,18 +111,26 @@ pub fn read_operator(value: &Value) -> Option<SeccompCmpOp>
     }
 }
 
-fn read_condition(value: &Value) -> Option<JsonCondition>
-    ensures found { IfSome result (IsCondition (view value.now)) }
-    ensures none { IfNone result ((c : JsonCondition) → IsCondition (view value.now) c → ⊥) }
+fn read_condition(value: &mut Value) -> Option<JsonCondition>
+    ensures found { IfSome result (IsCondition (view value.old)) }
+    ensures none { IfNone result ((c : JsonCondition) → IsCondition (view value.old) c → ⊥) }
 {
     let names = ("index", "type", "op", "val", "comment");
-    let found = members_under(value, names, 5);
-    let Some((Some(index), Some(arg_len), Some(operator), Some(value), comment)) = found else {
+    let Some((index, arg_len, operator, value, comment)) = members_under(value, names, 5) else {
         return None;
     };
     if !is_comment(comment) {
         return None;
     }
+    let (Some(operator), Some(value)) = (operator, value) else {
+        return None;
+    };
+    let Some(index) = index else {
+        return None;
+    };
+    let Some(arg_len) = arg_len else {
+        return None;
+    };
     let Some(arg_index) = whole_number(index, GREATEST_INDEX) else {
         return None;
     };
@@ -144,16 +153,18 @@ fn read_condition(value: &Value) -> Option<JsonCondition>
 
 fn read_conditions(
     alloc: Global,
-    items: &Vec<Value>,
+    items: Vec<Value>,
 ) -> Result<Option<Vec<JsonCondition>>, AllocError>
     ensures found { IfOk result
-        (λ o. IfSome o (λ all. OneByOne IsCondition (items_view items.now.items) all.items)) }
+        (λ o. IfSome o (λ all. OneByOne IsCondition (items_view items.items) all.items)) }
     ensures none { IfOk result (λ o. IfNone o
-        ((all : List JsonCondition) → OneByOne IsCondition (items_view items.now.items) all → ⊥)) }
+        ((all : List JsonCondition) → OneByOne IsCondition (items_view items.items) all → ⊥)) }
 {
     let mut found = Vec::with_capacity(alloc, items.len())?;
-    for item in items {
-        match read_condition(item) {
+    for mut item in items {
+        let read = read_condition(&mut item);
+        drop(item);
+        match read {
             Some(condition) => found.push(condition)?,
             None => return Ok(None),
         }
@@ -164,47 +175,50 @@ fn read_conditions(
 // What stands under `args`: no conditions where it is absent or null.
 fn read_args(
     alloc: Global,
-    args: Option<&Value>,
+    args: Option<&mut Value>,
 ) -> Result<Option<Option<Vec<JsonCondition>>>, AllocError>
     ensures found { IfOk result (λ o. IfSome o
         (λ c. IsArgs (option_map (λ v. view v.now) args.entry) (option_map (λ v. v.items) c))) }
     ensures none { IfOk result (λ o. IfNone o
         ((c : Option (List JsonCondition)) → IsArgs (option_map (λ v. view v.now) args.entry) c → ⊥)) }
 {
-    match args {
-        None | Some(Value::Null) => Ok(Some(None)),
-        Some(Value::Array(items)) => match read_conditions(alloc, items)? {
+    let Some(args) = args else {
+        return Ok(Some(None));
+    };
+    match args.take() {
+        Value::Null => Ok(Some(None)),
+        Value::Array(items) => match read_conditions(alloc, items)? {
             Some(conditions) => Ok(Some(Some(conditions))),
             None => Ok(None),
         },
-        Some(_) => Ok(None),
+        _ => Ok(None),
     }
 }
 
 // The entry that the value is. The name of its call is taken out of it.
-fn read_entry(alloc: Global, mut value: Value) -> Result<Option<JsonRule>, AllocError>
-    ensures found { IfOk result (λ o. IfSome o (IsEntry (view value))) }
-    ensures none { IfOk result (λ o. IfNone o ((r : JsonRule) → IsEntry (view value) r → ⊥)) }
+fn read_entry(alloc: Global, value: &mut Value) -> Result<Option<JsonRule>, AllocError>
+    ensures found { IfOk result (λ o. IfSome o (IsEntry (view value.old))) }
+    ensures none { IfOk result (λ o. IfNone o ((r : JsonRule) → IsEntry (view value.old) r → ⊥)) }
 {
     // An entry has the first three.
     let names = ("syscall", "args", "comment", "op", "val");
-    let Some(found) = members_under(&value, names, 3) else {
+    let Some((syscall, args, comment, _, _)) = members_under(value, names, 3) else {
         return Ok(None);
     };
-    if !is_comment(found.2) {
+    if !is_comment(comment) {
         return Ok(None);
     }
-    let Some(conditions) = read_args(alloc, found.1)? else {
+    let Some(syscall) = syscall else {
         return Ok(None);
     };
-    let Some(syscall) = value.get_mut("syscall") else {
+    let Value::String(syscall) = syscall else {
         return Ok(None);
     };
-    let Value::String(syscall) = syscall.take() else {
+    let Some(conditions) = read_args(alloc, args)? else {
         return Ok(None);
     };
     Ok(Some(JsonRule {
-        syscall,
+        syscall: mem::replace(syscall, String::new(alloc)),
         conditions,
     }))
 }
@@ -217,8 +231,10 @@ fn read_rules(alloc: Global, value: Value) -> Result<Option<Vec<JsonRule>>, Allo
         return Ok(None);
     };
     let mut found = Vec::with_capacity(alloc, items.len())?;
-    for item in items {
-        match read_entry(alloc, item)? {
+    for mut item in items {
+        let read = read_entry(alloc, &mut item);
+        drop(item);
+        match read? {
             Some(rule) => found.push(rule)?,
             None => return Ok(None),
         }
@@ -240,31 +256,36 @@ fn read_one_action(first: Option<&Value>, second: Option<&Value>) -> Option<Secc
     }
 }
 
-/// The filter that the value is, or `None` if it is none; an error only if memory runs out.
-pub fn read_filter(alloc: Global, mut value: Value) -> Result<Option<JsonFilter>, AllocError>
-    ensures found { IfOk result (λ o. IfSome o (IsFilter (view value))) }
-    ensures none { IfOk result (λ o. IfNone o ((f : JsonFilter) → IsFilter (view value) f → ⊥)) }
+/// The filter that the value is, or `None` if it is none; an error only if memory runs out. The entries are
+/// taken out of it.
+pub fn read_filter(alloc: Global, value: &mut Value) -> Result<Option<JsonFilter>, AllocError>
+    ensures found { IfOk result (λ o. IfSome o (IsFilter (view value.old))) }
+    ensures none { IfOk result (λ o. IfNone o ((f : JsonFilter) → IsFilter (view value.old) f → ⊥)) }
 {
     let names = (
+        "filter",
         "mismatch_action",
         "default_action",
         "match_action",
         "filter_action",
-        "filter",
     );
-    let Some(found) = members_under(&value, names, 5) else {
+    let Some((rules, mismatch, default, matched, filter)) = members_under(value, names, 5) else {
         return Ok(None);
     };
-    let Some(mismatch_action) = read_one_action(found.0, found.1) else {
+    let mismatch = match mismatch {
+        Some(value) => Some(&*value),
+        None => None,
+    };
+    let Some(mismatch_action) = read_one_action(mismatch, default) else {
         return Ok(None);
     };
-    let Some(match_action) = read_one_action(found.2, found.3) else {
+    let Some(match_action) = read_one_action(matched, filter) else {
         return Ok(None);
     };
-    let Some(filter) = value.get_mut("filter") else {
+    let Some(rules) = rules else {
         return Ok(None);
     };
-    let Some(rules) = read_rules(alloc, filter.take())? else {
+    let Some(rules) = read_rules(alloc, rules.take())? else {
         return Ok(None);
     };
     Ok(Some(JsonFilter {

@@ -2,32 +2,51 @@
 use Rattle.std.proofs.Common.{◌≡◌, ℕ, zero, suc, ◌≤◌, ◌<◌, List, [], ◌∷◌, ◌++◌, length, take, get_or, true, false, nat_eq}
 use Rattle.std.proofs.Common.{nat_lt, Option, Some, None, option_map, refl, sym, ap, ◌∙◌, subst, arith, bytes_eq, ◌↔◌, ◌⊎◌}
 use Rattle.std.proofs.Common.{inl, inr, Contains, string_bytes}
-use Rattle.std.specs.Prelude.{slice_set}
-use Rattle.std.specs.List.{list_any, position_or_len}
+use Rattle.std.specs.Bool.{⊤}
+use Rattle.std.specs.Borrow.{Bor, MutBor}
+use Rattle.std.specs.List.{list_any, position_or_len, AllZip}
 use Rattle.std.specs.Option.{option_or}
-use Rattle.std.specs.Bool.{then_some}
+use Rattle.std.specs.List.Sorted.{IsStrictlySortedBy}
+use Rattle.std.specs.Map.{keys_of}
+use Rattle.std.specs.Ordering.{is_eq}
+use Rattle.std.proofs.Common.{string_cmp}
+use Rattle.std.proofs.Math.Bool.{or_comm, or-false}
+use Rattle.std.proofs.lemmas.List.Folds.{list_any-append}
+use Rattle.std.proofs.Common.{◌||◌}
+use Rattle.std.proofs.lemmas.Map.Text.{is_eq-slice_cmp}
 use Rattle.std.proofs.lemmas.Bool.{true≢false, cases_Bool, cases_eq, le-ltb, lt-ltb, eq-eqb, ne_eqb}
 use Rattle.std.proofs.lemmas.Bool.Decides.{nat_tests}
 use Rattle.std.proofs.lemmas.Cmp.{nat_list_eq_equiv}
-use Rattle.std.proofs.lemmas.List.{get_or_default, get_or-set_same, get_or-set_other}
 use Rattle.std.proofs.lemmas.Map.Views.{Contains-from_any, list_any-from_Contains}
 use Rattle.std.proofs.lemmas.Slice.Eq.{bytes_eq-Decides}
-use Rattle.serde_json.specs.Data.{Data, object}
+use Rattle.serde_json.specs.Data.{Data, object, no_members}
 use Rattle.serde_json.specs.Find.{get, get_member}
 use Rattle.serde_json.specs.View.{view, members_view}
+use Rattle.serde_json.specs.declared.value.Value.{Value}
 use Rattle.serde_json.proofs.Views.{Entry, member_here, member_later}
-use Rattle.seccompiler.specs.JsonShape.{HasOnly}
+use Rattle.seccompiler.specs.JsonShape.{HasOnly, AreApart}
 
--- What an object has under a name is what was found of it, or else what is under it among the members that are left.
-abbrev pub IsSought : Data → List Entry → List ℕ → Option Data → Type 0
-IsSought d left key found = get key d ≡ option_or found (get_member key (members_view left))
+-- What is found, as the data that it is.
+abbrev pub data_of : Option (Bor Value) → Option Data
+data_of found = option_map (λ v. view v.now) found
+
+-- The same of what may be taken.
+abbrev pub data_in : Option (MutBor Value) → Option Data
+data_in found = option_map (λ v. view v.now) found
+
+-- What an object has under each of some names is what was found of it, or else what is under it among the members that
+-- are left.
+abbrev pub AreSought : Data → List Entry → List (List ℕ) → List (Option Data) → Type 0
+AreSought d left [] [] = ⊤
+AreSought d left (key ∷ names) (found ∷ all) = (get key d ≡ option_or found (get_member key (members_view left))) × AreSought d left names all
+AreSought d left _ _ = ⊥
 
 -- The first place of a name among some; their number if it is none of them.
 abbrev pub place_in : List (List ℕ) → List ℕ → ℕ
 place_in ns name = position_or_len (λ n. bytes_eq n name) ns
 
 -- A name is among the first n where its place is one of them.
-pub among : (n : ℕ) (ns : List (List ℕ)) (name : List ℕ) → n ≤ length ns
+among : (n : ℕ) (ns : List (List ℕ)) (name : List ℕ) → n ≤ length ns
     → list_any (bytes_eq name) (take n ns) ≡ nat_lt (place_in ns name) n
 among zero ns name few = sym (le-ltb (place_in ns name) 0 (omega arith))
 among (suc n) [] name few = absurd (omega arith)
@@ -36,29 +55,11 @@ among (suc n) (m ∷ ns) name few = elim (cases_Bool (bytes_eq m name)) [
   | inr other ↦ rw (other, nat_list_eq_equiv.symm name m ∙ other) (among n ns name (omega arith) ∙ grind (arith, nat_tests))
 ]
 
--- A name that is none of those in front of it has its own place.
-own_place : (front : List (List ℕ)) (key : List ℕ) (back : List (List ℕ)) (name : List ℕ)
-    → list_any (bytes_eq key) front ≡ false → nat_eq (place_in (front ++ key ∷ back) name) (length front) ≡ bytes_eq key name
-own_place [] key back name apart =
-    elim (cases_Bool (bytes_eq key name)) [ inl own ↦ rw own refl | inr other ↦ rw other (ne_eqb _ _ (λ e. omega arith)) ]
-own_place (n ∷ front) key back name apart = elim (cases_Bool (bytes_eq key n)) [
-  | inl same ↦ let e = rw same at apart in cc
-  | inr differs ↦ elim (cases_Bool (bytes_eq n name)) [
-    | inl own ↦ rw own (ne_eqb _ _ (λ e. omega arith) ∙ sym (subst (λ m. bytes_eq key m ≡ false) ((bytes_eq-Decides n name).0 own) differs))
-    | inr other ↦ rw other (grind (arith, nat_tests) ∙ own_place front key back name (rw differs at apart))
-  ]
-]
-
--- What was found is kept, and what there was nothing of is found at a place.
-pub updated : {X : Type 0} (found : List (Option X)) (place k : ℕ) (v : X) (was new : Option X) → place < length found
-    → new ≡ option_or (get_or found place was) (Some v)
-    → get_or (slice_set found place new) k None ≡ option_or (get_or found k None) (then_some (nat_eq place k) v)
-updated found place k v was new within is = elim (cases_eq place k) [
-  | inl same ↦ rw (← same, eq-eqb place place refl) (get_or-set_same found place new None within ∙ is
-      ∙ ap (λ o. option_or o (Some v)) (get_or_default found place was None within))
-  | inr other ↦ rw (ne_eqb place k other) (get_or-set_other found place k new None (λ e. other (sym e))
-      ∙ elim (get_or found k None) as (λ o. o ≡ option_or o None) [ None ↦ refl | Some x ↦ refl ])
-]
+-- What was found, and something more at a place, if nothing was found there.
+abbrev pub or_at : ℕ → Data → List (Option Data) → List (Option Data)
+or_at place v [] = []
+or_at zero v (o ∷ all) = option_or o (Some v) ∷ all
+or_at (suc place) v (o ∷ all) = o ∷ or_at place v all
 
 -- The member of an object that is first, and those behind it.
 module _ (e : Entry) (left : List Entry) where
@@ -97,25 +98,133 @@ module _ (e : Entry) (left : List Entry) where
   )
 
   -- What is left of an object's names is as the whole, and stays so behind a name that is among some.
-  pub only_left : (names : List (List ℕ)) {P : Type 0} → (HasOnly (object (members_view (e ∷ left))) names ↔ P)
+  only_left : (names : List (List ℕ)) {P : Type 0} → (HasOnly (object (members_view (e ∷ left))) names ↔ P)
       → list_any (bytes_eq (string_bytes e.0)) names ≡ true → HasOnly (object (members_view left)) names ↔ P
   only_left names so_far among = (λ h. so_far.0 ((only_step names).1 (among, h)), λ h. ((only_step names).0 (so_far.1 h)).1)
 
   -- The whole has another name where the first that is left is not among some.
-  pub only_fails : (names : List (List ℕ)) {P : Type 0} → (HasOnly (object (members_view (e ∷ left))) names ↔ P)
+  only_fails : (names : List (List ℕ)) {P : Type 0} → (HasOnly (object (members_view (e ∷ left))) names ↔ P)
       → list_any (bytes_eq (string_bytes e.0)) names ≡ false → P → ⊥
   only_fails names so_far not h = let e = sym not ∙ ((only_step names).0 (so_far.1 h)).0 in cc
 
-  -- A member less is left, whose name has a place among some names, of which the key is none of those in front of it.
-  pub sought_more : {X : Type 0} (f : X → Data) (d : Data) (front : List (List ℕ)) (key : List ℕ) (back : List (List ℕ)) (name : List ℕ)
-      (place : ℕ) (found next : Option X) (v : X) → name ≡ string_bytes e.0 → f v ≡ view e.1
-      → place ≡ place_in (front ++ key ∷ back) name → list_any (bytes_eq key) front ≡ false
-      → next ≡ option_or found (then_some (nat_eq place (length front)) v)
-      → IsSought d (e ∷ left) key (option_map f found) → IsSought d left key (option_map f next)
-  sought_more {X = X} f d front key back name place found next v same value placed apart is so_far =
-      so_far ∙ rw (is, placed, own_place front key back name apart, same) (by_case found)
+  -- What has other names stays sought.
+  others : (d : Data) (names : List (List ℕ)) (all : List (Option Data)) → list_any (bytes_eq (string_bytes e.0)) names ≡ false
+      → AreSought d (e ∷ left) names all → AreSought d left names all
+  others d [] [] apart is = tt
+  others d [] (o ∷ all) apart is = is
+  others d (key ∷ names) [] apart is = is
+  others d (key ∷ names) (o ∷ all) apart is = elim (first_or_later key) [
+    | inl own ↦ let e = rw (nat_list_eq_equiv.symm (string_bytes e.0) key ∙ own.0) at apart in absurd (true≢false e)
+    | inr later ↦ (
+      is.0 ∙ ap (option_or o) later.1,
+      others d names all (rw (nat_list_eq_equiv.symm (string_bytes e.0) key ∙ later.0) at apart) is.1,
+    )
+  ]
+
+  -- A member less is left, which was found if nothing was found under its name.
+  sought_more : (d : Data) (names : List (List ℕ)) (all : List (Option Data)) (place : ℕ) → place ≡ place_in names (string_bytes e.0)
+      → AreApart names → AreSought d (e ∷ left) names all → AreSought d left names (or_at place (view e.1) all)
+  sought_more d [] [] place placed apart is = tt
+  sought_more d [] (o ∷ all) place placed apart is = absurd is
+  sought_more d (key ∷ names) [] place placed apart is = absurd is
+  sought_more d (key ∷ names) (o ∷ all) place placed apart is = elim (first_or_later key) [
+    | inl own ↦ let here : place ≡ 0 = placed ∙ rw own.0 refl in rw here (
+      is.0 ∙ ap (option_or o) own.1 ∙ found o,
+      others d names all (rw ((bytes_eq-Decides key (string_bytes e.0)).0 own.0) at apart.0) is.1,
+    )
+    | inr later ↦ let behind : place ≡ suc (place_in names (string_bytes e.0)) = placed ∙ rw later.0 (omega arith) in
+        rw behind (is.0 ∙ ap (option_or o) later.1, sought_more d names all _ refl apart.1 is.1)
+  ]
     where
-      by_case : (o : Option X) → option_or (option_map f o) (get_member key (members_view (e ∷ left)))
-          ≡ option_or (option_map f (option_or o (then_some (bytes_eq key (string_bytes e.0)) v))) (get_member key (members_view left))
-      by_case (Some x) = refl
-      by_case None = elim (first_or_later key) [ inl own ↦ rw (own.0, value) own.1 | inr later ↦ rw later.0 later.1 ]
+      found : (o : Option Data) → option_or o (Some (view e.1)) ≡ option_or (option_or o (Some (view e.1))) (get_member key (members_view left))
+      found None = refl
+      found (Some x) = refl
+
+-- So far: the object has only some of the names if the members that are left do; and what it has under each of the names
+-- was found, or is sought.
+pub record IsSoFar (d : Data) (left : List Entry) (names : List (List ℕ)) (count : ℕ) (all : List (Option Data)) : Type 0 where
+  pub only : HasOnly (object (members_view left)) (take count names) ↔ HasOnly d (take count names)
+  pub sought : AreSought d left names all
+
+module _ (e : Entry) (left : List Entry) (d : Data) (names : List (List ℕ)) (count : ℕ) (all : List (Option Data)) (name : List ℕ) (place : ℕ)
+    (few : count ≤ length names) (same : name ≡ string_bytes e.0) (placed : place ≡ place_in names name) (so_far : IsSoFar d (e ∷ left) names count all) where
+  -- The first member that is left has one of the names.
+  pub one_more : AreApart names → place < count → IsSoFar d left names count (or_at place (view e.1) all)
+  one_more apart small = record {
+    only = only_left e left (take count names) so_far.only (rw (← same, among count names name few) (lt-ltb _ _ (omega (arith, placed, small))));
+    sought = sought_more e left d names all place (rw same at placed) apart so_far.sought;
+  }
+
+  -- It has none of them.
+  pub another : count ≤ place → HasOnly d (take count names) → ⊥
+  another large = only_fails e left (take count names) so_far.only (rw (← same, among count names name few) (le-ltb _ _ (omega (arith, placed, large))))
+
+-- Nothing is left: what an object has under each name is what was found.
+found_all : (d : Data) (names : List (List ℕ)) (all : List (Option Data)) → AreSought d [] names all
+    → AllZip (λ found key. found ≡ get key d) all names
+found_all d [] [] is = tt
+found_all d [] (o ∷ all) is = absurd is
+found_all d (key ∷ names) [] is = absurd is
+found_all d (key ∷ names) (o ∷ all) is =
+    (sym (is.0 ∙ elim o as (λ o. option_or o None ≡ o) [ None ↦ refl | Some x ↦ refl ]), found_all d names all is.1)
+
+-- So it is at the end, where no other name is left either.
+pub at_end : (d : Data) (left : List Entry) (names : List (List ℕ)) (count : ℕ) (all : List (Option Data)) → left ≡ []
+    → IsSoFar d left names count all → HasOnly d (take count names) × AllZip (λ found key. found ≡ get key d) all names
+at_end d left names count all none so_far =
+    let l = rw none at so_far in (
+      l.only.0 (record { is_object = (no_members, refl); no_other = λ name value there. cc }),
+      found_all d names all l.sought,
+    )
+
+-- What is found, or else a member.
+pub found_or : {X : Type 0} (f : X → Data) (o : Option X) (v : X) → option_map f (option_or o (Some v)) ≡ option_or (option_map f o) (Some (f v))
+found_or f None v = refl
+found_or f (Some x) v = refl
+
+-- An object of one member has its name alone.
+pub one_name : (name : List ℕ) (entries : List Entry) (x : Data) → length entries ≡ 1 → get name (object (members_view entries)) ≡ Some x
+    → HasOnly (object (members_view entries)) (name ∷ [])
+one_name name [] x one there = cc
+one_name name (e ∷ []) x one there = (only_step e [] (name ∷ [])).1 (
+  elim (first_or_later e [] name) [
+    | inl own ↦ rw (nat_list_eq_equiv.symm (string_bytes e.0) name, own.0) refl
+    | inr later ↦ let none = sym later.1 ∙ there in cc
+  ],
+  record { is_object = (no_members, refl); no_other = λ other v none. cc },
+)
+one_name name (e ∷ f ∷ more) x one there = absurd (omega (arith, one))
+
+-- An object of another number of members has not one name alone.
+pub not_one_name : (name : List ℕ) (entries : List Entry) (x : Data) → IsStrictlySortedBy string_cmp (keys_of entries)
+    → (length entries ≡ 1 → ⊥) → get name (object (members_view entries)) ≡ Some x → HasOnly (object (members_view entries)) (name ∷ []) → ⊥
+unfolding IsStrictlySortedBy
+not_one_name name [] x sorted other there only = cc
+not_one_name name (e ∷ []) x sorted other there only = other refl
+not_one_name name (e ∷ f ∷ more) x sorted other there only =
+    let first = (only_step e (f ∷ more) (name ∷ [])).0 only in
+    let second = (only_step f more (name ∷ [])).0 first.1 in
+    let own = (bytes_eq-Decides (string_bytes e.0) name).0 (sym (or-false (bytes_eq (string_bytes e.0) name)) ∙ first.0) in
+    let twin = (bytes_eq-Decides (string_bytes f.0) name).0 (sym (or-false (bytes_eq (string_bytes f.0) name)) ∙ second.0) in
+    let same = (bytes_eq-Decides (string_bytes e.0) (string_bytes f.0)).1 (own ∙ sym twin) in
+    true≢false (sym same ∙ sym (is_eq-slice_cmp (string_bytes e.0) (string_bytes f.0)) ∙ ap is_eq sorted.0.0)
+
+-- Names are the same ones if the first stands at the end.
+same_names : (key : List ℕ) (names : List (List ℕ)) (name : List ℕ)
+    → list_any (bytes_eq name) (key ∷ names) ≡ list_any (bytes_eq name) (names ++ key ∷ [])
+same_names key names name = or_comm (bytes_eq name key) (list_any (bytes_eq name) names)
+    ∙ ap (λ b. list_any (bytes_eq name) names || b) (sym (or-false (bytes_eq name key))) ∙ sym (list_any-append (bytes_eq name) names (key ∷ []))
+
+among_same : (xs ys : List (List ℕ)) → ((name : List ℕ) → list_any (bytes_eq name) xs ≡ list_any (bytes_eq name) ys)
+    → (d : Data) → HasOnly d xs → HasOnly d ys
+among_same xs ys same d only = record {
+  is_object = only.is_object;
+  no_other = λ name v there. Contains-from_any {eq = bytes_eq} (λ x y. (bytes_eq-Decides x y).0) name ys
+      (sym (same name) ∙ list_any-from_Contains {eq = bytes_eq} nat_list_eq_equiv name xs (only.no_other name v there));
+}
+
+pub first_at_end : (key : List ℕ) (names : List (List ℕ)) (d : Data) → HasOnly d (key ∷ names) ↔ HasOnly d (names ++ key ∷ [])
+first_at_end key names d = (
+  among_same (key ∷ names) (names ++ key ∷ []) (same_names key names) d,
+  among_same (names ++ key ∷ []) (key ∷ names) (λ name. sym (same_names key names name)) d,
+)

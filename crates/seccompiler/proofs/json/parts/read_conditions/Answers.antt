@@ -1,16 +1,17 @@
-use Rattle.std.proofs.lemmas.List.{drop_all}
+use Rattle.std.proofs.Common.{◌∙◌, sym}
+use Rattle.std.proofs.lemmas.List.{nil_from_length}
 use Rattle.seccompiler.specs.JsonShape.{IsCondition}
-use Rattle.seccompiler.proofs.json.parts.ReadLists.{first_left, goes_on, fails, ends}
+use Rattle.seccompiler.proofs.json.parts.ReadLists.{goes_on, fails, ends}
 use Rattle.seccompiler.proofs.json.parts.read_conditions.Goals as goal
 
-pub returns-in-None-clause-none : goal.returns-in-None-clause-none
-returns-in-None-clause-none c = rw (← c.deref-item-items.ensures.value)
-    (fails IsCondition _ _ _ _ _ c.loop-item.invariant (first_left _ _ _ c.loop-item-test.true c.item-item.is) c.in-None.ensures.none)
-
 pub loop-item-preserved : goal.loop-item-preserved
-loop-item-preserved c = rw c.in_ok-push-in-Some.ensures.items
-    (goes_on IsCondition _ _ _ _ _ c.loop-item.invariant (first_left _ _ _ c.loop-item-test.true c.item-item.is) _ c.in-Some.ensures.found)
+loop-item-preserved c = rw c.in_ok-push-in-Some-read.ensures.items
+    (goes_on IsCondition _ _ _ _ _ c.loop-item.invariant c.in-Some.ensures.steps.0 _ c.in-Some-read.ensures.found)
+
+pub returns-in-None-read-clause-none : goal.returns-in-None-read-clause-none
+returns-in-None-read-clause-none c = rw (← c.into_iter-item-iterator.ensures.into_iter_gives.0)
+    (fails IsCondition _ _ _ _ _ c.loop-item.invariant c.in-Some.ensures.steps.0 c.in-None-read.ensures.none)
 
 pub returns-clause-found : goal.returns-clause-found
-returns-clause-found c = rw (← c.deref-item-items.ensures.value)
-    (ends IsCondition _ _ _ c.loop-item.invariant (drop_all _ _ c.loop-item-test.false))
+returns-clause-found c = rw (← c.into_iter-item-iterator.ensures.into_iter_gives.0)
+    (ends IsCondition _ _ _ c.loop-item.invariant (nil_from_length _ (sym c.loop-item.item-iterator.rest.ok.0 ∙ c.in-None.ensures.steps.0)))

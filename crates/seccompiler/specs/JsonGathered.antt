@@ -1,5 +1,5 @@
 -- What is gathered of the entries of a JSON filter on the way to its policy: what the private steps promise each other.
-use Rattle.std.specs.Prelude.{◌≡◌, ℤ, Bool, true, false, ◌||◌, List, [], ◌∷◌, ◌++◌, Option, Some, None, Vec, unwrap_or}
+use Rattle.std.specs.Prelude.{◌≡◌, ℤ, pos, negsuc, get_or, Bool, true, false, ◌||◌, List, [], ◌∷◌, ◌++◌, Option, Some, None, Vec, unwrap_or}
 use Rattle.std.specs.BTreeMap.{BTreeMap, IsOrdered}
 use Rattle.std.specs.List.{flat_map, list_any}
 use Rattle.std.specs.Ordering.{int_cmp, int_eq}
@@ -19,9 +19,14 @@ added (item ∷ items) found = Some (unwrap_or found [] ++ item ∷ items)
 abbrev pub rules_at : Gathered → ℤ → Option Chain
 rules_at gathered number = chain_at (chains_of gathered.rules.entries) number
 
+-- What is told of a number, from 0 on.
+abbrev pub told_of : List Bool → ℤ → Bool
+told_of told (pos n) = get_or told n false
+told_of told (negsuc n) = false
+
 -- Whether the number is one that matches always.
 abbrev pub is_always_at : Gathered → ℤ → Bool
-is_always_at gathered number = list_any (int_eq number) gathered.always.items
+is_always_at gathered number = told_of gathered.always number
 
 -- What was gathered has an entry more: its number has its rule at its end, or is one that matches always.
 pub record HasAdded (arch : TargetArch) (entry : JsonRule) (old new : Gathered) : Type 0 where

@@ -1,6 +1,7 @@
 -- Lemmas for the functions of `json::policy`.
 pub mod EntryRules
 pub mod EntryChains
+pub mod ToldNumbers
 pub mod GatheredEntries
 pub mod EntryFaults
 pub mod NumberedChains

@@ -44,13 +44,16 @@ impl TryFrom<JsonCondition> for SeccompCondition {
     }
 }
 
+// How many numbers a call may have: 0 to 462.
+const NUMBERS: usize = 463;
+
 // What the entries of a filter stand for, before it is said which chain each number has.
 #[derive(Drop)]
 struct Gathered {
     // Under the number of its call, the rule of each entry that has conditions, in order.
     rules: BTreeMap<i64, Vec<SeccompRule>>,
-    // The numbers of the calls of the entries without conditions, in order.
-    always: Vec<i64>,
+    // Whether a number is one of a call of an entry without conditions.
+    always: [bool; NUMBERS],
     // Where the table has the last call's name: the next is often the same one, or the one behind it.
     near: usize,
 }
@@ -112,7 +115,7 @@ fn add_entry(
             Ok(())
         }
         None => {
-            gathered.always.push(number)?;
+            gathered.always[number as usize] = true;
             Ok(())
         }
     }
@@ -130,7 +133,7 @@ fn gather(
 {
     let mut gathered = Gathered {
         rules: BTreeMap::new(alloc),
-        always: Vec::new(alloc),
+        always: [false; NUMBERS],
         near: 0,
     };
     for entry in entries {
@@ -149,14 +152,16 @@ fn chains_of_numbers(
 {
     let Gathered {
         mut rules,
-        mut always,
+        always,
         ..
     } = gathered;
     // To make a map of ascending numbers takes less than to insert each.
-    always.sort_unstable();
-    let mut found = Vec::with_capacity(alloc, always.len())?;
-    for number in &always {
-        found.push((*number, Vec::new(alloc)))?;
+    let mut found = Vec::new(alloc);
+    for number in 0..NUMBERS {
+        if !always[number] {
+            continue;
+        }
+        found.push((number as i64, Vec::new(alloc)))?;
     }
     let mut empty: BTreeMap<i64, Vec<SeccompRule>> = found.into_iter().collect(alloc)?;
     rules.append(&mut empty)?;
@@ -168,18 +173,16 @@ fn both_kinds(alloc: Global, gathered: Gathered) -> Result<Vec<i64>, AllocError>
     ensures numbers { IfOk result (λ numbers. (number : ℤ) → list_any (int_eq number) numbers.items ≡ (is_always_at gathered number && is_some (rules_at gathered number))) }
     ensures ascending { IfOk result (λ numbers. IsStrictlySortedBy int_cmp numbers.items) }
 {
-    let Gathered {
-        rules,
-        mut always,
-        ..
-    } = gathered;
-    always.sort_unstable();
-    always.dedup();
+    let Gathered { rules, always, .. } = gathered;
     let mut numbers = Vec::new(alloc);
-    for number in always {
-        if rules.contains_key(&number) {
-            numbers.push(number)?;
+    for number in 0..NUMBERS {
+        if !always[number] {
+            continue;
         }
+        if !rules.contains_key(&(number as i64)) {
+            continue;
+        }
+        numbers.push(number as i64)?;
     }
     Ok(numbers)
 }
@@ -197,7 +200,7 @@ fn gather_all(
 {
     let mut gathered = Gathered {
         rules: BTreeMap::new(alloc),
-        always: Vec::new(alloc),
+        always: [false; NUMBERS],
         near: 0,
     };
     for entry in entries {

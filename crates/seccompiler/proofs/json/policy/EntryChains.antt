@@ -59,46 +59,34 @@ chain_with_rule old new number before after start rule q written found empty lon
         ap (λ v. v.items) found ∙ or_empty (held old number) start empty in
         ap Some (longer ∙ ap (λ front. front ++ rule ∷ []) was) ∙ ap (λ n. added (rule ∷ []) (list_of (held old n))) same
 
--- The numbers that match always, one by one.
-chain_of_more : (done : List ℤ) (number q : ℤ) (found : Option Chain)
-    → chain_of (int_eq q number) (chain_of (list_any (int_eq q) done) found) ≡ chain_of (list_any (int_eq q) (done ++ number ∷ [])) found
-chain_of_more done number q found = both (int_eq q number) (list_any (int_eq q) done)
-    ∙ ap (λ b. chain_of b found) (sym (list_any-append (int_eq q) done (number ∷ [])))
-  where
-    both : (here before : Bool) → chain_of here (chain_of before found) ≡ chain_of (before || (here || false)) found
-    both true true = refl
-    both true false = refl
-    both false true = refl
-    both false false = refl
-
 -- The chain of a number in the map that is made of some pairs.
 abbrev pub made_at : Pairs → ℤ → Option Chain
 made_at pairs number = list_of (update_all int_eq (λ _. None) pairs number)
 
 -- A number more has the empty chain.
-pub made_more : (pairs : Pairs) (done : List ℤ) (number : ℤ) (empty : Vec Rule Global) (q : ℤ) → empty.items ≡ []
-    → made_at pairs q ≡ chain_of (list_any (int_eq q) done) None
-    → made_at (pairs ++ (number, empty) ∷ []) q ≡ chain_of (list_any (int_eq q) (done ++ number ∷ [])) None
-made_more pairs done number empty q is_empty so_far =
+pub made_more : (pairs : Pairs) (number : ℤ) (empty : Vec Rule Global) (q : ℤ) (so_far : Bool) → empty.items ≡ []
+    → made_at pairs q ≡ chain_of so_far None → made_at (pairs ++ (number, empty) ∷ []) q ≡ chain_of (so_far || int_eq q number) None
+made_more pairs number empty q so_far is_empty made =
     ap (λ g. list_of (g q)) (fold_push (λ g p. update int_eq g p.0 (Some p.1)) (λ _. None) pairs (number, empty))
-    ∙ by_case (int_eq number q) ∙ ap (λ b. chain_of b (chain_of (list_any (int_eq q) done) None)) (int_eq_equiv.symm number q)
-    ∙ chain_of_more done number q None
+    ∙ by_case (int_eq number q) so_far made ∙ ap (λ b. chain_of (so_far || b) None) (int_eq_equiv.symm number q)
   where
-    by_case : (b : Bool) → list_of (cond b (Some empty) (update_all int_eq (λ _. None) pairs q))
-        ≡ chain_of b (chain_of (list_any (int_eq q) done) None)
-    by_case false = so_far
-    by_case true = ap Some is_empty
+    by_case : (here before : Bool) → made_at pairs q ≡ chain_of before None
+        → list_of (cond here (Some empty) (update_all int_eq (λ _. None) pairs q)) ≡ chain_of (before || here) None
+    by_case false true is = is
+    by_case false false is = is
+    by_case true true is = ap Some is_empty
+    by_case true false is = ap Some is_empty
 
 -- The map of the numbers that match always was put into that of the rules.
-pub chains_with_empty : (rules empty all : BTreeMap ℤ (Vec Rule Global)) (pairs : Pairs) (always : List ℤ)
+pub chains_with_empty : (rules empty all : BTreeMap ℤ (Vec Rule Global)) (pairs : Pairs) (always : ℤ → Bool)
     → IsFromIterResult int_cmp pairs empty → InsertsAll int_cmp rules empty.entries all
-    → ((q : ℤ) → made_at pairs q ≡ chain_of (list_any (int_eq q) always) None)
-    → (q : ℤ) → chain_at (chains_of all.entries) q ≡ chain_of (list_any (int_eq q) always) (chain_at (chains_of rules.entries) q)
+    → ((q : ℤ) → made_at pairs q ≡ chain_of (always q) None)
+    → (q : ℤ) → chain_at (chains_of all.entries) q ≡ chain_of (always q) (chain_at (chains_of rules.entries) q)
 chains_with_empty rules empty all pairs always made put each q =
     chain_held all.entries q ∙ ap list_of (put.0 q ∙ update_all_distinct int_eq_equiv int_eq (λ x y. refl) (held rules.entries)
     empty.entries q (IsDistinct-from_sorted int_cmp (keys_of empty.entries) made.1))
-    ∙ by_case (held empty.entries q) (held rules.entries q) (list_any (int_eq q) always) (ap list_of (made.0 q) ∙ each q)
-    ∙ ap (chain_of (list_any (int_eq q) always)) (sym (chain_held rules.entries q))
+    ∙ by_case (held empty.entries q) (held rules.entries q) (always q) (ap list_of (made.0 q) ∙ each q)
+    ∙ ap (chain_of (always q)) (sym (chain_held rules.entries q))
   where
     by_case : (own other : Option (Vec Rule Global)) (b : Bool) → list_of own ≡ chain_of b None
         → list_of (option_or own other) ≡ chain_of b (list_of other)
@@ -111,15 +99,3 @@ chains_with_empty rules empty all pairs always made put each q =
 pub some_held : (entries : Pairs) (number : ℤ) → is_some (chain_at (chains_of entries) number) ≡ is_some (held entries number)
 some_held entries number = ap is_some (chain_held entries number)
     ∙ elim (held entries number) as (λ found. is_some (list_of found) ≡ is_some found) [ None ↦ refl | Some v ↦ refl ]
-
--- A filter of one item more.
-pub filter_more : (p : ℤ → Bool) (done : List ℤ) (x : ℤ) (b : Bool) → p x ≡ b
-    → filter p (done ++ x ∷ []) ≡ filter p done ++ cond b (x ∷ []) []
-filter_more p done x b is = filter-append p done (x ∷ []) ∙ ap (λ b. filter p done ++ cond b (x ∷ []) []) is
-
--- A list has the same numbers when repeats of each are gone.
-pub same_members : (q : ℤ) (xs : List ℤ) → list_any (int_eq q) (dedup int_eq xs) ≡ list_any (int_eq q) xs
-same_members q xs =
-    same_from_decides _ _ (Decides-like _ (Contains-from_dedup int_eq xs q)
-    (Contains-dedup int_eq_equiv (λ x y. (Decides-int_eq x y).0) xs q) (is_member-Decides Decides-int_eq (dedup int_eq xs) q))
-    (is_member-Decides Decides-int_eq xs q)

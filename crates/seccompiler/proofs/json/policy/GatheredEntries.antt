@@ -1,15 +1,19 @@
 -- For `gather` and `gather_all`: what is gathered of entries, one after the other.
 use Rattle.std.proofs.Common.{◌≡◌, ◌++◌, List, [], ◌∷◌, ◌||◌, Some, None, All, refl, sym, ap, ◌∙◌, append-nil}
 use Rattle.std.specs.List.{flat_map, list_any}
+use Rattle.std.proofs.Common.{replicate, false}
 use Rattle.std.proofs.Math.Bool.{or-false}
 use Rattle.std.proofs.lemmas.List.{flat_map_more}
-use Rattle.std.proofs.lemmas.List.Elements.{All-push}
+use Rattle.std.proofs.lemmas.List.Elements.{All-nil, All-push}
 use Rattle.std.proofs.lemmas.List.Folds.{list_any-append}
 use Rattle.seccompiler.specs.declared.backend.TargetArch.{TargetArch}
 use Rattle.seccompiler.specs.declared.json.policy.Gathered.{Gathered}
 use Rattle.seccompiler.specs.JsonTypes.{JsonRule}
-use Rattle.seccompiler.specs.JsonGathered.{added, HasAdded, AreGathered}
-use Rattle.seccompiler.specs.JsonPolicyOf.{is_always, rules_for, IsFineEntry}
+use Rattle.seccompiler.specs.JsonGathered.{added, told_of, HasAdded, AreGathered}
+use Rattle.seccompiler.specs.Policy.{chains_of}
+use Rattle.seccompiler.proofs.json.policy.EntryChains.{Pairs}
+use Rattle.seccompiler.proofs.json.policy.ToldNumbers.{told_none}
+use Rattle.seccompiler.specs.JsonPolicyOf.{chain_at, is_always, rules_for, IsFineEntry}
 
 -- Items added at two times are added as one list.
 pub added_twice : {X : Type 0} (front own : List X) → added own (added front None) ≡ added (front ++ own) None
@@ -40,4 +44,14 @@ pub done_more : (arch : TargetArch) (entries : List JsonRule) (entry : JsonRule)
 done_more arch entries entry old new so_far fine more = record {
   fine = All-push (IsFineEntry arch) entries entry so_far.fine fine;
   gathered = gathered_push arch entries entry old new so_far.gathered more;
+}
+
+-- Nothing is gathered of no entries.
+pub none_done : (arch : TargetArch) (made : Gathered) → made.rules.entries ≡ [] → made.always ≡ replicate 463 false → AreDone arch [] made
+none_done arch made no_rules nothing = record {
+  fine = All-nil (IsFineEntry arch);
+  gathered = record {
+    rules = λ number. ap (λ (entries : Pairs). chain_at (chains_of entries) number) no_rules;
+    always = λ number. ap (λ told. told_of told number) nothing ∙ told_none 463 number;
+  };
 }

@@ -1,4 +1,4 @@
-use Rattle.std.proofs.Common.{◌∷◌, [], List, ℕ}
+use Rattle.std.proofs.Common.{◌∷◌, []}
 use Rattle.std.specs.BTreeMap.IterMut.{iter_mut_rest}
 use Rattle.serde_json.specs.View.{view}
 use Rattle.seccompiler.proofs.json.members.ObjectNames.{IsSoFar, data_of, data_in}

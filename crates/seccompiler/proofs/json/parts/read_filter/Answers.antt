@@ -1,5 +1,4 @@
-use Rattle.std.proofs.Common.{◌∷◌, [], codes, refl, rules}
-use Rattle.serde_json.specs.View.{view}
+use Rattle.std.proofs.Common.{codes, refl, rules}
 use Rattle.seccompiler.proofs.json.members.ObjectNames.{first_at_end}
 use Rattle.seccompiler.proofs.json.parts.read_filter.Goals.{in-Some-mismatch, in-None}
 use Rattle.seccompiler.proofs.json.parts.read_filter.Goals as goal

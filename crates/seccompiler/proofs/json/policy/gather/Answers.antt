@@ -1,10 +1,10 @@
-use Rattle.std.proofs.Common.{◌++◌, ◌∷◌, [], List, take, sym, ap, ◌∙◌, subst}
+use Rattle.std.proofs.Common.{◌++◌, ◌∷◌, [], List, take, sym, ap, ◌∙◌, subst, refl}
 use Rattle.std.proofs.lemmas.List.{take_more}
 use Rattle.std.proofs.lemmas.Result.{err_from_is_err_and}
 use Rattle.seccompiler.specs.JsonTypes.{JsonRule}
 use Rattle.seccompiler.proofs.Parts.{around}
 use Rattle.seccompiler.proofs.json.policy.EntryFaults.{first_wrong}
-use Rattle.seccompiler.proofs.json.policy.GatheredEntries.{AreDone, done_more}
+use Rattle.seccompiler.proofs.json.policy.GatheredEntries.{AreDone, done_more, none_done}
 use Rattle.seccompiler.proofs.json.policy.gather.Goals as goal
 
 pub loop-entry-preserved : goal.loop-entry-preserved
@@ -22,3 +22,6 @@ returns-in_err-add_entry-clause-refused c =
     let whole = around c.args.entries.now place c.entry-item.result c.loop-entry-test.true c.entry-item.is in
     rw (p.1, p.2) (first_wrong c.args.arch c.args.entries.now (take place c.args.entries.now) c.entry-item.result _ whole _
     c.loop-entry.invariant.fine c.in_err-add_entry.ensures.refused)
+
+pub loop-entry-init : goal.loop-entry-init
+loop-entry-init c = none_done c.args.arch _ c.new.ensures.empty refl

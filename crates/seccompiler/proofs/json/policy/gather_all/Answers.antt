@@ -1,7 +1,7 @@
-use Rattle.std.proofs.Common.{◌++◌, ◌∷◌, [], sym, ap, ◌∙◌, append_assoc}
+use Rattle.std.proofs.Common.{◌++◌, ◌∷◌, [], sym, ap, ◌∙◌, append_assoc, refl}
 use Rattle.std.proofs.lemmas.Result.{err_from_is_err_and}
 use Rattle.seccompiler.proofs.json.policy.EntryFaults.{first_wrong}
-use Rattle.seccompiler.proofs.json.policy.GatheredEntries.{done_more}
+use Rattle.seccompiler.proofs.json.policy.GatheredEntries.{done_more, none_done}
 use Rattle.seccompiler.proofs.json.policy.gather_all.Goals as goal
 
 pub loop-entry-preserved : goal.loop-entry-preserved
@@ -19,3 +19,6 @@ returns-in_err-add_entry-clause-refused c =
     let all = c.loop-entry.invariant.all ∙ ap (λ es. c.loop-entry.yielded ++ es) c.in-Some.ensures.steps.0 in
     rw (p.1, p.2) (first_wrong c.args.arch c.args.entries.items c.loop-entry.yielded c.in-Some.entry _ all _
     c.loop-entry.invariant.done.fine c.in_err-add_entry.ensures.refused)
+
+pub loop-entry-init : goal.loop-entry-init
+loop-entry-init c = record { all = sym c.into_iter-entry-iterator.ensures.into_iter_gives.0; done = none_done c.args.arch _ c.new.ensures.empty refl }

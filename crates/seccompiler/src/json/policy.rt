@@ -156,7 +156,7 @@ fn chains_of_numbers(
         ..
     } = gathered;
     // To make a map of ascending numbers takes less than to insert each.
-    let mut found = Vec::new(alloc);
+    let mut found = Vec::with_capacity(alloc, NUMBERS)?;
     for number in 0..NUMBERS {
         if !always[number] {
             continue;

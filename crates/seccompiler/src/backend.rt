@@ -40,12 +40,12 @@ pub enum TargetArch {
 
 impl EqualByParts for TargetArch {
     ghost use Rattle.std.specs.Prelude.{◌≡◌};
-    ghost use Rattle.std.specs.Cmp.Rules.{comparing};
-    ghost use Rattle.std.proofs.Common.{rules};
+    ghost use denote.Enum.Bare.{same_true, true_same};
+    ghost use Rattle.seccompiler.specs.contracts.backend.TargetArch.{the_type};
 
     ghost has_same_parts = { λ x y. x ≡ y };
 
-    ghost decides = { Prim.search (comparing, rules) };
+    ghost decides = { λ x y. (same_true the_type tt x y, true_same the_type x y) };
 }
 
 impl TargetArch {
@@ -154,12 +154,11 @@ pub enum SeccompCmpOp {
 
 impl EqualByParts for SeccompCmpOp {
     ghost use Rattle.std.specs.Prelude.{◌≡◌};
-    ghost use Rattle.std.specs.Cmp.Rules.{comparing};
     ghost use Rattle.std.proofs.Common.{rules};
 
     ghost has_same_parts = { λ x y. x ≡ y };
 
-    ghost decides = { Prim.search (comparing, rules) };
+    ghost decides = { Prim.search rules };
 }
 
 /// How much of an argument, of the value and of a mask is compared.
@@ -173,12 +172,12 @@ pub enum SeccompCmpArgLen {
 
 impl EqualByParts for SeccompCmpArgLen {
     ghost use Rattle.std.specs.Prelude.{◌≡◌};
-    ghost use Rattle.std.specs.Cmp.Rules.{comparing};
-    ghost use Rattle.std.proofs.Common.{rules};
+    ghost use denote.Enum.Bare.{same_true, true_same};
+    ghost use Rattle.seccompiler.specs.contracts.backend.SeccompCmpArgLen.{the_type};
 
     ghost has_same_parts = { λ x y. x ≡ y };
 
-    ghost decides = { Prim.search (comparing, rules) };
+    ghost decides = { λ x y. (same_true the_type tt x y, true_same the_type x y) };
 }
 
 /// What a filter answers for a system call, as `seccomp(2)` names it.
@@ -205,12 +204,11 @@ pub enum SeccompAction {
 
 impl EqualByParts for SeccompAction {
     ghost use Rattle.std.specs.Prelude.{◌≡◌};
-    ghost use Rattle.std.specs.Cmp.Rules.{comparing};
     ghost use Rattle.std.proofs.Common.{rules};
 
     ghost has_same_parts = { λ x y. x ≡ y };
 
-    ghost decides = { Prim.search (comparing, rules) };
+    ghost decides = { Prim.search rules };
 }
 
 /// The value that a program returns for the action.

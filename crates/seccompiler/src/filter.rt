@@ -115,7 +115,13 @@ impl SeccompFilter {
     {
         let mut rules = BTreeMap::new(alloc);
         for (number, chain) in &self.rules {
-            drop(rules.insert(*number, clone_chain(alloc, chain)?)?);
+            let Ok(copy) = clone_chain(alloc, chain) else {
+                return Err(BackendError::OutOfMemory);
+            };
+            let Ok(replaced) = rules.insert(*number, copy) else {
+                return Err(BackendError::OutOfMemory);
+            };
+            drop(replaced);
         }
         Ok(SeccompFilter {
             rules,

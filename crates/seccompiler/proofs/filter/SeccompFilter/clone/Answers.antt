@@ -11,10 +11,10 @@ loop-number-preserved c =
     let entries = c.self.inside.rules.entries in
     let so_far = c.loop-number.rules.entries in
     let number = c.in-Some.number.now in
-    let copy = c.in_ok-clone_chain.field-0 in
+    let copy = c.in-Ok.copy in
     let fits : SFits w64 number = search rules in
-    let same : copy.items ≡ c.in-Some.chain.now.items = c.in_ok-clone_chain.ensures.same ∙ c.deref.ensures.value in
-    let added : c.insert.new.self.entries ≡ insert_entry int_cmp so_far number copy = simp to_z-of_z at c.in_ok-insert.ensures.entries in
+    let same : copy.items ≡ c.in-Some.chain.now.items = c.in-Ok.ensures.same ∙ c.deref.ensures.value in
+    let added : c.insert.new.self.entries ≡ insert_entry int_cmp so_far number copy = simp to_z-of_z at c.in-Ok-insert.ensures.entries in
     rw added (insert_next entries so_far c.loop-number.number-iterator c.next.new.self
     number c.in-Some.chain.now copy c.into_iter-number-iterator.ensures.into_iter_gives.5
     c.loop-number.invariant c.in-Some.ensures.steps same)

@@ -9,6 +9,7 @@ use Rattle.std.specs.List.{AllZip, IsDistinct}
 use Rattle.std.specs.List.Sorted.{IsStrictlySortedBy}
 use Rattle.std.specs.Map.{keys_of, lookup}
 use Rattle.std.specs.Option.{MatchOption}
+use Rattle.std.specs.Prelude.{Result, Ok, Err, MatchResult, IfOk, IfErr, OnOk}
 use Rattle.std.specs.Ordering.{eq_by_cmp}
 use Rattle.std.specs.String.{string_eq_equiv, string_cmp_total}
 use Rattle.std.proofs.lemmas.List.Elements.{Contains-append_right}
@@ -140,3 +141,24 @@ module _ {X Y : Type 0} (R : X → Y → Type 0) where
       rw h.0.0 (elim (bytes_eq q (string_bytes a.0)) as
       (λ t. MatchOption (cond t (Some a.1) (under xs q)) (cond t (Some b.1) (under ys q) ≡ None)
       (λ x. (y : Y) × (cond t (Some b.1) (under ys q) ≡ Some y) × R x y)) [ true ↦ (b.1, refl, h.0.1) | false ↦ made_under xs ys h.1 q ])
+
+-- A map by hash, if there is one, finds what an ordered one does; in its place there is what is told in place of that one.
+abbrev pub IsHashed : {X S E : Type 0} → Result (BTreeMap (String Global) X) E → Result (HashMap (String Global) X S) E → Type 0
+IsHashed r s = MatchResult r (λ n. IfOk s (λ m. (q : List ℕ) → hash.get_by_text m q ≡ tree.get_by_text n q)) (λ e. s ≡ Err e)
+
+module _ {X S E : Type 0} where
+  -- What is so of all that the ordered one finds is so of what the other finds.
+  pub hashed_ok : (P Q : (List ℕ → Option X) → Type 0) → ((find : List ℕ → Option X) → P find → Q find)
+      → (r : Result (BTreeMap (String Global) X) E) (s : Result (HashMap (String Global) X S) E) → IsHashed r s
+      → IfOk r (λ n. P (tree.get_by_text n)) → IfOk s (λ m. Q (hash.get_by_text m))
+  hashed_ok P Q so (Ok n) (Ok m) same h = so (hash.get_by_text m) (subst P (λ i q. sym (same q) i) h)
+  hashed_ok P Q so (Err e) (Ok m) same h = absurd (cc)
+  hashed_ok P Q so r (Err e) same h = tt
+
+  -- So is what is so of the error, and of that of want of memory.
+  pub hashed_err : (P Q Lost : E → Type 0) → ((e : E) → P e → Q e) → ((e : E) → Lost e → Q e)
+      → (r : Result (BTreeMap (String Global) X) E) (s : Result (HashMap (String Global) X S) E) → IsHashed r s
+      → OnOk r (IfErr s Lost) → IfErr r P → IfErr s Q
+  hashed_err P Q Lost so no_room r (Ok m) same lost h = tt
+  hashed_err P Q Lost so no_room (Ok n) (Err e) same lost h = no_room e lost
+  hashed_err P Q Lost so no_room (Err f) (Err e) same lost h = let is : f ≡ e = cc in subst Q is (so f h)

@@ -1,6 +1,6 @@
 -- Look-ups by name in lists of values, in order or not, and what is made of such a list value by value.
 use Rattle.std.proofs.Common.{◌≡◌, ℕ, ◌++◌, List, [], ◌∷◌, true, false, cond, Option, Some, None, String, Global, Less, string_bytes}
-use Rattle.std.proofs.Common.{string_cmp, string_eq, bytes_eq, refl, sym, ap, ◌∙◌, subst, arith}
+use Rattle.std.proofs.Common.{string_cmp, string_eq, bytes_eq, refl, sym, ap, ◌∙◌, subst, append_assoc, append-nil, arith}
 use Rattle.std.specs.BTreeMap.{BTreeMap, is_at}
 use Rattle.std.specs.BTreeMap as tree
 use Rattle.std.specs.HashMap.{HashMap}
@@ -94,7 +94,7 @@ module _ {X : Type 0} where
   hashed xs m order made = same_by_name m.entries xs (λ key. made.0 key
       ∙ update_all_none string_eq_equiv string_eq (λ x y. refl) xs key (once xs order))
 
-  pub ordered : (xs : ByName X) (m : BTreeMap (String Global) X) → AreInOrder xs → tree.IsFromIterResult string_cmp xs m
+  ordered : (xs : ByName X) (m : BTreeMap (String Global) X) → AreInOrder xs → tree.IsFromIterResult string_cmp xs m
       → (q : List ℕ) → tree.get_by_text m q ≡ under xs q
   ordered xs m order made q = by_text q m.entries ∙ same_by_name m.entries xs found q
     where
@@ -115,7 +115,7 @@ abbrev pub AreMade : {X Y : Type 0} → (X → Y → Type 0) → ByName X → By
 AreMade R xs ys = AllZip (λ x y. (y.0 ≡ x.0) × R x.1 y.1) xs ys
 
 module _ {X Y : Type 0} (R : X → Y → Type 0) where
-  pub made_more : (xs : ByName X) (ys : ByName Y) (x : String Global × X) (y : String Global × Y)
+  made_more : (xs : ByName X) (ys : ByName Y) (x : String Global × X) (y : String Global × Y)
       → AreMade R xs ys → y.0 ≡ x.0 → R x.1 y.1 → AreMade R (xs ++ x ∷ []) (ys ++ y ∷ [])
   made_more [] [] x y h name made = ((name, made), tt)
   made_more [] (b ∷ ys) x y h name made = absurd h
@@ -128,8 +128,31 @@ module _ {X Y : Type 0} (R : X → Y → Type 0) where
   same_keys (x ∷ xs) [] h = absurd h
   same_keys (x ∷ xs) (y ∷ ys) h = λ i. h.0.0 i ∷ same_keys xs ys h.1 i
 
-  pub made_in_order : (xs : ByName X) (ys : ByName Y) → AreMade R xs ys → AreInOrder xs → AreInOrder ys
+  made_in_order : (xs : ByName X) (ys : ByName Y) → AreMade R xs ys → AreInOrder xs → AreInOrder ys
   made_in_order xs ys h order = subst (IsStrictlySortedBy string_cmp) (sym (same_keys xs ys h)) order
+
+  -- What a loop has made of the values so far, and the values that are left.
+  pub record IsMaking (given done left : ByName X) (ys : ByName Y) : Type 0 where
+    pub all : given ≡ done ++ left
+    pub made : AreMade R done ys
+
+  module _ {given done left : ByName X} {ys : ByName Y} (so_far : IsMaking given done left ys) where
+    pub at_next : (x : String Global × X) (rest : ByName X) → left ≡ x ∷ rest → given ≡ done ++ x ∷ rest
+    at_next x rest next = so_far.all ∙ ap (λ es. done ++ es) next
+
+    pub making_more : (x : String Global × X) (y : String Global × Y) (rest : ByName X) (zs : ByName Y) → left ≡ x ∷ rest
+        → zs ≡ ys ++ y ∷ [] → y.0 ≡ x.0 → R x.1 y.1 → IsMaking given (done ++ x ∷ []) rest zs
+    making_more x y rest zs next added name own = record {
+      all = at_next x rest next ∙ sym (append_assoc done (x ∷ []) rest);
+      made = subst (AreMade R (done ++ x ∷ [])) (sym added) (made_more done ys x y so_far.made name own);
+    }
+
+    -- In the end all are made, and the map of them finds them.
+    pub making_done : (m : BTreeMap (String Global) Y) → left ≡ [] → AreInOrder given → tree.IsFromIterResult string_cmp ys m
+        → AreMade R given ys × ((q : List ℕ) → tree.get_by_text m q ≡ under ys q)
+    making_done m none order collected =
+        let made = subst (λ xs. AreMade R xs ys) (sym (so_far.all ∙ ap (λ es. done ++ es) none ∙ append-nil done)) so_far.made in
+        (made, ordered ys m (made_in_order given ys made order) collected)
 
   -- Under a name there is what is made of the value that is found; where none is found, there is nothing.
   pub made_under : (xs : ByName X) (ys : ByName Y) → AreMade R xs ys → (q : List ℕ)

@@ -30,7 +30,7 @@ module _ (arch : TargetArch) (d : Data) where
 
     -- Behind filters that have policies, the first fault of one that has none is that of the least name.
     pub least_refused : (front : ByName JsonFilter) (entry : String Global × JsonFilter) (back : ByName JsonFilter)
-        → m.0.entries ≡ front ++ entry ∷ back → AreInOrder (front ++ entry ∷ back) → (made : ByName Filter)
+        → m.0.entries ≡ front ++ entry ∷ back → AreInOrder m.0.entries → (made : ByName Filter)
         → AreMade (IsPolicyOf arch) front made → (fault : Fault) → IsFirstFault arch entry.1 fault → IsLeastRefused arch fault d
     least_refused front entry back whole order made h fault first = (
       record { is_object = are.is_object; each = λ name value there. let known = are.each name value there in (known.found, known.own) },

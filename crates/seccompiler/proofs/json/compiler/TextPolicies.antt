@@ -50,21 +50,10 @@ module _ (arch : TargetArch) (d : Data) where
           let own = value_under (HasPolicy arch) find d are name policy there in
           numbers_in_range arch own.2.0 policy own.2.2
 
-  -- The refusal of the least name's filter is the text's first fault.
+  -- The refusal of the least name's filter is the text's first fault. It is no failed read, and no want of memory inside another error.
   pub refused_told : (text : List ℕ) → IsValueOf text d → (e : JsonFrontendError) → Tells (λ fault. IsLeastRefused arch fault d) e
-      → TellsFrontendFault arch text e
-  refused_told text is (e.Backend x) h = (d, is, h.0)
-  refused_told text is (e.SyscallName name known) h = (d, is, h)
-  refused_told text is e.OutOfMemory h = tt
+      → TellsFrontendFault arch text e × IsNoFailedRead e × IsNoMemoryInFrontend e
+  refused_told text is (e.Backend x) h = ((d, is, h.0), tt, h.1)
+  refused_told text is (e.SyscallName name known) h = ((d, is, h), tt, tt)
+  refused_told text is e.OutOfMemory h = (tt, tt, tt)
   refused_told text is e h = absurd h
-
--- It is no failed read, and no want of memory inside another error.
-pub told_no_read : (P : Fault → Type 0) (e : JsonFrontendError) → Tells P e → IsNoFailedRead e
-told_no_read P (e.Read x) h = absurd h
-told_no_read P e h = tt
-
-pub told_no_memory : (P : Fault → Type 0) (e : JsonFrontendError) → Tells P e → IsNoMemoryInFrontend e
-told_no_memory P (e.Backend x) h = h.1
-told_no_memory P (e.SerdeJson x) h = absurd h
-told_no_memory P (e.Read x) h = absurd h
-told_no_memory P e h = tt

@@ -1,7 +1,7 @@
 use Rattle.std.proofs.lemmas.Result.{IfOk-weaker, IfErr-weaker, err_from_is_err_and}
 use Rattle.std.specs.BTreeMap.{get_by_text}
-use Rattle.seccompiler.specs.JsonAnswers.{OfValue, ArePoliciesOf, IsLeastRefused}
-use Rattle.seccompiler.proofs.json.compiler.TextPolicies.{have_table_numbers, refused_told, told_no_read, told_no_memory}
+use Rattle.seccompiler.specs.JsonAnswers.{OfValue, ArePoliciesOf}
+use Rattle.seccompiler.proofs.json.compiler.TextPolicies.{have_table_numbers, refused_told}
 use Rattle.seccompiler.proofs.json.compiler.JsonCompiler.policies_of.Goals as goal
 
 pub returns-in_err-filters-clause-fault : goal.returns-in_err-filters-clause-fault
@@ -18,7 +18,7 @@ returns c =
     rw (← c.self.view_is) (record {
       policies = IfOk-weaker _ _ (λ m. OfValue c.args.text.now (ArePoliciesOf arch (get_by_text m))) (λ m h. (d, is, h d are)) made;
       numbers = IfOk-weaker _ _ _ (λ m h. have_table_numbers arch d (get_by_text m) (h d are)) made;
-      fault = IfErr-weaker _ _ _ (λ e h. refused_told arch d c.args.text.now is e (h d are)) refused;
-      no_reader = IfErr-weaker _ _ _ (λ e h. told_no_read (λ fault. IsLeastRefused arch fault d) e (h d are)) refused;
-      memory = IfErr-weaker _ _ _ (λ e h. told_no_memory (λ fault. IsLeastRefused arch fault d) e (h d are)) refused;
+      fault = IfErr-weaker _ _ _ (λ e h. (refused_told arch d c.args.text.now is e (h d are)).0) refused;
+      no_reader = IfErr-weaker _ _ _ (λ e h. (refused_told arch d c.args.text.now is e (h d are)).1) refused;
+      memory = IfErr-weaker _ _ _ (λ e h. (refused_told arch d c.args.text.now is e (h d are)).2) refused;
     })

@@ -1,7 +1,6 @@
 -- For `programs_under` and `programs_of`: the programs of a value's policies, and the refusal of the least name's.
 use Rattle.std.proofs.Common.{◌≡◌, ℕ, ℤ, pos, negsuc, ◌++◌, List, ◌∷◌, Option, Some, None, String, Global, Vec, string_bytes, refl, IfSome}
-use Rattle.std.proofs.Common.{arith, ap, ◌∙◌, subst}
-use Rattle.std.specs.Prelude.{All}
+use Rattle.std.proofs.Common.{arith, ap, ◌∙◌, subst, All}
 use Rattle.std.specs.BTreeMap.{BTreeMap, get_by_text}
 use Rattle.std.proofs.lemmas.Int.{ints}
 use Rattle.std.proofs.lemmas.List.Elements.{All-contains}

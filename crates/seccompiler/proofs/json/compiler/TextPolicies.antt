@@ -1,8 +1,7 @@
 -- For `policies_under` and `policies_of`: the policies of a value's filters, and the refusal of the least name's.
-use Rattle.std.proofs.Common.{◌≡◌, ℕ, ◌++◌, List, ◌∷◌, Option, Some, None, String, Global, IfSome, string_bytes, refl}
-use Rattle.std.specs.Prelude.{All}
+use Rattle.std.proofs.Common.{◌≡◌, ℕ, ◌++◌, List, ◌∷◌, Option, Some, None, String, Global, IfSome, All, string_bytes, refl}
 use Rattle.serde_json.specs.Data.{Data}
-use Rattle.seccompiler.proofs.ByName.{ByName, AreInOrder, under}
+use Rattle.seccompiler.proofs.ByName.{ByName, AreInOrder, AreMade, under}
 use Rattle.seccompiler.specs.Errors.{IsNoMemoryInFrontend}
 use Rattle.seccompiler.specs.JsonAnswers.{IsValueOf, HasPolicy, HasSomePolicy, ArePoliciesOf, IsLeastRefused, TellsFrontendFault}
 use Rattle.seccompiler.specs.JsonPolicyOf.{Fault, IsPolicyOf, IsFirstFault}
@@ -16,7 +15,6 @@ use Rattle.seccompiler.specs.declared.json.error.JsonFrontendError.{JsonFrontend
 use Rattle.seccompiler.specs.declared.json.error.JsonFrontendError.TheVariants as e
 use Rattle.seccompiler.specs.JsonTypes.{JsonFilter}
 use Rattle.seccompiler.specs.declared.json.types.JsonFilterMap.{JsonFilterMap}
-use Rattle.seccompiler.proofs.ByName.{AreMade}
 use Rattle.seccompiler.proofs.TextFilters.{all_made, least_wrong, value_under}
 use Rattle.seccompiler.proofs.json.policy.Policies.{numbers_in_range}
 

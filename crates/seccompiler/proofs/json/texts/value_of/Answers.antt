@@ -6,10 +6,6 @@ pub returns-in-Ok-clause-fault : goal.returns-in-Ok-clause-fault
 returns-in-Ok-clause-fault c = let (utf8, value) = c.in-Ok.ensures.ok in
     λ arch. (_, record { utf8 = utf8; value = value }, c.if-repeats_key.ensures.repeats.0 refl)
 
-pub returns-in-Ok-2-clause-value : goal.returns-in-Ok-2-clause-value
-returns-in-Ok-2-clause-value c = let (utf8, value) = c.in-Ok.ensures.ok in
-    record { is_read = record { utf8 = utf8; value = value }; no_repeat = λ r. true≢false (sym (c.if-repeats_key.ensures.repeats.1 r)) }
-
 pub returns-in-Err-2-clause-memory : goal.returns-in-Err-2-clause-memory
 returns-in-Err-2-clause-memory c = λ memory. true≢false (sym (c.if-is_memory.ensures.1 memory))
 

@@ -31,9 +31,7 @@ returns-in_err-policy-clause-refused c =
 pub returns-clause-policies : goal.returns-clause-policies
 returns-clause-policies c =
     let l = c.loop-name in
-    let arch = c.args.arch in
     let m = c.in_ok-collect.field-0 in
     let collected : IsFromIterResult string_cmp l.found.items m = search rules in
-    let order = c.into_iter-name-iterator.ensures.into_iter_gives.5 in
-    let all = making_done (IsPolicyOf arch) l.invariant m c.in-None.ensures.steps.0 order collected in
-    λ d are. are_policies arch d c.args.filters are l.found.items all.0 (get_by_text m) all.1
+    let all = making_done _ l.invariant m c.in-None.ensures.steps.0 c.into_iter-name-iterator.ensures.into_iter_gives.5 collected in
+    λ d are. are_policies c.args.arch d c.args.filters are l.found.items all.0 (get_by_text m) all.1

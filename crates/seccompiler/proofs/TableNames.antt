@@ -1,29 +1,30 @@
 -- What `number_of` gives, in the words of the table.
-use Rattle.std.proofs.Common.{◌≡◌, ◌≢◌, ℕ, ℤ, List, [], ◌∷◌, true, false, Option, Some, None, IfSome, IfNone, All, refl, sym, ap, subst}
-use Rattle.std.proofs.Common.{bytes_eq}
+use Rattle.std.proofs.Common.{◌≡◌, ◌≢◌, ℕ, ℤ, List, [], ◌∷◌, true, false, Option, Some, None, IfSome, All, refl, sym, ap, subst, bytes_eq}
 use Rattle.std.proofs.lemmas.Bool.Decides.{not_from_Decides}
 use Rattle.std.proofs.lemmas.List.Elements.{All-nil, All-cons, All-head, All-tail}
-use Rattle.std.proofs.lemmas.Option.{IfSome_then}
+use Rattle.std.specs.Option.{MatchOption}
 use Rattle.std.proofs.lemmas.Slice.Eq.{bytes_eq-Decides}
 use Rattle.seccompiler.specs.SyscallTable.{Pair, IsFirstNumber, number_of}
 
--- a cut of the pairs behind the first is a cut of the table
-IsFirstNumber-cons : (pair : Pair) (table : List Pair) (name : List ℕ) (number : ℤ) → pair.0 ≢ name
-    → IsFirstNumber table name number → IsFirstNumber (pair ∷ table) name number
-IsFirstNumber-cons pair table name number other cut =
-    record {
-      front = pair ∷ cut.front;
-      back = cut.back;
-      whole = ap (λ rest. pair ∷ rest) cut.whole;
-      first = All-cons (λ pair. pair.0 ≢ name) pair cut.front other cut.first;
-    }
+-- what a look-up tells: the number is that of the first pair with the name, or no pair has the name
+abbrev Tells : List Pair → List ℕ → Option ℤ → Type 0
+Tells table name found = MatchOption found (All (λ pair. pair.0 ≢ name) table) (IsFirstNumber table name)
 
--- the number that is found is that of the first pair with the name
-number_of-found : (table : List Pair) (name : List ℕ) → IfSome (number_of table name) (IsFirstNumber table name)
-number_of-found [] name = tt
-number_of-found (pair ∷ table) name =
-    elim (bytes_eq pair.0 name) as (λ same. bytes_eq pair.0 name ≡ same
-    → IfSome (number_of (pair ∷ table) name) (IsFirstNumber (pair ∷ table) name)) [
+-- so it does behind a pair with another name
+tells-cons : (pair : Pair) (table : List Pair) (name : List ℕ) → pair.0 ≢ name → (found : Option ℤ) → Tells table name found
+    → Tells (pair ∷ table) name found
+tells-cons pair table name other None none = All-cons (λ pair. pair.0 ≢ name) pair table other none
+tells-cons pair table name other (Some number) cut = record {
+  front = pair ∷ cut.front;
+  back = cut.back;
+  whole = ap (λ rest. pair ∷ rest) cut.whole;
+  first = All-cons (λ pair. pair.0 ≢ name) pair cut.front other cut.first;
+}
+
+number_of-tells : (table : List Pair) (name : List ℕ) → Tells table name (number_of table name)
+number_of-tells [] name = All-nil (λ pair. pair.0 ≢ name)
+number_of-tells (pair ∷ table) name =
+    elim (bytes_eq pair.0 name) as (λ same. bytes_eq pair.0 name ≡ same → Tells (pair ∷ table) name (number_of (pair ∷ table) name)) [
       | true ↦ λ same.
           let named : pair.0 ≡ name = (bytes_eq-Decides pair.0 name).0 same in
           let here : IsFirstNumber (pair ∷ table) name pair.1 =
@@ -31,25 +32,7 @@ number_of-found (pair ∷ table) name =
           rw same here
       | false ↦ λ apart.
           let other = not_from_Decides _ (bytes_eq-Decides pair.0 name) apart in
-          rw apart (IfSome_then (number_of table name) (number_of-found table name)
-          (λ number. IsFirstNumber-cons pair table name number other))
-    ] refl
-
--- what follows where there is no value
-IfNone_then : {P Q : Type 0} (found : Option ℤ) → IfNone found P → (P → Q) → IfNone found Q
-IfNone_then None given then_so = then_so given
-IfNone_then (Some number) given then_so = tt
-
--- where no number is found, no pair has the name
-number_of-not_found : (table : List Pair) (name : List ℕ) → IfNone (number_of table name) (All (λ pair. pair.0 ≢ name) table)
-number_of-not_found [] name = All-nil (λ pair. pair.0 ≢ name)
-number_of-not_found (pair ∷ table) name =
-    elim (bytes_eq pair.0 name) as (λ same. bytes_eq pair.0 name ≡ same
-    → IfNone (number_of (pair ∷ table) name) (All (λ pair. pair.0 ≢ name) (pair ∷ table))) [
-      | true ↦ λ same. rw same tt
-      | false ↦ λ apart.
-          let other = not_from_Decides _ (bytes_eq-Decides pair.0 name) apart in
-          rw apart (IfNone_then (number_of table name) (number_of-not_found table name) (All-cons (λ pair. pair.0 ≢ name) pair table other))
+          rw apart (tells-cons pair table name other (number_of table name) (number_of-tells table name))
     ] refl
 
 -- a fact on all numbers of a table holds of the one that is found
@@ -63,7 +46,7 @@ number_of-all P (pair ∷ table) name all =
 
 -- the number that a look-up gives is that of the first pair with the name
 pub found_first : (table : List Pair) (name : List ℕ) (number : ℤ) → Some number ≡ number_of table name → IsFirstNumber table name number
-found_first table name number is = subst (λ found. IfSome found (IsFirstNumber table name)) (sym is) (number_of-found table name)
+found_first table name number is = subst (Tells table name) (sym is) (number_of-tells table name)
 
 -- a fact on all numbers of a table holds of the one that a look-up gives
 pub found_among : (P : ℤ → Type 0) (table : List Pair) (name : List ℕ) (number : ℤ) → All (λ pair. P pair.1) table
@@ -72,4 +55,4 @@ found_among P table name number all is = subst (λ found. IfSome found P) (sym i
 
 -- where a look-up gives no number, no pair has the name
 pub found_nowhere : (table : List Pair) (name : List ℕ) → None ≡ number_of table name → All (λ pair. pair.0 ≢ name) table
-found_nowhere table name is = subst (λ found. IfNone found (All (λ pair. pair.0 ≢ name) table)) (sym is) (number_of-not_found table name)
+found_nowhere table name is = subst (Tells table name) (sym is) (number_of-tells table name)

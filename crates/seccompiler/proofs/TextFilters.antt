@@ -50,10 +50,11 @@ module _ {X Y : Type 0} (P : Data → X → Type 0) (R : X → Y → Type 0) (gi
 
   -- Behind parts of which something is made, one that is at fault is that of the least name.
   pub least_wrong : (front : ByName X) (entry : String Global × X) (back : ByName X) → given.entries ≡ front ++ entry ∷ back
-      → AreInOrder (front ++ entry ∷ back) → (ys : ByName Y) → AreMade R front ys → (Wrong : X → Type 0) → Wrong entry.1
+      → AreInOrder given.entries → (ys : ByName Y) → AreMade R front ys → (Wrong : X → Type 0) → Wrong entry.1
       → (Q : Data → Type 0) → ((value : Data) (x : X) (y : Y) → P value x → R x y → Q value)
       → IsLeast (λ value. (x : X) × P value x × Wrong x) Q d (string_bytes entry.0)
-  least_wrong front entry back whole order ys h Wrong wrong Q one =
+  least_wrong front entry back whole sorted ys h Wrong wrong Q one =
+      let order = subst (λ (es : ByName X). AreInOrder es) whole sorted in
       let listed : (name : List ℕ) → get_by_text given name ≡ under (front ++ entry ∷ back) name =
       λ name. by_text name given.entries ∙ ap (λ (es : ByName X). under es name) whole in
       let own = value_under P (get_by_text given) d are (string_bytes entry.0) entry.1

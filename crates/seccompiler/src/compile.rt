@@ -15,7 +15,7 @@ use crate::backend::{BackendError, TargetArch};
 use crate::bpf::BpfProgram;
 use crate::error::Result;
 use crate::filter::SeccompFilter;
-use crate::json::{JsonCompiler, text_of};
+use crate::json::{JsonCompiler, hashed, text_of};
 use std::alloc::Global;
 use std::collections::{BTreeMap, HashMap};
 use std::io::Read;
@@ -59,8 +59,7 @@ pub fn compile_from_json<R: Read + Drop>(
     ensures memory { IfErr result IsNoMemoryInside }
 {
     let text = text_of(alloc, reader)?;
-    let programs = programs_of(alloc, text.as_slice(), arch)?;
-    Ok(programs.into_iter().collect(alloc)?)
+    hashed(alloc, programs_of(alloc, text.as_slice(), arch))
 }
 
 /// Compiles each filter of a text for an architecture, as [`compile_from_json`] does with what a reader

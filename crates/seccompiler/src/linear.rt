@@ -29,12 +29,12 @@ const EMPTY_CHAIN_LEN: usize = 5;
 const CHAIN_ENDS: usize = 2;
 
 impl SeccompFilter {
-    ghost use Rattle.std.specs.Prelude.{◌≡◌, ◌≢◌, ℤ, length, min, IfOk, IfErr, OnOk};
+    ghost use Rattle.std.specs.Prelude.{◌≡◌, ◌≢◌, length, min, IfOk, IfErr, OnOk};
     ghost use Rattle.std.specs.List.Sorted.{IsStrictlySortedBy};
     ghost use Rattle.std.specs.Ordering.{int_cmp};
-    ghost use Rattle.seccompiler.specs.declared.backend.BackendError.TheVariants.{InvalidSyscallNumber, OutOfMemory};
+    ghost use Rattle.seccompiler.specs.declared.backend.BackendError.TheVariants.{OutOfMemory};
     ghost use Rattle.seccompiler.specs.Layout.{counted_length};
-    ghost use Rattle.seccompiler.specs.Compiled.{AreCallNumbers, IsLeastUnfit, IsCompiled, numbers_of, IsCompilable, IsRefusal};
+    ghost use Rattle.seccompiler.specs.Compiled.{IsCompiled, numbers_of, IsCompilable, IsRefusal};
 
     /// The filter's program.
     ///
@@ -100,23 +100,14 @@ impl SeccompFilter {
         ensures compilable { OnOk result (IsCompilable self.now) }
         ensures refused { IfErr result (λ e. (e ≢ OutOfMemory) × IsRefusal self.now e) }
     {
-        self.check_numbers()?;
+        if let Some(number) = unfit_number(&self.rules) {
+            return Err(BackendError::InvalidSyscallNumber(number));
+        }
         let length = self.program_len();
         if length > BPF_MAX_LEN {
             return Err(BackendError::FilterTooLarge(length));
         }
         Ok(length)
-    }
-
-    // Refuses a filter of which a number does not fit.
-    fn check_numbers(&self) -> Result<(), BackendError>
-        ensures fit { OnOk result (AreCallNumbers (numbers_of self.now.chains)) }
-        ensures unfit { IfErr result (λ e. (n : ℤ) × (e ≡ InvalidSyscallNumber n) × IsLeastUnfit (numbers_of self.now.chains) n) }
-    {
-        if let Some(number) = unfit_number(&self.rules) {
-            return Err(BackendError::InvalidSyscallNumber(number));
-        }
-        Ok(())
     }
 
     /// Fills the part with the filter's program, the one that `to_bpf` gives. Takes no memory.

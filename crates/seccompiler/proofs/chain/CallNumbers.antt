@@ -1,6 +1,6 @@
 -- For `unfit_number`: which numbers are call numbers, and the least that is none.
 use Rattle.std.proofs.Common.{◌≡◌, ℕ, zero, suc, ℤ, pos, negsuc, ◌≤ℤ◌, ◌<ℤ◌, List, [], ◌∷◌, ◌++◌, true, false, Result, Ok, Err, Less, refl}
-use Rattle.std.proofs.Common.{sym, subst, arith, ⊎_elim}
+use Rattle.std.proofs.Common.{sym, ◌∙◌, subst, arith, ⊎_elim}
 use Rattle.std.specs.Prelude.{All, Contains}
 use Rattle.std.specs.Int.{FitsUnsignedBits}
 use Rattle.std.specs.Result.{OkIff, is_err}
@@ -20,10 +20,6 @@ call_number_if_fits : (z : ℤ) → FitsUnsignedBits 32 z → IsCallNumber z
 call_number_if_fits (pos n) fits = (n, refl, fits)
 call_number_if_fits (negsuc n) fits = absurd fits
 
--- A call number fits 32 unsigned bits.
-fits_if_call_number : (z : ℤ) → IsCallNumber z → FitsUnsignedBits 32 z
-fits_if_call_number z (n, is, small) = subst (FitsUnsignedBits 32) (sym is) small
-
 -- A number that converts to 32 unsigned bits is a call number.
 pub call_number_if_ok : {E : Type 0} (z y : ℤ) (r : Result ℕ E) (v : ℕ) → y ≡ z → OkIff r (FitsUnsignedBits 32 y) v
     → false ≡ is_err r → IsCallNumber z
@@ -34,7 +30,7 @@ call_number_if_ok z y (Err e) v same iff ok = cc
 pub no_call_number_if_err : {E : Type 0} (z y : ℤ) (r : Result ℕ E) (v : ℕ) → y ≡ z → OkIff r (FitsUnsignedBits 32 y) v
     → true ≡ is_err r → IsCallNumber z → ⊥
 no_call_number_if_err z y (Ok x) v same iff err = cc
-no_call_number_if_err z y (Err e) v same iff err = λ call. iff (subst (FitsUnsignedBits 32) (sym same) (fits_if_call_number z call))
+no_call_number_if_err z y (Err e) v same iff err = λ call. iff (subst (FitsUnsignedBits 32) (sym (same ∙ call.1)) call.2)
 
 -- In an ascending list, what stands behind a number is above it.
 above_behind : (front : List ℤ) (z : ℤ) (back : List ℤ) → IsStrictlySortedBy int_cmp (front ++ z ∷ back)

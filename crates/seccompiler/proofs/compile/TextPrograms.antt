@@ -1,7 +1,6 @@
 -- For `programs_under` and `programs_of`: the programs of a value's policies, and the refusal of the least name's.
 use Rattle.std.proofs.Common.{◌≡◌, ℕ, ℤ, pos, negsuc, ◌++◌, List, ◌∷◌, Option, Some, None, String, Global, Vec, string_bytes, refl, IfSome}
-use Rattle.std.proofs.Common.{arith, ap, ◌∙◌}
-use Rattle.std.specs.Prelude.{All}
+use Rattle.std.proofs.Common.{arith, ap, ◌∙◌, subst, All}
 use Rattle.std.specs.BTreeMap.{BTreeMap, get_by_text}
 use Rattle.std.proofs.lemmas.Int.{ints}
 use Rattle.std.proofs.lemmas.List.Elements.{All-contains}
@@ -42,7 +41,7 @@ module _ (arch : TargetArch) (d : Data) (policies : BTreeMap (String Global) Fil
       (λ value policy program has made. record { policy = policy; is_policy = has; compiled = made.compiled })
 
   module _ (front : ByName Filter) (entry : String Global × Filter) (back : ByName Filter)
-      (whole : policies.entries ≡ front ++ entry ∷ back) (order : AreInOrder (front ++ entry ∷ back))
+      (whole : policies.entries ≡ front ++ entry ∷ back) (order : AreInOrder policies.entries)
       (made : ByName (Vec sock_filter Global)) (h : AreMade Compiles front made) where
     -- Behind policies that are compiled, one that is too large is that of the least name.
     least_too_large : (n : ℕ) → IsTooLarge entry.1 n → IsLeastTooLarge arch n d
@@ -59,7 +58,7 @@ module _ (arch : TargetArch) (d : Data) (policies : BTreeMap (String Global) Fil
     refusal_of (b.InvalidSyscallNumber n) wrong =
         let there : get_by_text policies (string_bytes entry.0) ≡ Some entry.1 =
         by_text (string_bytes entry.0) policies.entries ∙ ap (λ (es : ByName Filter). under es (string_bytes entry.0)) whole
-        ∙ found_there front entry back order in
+        ∙ found_there front entry back (subst (λ (es : ByName Filter). AreInOrder es) whole order) in
         let own : All IsTableNumber (numbers_of entry.1.chains) =
         rw there at (have_table_numbers arch d (get_by_text policies) are (string_bytes entry.0)) in
         absurd (wrong.unfit (table_number_fits n (All-contains IsTableNumber (numbers_of entry.1.chains) n own wrong.among)))

@@ -1,6 +1,6 @@
 // From JSON filters, and from a text of them, to filters.
 
-ghost use Rattle.std.specs.Prelude.{◌≡◌, ◌↔◌, ◌⊎◌, ℕ, ℤ, List, All, Contains, IfSome, IfOk, IfErr, OnOk};
+ghost use Rattle.std.specs.Prelude.{◌≡◌, ◌↔◌, ◌⊎◌, ℕ, ℤ, List, All, Contains, IfSome, IfOk, IfErr, OnOk, MatchResult, Err, alloc_error};
 ghost use Rattle.std.specs.BTreeMap as tree;
 ghost use Rattle.std.specs.HashMap.{get_by_text};
 ghost use Rattle.std.specs.List.Sorted.{IsStrictlySortedBy};
@@ -23,7 +23,7 @@ use crate::json::error::JsonFrontendError;
 use crate::json::policy::{filter_of, seccomp_filter, widened_numbers};
 use crate::json::texts::{filters_of, text_of};
 use crate::json::types::{JsonFilter, JsonFilterMap};
-use std::alloc::Global;
+use std::alloc::{AllocError, Global};
 use std::collections::{BTreeMap, HashMap};
 use std::io::Read;
 use std::marker::Model;
@@ -198,9 +198,19 @@ impl JsonCompiler {
         ensures memory { IfErr result IsNoMemoryInFrontend }
     {
         let text = text_of(alloc, reader)?;
-        let policies = self.policies_of(alloc, text.as_slice())?;
-        Ok(policies.into_iter().collect(alloc)?)
+        hashed(alloc, self.policies_of(alloc, text.as_slice()))
     }
+}
+
+// What a map has in order, if there is one, in a map by hash.
+pub(crate) fn hashed<V: Drop, E: From<AllocError>>(
+    alloc: Global,
+    ordered: Result<BTreeMap<String, V>, E>,
+) -> Result<HashMap<String, V>, E>
+    ensures found { MatchResult ordered (λ o. IfOk result (λ m. (name : List ℕ) → get_by_text m name ≡ tree.get_by_text o name)) (λ e. result ≡ Err e) }
+    ensures memory { OnOk ordered (IfErr result (E.from_gives alloc_error)) }
+{
+    Ok(ordered?.into_iter().collect(alloc)?)
 }
 
 // The policies of JSON filters, under their names.

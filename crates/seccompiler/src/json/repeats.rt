@@ -59,7 +59,7 @@ fn after_names(value: &Value, mut left: usize) -> usize
                 }
             }
         }
-        Value::Null | Value::Bool(_) | Value::Number(_) | Value::String(_) => {}
+        _ => {}
     }
     left
 }

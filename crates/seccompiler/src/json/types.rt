@@ -23,12 +23,15 @@ pub struct JsonCondition {
 
 impl EqualByParts for JsonCondition {
     ghost use Rattle.std.specs.Prelude.{◌≡◌};
-    ghost use Rattle.std.specs.Cmp.Rules.{comparing};
-    ghost use Rattle.std.proofs.Common.{rules};
+    ghost use Rattle.std.specs.Cmp.{unsigned_Decides};
+    ghost use Rattle.std.proofs.Common.{ap};
+    ghost use Rattle.std.proofs.lemmas.Bool.Decides.{Decides-and};
+    ghost use Rattle.seccompiler.specs.contracts.backend.SeccompCmpArgLenEqualByParts.TheImpl.Laws as arg_len_law;
+    ghost use Rattle.seccompiler.specs.contracts.backend.SeccompCmpOpEqualByParts.TheImpl.Laws as operator_law;
 
     ghost has_same_parts = { λ x y. x ≡ y };
 
-    ghost decides = { Prim.search (comparing, rules) };
+    ghost decides = { λ x y. let parts = Decides-and _ _ (unsigned_Decides x.arg_index y.arg_index) (Decides-and _ _ (arg_len_law.decides-law x.arg_len y.arg_len) (Decides-and _ _ (operator_law.decides-law x.operator y.operator) (unsigned_Decides x.value y.value))) in (λ same. let e = parts.0 same in λ i. record { arg_index = e.0 i; arg_len = e.1.0 i; operator = e.1.1.0 i; value = e.1.1.1 i }, λ e. parts.1 (ap (λ c. c.arg_index) e, (ap (λ c. c.arg_len) e, (ap (λ c. c.operator) e, ap (λ c. c.value) e)))) };
 }
 
 /// One entry of a filter: a system call, and conditions on its arguments.

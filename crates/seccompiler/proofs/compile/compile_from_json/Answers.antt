@@ -1,11 +1,12 @@
-use Rattle.std.proofs.Common.{ℕ, List, Option, Vec, Global, IfSome, string_eq, rules, sym, subst}
-use Rattle.std.specs.HashMap.{IsFromIterResult}
+use Rattle.std.proofs.Common.{◌≡◌, ℕ, List, Option, Vec, Global, IfSome}
 use Rattle.std.proofs.lemmas.Result.{err_from_is_err_and}
 use Rattle.seccompiler.specs.Machine.{IsChecked}
+use Rattle.seccompiler.specs.Errors.{IsNoMemoryInside}
 use Rattle.seccompiler.specs.JsonAnswers.{OfValue}
-use Rattle.seccompiler.specs.JsonPrograms.{AreProgramsOf}
+use Rattle.seccompiler.specs.JsonPrograms.{AreProgramsOf, TellsFirstFault}
+use Rattle.seccompiler.specs.Reads.{Reads}
 use Rattle.seccompiler.specs.declared.bpf.sock_filter.{sock_filter}
-use Rattle.seccompiler.proofs.ByName.{rehashed}
+use Rattle.seccompiler.proofs.ByName.{hashed_ok, hashed_err}
 use Rattle.seccompiler.proofs.TextFilters.{reads_some, reads_this}
 use Rattle.seccompiler.proofs.compile.TextPrograms.{told_by_frontend}
 use Rattle.seccompiler.proofs.compile.compile_from_json.Goals as goal
@@ -18,17 +19,21 @@ returns-in_err-text-clause-fault g c =
 
 pub returns : goal.returns
 returns g c =
-    let found = c.in_ok-programs.programs in
-    let m = c.in_ok-collect.field-0 in
-    let made : IsFromIterResult string_eq found.entries m = search rules in
-    let same = rehashed found m c.into_iter.ensures.into_iter_gives.5 made in
-    let are = rw c.as_slice.ensures.value at c.in_ok-programs.ensures.programs in
+    let known = g.R.Read.remaining c.args.reader in
+    let text = c.in_ok-text.text.items in
+    let own : IfSome known (λ k. text ≡ k) = c.in_ok-text.ensures.text in
+    let arch = c.args.arch in
+    let r = c.programs_of.result in
+    let of = c.programs_of.ensures in
+    let by = c.hashed.ensures in
+    let Are = λ (text : List ℕ) (find : List ℕ → Option (Vec sock_filter Global)). OfValue text (AreProgramsOf arch find) in
+    let All_run = λ (find : List ℕ → Option (Vec sock_filter Global)). (name : List ℕ) → IfSome (find name) (λ p. IsChecked p.items) in
     record {
-      programs = reads_this (g.R.Read.remaining c.args.reader) _ _ c.in_ok-text.ensures.text
-          (subst (λ (find : List ℕ → Option (Vec sock_filter Global)). OfValue c.in_ok-text.text.items (AreProgramsOf c.args.arch find))
-          (λ i name. sym (same name) i) are);
-      checked = λ name. subst (λ (o : Option (Vec sock_filter Global)). IfSome o (λ program. IsChecked program.items))
-          (sym (same name)) (c.in_ok-programs.ensures.checked name);
-      fault = tt;
-      memory = tt;
+      programs = hashed_ok (Are text) (λ find. Reads known (λ text. Are text find)) (λ find. reads_this known (λ text. Are text find) text own)
+          r _ by.found (rw c.as_slice.ensures.value at of.programs);
+      checked = hashed_ok All_run All_run (λ find run. run) r _ by.found of.checked;
+      fault = hashed_err (TellsFirstFault arch text) (λ e. Reads known (λ text. TellsFirstFault arch text e)) _
+          (λ e. reads_this known (λ text. TellsFirstFault arch text e) text own) (λ e lost. rw lost (text, own, tt))
+          r _ by.found by.memory (rw c.as_slice.ensures.value at of.fault);
+      memory = hashed_err IsNoMemoryInside IsNoMemoryInside _ (λ e fit. fit) (λ e lost. rw lost tt) r _ by.found by.memory of.memory;
     }

@@ -1,8 +1,7 @@
 -- For `policies_under` and `policies_of`: the policies of a value's filters, and the refusal of the least name's.
-use Rattle.std.proofs.Common.{◌≡◌, ℕ, ◌++◌, List, ◌∷◌, Option, Some, None, String, Global, IfSome, string_bytes, refl}
-use Rattle.std.specs.Prelude.{All}
+use Rattle.std.proofs.Common.{◌≡◌, ℕ, ◌++◌, List, ◌∷◌, Option, Some, None, String, Global, IfSome, All, string_bytes, refl}
 use Rattle.serde_json.specs.Data.{Data}
-use Rattle.seccompiler.proofs.ByName.{ByName, AreInOrder, under}
+use Rattle.seccompiler.proofs.ByName.{ByName, AreInOrder, AreMade, under}
 use Rattle.seccompiler.specs.Errors.{IsNoMemoryInFrontend}
 use Rattle.seccompiler.specs.JsonAnswers.{IsValueOf, HasPolicy, HasSomePolicy, ArePoliciesOf, IsLeastRefused, TellsFrontendFault}
 use Rattle.seccompiler.specs.JsonPolicyOf.{Fault, IsPolicyOf, IsFirstFault}
@@ -16,7 +15,6 @@ use Rattle.seccompiler.specs.declared.json.error.JsonFrontendError.{JsonFrontend
 use Rattle.seccompiler.specs.declared.json.error.JsonFrontendError.TheVariants as e
 use Rattle.seccompiler.specs.JsonTypes.{JsonFilter}
 use Rattle.seccompiler.specs.declared.json.types.JsonFilterMap.{JsonFilterMap}
-use Rattle.seccompiler.proofs.ByName.{AreMade}
 use Rattle.seccompiler.proofs.TextFilters.{all_made, least_wrong, value_under}
 use Rattle.seccompiler.proofs.json.policy.Policies.{numbers_in_range}
 
@@ -30,7 +28,7 @@ module _ (arch : TargetArch) (d : Data) where
 
     -- Behind filters that have policies, the first fault of one that has none is that of the least name.
     pub least_refused : (front : ByName JsonFilter) (entry : String Global × JsonFilter) (back : ByName JsonFilter)
-        → m.0.entries ≡ front ++ entry ∷ back → AreInOrder (front ++ entry ∷ back) → (made : ByName Filter)
+        → m.0.entries ≡ front ++ entry ∷ back → AreInOrder m.0.entries → (made : ByName Filter)
         → AreMade (IsPolicyOf arch) front made → (fault : Fault) → IsFirstFault arch entry.1 fault → IsLeastRefused arch fault d
     least_refused front entry back whole order made h fault first = (
       record { is_object = are.is_object; each = λ name value there. let known = are.each name value there in (known.found, known.own) },
@@ -50,21 +48,10 @@ module _ (arch : TargetArch) (d : Data) where
           let own = value_under (HasPolicy arch) find d are name policy there in
           numbers_in_range arch own.2.0 policy own.2.2
 
-  -- The refusal of the least name's filter is the text's first fault.
+  -- The refusal of the least name's filter is the text's first fault. It is no failed read, and no want of memory inside another error.
   pub refused_told : (text : List ℕ) → IsValueOf text d → (e : JsonFrontendError) → Tells (λ fault. IsLeastRefused arch fault d) e
-      → TellsFrontendFault arch text e
-  refused_told text is (e.Backend x) h = (d, is, h.0)
-  refused_told text is (e.SyscallName name known) h = (d, is, h)
-  refused_told text is e.OutOfMemory h = tt
+      → TellsFrontendFault arch text e × IsNoFailedRead e × IsNoMemoryInFrontend e
+  refused_told text is (e.Backend x) h = ((d, is, h.0), tt, h.1)
+  refused_told text is (e.SyscallName name known) h = ((d, is, h), tt, tt)
+  refused_told text is e.OutOfMemory h = (tt, tt, tt)
   refused_told text is e h = absurd h
-
--- It is no failed read, and no want of memory inside another error.
-pub told_no_read : (P : Fault → Type 0) (e : JsonFrontendError) → Tells P e → IsNoFailedRead e
-told_no_read P (e.Read x) h = absurd h
-told_no_read P e h = tt
-
-pub told_no_memory : (P : Fault → Type 0) (e : JsonFrontendError) → Tells P e → IsNoMemoryInFrontend e
-told_no_memory P (e.Backend x) h = h.1
-told_no_memory P (e.SerdeJson x) h = absurd h
-told_no_memory P (e.Read x) h = absurd h
-told_no_memory P e h = tt

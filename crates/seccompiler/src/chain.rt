@@ -2,17 +2,14 @@
 
 ghost use Rattle.std.specs.Prelude.{◌≡◌, ◌≤◌, ◌+◌, ◌↔◌, [], ◌∷◌, pos, min, length, take, IsTrue, IsNone, IfOk, IfSome, IsOkUnless};
 ghost use Rattle.std.specs.BTreeMap.{keys};
-ghost use Rattle.seccompiler.specs.declared.backend.BackendError.TheVariants.{OutOfMemory};
 ghost use Rattle.seccompiler.specs.Machine.{greatest_length};
 ghost use Rattle.seccompiler.specs.Policy.{IsCallNumber, ChainMatches};
 ghost use Rattle.seccompiler.specs.Layout.{rule_length, rules_length};
 ghost use Rattle.seccompiler.specs.Compiled.{AreCallNumbers, IsLeastUnfit};
 ghost use Rattle.seccompiler.specs.ChainCode.{IsRulesCode};
 
-use crate::backend::BackendError;
 use crate::bpf::{return_word, sock_filter};
 use crate::rule::SeccompRule;
-use std::alloc::Global;
 use std::collections::BTreeMap;
 
 /// The least number that does not fit 32 unsigned bits, if there is one.
@@ -41,21 +38,6 @@ pub(crate) fn chain_matches(chain: &[SeccompRule], call: &[u8; 64]) -> bool
         }
     }
     false
-}
-
-/// An equal chain.
-pub(crate) fn clone_chain(
-    alloc: Global,
-    chain: &[SeccompRule],
-) -> Result<Vec<SeccompRule>, BackendError>
-    ensures same { IfOk result (λ rules. rules.items ≡ chain.now) }
-    ensures memory { IsOkUnless result OutOfMemory }
-{
-    let mut rules = Vec::new(alloc);
-    for rule in chain {
-        rules.push(rule.clone(alloc)?)?;
-    }
-    Ok(rules)
 }
 
 /// How many instructions the rules of the chain take, each with its return, or `usize::MAX` if that

@@ -2,7 +2,7 @@
 
 use crate::backend::{BackendError, SeccompAction, TargetArch};
 use crate::bpf::{SECCOMP_DATA_ARCH_OFFSET, SECCOMP_DATA_NR_OFFSET};
-use crate::chain::{chain_matches, clone_chain};
+use crate::chain::chain_matches;
 use crate::equality::EqualByParts;
 use crate::record::word_at;
 use crate::rule::SeccompRule;
@@ -113,22 +113,16 @@ impl SeccompFilter {
         ensures same { IfOk result (λ f. f ≡ self.now) }
         ensures memory { IsOkUnless result OutOfMemory }
     {
-        let mut rules = BTreeMap::new(alloc);
-        for (number, chain) in &self.rules {
-            let Ok(copy) = clone_chain(alloc, chain) else {
-                return Err(BackendError::OutOfMemory);
-            };
-            let Ok(replaced) = rules.insert(*number, copy) else {
-                return Err(BackendError::OutOfMemory);
-            };
-            drop(replaced);
+        // The map's own allocator is `Global` too.
+        match self.rules.clone() {
+            Ok(rules) => Ok(SeccompFilter {
+                rules,
+                mismatch_action: self.mismatch_action,
+                match_action: self.match_action,
+                target_arch: self.target_arch,
+            }),
+            Err(_) => Err(BackendError::OutOfMemory),
         }
-        Ok(SeccompFilter {
-            rules,
-            mismatch_action: self.mismatch_action,
-            match_action: self.match_action,
-            target_arch: self.target_arch,
-        })
     }
 
     /// The return value that the policy names for the call of this record: `SECCOMP_RET_KILL_PROCESS` if

@@ -4,7 +4,7 @@ use crate::backend::BackendError;
 use crate::bpf::{BpfProgram, jump_over, return_word, sock_filter};
 use crate::condition::{GREATEST_OFFSET, SeccompCondition};
 use crate::equality::EqualByParts;
-use std::alloc::Global;
+use std::alloc::{AllocError, Global};
 use std::marker::Model;
 
 // The two jumps in front of a rule.
@@ -179,6 +179,24 @@ impl SeccompRule {
         }
         // On to the conditions, and past the rule.
         part[..end].copy_from_slice(&[jump_over(1), jump_over(u32::from(offset) + 1)]);
+    }
+}
+
+/// An equal rule, as [`SeccompRule::clone`] gives it.
+impl Clone for SeccompRule {
+    ghost use Rattle.std.specs.Prelude.{◌≡◌};
+
+    ghost is_clone = { λ rule copy. copy ≡ rule };
+
+    fn clone(&self) -> Result<SeccompRule, AllocError> {
+        match self
+            .conditions
+            .as_slice()
+            .to_vec(*self.conditions.allocator())
+        {
+            Ok(copied) => Ok(SeccompRule { conditions: copied }),
+            Err(refused) => Err(refused),
+        }
     }
 }
 

@@ -1,52 +1,25 @@
--- For `SeccompFilter::clone` and `SeccompFilter::matches`: the chains that a map holds: in ascending order of their keys, and
--- found under them.
-use Rattle.std.proofs.Common.{◌≡◌, ◌↔◌, ℕ, ℤ, pos, ◌++◌, List, [], ◌∷◌, Vec, Global, Bool, false, Option, Some, None, Less, Greater}
-use Rattle.std.proofs.Common.{option_map, refl, sym, ap, ◌∙◌, subst, append_assoc}
+-- For `SeccompFilter::clone` and `SeccompFilter::matches`: the chains that a map holds: copied with it, and found under their
+-- keys.
+use Rattle.std.proofs.Common.{◌≡◌, ◌↔◌, ℕ, ℤ, pos, List, [], ◌∷◌, Vec, vec_len, Global, Bool, false, Option, Some, None}
+use Rattle.std.proofs.Common.{option_map, refl, sym, ap, ◌∙◌, subst}
 use Rattle.std.specs.Prelude.{IsTrue}
-use Rattle.std.specs.List.{AllByRecursion}
-use Rattle.std.specs.List.Sorted.{IsStrictlySortedBy}
-use Rattle.std.specs.Ordering.{int_cmp, ordering_reverse}
-use Rattle.std.specs.Map.{keys_of, lookup}
-use Rattle.std.specs.BTreeMap.{insert_entry, is_at}
-use Rattle.std.proofs.lemmas.Cmp.{int_cmp_total}
-use Rattle.std.proofs.lemmas.Map.Keys.{sorted_head, sorted_tail}
+use Rattle.std.specs.List.{AllZip, each_same}
+use Rattle.std.specs.Ordering.{int_cmp}
+use Rattle.std.specs.Map.{lookup}
+use Rattle.std.specs.BTreeMap.{is_at}
 use Rattle.std.proofs.lemmas.Map.Made.{lookup-map_values}
 use Rattle.std.proofs.lemmas.Bool.{false≢true}
 use Rattle.seccompiler.specs.Machine.{word_at}
 use Rattle.seccompiler.specs.Policy.{Rule, Chain, Filter, chains_of, chain_under, ChainMatches, Matches}
-use Rattle.seccompiler.proofs.ChainNumbers.{numbers_are_keys}
 
--- What stands behind others that are all above a number is above it.
-above_middle : (number : ℤ) (front : List (ℤ × Chain)) (e : ℤ × Chain) (back : List (ℤ × Chain))
-    → AllByRecursion (λ y. int_cmp number y ≡ Less) (keys_of (front ++ e ∷ back)) → int_cmp number e.0 ≡ Less
-above_middle number [] e back all = all.0
-above_middle number (x ∷ front) e back all = above_middle number front e back all.1
-
--- A chain whose number is above those so far goes last.
-insert_last : (so_far : List (ℤ × Vec Rule Global)) (number : ℤ) (chain : Vec Rule Global) (back : List (ℤ × Chain))
-    → IsStrictlySortedBy int_cmp (keys_of (chains_of so_far ++ (number, chain.items) ∷ back))
-    → chains_of (insert_entry int_cmp so_far number chain) ≡ chains_of so_far ++ (number, chain.items) ∷ []
-insert_last [] number chain back ascends = refl
-insert_last (x ∷ so_far) number chain back ascends =
-    let rest = chains_of so_far ++ (number, chain.items) ∷ back in
-    let below : int_cmp x.0 number ≡ Less =
-    above_middle x.0 (chains_of so_far) (number, chain.items) back (sorted_head int_cmp x.0 (keys_of rest) ascends) in
-    let above : int_cmp number x.0 ≡ Greater = int_cmp_total.antisymm number x.0 ∙ ap ordering_reverse below in
-    rw above (ap (λ chains. (x.0, x.1.items) ∷ chains)
-    (insert_last so_far number chain back (sorted_tail int_cmp x.0 (keys_of rest) ascends)))
-
--- The next chain of a map, put into another map behind the chains so far.
-pub insert_next : (entries so_far left back : List (ℤ × Vec Rule Global)) (number : ℤ) (chain copy : Vec Rule Global)
-    → IsStrictlySortedBy int_cmp (keys_of entries) → chains_of so_far ++ chains_of left ≡ chains_of entries → left ≡ (number, chain) ∷ back
-    → copy.items ≡ chain.items → chains_of (insert_entry int_cmp so_far number copy) ++ chains_of back ≡ chains_of entries
-insert_next entries so_far left back number chain copy ascends split next same =
-    let whole : chains_of so_far ++ (number, copy.items) ∷ chains_of back ≡ chains_of entries =
-    ap (λ rules. chains_of so_far ++ (number, rules) ∷ chains_of back) same ∙ ap (λ es. chains_of so_far ++ chains_of es) (sym next)
-    ∙ split in
-    let in_order : IsStrictlySortedBy int_cmp (keys_of (chains_of so_far ++ (number, copy.items) ∷ chains_of back)) =
-    subst (IsStrictlySortedBy int_cmp) (sym (numbers_are_keys entries) ∙ ap keys_of (sym whole)) ascends in
-    ap (λ chains. chains ++ chains_of back) (insert_last so_far number copy (chains_of back) in_order)
-    ∙ append_assoc (chains_of so_far) ((number, copy.items) ∷ []) (chains_of back) ∙ whole
+-- The chains of a map's copy are the map's.
+pub copied_chains : (xs ys : List (ℤ × Vec Rule Global))
+    → AllZip (λ p q. (q.0 ≡ p.0) × (AllZip (λ x y. y ≡ x) p.1.items q.1.items × (vec_len q.1 ≡ vec_len p.1))) xs ys
+    → chains_of ys ≡ chains_of xs
+copied_chains [] [] same = refl
+copied_chains [] (y ∷ ys) same = absurd same
+copied_chains (x ∷ xs) [] same = absurd same
+copied_chains (x ∷ xs) (y ∷ ys) same = λ i. (same.0.0 i, each_same _ _ same.0.1.0 i) ∷ copied_chains xs ys same.1 i
 
 -- What a map has under a call number is the chain there.
 pub found_chain : (entries : List (ℤ × Vec Rule Global)) (key : ℤ) (number : ℕ) (found : Option (Vec Rule Global))

@@ -29,9 +29,7 @@ fn place_among(name: &str, names: (&str, &str, &str, &str, &str)) -> usize
     }
 }
 
-type Taken<'v> = Option<&'v mut Value>;
-
-type Found<'v> = Option<&'v Value>;
+type Found<'v> = Option<&'v mut Value>;
 
 /// What an object has under five names, if each name that it has is one of the first `count`. It goes
 /// through the members once.
@@ -40,7 +38,7 @@ pub fn members_under<'v>(
     value: &'v mut Value,
     names: (&str, &str, &str, &str, &str),
     count: usize,
-) -> Option<(Taken<'v>, Taken<'v>, Found<'v>, Found<'v>, Found<'v>)>
+) -> Option<(Found<'v>, Found<'v>, Found<'v>, Found<'v>, Found<'v>)>
     requires count { count ≤ 5 }
     requires apart { AreApart (names.0.now ∷ names.1.now ∷ names.2.now ∷ names.3.now ∷ names.4.now ∷ []) }
     ensures names { IsSome result → HasOnly (view value.old) (take count (names.entry.0.now ∷ names.entry.1.now ∷ names.entry.2.now ∷ names.entry.3.now ∷ names.entry.4.now ∷ [])) }
@@ -63,16 +61,16 @@ pub fn members_under<'v>(
         match place {
             0 => first = first.or(Some(member)),
             1 => second = second.or(Some(member)),
-            2 => third = third.or(Some(&*member)),
-            3 => fourth = fourth.or(Some(&*member)),
-            _ => fifth = fifth.or(Some(&*member)),
+            2 => third = third.or(Some(member)),
+            3 => fourth = fourth.or(Some(member)),
+            _ => fifth = fifth.or(Some(member)),
         }
     }
     Some((first, second, third, fourth, fifth))
 }
 
 /// Whether this is what an object may have under `comment`.
-pub fn is_comment(found: Option<&Value>) -> bool
+pub fn is_comment(found: Option<&mut Value>) -> bool
     ensures { IsTrue result ↔ IsComment (option_map (λ v. view v.now) found.entry) }
 {
     matches!(found, None | Some(Value::Null | Value::String(_)))

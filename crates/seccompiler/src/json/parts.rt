@@ -153,18 +153,16 @@ fn read_condition(value: &mut Value) -> Option<JsonCondition>
 
 fn read_conditions(
     alloc: Global,
-    items: Vec<Value>,
+    items: &mut Vec<Value>,
 ) -> Result<Option<Vec<JsonCondition>>, AllocError>
     ensures found { IfOk result
-        (λ o. IfSome o (λ all. OneByOne IsCondition (items_view items.items) all.items)) }
+        (λ o. IfSome o (λ all. OneByOne IsCondition (items_view items.old.items) all.items)) }
     ensures none { IfOk result (λ o. IfNone o
-        ((all : List JsonCondition) → OneByOne IsCondition (items_view items.items) all → ⊥)) }
+        ((all : List JsonCondition) → OneByOne IsCondition (items_view items.old.items) all → ⊥)) }
 {
     let mut found = Vec::with_capacity(alloc, items.len())?;
-    for mut item in items {
-        let read = read_condition(&mut item);
-        drop(item);
-        match read {
+    for item in items.iter_mut() {
+        match read_condition(item) {
             Some(condition) => found.push(condition)?,
             None => return Ok(None),
         }
@@ -185,13 +183,13 @@ fn read_args(
     let Some(args) = args else {
         return Ok(Some(None));
     };
-    match args.take() {
-        Value::Null => Ok(Some(None)),
+    match args {
+        Value::Null => return Ok(Some(None)),
         Value::Array(items) => match read_conditions(alloc, items)? {
-            Some(conditions) => Ok(Some(Some(conditions))),
-            None => Ok(None),
+            Some(conditions) => return Ok(Some(Some(conditions))),
+            None => return Ok(None),
         },
-        _ => Ok(None),
+        _ => return Ok(None),
     }
 }
 
@@ -223,18 +221,16 @@ fn read_entry(alloc: Global, value: &mut Value) -> Result<Option<JsonRule>, Allo
     }))
 }
 
-fn read_rules(alloc: Global, value: Value) -> Result<Option<Vec<JsonRule>>, AllocError>
-    ensures found { IfOk result (λ o. IfSome o (λ all. IsListOf IsEntry (view value) all.items)) }
-    ensures none { IfOk result (λ o. IfNone o ((all : List JsonRule) → IsListOf IsEntry (view value) all → ⊥)) }
+fn read_rules(alloc: Global, value: &mut Value) -> Result<Option<Vec<JsonRule>>, AllocError>
+    ensures found { IfOk result (λ o. IfSome o (λ all. IsListOf IsEntry (view value.old) all.items)) }
+    ensures none { IfOk result (λ o. IfNone o ((all : List JsonRule) → IsListOf IsEntry (view value.old) all → ⊥)) }
 {
     let Value::Array(items) = value else {
         return Ok(None);
     };
     let mut found = Vec::with_capacity(alloc, items.len())?;
-    for mut item in items {
-        let read = read_entry(alloc, &mut item);
-        drop(item);
-        match read? {
+    for item in items.iter_mut() {
+        match read_entry(alloc, item)? {
             Some(rule) => found.push(rule)?,
             None => return Ok(None),
         }
@@ -243,17 +239,23 @@ fn read_rules(alloc: Global, value: Value) -> Result<Option<Vec<JsonRule>>, Allo
 }
 
 // The action under the one of two names that is there. Both together are a fault.
-fn read_one_action(first: Option<&Value>, second: Option<&Value>) -> Option<SeccompAction>
+fn read_one_action(first: Option<&mut Value>, second: Option<&mut Value>) -> Option<SeccompAction>
     ensures found { IfSome result (IsOneAction (option_map (λ v. view v.now) first.entry)
         (option_map (λ v. view v.now) second.entry)) }
     ensures none { IfNone result ((a : SeccompAction) →
         IsOneAction (option_map (λ v. view v.now) first.entry)
         (option_map (λ v. view v.now) second.entry) a → ⊥) }
 {
-    match (first, second) {
-        (Some(value), None) | (None, Some(value)) => read_action(value),
-        _ => None,
+    let Some(first) = first else {
+        let Some(second) = second else {
+            return None;
+        };
+        return read_action(second);
+    };
+    if second.is_some() {
+        return None;
     }
+    read_action(first)
 }
 
 /// The filter that the value is, or `None` if it is none; an error only if memory runs out. The entries are
@@ -263,18 +265,14 @@ pub fn read_filter(alloc: Global, value: &mut Value) -> Result<Option<JsonFilter
     ensures none { IfOk result (λ o. IfNone o ((f : JsonFilter) → IsFilter (view value.old) f → ⊥)) }
 {
     let names = (
-        "filter",
         "mismatch_action",
         "default_action",
         "match_action",
         "filter_action",
+        "filter",
     );
-    let Some((rules, mismatch, default, matched, filter)) = members_under(value, names, 5) else {
+    let Some((mismatch, default, matched, filter, rules)) = members_under(value, names, 5) else {
         return Ok(None);
-    };
-    let mismatch = match mismatch {
-        Some(value) => Some(&*value),
-        None => None,
     };
     let Some(mismatch_action) = read_one_action(mismatch, default) else {
         return Ok(None);
@@ -285,7 +283,7 @@ pub fn read_filter(alloc: Global, value: &mut Value) -> Result<Option<JsonFilter
     let Some(rules) = rules else {
         return Ok(None);
     };
-    let Some(rules) = read_rules(alloc, rules.take())? else {
+    let Some(rules) = read_rules(alloc, rules)? else {
         return Ok(None);
     };
     Ok(Some(JsonFilter {

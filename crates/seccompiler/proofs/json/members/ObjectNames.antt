@@ -3,7 +3,7 @@ use Rattle.std.proofs.Common.{◌≡◌, ℕ, zero, suc, ◌≤◌, ◌<◌, Lis
 use Rattle.std.proofs.Common.{nat_lt, Option, Some, None, option_map, refl, sym, ap, ◌∙◌, subst, arith, bytes_eq, ◌↔◌, ◌⊎◌}
 use Rattle.std.proofs.Common.{inl, inr, Contains, string_bytes}
 use Rattle.std.specs.Bool.{⊤}
-use Rattle.std.specs.Borrow.{Bor, MutBor}
+use Rattle.std.specs.Borrow.{MutBor}
 use Rattle.std.specs.List.{list_any, position_or_len, AllZip}
 use Rattle.std.specs.Option.{option_or}
 use Rattle.std.specs.List.Sorted.{IsStrictlySortedBy}
@@ -27,12 +27,8 @@ use Rattle.serde_json.proofs.Views.{Entry, member_here, member_later}
 use Rattle.seccompiler.specs.JsonShape.{HasOnly, AreApart}
 
 -- What is found, as the data that it is.
-abbrev pub data_of : Option (Bor Value) → Option Data
+abbrev pub data_of : Option (MutBor Value) → Option Data
 data_of found = option_map (λ v. view v.now) found
-
--- The same of what may be taken.
-abbrev pub data_in : Option (MutBor Value) → Option Data
-data_in found = option_map (λ v. view v.now) found
 
 -- What an object has under each of some names is what was found of it, or else what is under it among the members that
 -- are left.
@@ -178,9 +174,9 @@ at_end d left names count all none so_far =
     )
 
 -- What is found, or else a member.
-pub found_or : {X : Type 0} (f : X → Data) (o : Option X) (v : X) → option_map f (option_or o (Some v)) ≡ option_or (option_map f o) (Some (f v))
-found_or f None v = refl
-found_or f (Some x) v = refl
+pub found_or : (o : Option (MutBor Value)) (v : MutBor Value) → data_of (option_or o (Some v)) ≡ option_or (data_of o) (Some (view v.now))
+found_or None v = refl
+found_or (Some x) v = refl
 
 -- An object of one member has its name alone.
 pub one_name : (name : List ℕ) (entries : List Entry) (x : Data) → length entries ≡ 1 → get name (object (members_view entries)) ≡ Some x
@@ -208,23 +204,3 @@ not_one_name name (e ∷ f ∷ more) x sorted other there only =
     let twin = (bytes_eq-Decides (string_bytes f.0) name).0 (sym (or-false (bytes_eq (string_bytes f.0) name)) ∙ second.0) in
     let same = (bytes_eq-Decides (string_bytes e.0) (string_bytes f.0)).1 (own ∙ sym twin) in
     true≢false (sym same ∙ sym (is_eq-slice_cmp (string_bytes e.0) (string_bytes f.0)) ∙ ap is_eq sorted.0.0)
-
--- Names are the same ones if the first stands at the end.
-same_names : (key : List ℕ) (names : List (List ℕ)) (name : List ℕ)
-    → list_any (bytes_eq name) (key ∷ names) ≡ list_any (bytes_eq name) (names ++ key ∷ [])
-same_names key names name = or_comm (bytes_eq name key) (list_any (bytes_eq name) names)
-    ∙ ap (λ b. list_any (bytes_eq name) names || b) (sym (or-false (bytes_eq name key))) ∙ sym (list_any-append (bytes_eq name) names (key ∷ []))
-
-among_same : (xs ys : List (List ℕ)) → ((name : List ℕ) → list_any (bytes_eq name) xs ≡ list_any (bytes_eq name) ys)
-    → (d : Data) → HasOnly d xs → HasOnly d ys
-among_same xs ys same d only = record {
-  is_object = only.is_object;
-  no_other = λ name v there. Contains-from_any {eq = bytes_eq} (λ x y. (bytes_eq-Decides x y).0) name ys
-      (sym (same name) ∙ list_any-from_Contains {eq = bytes_eq} nat_list_eq_equiv name xs (only.no_other name v there));
-}
-
-pub first_at_end : (key : List ℕ) (names : List (List ℕ)) (d : Data) → HasOnly d (key ∷ names) ↔ HasOnly d (names ++ key ∷ [])
-first_at_end key names d = (
-  among_same (key ∷ names) (names ++ key ∷ []) (same_names key names) d,
-  among_same (names ++ key ∷ []) (key ∷ names) (λ name. sym (same_names key names name)) d,
-)

@@ -102,8 +102,12 @@ listed_next told n has numbers b q is so_far = list_any-append (int_eq q) number
 
     by_case : (here : Bool) → int_eq q (pos n) ≡ here → ((told_below told n q && has q) || list_any (int_eq q) (cond b (pos n ∷ []) []))
         ≡ ((told_below told n q || (get_or told n false && int_eq q (pos n))) && has q)
-    by_case true here = rw ((Decides-int_eq q (pos n)).0 here, (Decides-int_eq (pos n) (pos n)).1 refl, le-ltb n n (omega arith),
-        and-true (get_or told n false)) (own b ∙ sym is)
+    by_case true here = rw (
+      (Decides-int_eq q (pos n)).0 here,
+      (Decides-int_eq (pos n) (pos n)).1 refl,
+      le-ltb n n (omega arith),
+      and-true (get_or told n false),
+    ) (own b ∙ sym is)
     by_case false here = rw (here, other b here, and-false (get_or told n false), or-false (told_below told n q)) (or-false _)
 
 less_next : (number : ℤ) (n : ℕ) → int_cmp number (pos n) ≡ Less → int_cmp number (pos (n + 1)) ≡ Less

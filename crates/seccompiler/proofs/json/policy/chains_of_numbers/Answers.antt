@@ -16,4 +16,3 @@ returns c =
           (λ q. c.loop-number.invariant q ∙ ap (λ b. chain_of b None) (told_all told _ q (omega (arith, long, c.loop-number-test.false))));
       ordered = c.in_ok-append.ensures.ordered;
     }
-

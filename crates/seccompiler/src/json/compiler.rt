@@ -20,8 +20,9 @@ ghost use Rattle.seccompiler.specs.JsonWidened.{DecideAlikeOff, KeepsMatches, Ma
 use crate::backend::TargetArch;
 use crate::filter::SeccompFilter;
 use crate::json::error::JsonFrontendError;
-use crate::json::policy::{filter_of, seccomp_filter, widened_numbers};
-use crate::json::texts::{filters_of, text_of};
+use crate::json::filter_map::filters_in;
+use crate::json::policy::{seccomp_filter, widened_numbers};
+use crate::json::texts::{text_of, value_of};
 use crate::json::types::{JsonFilter, JsonFilterMap};
 use std::alloc::{AllocError, Global};
 use std::collections::{BTreeMap, HashMap};
@@ -155,7 +156,8 @@ impl JsonCompiler {
         ensures no_reader { IfErr result IsNoFailedRead }
         ensures memory { IfErr result IsNoMemoryInFrontend }
     {
-        let filters = filters_of(alloc, text)?;
+        let mut value = value_of(alloc, text)?;
+        let filters = filters_in(alloc, &mut value)?;
         policies_under(alloc, self.arch, filters)
     }
 
@@ -224,8 +226,9 @@ fn policies_under(
 {
     let mut found = Vec::new(alloc);
     for (name, filter) in filters.0 {
-        let policy = filter_of(alloc, arch, filter)?;
-        found.push((name, policy))?;
+        let policy = seccomp_filter(alloc, arch, &filter);
+        drop(filter);
+        found.push((name, policy?))?;
     }
     Ok(found.into_iter().collect(alloc)?)
 }

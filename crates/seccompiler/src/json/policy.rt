@@ -187,29 +187,6 @@ fn both_kinds(alloc: Global, gathered: Gathered) -> Result<Vec<i64>, AllocError>
     Ok(numbers)
 }
 
-// The same of entries that are no longer needed. Each is dropped before the next one's rule takes memory,
-// so that this is the memory of one that is gone.
-fn gather_all(
-    alloc: Global,
-    arch: TargetArch,
-    entries: Vec<JsonRule>,
-) -> Result<Gathered, JsonFrontendError>
-    ensures fine { OnOk result (All (IsFineEntry arch) entries.items) }
-    ensures gathered { IfOk result (AreGathered arch entries.items) }
-    ensures refused { IfErr result (Tells (IsFirstOf arch entries.items)) }
-{
-    let mut gathered = Gathered {
-        rules: BTreeMap::new(alloc),
-        always: [false; NUMBERS],
-        near: 0,
-    };
-    for entry in entries {
-        add_entry(alloc, arch, &mut gathered, &entry)?;
-        drop(entry);
-    }
-    Ok(gathered)
-}
-
 /// The filter of a JSON filter on an architecture.
 pub fn seccomp_filter(
     alloc: Global,
@@ -222,25 +199,6 @@ pub fn seccomp_filter(
     let gathered = gather(alloc, arch, filter.rules.as_slice())?;
     let chains = chains_of_numbers(alloc, gathered)?;
     Ok(SeccompFilter::new(chains, filter.mismatch_action, filter.match_action, arch)?)
-}
-
-/// The same of a JSON filter that is no longer needed.
-pub fn filter_of(
-    alloc: Global,
-    arch: TargetArch,
-    filter: JsonFilter,
-) -> Result<SeccompFilter, JsonFrontendError>
-    ensures policy { IfOk result (IsPolicyOf arch filter) }
-    ensures refused { IfErr result (IsPolicyRefusal arch filter) }
-{
-    let JsonFilter {
-        mismatch_action,
-        match_action,
-        rules,
-    } = filter;
-    let gathered = gather_all(alloc, arch, rules)?;
-    let chains = chains_of_numbers(alloc, gathered)?;
-    Ok(SeccompFilter::new(chains, mismatch_action, match_action, arch)?)
 }
 
 /// The numbers that have both an entry without conditions and one with conditions, ascending.

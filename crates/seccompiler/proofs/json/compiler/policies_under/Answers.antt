@@ -13,7 +13,7 @@ use Rattle.seccompiler.proofs.json.compiler.policies_under.Goals as goal
 pub loop-name-preserved : goal.loop-name-preserved
 loop-name-preserved c =
     let e : String Global × JsonFilter = (c.in-Some.name, c.in-Some.filter) in
-    let entry : String Global × Filter = (c.in-Some.name, c.in_ok-policy.policy) in
+    let entry : String Global × Filter = (c.in-Some.name, c.in_ok-policy.field-0) in
     making_more (IsPolicyOf c.args.arch) c.loop-name.invariant e entry _ _ c.in-Some.ensures.steps c.in_ok-push.ensures.items refl
     c.in_ok-policy.ensures.policy
 

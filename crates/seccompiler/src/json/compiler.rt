@@ -20,9 +20,8 @@ ghost use Rattle.seccompiler.specs.JsonWidened.{DecideAlikeOff, KeepsMatches, Ma
 use crate::backend::TargetArch;
 use crate::filter::SeccompFilter;
 use crate::json::error::JsonFrontendError;
-use crate::json::filter_map::filters_in;
 use crate::json::policy::{seccomp_filter, widened_numbers};
-use crate::json::texts::{text_of, value_of};
+use crate::json::texts::{filters_of, text_of};
 use crate::json::types::{JsonFilter, JsonFilterMap};
 use std::alloc::{AllocError, Global};
 use std::collections::{BTreeMap, HashMap};
@@ -156,8 +155,7 @@ impl JsonCompiler {
         ensures no_reader { IfErr result IsNoFailedRead }
         ensures memory { IfErr result IsNoMemoryInFrontend }
     {
-        let mut value = value_of(alloc, text)?;
-        let filters = filters_in(alloc, &mut value)?;
+        let filters = filters_of(alloc, text)?;
         policies_under(alloc, self.arch, filters)
     }
 

@@ -41,23 +41,22 @@ pub fn read_filters(alloc: Global, value: &Value) -> Result<JsonFilterMap, JsonF
     // A value is at most one filter.
     ensures one_filter { (d : Data) (f g : JsonFilter) → IsFilter d f → IsFilter d g → f ≡ g }
 {
-    let mut value = value.clone()?;
-    filters_in(alloc, &mut value)
+    filters_in(alloc, value.clone()?)
 }
 
-/// The same of a value out of which the entries are taken. It keeps their memory, and is dropped at the end:
-/// what takes memory meanwhile has no parts of it to put together.
-pub fn filters_in(alloc: Global, value: &mut Value) -> Result<JsonFilterMap, JsonFrontendError>
-    ensures filters { IfOk result (AreFilters (view value.old)) }
-    ensures refusal { IfErr result (IsShapeRefusal (view value.old)) }
+/// The same of a value that is no longer needed: the names of filters and calls are taken out of it.
+pub fn filters_in(alloc: Global, value: Value) -> Result<JsonFilterMap, JsonFrontendError>
+    ensures filters { IfOk result (AreFilters (view value)) }
+    ensures refusal { IfErr result (IsShapeRefusal (view value)) }
 {
     let Value::Object(members) = value else {
         return Err(JsonFrontendError::NotAnObject);
     };
     let mut found = BTreeMap::new(alloc);
-    for (name, value) in members.iter_mut() {
-        let name = String::from_str(alloc, name.as_str())?;
-        match read_filter(alloc, value)? {
+    for (name, mut value) in members {
+        let read = read_filter(alloc, &mut value);
+        drop(value);
+        match read? {
             Some(filter) => drop(found.insert(name, filter)?),
             None => return Err(JsonFrontendError::Shape(name)),
         }

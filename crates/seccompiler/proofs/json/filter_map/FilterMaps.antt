@@ -88,10 +88,3 @@ least_fault done e more sorted so_far none = record {
       so_far other d (has other done ∙ ap (option_map view) (found_in_front done e more sorted other found.0 found.1 below)
       ∙ ap Some found.2);
 }
-
--- How far an object's members are read: those that are read have the filters of the map, and the others are left.
-pub record IsReading (all left : List Entry) (m : Map) : Type 0 where
-  pub done : List Entry
-  pub whole : all ≡ done ++ left
-  pub sorted : IsStrictlySortedBy string_cmp (keys_of all)
-  pub filters : HasFilters done m

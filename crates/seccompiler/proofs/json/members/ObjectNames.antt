@@ -143,8 +143,8 @@ pub record IsSoFar (d : Data) (left : List Entry) (names : List (List ℕ)) (cou
 module _ (e : Entry) (left : List Entry) (d : Data) (names : List (List ℕ)) (count : ℕ) (all : List (Option Data)) (name : List ℕ) (place : ℕ)
     (few : count ≤ length names) (same : name ≡ string_bytes e.0) (placed : place ≡ place_in names name) (so_far : IsSoFar d (e ∷ left) names count all) where
   -- The first member that is left has one of the names.
-  pub one_more : AreApart names → place < count → IsSoFar d left names count (or_at place (view e.1) all)
-  one_more apart small = record {
+  pub one_more : (k : ℕ) → place ≡ k → AreApart names → place < count → IsSoFar d left names count (or_at k (view e.1) all)
+  one_more k at apart small = rw (← at) record {
     only = only_left e left (take count names) so_far.only (rw (← same, among count names name few) (lt-ltb _ _ (omega (arith, placed, small))));
     sought = sought_more e left d names all place (rw same at placed) apart so_far.sought;
   }

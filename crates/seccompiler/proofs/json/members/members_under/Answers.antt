@@ -17,35 +17,28 @@ returns-then-place-count c = record {
 
 pub loop-name-preserved-in-0 : goal.loop-name-preserved-in-0
 loop-name-preserved-in-0 c = rw (c.or-first.ensures, found_or c.loop-name.first c.in-Some.member)
-    (one_more (c.in-Some.name.now, c.in-Some.member.now) _ _ _ _ _ _ 0 c.requires.count c.as_str.ensures.value
-    (sym c.in-0.is ∙ c.place_among-place.ensures) (rw c.in-Some.ensures.steps at c.loop-name.invariant) c.requires.apart
-    (omega (arith, c.in-0.is, c.if-place-count.false)))
+    (one_more (c.in-Some.name.now, c.in-Some.member.now) _ _ _ _ _ _ _ c.requires.count c.as_str.ensures.value c.place_among-place.ensures
+    (rw c.in-Some.ensures.steps at c.loop-name.invariant) 0 c.in-0.is c.requires.apart c.if-place-count.false)
 
 pub loop-name-preserved-in-1 : goal.loop-name-preserved-in-1
 loop-name-preserved-in-1 c = rw (c.or-second.ensures, found_or c.loop-name.second c.in-Some.member)
-    (one_more (c.in-Some.name.now, c.in-Some.member.now) _ _ _ _ _ _ 1 c.requires.count c.as_str.ensures.value
-    (sym c.in-1.is ∙ c.place_among-place.ensures) (rw c.in-Some.ensures.steps at c.loop-name.invariant) c.requires.apart
-    (omega (arith, c.in-1.is, c.if-place-count.false)))
+    (one_more (c.in-Some.name.now, c.in-Some.member.now) _ _ _ _ _ _ _ c.requires.count c.as_str.ensures.value c.place_among-place.ensures
+    (rw c.in-Some.ensures.steps at c.loop-name.invariant) 1 c.in-1.is c.requires.apart c.if-place-count.false)
 
 pub loop-name-preserved-in-2 : goal.loop-name-preserved-in-2
 loop-name-preserved-in-2 c = rw (c.or-third.ensures, found_or c.loop-name.third c.in-Some.member)
-    (one_more (c.in-Some.name.now, c.in-Some.member.now) _ _ _ _ _ _ 2 c.requires.count c.as_str.ensures.value
-    (sym c.in-2.is ∙ c.place_among-place.ensures) (rw c.in-Some.ensures.steps at c.loop-name.invariant) c.requires.apart
-    (omega (arith, c.in-2.is, c.if-place-count.false)))
+    (one_more (c.in-Some.name.now, c.in-Some.member.now) _ _ _ _ _ _ _ c.requires.count c.as_str.ensures.value c.place_among-place.ensures
+    (rw c.in-Some.ensures.steps at c.loop-name.invariant) 2 c.in-2.is c.requires.apart c.if-place-count.false)
 
 pub loop-name-preserved-in-3 : goal.loop-name-preserved-in-3
 loop-name-preserved-in-3 c = rw (c.or-fourth.ensures, found_or c.loop-name.fourth c.in-Some.member)
-    (one_more (c.in-Some.name.now, c.in-Some.member.now) _ _ _ _ _ _ 3 c.requires.count c.as_str.ensures.value
-    (sym c.in-3.is ∙ c.place_among-place.ensures) (rw c.in-Some.ensures.steps at c.loop-name.invariant) c.requires.apart
-    (omega (arith, c.in-3.is, c.if-place-count.false)))
+    (one_more (c.in-Some.name.now, c.in-Some.member.now) _ _ _ _ _ _ _ c.requires.count c.as_str.ensures.value c.place_among-place.ensures
+    (rw c.in-Some.ensures.steps at c.loop-name.invariant) 3 c.in-3.is c.requires.apart c.if-place-count.false)
 
 pub loop-name-preserved : goal.loop-name-preserved
-loop-name-preserved c =
-    let last : c.place_among-place.result ≡ 4 = omega (arith, c.in_default-place, c.if-place-count.false, c.requires.count) in
-    rw (c.or-fifth.ensures, found_or c.loop-name.fifth c.in-Some.member)
-    (one_more (c.in-Some.name.now, c.in-Some.member.now) _ _ _ _ _ _ 4 c.requires.count c.as_str.ensures.value
-    (sym last ∙ c.place_among-place.ensures) (rw c.in-Some.ensures.steps at c.loop-name.invariant) c.requires.apart
-    (omega (arith, last, c.if-place-count.false)))
+loop-name-preserved c = rw (c.or-fifth.ensures, found_or c.loop-name.fifth c.in-Some.member)
+    (one_more (c.in-Some.name.now, c.in-Some.member.now) _ _ _ _ _ _ _ c.requires.count c.as_str.ensures.value c.place_among-place.ensures
+    (rw c.in-Some.ensures.steps at c.loop-name.invariant) 4 (omega (arith, c.in_default-place, c.if-place-count.false, c.requires.count)) c.requires.apart c.if-place-count.false)
 
 pub returns : goal.returns
 returns c =

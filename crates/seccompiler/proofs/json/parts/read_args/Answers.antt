@@ -15,4 +15,5 @@ no_args items none (Some all) given = none all given
 pub returns-in-None-clause-none : goal.returns-in-None-clause-none
 returns-in-None-clause-none c =
     let none = rw c.in-None.is at c.in_ok-conditions-in-Array.ensures.none in
-    rw (c.in-Some.is, c.in-Array.is, view-Array c.in-Array.items) (no_args (items_view c.in-Array.items.items) (rw (c.in-Array.items-is) at none))
+    rw (c.in-Some.is, c.in-Array.is, view-Array c.in-Array.items)
+    (no_args (items_view c.in-Array.items.items) (rw (c.in-Array.items-is) at none))

@@ -29,7 +29,8 @@ returns g c =
     let Are = λ (text : List ℕ) (find : List ℕ → Option (Vec sock_filter Global)). OfValue text (AreProgramsOf arch find) in
     let All_run = λ (find : List ℕ → Option (Vec sock_filter Global)). (name : List ℕ) → IfSome (find name) (λ p. IsChecked p.items) in
     record {
-      programs = hashed_ok (Are text) (λ find. Reads known (λ text. Are text find)) (λ find. reads_this known (λ text. Are text find) text own)
+      programs = hashed_ok (Are text) (λ find. Reads known (λ text. Are text find))
+          (λ find. reads_this known (λ text. Are text find) text own)
           r _ by.found (rw c.as_slice.ensures.value at of.programs);
       checked = hashed_ok All_run All_run (λ find run. run) r _ by.found of.checked;
       fault = hashed_err (TellsFirstFault arch text) (λ e. Reads known (λ text. TellsFirstFault arch text e)) _

@@ -22,7 +22,8 @@ returns-in_err-to_bpf-clause-refused c =
     let e : String Global × Filter = (c.in-Some.name, c.in-Some.policy) in
     let all = at_next Compiles l.invariant e c.next.new.self c.in-Some.ensures.steps in
     rw (p.1, p.2) (λ arch d are. refusal_of arch d c.args.policies are l.yielded e c.next.new.self all
-    c.into_iter-name-iterator.ensures.into_iter_gives.5 l.found.items l.invariant.made c.in_err-to_bpf.field-0.0 c.in_err-to_bpf.ensures.refused)
+    c.into_iter-name-iterator.ensures.into_iter_gives.5 l.found.items l.invariant.made c.in_err-to_bpf.field-0.0
+    c.in_err-to_bpf.ensures.refused)
 
 pub returns-clause-programs : goal.returns-clause-programs
 returns-clause-programs c =

@@ -32,7 +32,8 @@ data_of found = option_map (λ v. view v.now) found
 -- are left.
 abbrev pub AreSought : Data → List Entry → List (List ℕ) → List (Option Data) → Type 0
 AreSought d left [] [] = ⊤
-AreSought d left (key ∷ names) (found ∷ all) = (get key d ≡ option_or found (get_member key (members_view left))) × AreSought d left names all
+AreSought d left (key ∷ names) (found ∷ all) = (get key d ≡ option_or found (get_member key (members_view left)))
+    × AreSought d left names all
 AreSought d left _ _ = ⊥
 
 -- The first place of a name among some; their number if it is none of them.
@@ -130,7 +131,8 @@ module _ (e : Entry) (left : List Entry) where
         rw behind (is.0 ∙ ap (option_or o) later.1, sought_more d names all _ refl apart.1 is.1)
   ]
     where
-      found : (o : Option Data) → option_or o (Some (view e.1)) ≡ option_or (option_or o (Some (view e.1))) (get_member key (members_view left))
+      found : (o : Option Data) → option_or o (Some (view e.1)) ≡ option_or (option_or o (Some (view e.1)))
+          (get_member key (members_view left))
       found None = refl
       found (Some x) = refl
 
@@ -140,18 +142,21 @@ pub record IsSoFar (d : Data) (left : List Entry) (names : List (List ℕ)) (cou
   pub only : HasOnly (object (members_view left)) (take count names) ↔ HasOnly d (take count names)
   pub sought : AreSought d left names all
 
-module _ (e : Entry) (left : List Entry) (d : Data) (names : List (List ℕ)) (count : ℕ) (all : List (Option Data)) (name : List ℕ) (place : ℕ)
-    (few : count ≤ length names) (same : name ≡ string_bytes e.0) (placed : place ≡ place_in names name) (so_far : IsSoFar d (e ∷ left) names count all) where
+module _ (e : Entry) (left : List Entry) (d : Data) (names : List (List ℕ)) (count : ℕ) (all : List (Option Data))
+    (name : List ℕ) (place : ℕ) (few : count ≤ length names) (same : name ≡ string_bytes e.0) (placed : place ≡ place_in names name)
+    (so_far : IsSoFar d (e ∷ left) names count all) where
   -- The first member that is left has one of the names.
   pub one_more : (k : ℕ) → place ≡ k → AreApart names → place < count → IsSoFar d left names count (or_at k (view e.1) all)
   one_more k at apart small = rw (← at) record {
-    only = only_left e left (take count names) so_far.only (rw (← same, among count names name few) (lt-ltb _ _ (omega (arith, placed, small))));
+    only = only_left e left (take count names) so_far.only
+        (rw (← same, among count names name few) (lt-ltb _ _ (omega (arith, placed, small))));
     sought = sought_more e left d names all place (rw same at placed) apart so_far.sought;
   }
 
   -- It has none of them.
   pub another : count ≤ place → HasOnly d (take count names) → ⊥
-  another large = only_fails e left (take count names) so_far.only (rw (← same, among count names name few) (le-ltb _ _ (omega (arith, placed, large))))
+  another large = only_fails e left (take count names) so_far.only
+      (rw (← same, among count names name few) (le-ltb _ _ (omega (arith, placed, large))))
 
 -- Nothing is left: what an object has under each name is what was found.
 found_all : (d : Data) (names : List (List ℕ)) (all : List (Option Data)) → AreSought d [] names all

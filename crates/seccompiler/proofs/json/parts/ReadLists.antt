@@ -41,7 +41,8 @@ module _ {X : Type 0} (P : Data → X → Type 0) where
     next_read v after x within read = rw (drop-set-lt (i + 1) now i after (omega arith))
         (goes_on all _ _ done _ so_far (drop_more now i v (omega (arith, long, within))) x read)
 
-    pub next_fails : (v : Value) → i < length all → ((x : X) → P (view (get_or now i v)) x → ⊥) → (xs : List X) → OneByOne P (items_view all) xs → ⊥
+    pub next_fails : (v : Value) → i < length all → ((x : X) → P (view (get_or now i v)) x → ⊥) → (xs : List X)
+        → OneByOne P (items_view all) xs → ⊥
     next_fails v within = fails all _ _ done _ so_far (drop_more now i v (omega (arith, long, within)))
 
     pub all_read : length all ≤ i → OneByOne P (items_view all) done

@@ -1,4 +1,4 @@
--- For `gather` and `gather_all`: what is gathered of entries, one after the other.
+-- For `gather`: what is gathered of entries, one after the other.
 use Rattle.std.proofs.Common.{◌≡◌, ◌++◌, List, [], ◌∷◌, ◌||◌, Some, None, All, refl, sym, ap, ◌∙◌, append-nil}
 use Rattle.std.specs.List.{flat_map, list_any}
 use Rattle.std.proofs.Common.{replicate, false}

@@ -1,5 +1,6 @@
--- For `add_entry`, `gather`, `gather_all`, `chains_of_numbers` and `both_kinds`: what is told of numbers, in an array over them.
-use Rattle.std.proofs.Common.{◌≡◌, ℕ, ◌+◌, ◌<◌, ◌≤◌, ℤ, pos, negsuc, List, [], ◌∷◌, ◌++◌, length, get_or, replicate, Bool, true, false, ◌||◌, ◌&&◌}
+-- For `add_entry`, `gather`, `chains_of_numbers` and `both_kinds`: what is told of numbers, in an array over them.
+use Rattle.std.proofs.Common.{◌≡◌, ℕ, ◌+◌, ◌<◌, ◌≤◌, ℤ, pos, negsuc, List, [], ◌∷◌, ◌++◌, length, get_or, replicate, Bool, true}
+use Rattle.std.proofs.Common.{false, ◌||◌, ◌&&◌}
 use Rattle.std.proofs.Common.{nat_lt, refl, sym, ap, ◌∙◌, inl, inr, arith, w64, to_z, of_z, Some, cond, append-nil}
 use Rattle.std.specs.Prelude.{slice_set}
 use Rattle.std.specs.List.{AllByRecursion, list_any}
@@ -29,7 +30,8 @@ place_of (pos n) h = let within : n < 463 = grind (arith, ints, h.1) in
 place_of (negsuc n) h = absurd (grind (arith, ints, h.0))
 
 -- So is the number of a name.
-pub place_of_name : (table : List Pair) (name : List ℕ) (number : ℤ) → IsCallTable table → Some number ≡ number_of table name → IsPlace number
+pub place_of_name : (table : List Pair) (name : List ℕ) (number : ℤ) → IsCallTable table → Some number ≡ number_of table name
+    → IsPlace number
 place_of_name table name number all is = place_of number (rw (sym is) at (number_of-all IsTableNumber table name all.in_range))
 
 -- A place is the same number with a sign.
@@ -48,11 +50,13 @@ apart : (m n : ℕ) → (m ≡ n → ⊥) → int_eq (pos m) (pos n) ≡ false
 apart m n other = false_from_ne_true _ (λ is. other (let e = (Decides-int_eq (pos m) (pos n)).0 is in cc))
 
 -- A number more is told.
-pub told_more : (told : List Bool) (n : ℕ) (q : ℤ) → n < length told → told_of (slice_set told n true) q ≡ (told_of told q || int_eq q (pos n))
+pub told_more : (told : List Bool) (n : ℕ) (q : ℤ) → n < length told → told_of (slice_set told n true) q
+    ≡ (told_of told q || int_eq q (pos n))
 told_more told n (pos m) within = elim (cases_eq m n) [
   | inl same ↦ rw same (get_or-set_same told n true false within
       ∙ sym (rw ((Decides-int_eq (pos n) (pos n)).1 refl) (or-true (get_or told n false))))
-  | inr other ↦ get_or-set_other told n m true false other ∙ sym (ap (λ b. get_or told m false || b) (apart m n other) ∙ or-false (get_or told m false))
+  | inr other ↦ get_or-set_other told n m true false other ∙ sym (ap (λ b. get_or told m false || b) (apart m n other)
+      ∙ or-false (get_or told m false))
 ]
 told_more told n (negsuc m) within = refl
 
@@ -68,10 +72,13 @@ next_below m n other = elim (cases_lt m n) [
 ]
 
 -- One number more: the numbers below it, and itself.
-pub told_next : (told : List Bool) (n : ℕ) (q : ℤ) → told_below told (n + 1) q ≡ (told_below told n q || (get_or told n false && int_eq q (pos n)))
+pub told_next : (told : List Bool) (n : ℕ) (q : ℤ) → told_below told (n + 1) q
+    ≡ (told_below told n q || (get_or told n false && int_eq q (pos n)))
 told_next told n (pos m) = elim (cases_eq m n) [
-  | inl same ↦ rw (same, (Decides-int_eq (pos n) (pos n)).1 refl, lt-ltb n (n + 1) (omega arith), le-ltb n n (omega arith)) (sym (and-true _))
-  | inr other ↦ rw (apart m n other, and-false (get_or told n false)) (ap (λ b. b && get_or told m false) (next_below m n other) ∙ sym (or-false _))
+  | inl same ↦ rw (same, (Decides-int_eq (pos n) (pos n)).1 refl, lt-ltb n (n + 1) (omega arith), le-ltb n n (omega arith))
+      (sym (and-true _))
+  | inr other ↦ rw (apart m n other, and-false (get_or told n false)) (ap (λ b. b && get_or told m false) (next_below m n other)
+      ∙ sym (or-false _))
 ]
 told_next told n (negsuc m) = sym (and-false _)
 
@@ -121,7 +128,8 @@ pushed : (P : ℤ → Type 0) (numbers : List ℤ) (number : ℤ) → AllByRecur
 pushed P [] number all own = (own, tt)
 pushed P (first ∷ numbers) number all own = (all.0, pushed P numbers number all.1 own)
 
-sorted_push : (n : ℕ) (numbers : List ℤ) → IsStrictlySortedBy int_cmp numbers → AllByRecursion (λ number. int_cmp number (pos n) ≡ Less) numbers
+sorted_push : (n : ℕ) (numbers : List ℤ) → IsStrictlySortedBy int_cmp numbers
+    → AllByRecursion (λ number. int_cmp number (pos n) ≡ Less) numbers
     → IsStrictlySortedBy int_cmp (numbers ++ pos n ∷ [])
 unfolding IsStrictlySortedBy
 sorted_push n [] sorted below = (tt, tt)

@@ -38,7 +38,8 @@ loop-name-preserved-in-3 c = rw (c.or-fourth.ensures, found_or c.loop-name.fourt
 pub loop-name-preserved : goal.loop-name-preserved
 loop-name-preserved c = rw (c.or-fifth.ensures, found_or c.loop-name.fifth c.in-Some.member)
     (one_more (c.in-Some.name.now, c.in-Some.member.now) _ _ _ _ _ _ _ c.requires.count c.as_str.ensures.value c.place_among-place.ensures
-    (rw c.in-Some.ensures.steps at c.loop-name.invariant) 4 (omega (arith, c.in_default-place, c.if-place-count.false, c.requires.count)) c.requires.apart c.if-place-count.false)
+    (rw c.in-Some.ensures.steps at c.loop-name.invariant) 4
+    (omega (arith, c.in_default-place, c.if-place-count.false, c.requires.count)) c.requires.apart c.if-place-count.false)
 
 pub returns : goal.returns
 returns c =

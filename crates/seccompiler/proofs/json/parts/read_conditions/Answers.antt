@@ -6,7 +6,8 @@ use Rattle.seccompiler.proofs.json.parts.read_conditions.Goals as goal
 pub loop-item-preserved : goal.loop-item-preserved
 loop-item-preserved c =
     let l = c.loop-item in
-    rw c.in_ok-push-in-Some.ensures.items (next_read IsCondition _ l.item-items l.item-index _ l.invariant l.auto.item-items c.item-item.result
+    rw c.in_ok-push-in-Some.ensures.items (next_read IsCondition _ l.item-items l.item-index _ l.invariant l.auto.item-items
+    c.item-item.result
     c.read_condition.new.value _ c.loop-item-test.true c.in-Some.ensures.found)
 
 pub returns-in-None-clause-none : goal.returns-in-None-clause-none

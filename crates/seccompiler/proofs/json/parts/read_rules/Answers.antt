@@ -16,7 +16,8 @@ returns-in-None-clause-none c =
     let l = c.loop-item in
     let same : c.deref_mut-item-items.result.now ≡ c.in-Array.items.items =
     c.deref_mut-item-items.ensures.value ∙ ap (λ (v : Vec Value Global). v.items) c.in-Array.items-is in
-    rw (c.in-Array.is, view-Array c.in-Array.items, ← same) (next_fails IsEntry _ l.item-items l.item-index _ l.invariant l.auto.item-items c.item-item.result
+    rw (c.in-Array.is, view-Array c.in-Array.items, ← same)
+    (next_fails IsEntry _ l.item-items l.item-index _ l.invariant l.auto.item-items c.item-item.result
     c.loop-item-test.true (rw c.in-None.is at c.in_ok-rule.ensures.none))
 
 pub returns-clause-found : goal.returns-clause-found
@@ -24,4 +25,5 @@ returns-clause-found c =
     let l = c.loop-item in
     let same : c.deref_mut-item-items.result.now ≡ c.in-Array.items.items =
     c.deref_mut-item-items.ensures.value ∙ ap (λ (v : Vec Value Global). v.items) c.in-Array.items-is in
-    rw (c.in-Array.is, view-Array c.in-Array.items, ← same) (all_read IsEntry _ l.item-items l.item-index _ l.invariant l.auto.item-items c.loop-item-test.false)
+    rw (c.in-Array.is, view-Array c.in-Array.items, ← same)
+    (all_read IsEntry _ l.item-items l.item-index _ l.invariant l.auto.item-items c.loop-item-test.false)

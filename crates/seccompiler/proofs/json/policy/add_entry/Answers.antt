@@ -23,5 +23,6 @@ returns-in-None-clause-added c =
       rules = search rules;
       always = λ q.
           let same : int_eq q c.in-Some.number ≡ is_always c.args.arch q c.args.entry.now = search rules in
-          rw number.held (told_more told number.place q (let long : length told ≡ 463 = search rules in omega (arith, long, number.within)) ∙ ap (λ b. told_of told q || b) (rw number.is at same));
+          rw number.held (told_more told number.place q (let long : length told ≡ 463 = search rules in omega
+          (arith, long, number.within)) ∙ ap (λ b. told_of told q || b) (rw number.is at same));
     }

@@ -9,7 +9,8 @@ pub loop-number-init : goal.loop-number-init
 loop-number-init c = rw c.new-numbers.ensures.items (none_listed _ _)
 
 pub loop-number-preserved-then-not-always-number : goal.loop-number-preserved-then-not-always-number
-loop-number-preserved-then-not-always-number c = next_not_listed _ _ c.loop-number.number _ (rw c.if-not-always-number.true refl) c.loop-number.invariant
+loop-number-preserved-then-not-always-number c = next_not_listed _ _ c.loop-number.number _ (rw c.if-not-always-number.true refl)
+    c.loop-number.invariant
 
 pub loop-number-preserved-then-not-contains_key : goal.loop-number-preserved-then-not-contains_key
 loop-number-preserved-then-not-contains_key c =
@@ -30,6 +31,7 @@ returns c =
     let long : length told ≡ 463 = search rules in
     record {
       numbers = λ q. c.loop-number.invariant.listed q
-          ∙ ap (λ (b : Bool). b && is_some (rules_at c.args.gathered q)) (told_all told _ q (omega (arith, long, c.loop-number-test.false)));
+          ∙ ap (λ (b : Bool). b && is_some (rules_at c.args.gathered q))
+          (told_all told _ q (omega (arith, long, c.loop-number-test.false)));
       ascending = c.loop-number.invariant.ascending;
     }

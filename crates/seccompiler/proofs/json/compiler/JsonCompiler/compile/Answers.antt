@@ -27,11 +27,13 @@ returns g c =
     let Are = λ (text : List ℕ) (find : List ℕ → Option Filter). OfValue text (ArePoliciesOf arch find) in
     let All_fit = λ (find : List ℕ → Option Filter). (name : List ℕ) → IfSome (find name) (λ f. All IsTableNumber (numbers_of f.chains)) in
     record {
-      policies = hashed_ok (Are text) (λ find. Reads known (λ text. Are text find)) (λ find. reads_this known (λ text. Are text find) text own)
+      policies = hashed_ok (Are text) (λ find. Reads known (λ text. Are text find))
+          (λ find. reads_this known (λ text. Are text find) text own)
           r _ by.found (rw c.as_slice.ensures.value at of.policies);
       numbers = hashed_ok All_fit All_fit (λ find fit. fit) r _ by.found of.numbers;
       fault = hashed_err (TellsFrontendFault arch text) (λ e. Reads known (λ text. TellsFrontendFault arch text e)) _
           (λ e. reads_this known (λ text. TellsFrontendFault arch text e) text own) (λ e lost. rw lost (text, own, tt))
           r _ by.found by.memory (rw c.as_slice.ensures.value at of.fault);
-      memory = hashed_err IsNoMemoryInFrontend IsNoMemoryInFrontend _ (λ e fit. fit) (λ e lost. rw lost tt) r _ by.found by.memory of.memory;
+      memory = hashed_err IsNoMemoryInFrontend IsNoMemoryInFrontend _ (λ e fit. fit) (λ e lost. rw lost tt) r _ by.found by.memory
+          of.memory;
     }

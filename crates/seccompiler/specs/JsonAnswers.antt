@@ -36,8 +36,7 @@ HasPolicy arch value policy = (f : JsonFilter) × IsFilter value f × IsPolicyOf
 abbrev pub HasSomePolicy : TargetArch → Data → Type 0
 HasSomePolicy arch value = (policy : Filter) × HasPolicy arch value policy
 
--- The value is an object, and what is found under a name is the policy of the name's value; under no other name
--- there is anything.
+-- The value is an object, and what is found under a name is the policy of the name's value; under no other name there is anything.
 abbrev pub ArePoliciesOf : TargetArch → (List ℕ → Option Filter) → Data → Type 0
 ArePoliciesOf arch = AreFound (HasPolicy arch)
 

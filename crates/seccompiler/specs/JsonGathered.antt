@@ -33,8 +33,7 @@ pub record HasAdded (arch : TargetArch) (entry : JsonRule) (old new : Gathered) 
   pub rules : (number : ℤ) → rules_at new number ≡ added (rules_for arch number entry) (rules_at old number)
   pub always : (number : ℤ) → is_always_at new number ≡ (is_always_at old number || is_always arch number entry)
 
--- This was gathered of these entries: under each number the rules of its entries, in order; and the numbers of the
--- entries without conditions.
+-- This was gathered of these entries: under each number the rules of its entries, in order; and whether one has no conditions.
 pub record AreGathered (arch : TargetArch) (entries : List JsonRule) (gathered : Gathered) : Type 0 where
   pub rules : (number : ℤ) → rules_at gathered number ≡ added (flat_map (rules_for arch number) entries) None
   pub always : (number : ℤ) → is_always_at gathered number ≡ list_any (is_always arch number) entries

@@ -21,8 +21,7 @@ use Rattle.seccompiler.specs.declared.backend.BackendError.{BackendError}
 abbrev pub condition_of : JsonCondition → Condition
 condition_of c = record { arg_index = c.arg_index; arg_len = c.arg_len; operator = c.operator; value = c.value }
 
--- The rules that an entry's conditions stand for: one that has them all, in order, or no rule if there is no list of
--- them.
+-- The rules that an entry's conditions stand for: one that has them all, in order, or no rule if there is no list of them.
 abbrev pub rules_of : Option (List JsonCondition) → List Rule
 rules_of None = []
 rules_of (Some conditions) = map condition_of conditions ∷ []
@@ -75,8 +74,7 @@ pub record IsMadeOf (meant : ℤ → Chain) (arch : TargetArch) (j : JsonFilter)
   pub no_other : (number : ℤ) → (Any (IsFor arch number) j.rules → ⊥) → chain_at f.chains number ≡ None
   pub ascending : IsStrictlySortedBy int_cmp (numbers_of f.chains)
 
--- The rules of a number: in order, one for each entry with this number and with conditions, which has these conditions, in
--- order.
+-- The rules of a number: in order, one for each entry with this number and with conditions, which has these conditions, in order.
 abbrev pub all_rules : TargetArch → List JsonRule → ℤ → Chain
 all_rules arch entries number = flat_map (rules_for arch number) entries
 

@@ -15,9 +15,8 @@ use Rattle.seccompiler.specs.JsonFilters.{IsLeastFault}
 use Rattle.seccompiler.specs.JsonSteps.{AreFilters}
 use Rattle.seccompiler.specs.JsonShape.{IsFilter}
 use Rattle.seccompiler.specs.JsonTypes.{JsonFilter}
-use Rattle.seccompiler.proofs.ByName.{under}
+use Rattle.seccompiler.proofs.ByName.{under, by_text, found_there, found_in_front}
 use Rattle.serde_json.specs.declared.value.Value.{Value}
-use Rattle.seccompiler.proofs.ByName.{by_text, found_there, found_in_front}
 
 abbrev Map : Type 0
 Map = BTreeMap (String Global) JsonFilter

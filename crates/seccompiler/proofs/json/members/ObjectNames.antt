@@ -1,7 +1,6 @@
 -- For `members_under`: what an object has under a name, and whether its names are all among some.
-use Rattle.std.proofs.Common.{◌≡◌, ℕ, zero, suc, ◌≤◌, ◌<◌, List, [], ◌∷◌, length, take, true, false}
-use Rattle.std.proofs.Common.{nat_lt, Option, Some, None, option_map, refl, sym, ap, ◌∙◌, subst, arith, bytes_eq, ◌↔◌, ◌⊎◌}
-use Rattle.std.proofs.Common.{inl, inr, Contains, string_bytes}
+use Rattle.std.proofs.Common.{◌≡◌, ℕ, zero, suc, ◌≤◌, ◌<◌, List, [], ◌∷◌, length, take, true, false, nat_lt, Option, Some, None, option_map}
+use Rattle.std.proofs.Common.{refl, sym, ap, ◌∙◌, subst, arith, bytes_eq, ◌↔◌, ◌⊎◌, inl, inr, Contains, string_bytes, string_cmp}
 use Rattle.std.specs.Bool.{⊤}
 use Rattle.std.specs.Borrow.{MutBor}
 use Rattle.std.specs.List.{list_any, position_or_len, AllZip}
@@ -9,7 +8,6 @@ use Rattle.std.specs.Option.{option_or}
 use Rattle.std.specs.List.Sorted.{IsStrictlySortedBy}
 use Rattle.std.specs.Map.{keys_of}
 use Rattle.std.specs.Ordering.{is_eq}
-use Rattle.std.proofs.Common.{string_cmp}
 use Rattle.std.proofs.Math.Bool.{or-false}
 use Rattle.std.proofs.lemmas.Map.Text.{is_eq-slice_cmp}
 use Rattle.std.proofs.lemmas.Bool.{true≢false, cases_Bool, le-ltb, lt-ltb}

@@ -1,7 +1,6 @@
 -- For `gather`: what is gathered of entries, one after the other.
-use Rattle.std.proofs.Common.{◌≡◌, ◌++◌, List, [], ◌∷◌, ◌||◌, Some, None, All, refl, sym, ap, ◌∙◌, append-nil}
+use Rattle.std.proofs.Common.{◌≡◌, ◌++◌, List, [], ◌∷◌, ◌||◌, Some, None, All, refl, sym, ap, ◌∙◌, append-nil, replicate, false}
 use Rattle.std.specs.List.{flat_map, list_any}
-use Rattle.std.proofs.Common.{replicate, false}
 use Rattle.std.proofs.Math.Bool.{or-false}
 use Rattle.std.proofs.lemmas.List.{flat_map_more}
 use Rattle.std.proofs.lemmas.List.Elements.{All-nil, All-push}

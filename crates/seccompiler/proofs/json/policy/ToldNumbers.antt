@@ -1,7 +1,6 @@
 -- For `add_entry`, `gather`, `chains_of_numbers` and `both_kinds`: what is told of numbers, in an array over them.
-use Rattle.std.proofs.Common.{◌≡◌, ℕ, ◌+◌, ◌<◌, ◌≤◌, ℤ, pos, negsuc, List, [], ◌∷◌, ◌++◌, length, get_or, replicate, Bool, true}
-use Rattle.std.proofs.Common.{false, ◌||◌, ◌&&◌}
-use Rattle.std.proofs.Common.{nat_lt, refl, sym, ap, ◌∙◌, inl, inr, arith, w64, to_z, of_z, Some, cond, append-nil}
+use Rattle.std.proofs.Common.{◌≡◌, ℕ, ◌+◌, ◌<◌, ◌≤◌, ℤ, pos, negsuc, List, [], ◌∷◌, ◌++◌, length, get_or, replicate, Bool, true, false}
+use Rattle.std.proofs.Common.{◌||◌, ◌&&◌, nat_lt, refl, sym, ap, ◌∙◌, inl, inr, arith, w64, to_z, of_z, Some, cond, append-nil}
 use Rattle.std.specs.Prelude.{slice_set}
 use Rattle.std.specs.List.{AllByRecursion, list_any}
 use Rattle.std.specs.List.Sorted.{IsStrictlySortedBy}

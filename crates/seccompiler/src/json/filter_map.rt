@@ -12,7 +12,6 @@ use crate::json::parts::read_filter;
 use crate::json::types::JsonFilterMap;
 use serde_json::Value;
 use std::alloc::Global;
-use std::collections::BTreeMap;
 
 /// Reads a JSON value as filters under their names.
 ///
@@ -52,14 +51,14 @@ pub fn filters_in(alloc: Global, value: Value) -> Result<JsonFilterMap, JsonFron
     let Value::Object(members) = value else {
         return Err(JsonFrontendError::NotAnObject);
     };
-    let mut found = BTreeMap::new(alloc);
+    let mut found = Vec::new(alloc);
     for (name, mut value) in members {
         let read = read_filter(alloc, &mut value);
         drop(value);
         match read? {
-            Some(filter) => drop(found.insert(name, filter)?),
+            Some(filter) => found.push((name, filter))?,
             None => return Err(JsonFrontendError::Shape(name)),
         }
     }
-    Ok(JsonFilterMap(found))
+    Ok(JsonFilterMap(found.into_iter().collect(alloc)?))
 }

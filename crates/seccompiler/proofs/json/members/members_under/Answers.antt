@@ -1,4 +1,4 @@
-use Rattle.std.proofs.Common.{◌≡◌, arith, sym, ◌∙◌}
+use Rattle.std.proofs.Common.{arith, sym}
 use Rattle.std.proofs.lemmas.Bool.{true≢false}
 use Rattle.seccompiler.proofs.json.members.ObjectNames.{one_more, another, at_end, found_or}
 use Rattle.seccompiler.proofs.json.members.members_under.Goals as goal

@@ -2,18 +2,14 @@
 use Rattle.std.proofs.Common.{◌≡◌, ℤ, ◌++◌, List, [], ◌∷◌, Vec, Global, Bool, true, false, ◌||◌, cond, Option, Some, None, option_map, refl}
 use Rattle.std.proofs.Common.{sym, ap, ◌∙◌, unwrap_or}
 use Rattle.std.specs.BTreeMap.{BTreeMap, is_at, InsertsAll, IsFromIterResult}
-use Rattle.std.specs.List.{dedup, filter, list_any}
 use Rattle.std.specs.Map.{lookup, keys_of, update, update_all}
 use Rattle.std.specs.Option.{is_some, option_or}
 use Rattle.std.specs.Ordering.{int_cmp, int_eq}
-use Rattle.std.proofs.lemmas.Bool.Decides.{Decides-int_eq, Decides-like, same_from_decides}
+use Rattle.std.proofs.lemmas.Bool.Decides.{Decides-int_eq}
 use Rattle.std.proofs.lemmas.Cmp.{int_eq_equiv}
-use Rattle.std.proofs.lemmas.List.Elements.{filter-append}
-use Rattle.std.proofs.lemmas.List.Folds.{list_any-append}
 use Rattle.std.proofs.lemmas.List.Sums.{fold_push}
 use Rattle.std.proofs.lemmas.Map.Keys.{IsDistinct-from_sorted}
-use Rattle.std.proofs.lemmas.List.Kept.{Contains-dedup, Contains-from_dedup}
-use Rattle.std.proofs.lemmas.Map.Made.{is_member-Decides, lookup-map_values, update_all_distinct}
+use Rattle.std.proofs.lemmas.Map.Made.{lookup-map_values, update_all_distinct}
 use Rattle.seccompiler.specs.Policy.{Rule, Chain, chains_of}
 use Rattle.seccompiler.specs.JsonGathered.{added, chain_of}
 use Rattle.seccompiler.specs.JsonPolicyOf.{chain_at}

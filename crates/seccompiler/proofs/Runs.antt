@@ -1,5 +1,5 @@
 -- A piece of code does inside a program what it does alone.
-use Rattle.std.proofs.Common.{◌≡◌, ℕ, zero, suc, ◌+◌, ◌≤◌, List, [], ◌∷◌, ◌++◌, length, Some, arith, subst, ◌<◌, ◌^◌}
+use Rattle.std.proofs.Common.{◌≡◌, ℕ, zero, suc, ◌+◌, ◌≤◌, List, [], ◌∷◌, ◌++◌, length, Some, arith, refl, ◌<◌, ◌^◌}
 use Rattle.std.specs.Prelude.{slice_get}
 use Rattle.seccompiler.specs.declared.bpf.sock_filter.{sock_filter}
 use Rattle.seccompiler.specs.Pieces.{Leads}
@@ -67,11 +67,13 @@ goes_far p r {place} {a} (then_step {n = n} {place' = place'} {a' = a'} {place''
 pub stands_second : (a b : List sock_filter) → Stands (a ++ b) (length a) b
 stands_second a b = record { at = λ k i e. get_behind a b k i e }
 
-pub leads_to : (p : List sock_filter) (r : List ℕ) (x a y y' : ℕ) → y ≡ y' → Leads p r x a y → Leads p r x a y'
-leads_to p r x a y y' e h = subst (λ n. Leads p r x a n) e h
+-- a run between places, and of steps, that are given in other words
+pub leads_as : (p : List sock_filter) (r : List ℕ) {x a y x' y' : ℕ} → Leads p r x a y → x ≡ x' → y ≡ y' → Leads p r x' a y'
+leads_as p r h e f = rw (← e, ← f) h
 
-pub leads_from : (p : List sock_filter) (r : List ℕ) (x x' a y : ℕ) → x ≡ x' → Leads p r x a y → Leads p r x' a y
-leads_from p r x x' a y e h = subst (λ n. Leads p r n a y) e h
+pub goes_as : (p : List sock_filter) (r : List ℕ) {x a n y b x' n' y' : ℕ} → Goes p r x a n y b → x ≡ x' → n ≡ n' → y ≡ y'
+    → Goes p r x' a n' y' b
+goes_as p r g e f h = rw (← e, ← f, ← h) g
 
 -- what the second piece does
 pub leads_second : (a b : List sock_filter) (r : List ℕ) (x s y : ℕ) → Leads b r x s y → Leads (a ++ b) r (length a + x) s (length a + y)
@@ -104,8 +106,7 @@ leads_front a b r x s y h = record { count = h.count; accumulator = h.accumulato
 pub leads_through : (cc code : List sock_filter) (r : List ℕ) (a y : ℕ) (g : Leads cc r 0 a (length cc))
     → Leads code r 0 g.accumulator y → Leads (cc ++ code) r 0 a (length cc + y)
 leads_through cc code r a y g h =
-    let z : length cc + 0 ≡ length cc = omega arith in
-    let k = leads_from (cc ++ code) r _ _ g.accumulator _ z (leads_second cc code r 0 g.accumulator y h) in
+    let k = leads_as (cc ++ code) r {x' = length cc} (leads_second cc code r 0 g.accumulator y h) (omega arith) refl in
     record { count = g.count + k.count; accumulator = k.accumulator; goes = goes_on (cc ++ code) r (goes_front cc code r g.goes) k.goes }
 
 -- what a first piece and then a run in a second do together

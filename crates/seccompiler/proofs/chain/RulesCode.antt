@@ -14,7 +14,8 @@ use Rattle.seccompiler.specs.Layout.{rule_length, rule_steps, rules_length}
 use Rattle.seccompiler.specs.Pieces.{IsRuleCode}
 use Rattle.seccompiler.specs.ChainCode.{IsRulesCode}
 use Rattle.seccompiler.proofs.Blocks.{returns_front, returns_back, gives, block_join, block_from_closed, block_give, give_in_range}
-use Rattle.seccompiler.proofs.Runs.{goes_shift, goes_on, goes_front, leads_front, leads_through, stands_second, leads_to, stays_small}
+use Rattle.seccompiler.proofs.Runs.{goes_shift, goes_on, goes_front, leads_front, leads_through, stands_second}
+use Rattle.seccompiler.proofs.Runs.{leads_as, goes_as, stays_small}
 use Rattle.seccompiler.proofs.Parts.{around}
 use Rattle.seccompiler.proofs.Closed.{ranges_join, ranges_from}
 
@@ -72,14 +73,11 @@ with_return q w own fits h =
           ))
           (λ t. inr (
             λ any. t.0 (any_only (λ x. RuleHolds x r) q any),
-            leads_to p r 0 a _ _ (sym len) (leads_front own (give w ∷ []) r 0 a (length own + 1) t.1),
+            leads_as p r (leads_front own (give w ∷ []) r 0 a (length own + 1) t.1) refl (sym len),
           ))
           (h.enters r rec a small);
       skips = λ r a small.
-          let to_far : length own + 2 ≡ length p + 1 = omega arith in
-          let steps : rule_steps q ≡ sum_by rule_steps (q ∷ []) = omega arith in
-          subst (λ n. Goes p r 1 a n (length p + 1) a) steps
-          (subst (λ n. Goes p r 1 a (rule_steps q) n a) to_far (goes_front own (give w ∷ []) r (h.skips r a small)));
+          goes_as p r (goes_front own (give w ∷ []) r (h.skips r a small)) refl (omega arith) (omega arith);
     }
 
 -- one rule more
@@ -102,18 +100,14 @@ rules_more chain w code one q last h =
           ⊎_elim (λ u. inl (Any-push (λ x. RuleHolds x r) chain q (any_only (λ x. RuleHolds x r) q u.0), returns_back code one r a w g u.1))
           (λ u. inr (
             λ any. ⊎_elim t.0 (λ h. u.0 (any_here (λ x. RuleHolds x r) q h)) (any_split (λ x. RuleHolds x r) chain q any),
-            leads_to p r 0 a _ _ (sym len) (leads_through code one r a (length one) t.1 u.1),
+            leads_as p r (leads_through code one r a (length one) t.1 u.1) refl (sym len),
           ))
           (last.enters r rec g.accumulator fits))
           (h.enters r rec a small);
       skips = λ r a small.
           let first = goes_front code one r (h.skips r a small) in
           let second = goes_shift p one r (length code) (stands_second code one) (last.skips r a small) in
-          let steps : sum_by rule_steps chain + sum_by rule_steps (q ∷ []) ≡ sum_by rule_steps (chain ++ q ∷ []) =
-          omega (arith, sum_by_push rule_steps chain q) in
-          let to_far : length code + (length one + 1) ≡ length p + 1 = omega arith in
-          subst (λ n. Goes p r 1 a n (length p + 1) a) steps
-          (subst (λ n. Goes p r 1 a (sum_by rule_steps chain + sum_by rule_steps (q ∷ [])) n a) to_far (goes_on p r first second));
+          goes_as p r (goes_on p r first second) refl (omega (arith, sum_by_push rule_steps chain q)) (omega arith);
     }
 
 -- a step of the loop over the rules

@@ -141,19 +141,12 @@ pub written_full : (f : Filter) (entries : List (ℤ × Vec Rule Global)) (misma
     → IsChainsCode (chains_of entries) mismatch matched chains
     → p ≡ load 4 ∷ jump_equal (audit_word f.target_arch) 1 0 ∷ give 0x80000000 ∷ load 0 ∷ (chains ++ give mismatch ∷ []) → IsCompiled f p
 written_full f entries mismatch matched chains p w some short code e =
-    let own = subst (λ l. IsChainsCode l (word_of f.mismatch_action) (word_of f.match_action) chains) w.chains
-    (subst (λ n. IsChainsCode (chains_of entries) n (word_of f.match_action) chains) w.mismatch_is
-    (subst (λ n. IsChainsCode (chains_of entries) mismatch n chains) w.matched_is code)) in
-    let same = ap (λ (n : ℕ). load 4 ∷ jump_equal (audit_word f.target_arch) 1 0 ∷ give 0x80000000 ∷ load 0 ∷ (chains ++ give n ∷ []))
-    w.mismatch_is in
-    let some_chains = some_mapped entries f.chains w.chains some in
-    subst (λ q. IsCompiled f q) (sym (e ∙ same)) (full_program f chains some_chains short own)
+    let own = rw (w.mismatch_is, w.matched_is, w.chains) at code in
+    rw (e, w.mismatch_is) (full_program f chains (some_mapped entries f.chains w.chains some) short own)
 
 -- the program of a filter without chains, as it was written
 pub written_empty : (f : Filter) (entries : List (ℤ × Vec Rule Global)) (mismatch matched : ℕ) (p : List sock_filter)
     → Written f entries mismatch matched → length entries ≡ 0
     → p ≡ load 4 ∷ jump_equal (audit_word f.target_arch) 1 0 ∷ give 0x80000000 ∷ give mismatch ∷ [] → IsCompiled f p
-written_empty f [] mismatch matched p w none e =
-    let same = ap (λ (n : ℕ). load 4 ∷ jump_equal (audit_word f.target_arch) 1 0 ∷ give 0x80000000 ∷ give n ∷ []) w.mismatch_is in
-    subst (λ q. IsCompiled f q) (sym (e ∙ same)) (empty_program f (sym w.chains))
+written_empty f [] mismatch matched p w none e = rw (e, w.mismatch_is) (empty_program f (sym w.chains))
 written_empty f (x ∷ entries) mismatch matched p w none e = absurd (omega arith)

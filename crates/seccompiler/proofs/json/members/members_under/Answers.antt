@@ -1,5 +1,8 @@
 use Rattle.std.proofs.Common.{◌≡◌, arith, sym, ◌∙◌}
+use Rattle.std.specs.Borrow.{Bor, MutBor}
 use Rattle.std.proofs.lemmas.Bool.{true≢false}
+use Rattle.serde_json.specs.View.{view}
+use Rattle.serde_json.specs.declared.value.Value.{Value}
 use Rattle.seccompiler.proofs.json.members.ObjectNames.{one_more, another, at_end, found_or}
 use Rattle.seccompiler.proofs.json.members.members_under.Goals as goal
 

@@ -1,6 +1,7 @@
-use Rattle.std.proofs.Common.{List, Option, Some, None}
-use Rattle.serde_json.specs.Data.{Items, array}
-use Rattle.serde_json.specs.View.{items_view}
+use Rattle.std.proofs.Common.{◌≡◌, List, Option, Some, None, Vec, Global, ap, ◌∙◌}
+use Rattle.serde_json.specs.Data.{Data, Items, array}
+use Rattle.serde_json.specs.View.{view, items_view}
+use Rattle.serde_json.specs.declared.value.Value.{Value}
 use Rattle.serde_json.proofs.Views.{view-Array}
 use Rattle.seccompiler.specs.JsonShape.{IsArgs, IsCondition, OneByOne}
 use Rattle.seccompiler.specs.declared.json.types.JsonCondition.{JsonCondition}

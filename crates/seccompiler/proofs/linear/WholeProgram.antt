@@ -57,9 +57,8 @@ module _ (f : Filter) where
   passed : (chains : List sock_filter) (r : List ℕ) (a n : ℕ) → Goes chains r 0 a n (length chains) a
       → ReturnsAfter (chains ++ last) r 0 a n mismatch_word
   passed chains r a n g =
-      let z : n + 0 ≡ n = omega arith in
-      subst (λ k. ReturnsAfter (chains ++ last) r 0 a k mismatch_word) z
-      (back_returns chains last r a a n 0 mismatch_word (goes_front chains last r g) (gives mismatch_word [] r a))
+      let z : n ≡ n + 0 = omega arith in
+      rw z (back_returns chains last r a a n 0 mismatch_word (goes_front chains last r g) (gives mismatch_word [] r a))
 
   -- what the chains and the return behind them answer
   dispatched : (chains : List sock_filter) (r : List ℕ) → Dispatches f.chains mismatch_word match_word chains r (word_at r 0)
@@ -107,7 +106,7 @@ module _ (f : Filter) where
       let len : length (chains ++ last) ≡ length chains + 1 = length-append chains last in
       record {
         long = omega (arith, length-append (head f) (chains ++ last), len, h.long);
-        checked = head_checked f (chains ++ last) chains mismatch_word refl
+        checked = head_checked f chains mismatch_word
             (ranges_join chains last h.ranges (ranges_from last (give_in_range mismatch_word (action_word_fits f.mismatch_action), tt)))
             (block_join chains last (length chains) 0 (length chains) h.block (block_give mismatch_word 0) (omega arith) (omega arith))
             (omega (arith, len, h.long));

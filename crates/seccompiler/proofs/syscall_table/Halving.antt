@@ -1,6 +1,6 @@
 -- For `SyscallTable::lookup`: what one comparison with the middle of a part of a table tells of the look-up in it.
-use Rattle.std.proofs.Common.{◌≡◌, ◌≢◌, ℕ, zero, suc, ◌+◌, ◌-◌, ◌*◌, ◌/◌, ◌^◌, ◌<◌, ◌≤◌, ℤ, pos, List, [], ◌∷◌, true, false, Option, Some}
-use Rattle.std.proofs.Common.{None, Ordering, Less, Equal, Greater, nat_cmp, length, ◌++◌, ◌⊎◌, take, drop, get_or, AllPairs, bytes_eq}
+use Rattle.std.proofs.Common.{◌≡◌, ◌≢◌, ℕ, zero, suc, ◌+◌, ◌-◌, ◌*◌, ◌/◌, ◌^◌, ◌<◌, ◌≤◌, ℤ, pos, List, [], ◌∷◌, false, Option, Some}
+use Rattle.std.proofs.Common.{None, Ordering, Less, Equal, Greater, nat_cmp, length, ◌++◌, take, drop, get_or, AllPairs, bytes_eq}
 use Rattle.std.proofs.Common.{if◌then◌else◌, inl, inr, refl, sym, ap, ◌∙◌, subst, arith, Bool, nat_eq, w64}
 use mir.Val.{to_z, of_z}
 use Rattle.std.specs.Borrow.{Bor}

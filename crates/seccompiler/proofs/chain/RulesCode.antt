@@ -1,5 +1,5 @@
 -- For `write_rule` and `write_rules`: what the rules of a chain do, each with its return behind it, one after another.
-use Rattle.std.proofs.Common.{◌≡◌, ℕ, zero, suc, ◌+◌, ◌<◌, ◌≤◌, ◌^◌, List, [], ◌∷◌, ◌++◌, length, refl, sym, ap, ◌∙◌}
+use Rattle.std.proofs.Common.{◌≡◌, ℕ, ◌+◌, ◌<◌, ◌≤◌, ◌^◌, List, [], ◌∷◌, ◌++◌, length, refl, sym, ap, ◌∙◌}
 use Rattle.std.proofs.Common.{subst, arith, length-append, ◌⊎◌, inl, inr, ⊎_elim, get_or, take, drop}
 use Rattle.std.specs.Prelude.{Any}
 use Rattle.std.proofs.lemmas.List.Quantifiers.{Any-push}
@@ -16,6 +16,7 @@ use Rattle.seccompiler.specs.ChainCode.{IsRulesCode}
 use Rattle.seccompiler.proofs.Blocks.{returns_front, returns_back, gives, block_join, block_from_closed, block_give, give_in_range}
 use Rattle.seccompiler.proofs.Runs.{goes_shift, goes_on, goes_front, leads_front, leads_through, stands_second}
 use Rattle.seccompiler.proofs.Runs.{leads_as, goes_as, stays_small}
+use Rattle.seccompiler.proofs.Searches.{any_head, any_cases, any_nil}
 use Rattle.seccompiler.proofs.Parts.{around}
 use Rattle.seccompiler.proofs.Closed.{ranges_join, ranges_from}
 
@@ -32,13 +33,9 @@ rules_empty w = record {
   skips = λ r a small. stays;
 }
 
--- some rule of a chain of one rule
-any_here : (P : Rule → Type 0) (q : Rule) → P q → Any P (q ∷ [])
-any_here P q h = (0, q, omega arith, refl, h)
-
+-- the rule of a chain of one rule
 any_only : (P : Rule → Type 0) (q : Rule) → Any P (q ∷ []) → P q
-any_only P q (zero, x, within, is, has) = subst P (sym is) has
-any_only P q (suc k, x, within, is, has) = absurd (omega arith)
+any_only P q any = ⊎_elim (λ here. here) (λ later. absurd (any_nil P later)) (any_cases P q [] any)
 
 -- some rule of a chain with one rule more
 any_front : (P : Rule → Type 0) (chain : Chain) (q : Rule) → Any P chain → Any P (chain ++ q ∷ [])
@@ -68,7 +65,7 @@ with_return q w own fits h =
           (block_give w 0) (omega arith) (omega arith);
       enters = λ r rec a small.
           ⊎_elim (λ t. inl (
-            any_here (λ x. RuleHolds x r) q t.0,
+            any_head (λ x. RuleHolds x r) q [] t.0,
             returns_back own (give w ∷ []) r a w (leads_front own (give w ∷ []) r 0 a (length own) t.1) (0, gives w [] r _),
           ))
           (λ t. inr (
@@ -99,7 +96,7 @@ rules_more chain w code one q last h =
           let fits = stays_small code r small t.1.goes in
           ⊎_elim (λ u. inl (Any-push (λ x. RuleHolds x r) chain q (any_only (λ x. RuleHolds x r) q u.0), returns_back code one r a w g u.1))
           (λ u. inr (
-            λ any. ⊎_elim t.0 (λ h. u.0 (any_here (λ x. RuleHolds x r) q h)) (any_split (λ x. RuleHolds x r) chain q any),
+            λ any. ⊎_elim t.0 (λ h. u.0 (any_head (λ x. RuleHolds x r) q [] h)) (any_split (λ x. RuleHolds x r) chain q any),
             leads_as p r (leads_through code one r a (length one) t.1 u.1) refl (sym len),
           ))
           (last.enters r rec g.accumulator fits))

@@ -77,8 +77,7 @@ lookup_step : {X : Type 0} (S : X → X → Type 0) (b : Bool) (v v' : X) (rest 
     → (rest ≡ Some x → (y : X) × (rest' ≡ Some y) × S x y) → cond b (Some v) rest ≡ Some x
     → (y : X) × (cond b (Some v') rest' ≡ Some y) × S x y
 lookup_step S true v v' rest rest' x pair more found =
-    let is : v ≡ x = cc in
-    (v', refl, subst (λ z. S z v') is pair)
+    let is : v ≡ x = cc in (v', refl, subst (λ z. S z v') is pair)
 lookup_step S false v v' rest rest' x pair more found = more found
 
 -- Where the entries of two lists, place by place, have one key and related values, look-ups find related values.
@@ -88,11 +87,8 @@ lookup_all_zip : {K X : Type 0} (R : K × X → K × X → Type 0) (S : X → X 
 lookup_all_zip R S test [] [] x parts pairs found = absurd (cc)
 lookup_all_zip R S test [] (e' ∷ es') x parts pairs found = absurd pairs
 lookup_all_zip R S test (e ∷ es) [] x parts pairs found = absurd pairs
-lookup_all_zip {K} {X} R S test (e ∷ es) (e' ∷ es') x parts pairs found =
-    let pair = parts e e' pairs.0 in
-    subst
-    (λ (key : K). (y : X) × (cond (test key) (Some e'.1) (lookup test es') ≡ Some y) × S x y)
-    pair.0
+lookup_all_zip R S test (e ∷ es) (e' ∷ es') x parts pairs found = let pair = parts e e' pairs.0 in
+    rw (← pair.0)
     (lookup_step S (test e.0) e.1 e'.1 (lookup test es) (lookup test es') x pair.1 (lookup_all_zip R S test es es' x parts pairs.1) found)
 
 -- A filter matches where another does whose chains, entry by entry, match where its own do.
@@ -127,15 +123,11 @@ reordered_matches_back f g r s order same =
 -- The order of the rules in a chain and of the conditions in a rule does not change the decision, and neither does the instruction pointer.
 pub same_decision : (f g : Filter) (r s : List ℕ) (w : ℕ) → IsReordered f g → IsSameCall r s → IsDecision f r w → IsDecision g s w
 same_decision f g r s w order same (other_architecture differs is) =
-    let word : word_at r 4 ≡ word_at s 4 = same_word r s 4 same (omega arith) in
     let audit : audit_word f.target_arch ≡ audit_word g.target_arch = ap audit_word order.target_arch in
-    other_architecture (λ e. differs (word ∙ e ∙ sym audit)) is
+    other_architecture (λ e. differs (same_word r s 4 same (omega arith) ∙ e ∙ sym audit)) is
 same_decision f g r s w order same (policy_matches here matches is) =
-    let word : word_at r 4 ≡ word_at s 4 = same_word r s 4 same (omega arith) in
-    policy_matches (sym word ∙ here ∙ ap audit_word order.target_arch) (reordered_matches f g r s order same matches)
-    (is ∙ ap word_of order.match_action)
+    policy_matches (sym (same_word r s 4 same (omega arith)) ∙ here ∙ ap audit_word order.target_arch)
+    (reordered_matches f g r s order same matches) (is ∙ ap word_of order.match_action)
 same_decision f g r s w order same (policy_differs here differs is) =
-    let word : word_at r 4 ≡ word_at s 4 = same_word r s 4 same (omega arith) in
-    policy_differs (sym word ∙ here ∙ ap audit_word order.target_arch)
-    (λ matches. differs (reordered_matches_back f g r s order same matches))
-    (is ∙ ap word_of order.mismatch_action)
+    policy_differs (sym (same_word r s 4 same (omega arith)) ∙ here ∙ ap audit_word order.target_arch)
+    (λ matches. differs (reordered_matches_back f g r s order same matches)) (is ∙ ap word_of order.mismatch_action)

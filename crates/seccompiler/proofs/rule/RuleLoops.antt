@@ -2,7 +2,6 @@
 -- instructions, one writes them from the end to the front.
 use Rattle.std.proofs.Common.{◌≡◌, ℕ, suc, ◌+◌, ◌-◌, ◌*◌, ◌<◌, ◌≤◌, ◌^◌, List, [], ◌∷◌, ◌++◌, length, min, refl, sym, ap, ◌∙◌, subst, arith}
 use Rattle.std.proofs.Common.{take, drop, get_or, true, false, nat_lt, length-drop, ⊎_elim}
-use Rattle.std.specs.Prelude.{if◌then◌else◌}
 use Rattle.std.proofs.lemmas.Bool.{cases_lt}
 use Rattle.std.proofs.lemmas.Bool.Decides.{nat_tests}
 use Rattle.std.proofs.lemmas.List.{take_more, take_all}
@@ -18,14 +17,10 @@ use Rattle.seccompiler.proofs.rule.RelayCount.{Cutting, none, cutting_more, cutt
 
 -- What is needed of an offset at which a relay is or is not put.
 relay_none : (o : ℕ) → o ≤ greatest_offset → (relay_front o ≡ []) × (offset_behind o ≡ o)
-relay_none o near =
-    let test : nat_lt greatest_offset o ≡ false = grind (arith, nat_tests) in
-    (ap (λ b. if b then relay_code o else []) test, ap (λ b. if b then 1 else o) test)
+relay_none o near = let test : nat_lt greatest_offset o ≡ false = grind (arith, nat_tests) in (rw test refl, rw test refl)
 
 relay_one : (o : ℕ) → greatest_offset < o → (relay_front o ≡ relay_code o) × (offset_behind o ≡ 1)
-relay_one o far =
-    let test : nat_lt greatest_offset o ≡ true = grind (arith, nat_tests) in
-    (ap (λ b. if b then relay_code o else []) test, ap (λ b. if b then 1 else o) test)
+relay_one o far = let test : nat_lt greatest_offset o ≡ true = grind (arith, nat_tests) in (rw test refl, rw test refl)
 
 -- What the writing loop has made: the code of the conditions so far, and how far the cut has come.
 pub record Built (q : List Condition) (code : List sock_filter) (o : ℕ) : Type 0 where

@@ -109,8 +109,7 @@ module _ (low v d x X Y : ℕ) (r : List ℕ) (within : low + 8 ≤ length r) (f
       let W = v / 2 ^ 32 in
       let eX : x % 2 ^ 32 ≡ X = omega arith in
       let eY : x / 2 ^ 32 ≡ Y = omega arith in
-      let of_x : bit_and x m ≡ bit_and Y N * 2 ^ 32 + bit_and X M =
-      mask_halves x m ∙ ap (λ n. bit_and n N * 2 ^ 32 + bit_and (x % 2 ^ 32) M) eY ∙ ap (λ n. bit_and Y N * 2 ^ 32 + bit_and n M) eX in
+      let of_x : bit_and x m ≡ bit_and Y N * 2 ^ 32 + bit_and X M = rw (eX, eY) at (mask_halves x m) in
       let of_v : bit_and v m ≡ bit_and W N * 2 ^ 32 + bit_and V M = mask_halves v m in
       let small_X : bit_and X M < 2 ^ 32 = omega (arith, and_le_l X M) in
       let small_Y : bit_and Y N < 2 ^ 32 = omega (arith, and_le_l Y N) in

@@ -1,5 +1,4 @@
 use Rattle.std.proofs.Common.{◌≡◌, ◌+◌, ◌<◌, All, length, refl, sym, ap, ◌∙◌, subst, arith}
-use Rattle.std.proofs.lemmas.Grind.{common_steps}
 use Rattle.std.proofs.lemmas.Bool.Decides.{nat_tests}
 use Rattle.seccompiler.specs.Architecture.{audit_word}
 use Rattle.seccompiler.specs.Code.{jump_equal, guard_code}
@@ -48,9 +47,3 @@ returns c =
     record { compiled = written_full c.args.self.now c.self.inside.rules.entries c.from-mismatch.result c.into.result
     c.write_chains.new.part _ words some c.requires.compilable.short c.write_chains.ensures.code
     (written ∙ cc (c.load_word.ensures.instruction, c.from.ensures, c.return_word-2.ensures.instruction)) }
-
-pub slice_bounds-write_chains-count : goal.slice_bounds-write_chains-count
-slice_bounds-write_chains-count c = grind (arith, common_steps)
-
-pub slice_bounds-write_chains-start : goal.slice_bounds-write_chains-start
-slice_bounds-write_chains-start c = grind (arith, common_steps)

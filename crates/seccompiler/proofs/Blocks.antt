@@ -7,7 +7,7 @@ use Rattle.seccompiler.specs.Code.{give, jump_equal}
 use Rattle.seccompiler.specs.Machine.{stays, Goes, IsInRange}
 use Rattle.seccompiler.specs.Pieces.{IsInside, IsClosed, Leads}
 use Rattle.seccompiler.specs.ChainCode.{ReturnsAfter, Returns, IsBlock}
-use Rattle.seccompiler.proofs.Runs.{get_before, get_behind, goes_shift, goes_on, goes_front, stands_second}
+use Rattle.seccompiler.proofs.Runs.{get_before, get_behind, goes_shift, goes_on, goes_front, stands_second, goes_as}
 use Rattle.seccompiler.proofs.Closed.{inside_shift, get_split}
 
 -- a return of the first of two pieces is one of both
@@ -29,9 +29,8 @@ returns_front a b r x s w h = (h.0, front_returns a b r x s h.0 w h.1)
 pub back_returns : (a b : List sock_filter) (r : List ℕ) (s s' m n w : ℕ) → Goes (a ++ b) r 0 s m (length a) s'
     → ReturnsAfter b r 0 s' n w → ReturnsAfter (a ++ b) r 0 s (m + n) w
 back_returns a b r s s' m n w g h =
-    let z : length a + 0 ≡ length a = omega arith in
-    let second = subst (λ y. Goes (a ++ b) r y s' n (length a + h.to) h.accumulator) z
-    (goes_shift (a ++ b) b r (length a) (stands_second a b) h.goes) in
+    let shifted = goes_shift (a ++ b) b r (length a) (stands_second a b) h.goes in
+    let second = goes_as (a ++ b) r {x' = length a} shifted (omega arith) refl refl in
     record {
       to = length a + h.to;
       accumulator = h.accumulator;

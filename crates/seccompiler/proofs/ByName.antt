@@ -128,9 +128,6 @@ module _ {X Y : Type 0} (R : X → Y → Type 0) where
   same_keys (x ∷ xs) [] h = absurd h
   same_keys (x ∷ xs) (y ∷ ys) h = λ i. h.0.0 i ∷ same_keys xs ys h.1 i
 
-  made_in_order : (xs : ByName X) (ys : ByName Y) → AreMade R xs ys → AreInOrder xs → AreInOrder ys
-  made_in_order xs ys h order = subst (IsStrictlySortedBy string_cmp) (sym (same_keys xs ys h)) order
-
   -- What a loop has made of the values so far, and the values that are left.
   pub record IsMaking (given done left : ByName X) (ys : ByName Y) : Type 0 where
     pub all : given ≡ done ++ left
@@ -152,7 +149,7 @@ module _ {X Y : Type 0} (R : X → Y → Type 0) where
         → AreMade R given ys × ((q : List ℕ) → tree.get_by_text m q ≡ under ys q)
     making_done m none order collected =
         let made = subst (λ xs. AreMade R xs ys) (sym (so_far.all ∙ ap (λ es. done ++ es) none ∙ append-nil done)) so_far.made in
-        (made, ordered ys m (made_in_order given ys made order) collected)
+        (made, ordered ys m (subst (IsStrictlySortedBy string_cmp) (sym (same_keys given ys made)) order) collected)
 
   -- Under a name there is what is made of the value that is found; where none is found, there is nothing.
   pub made_under : (xs : ByName X) (ys : ByName Y) → AreMade R xs ys → (q : List ℕ)

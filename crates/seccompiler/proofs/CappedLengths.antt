@@ -1,5 +1,6 @@
 -- Lengths that stop at the greatest number that a machine's number holds.
-use Rattle.std.proofs.Common.{List, ℤ, refl, map, Bor, Vec, Global, sum_by, ◌≡◌, ℕ, ◌+◌, ◌≤◌, [], ◌∷◌, length, min, sym, ap, ◌∙◌, arith}
+use Rattle.std.proofs.Common.{List, ℤ, refl, map, Bor, Vec, Global, sum_by, ◌≡◌, ℕ, ◌+◌, ◌<◌, ◌≤◌, [], ◌∷◌, length, min, sym, ap, ◌∙◌}
+use Rattle.std.proofs.Common.{arith}
 use Rattle.std.proofs.lemmas.List.Sums.{sum_by-cons}
 use Rattle.std.specs.Map.{values_of}
 use Rattle.std.specs.Map.Iter.{deref}
@@ -24,16 +25,16 @@ lent_chains (e ∷ entries) (chain ∷ lent) same =
     ∙ ap (λ n. chain_length e.1.items + n) (lent_chains entries lent rest)
     ∙ sym (sum_by-cons (λ (c : ℤ × Chain). chain_length c.1) (e.0, e.1.items) (chains_of entries))
 
--- The counted length of a filter that has chains is a sum.
-counted_with_chains : (entries : List (ℤ × Vec Rule Global)) → (length entries ≡ 0 → ⊥)
-    → counted_length_of (chains_of entries) ≡ 5 + chains_length (chains_of entries)
-counted_with_chains [] some = absurd (some refl)
-counted_with_chains (e ∷ entries) some = refl
+-- The counted length of a filter, as the map has its chains
+pub counted_full : (entries : List (ℤ × Vec Rule Global)) (chains : List (ℤ × Chain))
+    → chains_of entries ≡ chains → 0 < length entries → counted_length_of chains ≡ 5 + chains_length (chains_of entries)
+counted_full [] chains e some = absurd (omega arith)
+counted_full (x ∷ entries) chains e some = ap counted_length_of (sym e)
 
--- The counted length of a filter that has none is 4.
-counted_without_chains : (entries : List (ℤ × Vec Rule Global)) → length entries ≡ 0 → counted_length_of (chains_of entries) ≡ 4
-counted_without_chains [] none = refl
-counted_without_chains (e ∷ entries) none = absurd (omega arith)
+pub counted_empty : (entries : List (ℤ × Vec Rule Global)) (chains : List (ℤ × Chain))
+    → chains_of entries ≡ chains → length entries ≡ 0 → counted_length_of chains ≡ 4
+counted_empty [] chains e none = ap counted_length_of (sym e)
+counted_empty (x ∷ entries) chains e none = absurd (omega arith)
 
 -- All chains of a filter that has some.
 pub capped_filter : (m : ℕ) (f : Filter) (entries : List (ℤ × Vec Rule Global)) (lent : List (Bor (Vec Rule Global))) (so_far : ℕ)
@@ -41,11 +42,11 @@ pub capped_filter : (m : ℕ) (f : Filter) (entries : List (ℤ × Vec Rule Glob
     → so_far ≡ min (5 + lent_length lent) m → so_far ≡ min (counted_length f) m
 capped_filter m f entries lent so_far same some all first =
     first ∙ ap (λ n. min (5 + n) m) (lent_chains entries lent all)
-    ∙ ap (λ n. min n m) (sym (counted_with_chains entries some) ∙ ap counted_length_of same)
+    ∙ ap (λ n. min n m) (sym (counted_full entries f.chains same (omega arith)))
 
 -- A filter that has none.
 pub empty_filter : (m : ℕ) (f : Filter) (entries : List (ℤ × Vec Rule Global)) → 4 ≤ m
     → chains_of entries ≡ f.chains → length entries ≡ 0 → 4 ≡ min (counted_length f) m
 empty_filter m f entries large same none =
     let four : 4 ≡ min 4 m = omega arith in
-    four ∙ ap (λ n. min n m) (sym (counted_without_chains entries none) ∙ ap counted_length_of same)
+    four ∙ ap (λ n. min n m) (sym (counted_empty entries f.chains same none))

@@ -52,31 +52,22 @@ goes_only p r (then_step g s) (then_step h t) equally_many =
     let before = goes_only p r g h (omega arith) in
     step_only p r s t before.0 before.1
 
--- So many steps of a program, and then one more.
-record GoesOn (p : List sock_filter) (r : List ℕ) (place a n : ℕ) : Type 0 where
-  place' : ℕ
-  a' : ℕ
-  place'' : ℕ
-  a'' : ℕ
-  goes : Goes p r place a n place' a'
-  step : Step p r place' a' place'' a''
-
 -- A run goes on after each lesser number of steps.
 goes_on_before : (p : List sock_filter) (r : List ℕ) {place a m place' a' : ℕ} (n : ℕ)
-    → Goes p r place a m place' a' → n < m → GoesOn p r place a n
+    → Goes p r place a m place' a' → n < m → (b : ℕ) × (c : ℕ) × (d : ℕ) × (e : ℕ) × Goes p r place a n b c × Step p r b c d e
 goes_on_before p r n stays fewer = absurd (omega arith)
 goes_on_before p r n (then_step {n = m} g s) fewer =
     ⊎_elim (λ before. goes_on_before p r n g before)
-    (λ after. let here : m ≡ n = omega arith in record { place' = _; a' = _; place'' = _; a'' = _; goes = rw here at g; step = s })
+    (λ after. let here : m ≡ n = omega arith in (_, _, _, _, rw here at g, s))
     (cases_lt n m)
 
 -- A run that returns does not go on.
 ends_no_later : (p : List sock_filter) (r : List ℕ) {n w m v : ℕ} → Ends p r n w → Ends p r m v → n < m → ⊥
 ends_no_later p r {n} {w} {m} {v} e f fewer =
     let on = goes_on_before p r (n - 1) f.goes (omega arith) in
-    let same = goes_only p r e.goes on.goes refl in
-    let found : e.instruction ≡ on.step.instruction = cc (e.here, on.step.here, same.0) in
-    (told on.step.instruction r _ _ _ _ on.step.does).2 (cc (found, e.returns))
+    let same = goes_only p r e.goes on.4 refl in
+    let found : e.instruction ≡ on.5.instruction = cc (e.here, on.5.here, same.0) in
+    (told on.5.instruction r _ _ _ _ on.5.does).2 (cc (found, e.returns))
 
 -- A program that ends on a record does so with one word and one number of steps.
 pub ends_only : (p : List sock_filter) (r : List ℕ) {n w m v : ℕ} → Ends p r n w → Ends p r m v → (n ≡ m) × (w ≡ v)

@@ -12,13 +12,6 @@ use Rattle.seccompiler.specs.Policy.{Rule, Chain, IsCallNumber, chain_under}
 abbrev pub Entry : Type 0
 Entry = ℤ × Chain
 
--- whether a call number is that of an entry
-at_same : (a : ℕ) → is_at (int_cmp (pos a)) (pos a) ≡ true
-at_same a = grind (arith, nat_tests)
-
-at_other : (a n : ℕ) → a ≢ n → is_at (int_cmp (pos a)) (pos n) ≡ false
-at_other a n differs = grind (arith, nat_tests)
-
 -- a chain that is found is found with one more behind
 pub found_before : (chains : List Entry) (e : Entry) (a : ℕ) (chain : Chain) → chain_under chains a ≡ Some chain
     → chain_under (chains ++ e ∷ []) a ≡ Some chain
@@ -45,12 +38,14 @@ found_last (x ∷ chains) e a h = go (is_at (int_cmp (pos a)) x.0) h (found_last
 
 pub last_same : (chains : List Entry) (a : ℕ) (chain : Chain) → chain_under chains a ≡ None
     → chain_under (chains ++ (pos a, chain) ∷ []) a ≡ Some chain
-last_same chains a chain none = found_last chains (pos a, chain) a none ∙ ap (λ b. cond b (Some chain) None) (at_same a)
+last_same chains a chain none =
+    let same : is_at (int_cmp (pos a)) (pos a) ≡ true = grind (arith, nat_tests) in rw (found_last chains (pos a, chain) a none, same) refl
 
 pub last_other : (chains : List Entry) (a n : ℕ) (chain : Chain) → a ≢ n → chain_under chains a ≡ None
     → chain_under (chains ++ (pos n, chain) ∷ []) a ≡ None
-last_other chains a n chain differs none = found_last chains (pos n, chain) a none
-    ∙ ap (λ b. cond b (Some chain) None) (at_other a n differs)
+last_other chains a n chain differs none =
+    let other : is_at (int_cmp (pos a)) (pos n) ≡ false = grind (arith, nat_tests) in
+    rw (found_last chains (pos n, chain) a none, other) refl
 
 abbrev pub MapEntry : Type 0
 MapEntry = ℤ × Vec Rule Global

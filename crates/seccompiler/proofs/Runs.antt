@@ -1,5 +1,5 @@
 -- A piece of code does inside a program what it does alone.
-use Rattle.std.proofs.Common.{◌≡◌, ℕ, zero, suc, ◌+◌, ◌≤◌, List, [], ◌∷◌, ◌++◌, length, Some, arith, subst, ◌<◌, ◌^◌}
+use Rattle.std.proofs.Common.{◌≡◌, ℕ, zero, suc, ◌+◌, ◌≤◌, List, [], ◌∷◌, ◌++◌, length, Some, arith, refl, ◌<◌, ◌^◌}
 use Rattle.std.specs.Prelude.{slice_get}
 use Rattle.seccompiler.specs.declared.bpf.sock_filter.{sock_filter}
 use Rattle.seccompiler.specs.Pieces.{Leads}
@@ -13,9 +13,7 @@ pub record Stands (p : List sock_filter) (base : ℕ) (piece : List sock_filter)
 -- what follows a front is found behind it
 pub get_behind : (a b : List sock_filter) (k : ℕ) (i : sock_filter) → slice_get b k ≡ Some i → slice_get (a ++ b) (length a + k) ≡ Some i
 get_behind [] b k i e = let z : 0 + k ≡ k = omega arith in rw z e
-get_behind (x ∷ a) b k i e =
-    let z : length (x ∷ a) + k ≡ suc (length a + k) = omega arith in
-    rw z (get_behind a b k i e)
+get_behind (x ∷ a) b k i e = let z : length (x ∷ a) + k ≡ suc (length a + k) = omega arith in rw z (get_behind a b k i e)
 
 -- a front is found where it was
 pub get_before : (a b : List sock_filter) (k : ℕ) (i : sock_filter) → slice_get a k ≡ Some i → slice_get (a ++ b) k ≡ Some i
@@ -23,30 +21,18 @@ get_before [] b k i e = cc
 get_before (x ∷ a) b zero i e = e
 get_before (x ∷ a) b (suc k) i e = get_before a b k i e
 
--- an instruction does the same further on
+-- an instruction does the same further on, and goes on
 does_shift : (i : sock_filter) (r : List ℕ) (base place a place' a' : ℕ) → Does i r place a place' a'
-    → Does i r (base + place) a (base + place') a'
-does_shift i r base place a place' a' (loads c h e f) = loads c h (omega arith) f
-does_shift i r base place a place' a' (masks c e f) = masks c (omega arith) f
-does_shift i r base place a place' a' (jumps c e f) = jumps c (omega arith) f
-does_shift i r base place a place' a' (is_equal c t e f) = is_equal c t (omega arith) f
-does_shift i r base place a place' a' (is_not_equal c t e f) = is_not_equal c t (omega arith) f
-does_shift i r base place a place' a' (is_greater c t e f) = is_greater c t (omega arith) f
-does_shift i r base place a place' a' (is_not_greater c t e f) = is_not_greater c t (omega arith) f
-does_shift i r base place a place' a' (is_at_least c t e f) = is_at_least c t (omega arith) f
-does_shift i r base place a place' a' (is_less c t e f) = is_less c t (omega arith) f
-
--- each step goes on
-does_later : (i : sock_filter) (r : List ℕ) (place a place' a' : ℕ) → Does i r place a place' a' → place + 1 ≤ place'
-does_later i r place a place' a' (loads c h e f) = omega arith
-does_later i r place a place' a' (masks c e f) = omega arith
-does_later i r place a place' a' (jumps c e f) = omega arith
-does_later i r place a place' a' (is_equal c t e f) = omega arith
-does_later i r place a place' a' (is_not_equal c t e f) = omega arith
-does_later i r place a place' a' (is_greater c t e f) = omega arith
-does_later i r place a place' a' (is_not_greater c t e f) = omega arith
-does_later i r place a place' a' (is_at_least c t e f) = omega arith
-does_later i r place a place' a' (is_less c t e f) = omega arith
+    → Does i r (base + place) a (base + place') a' × (place + 1 ≤ place')
+does_shift i r base place a place' a' (loads c h e f) = (loads c h (omega arith) f, omega arith)
+does_shift i r base place a place' a' (masks c e f) = (masks c (omega arith) f, omega arith)
+does_shift i r base place a place' a' (jumps c e f) = (jumps c (omega arith) f, omega arith)
+does_shift i r base place a place' a' (is_equal c t e f) = (is_equal c t (omega arith) f, omega arith)
+does_shift i r base place a place' a' (is_not_equal c t e f) = (is_not_equal c t (omega arith) f, omega arith)
+does_shift i r base place a place' a' (is_greater c t e f) = (is_greater c t (omega arith) f, omega arith)
+does_shift i r base place a place' a' (is_not_greater c t e f) = (is_not_greater c t (omega arith) f, omega arith)
+does_shift i r base place a place' a' (is_at_least c t e f) = (is_at_least c t (omega arith) f, omega arith)
+does_shift i r base place a place' a' (is_less c t e f) = (is_less c t (omega arith) f, omega arith)
 
 step_shift : (p piece : List sock_filter) (r : List ℕ) (base : ℕ) {place a place' a' : ℕ}
     → Stands p base piece → Step piece r place a place' a' → Step p r (base + place) a (base + place') a'
@@ -55,7 +41,7 @@ step_shift p piece r base {place} {a} {place'} {a'} s h = record {
   here = s.at place h.instruction h.here;
   before = h.before;
   after = h.after;
-  does = does_shift h.instruction r base place a place' a' h.does;
+  does = (does_shift h.instruction r base place a place' a' h.does).0;
 }
 
 -- the lemma on pieces
@@ -75,17 +61,19 @@ pub goes_far : (p : List sock_filter) (r : List ℕ) {place a n place' a' : ℕ}
 goes_far p r stays = omega arith
 goes_far p r {place} {a} (then_step {n = n} {place' = place'} {a' = a'} {place'' = place''} {a'' = a''} g h) =
     let before = goes_far p r g in
-    let step = does_later h.instruction r place' a' place'' a'' h.does in
+    let step = (does_shift h.instruction r 0 place' a' place'' a'' h.does).1 in
     omega arith
 
 pub stands_second : (a b : List sock_filter) → Stands (a ++ b) (length a) b
 stands_second a b = record { at = λ k i e. get_behind a b k i e }
 
-pub leads_to : (p : List sock_filter) (r : List ℕ) (x a y y' : ℕ) → y ≡ y' → Leads p r x a y → Leads p r x a y'
-leads_to p r x a y y' e h = subst (λ n. Leads p r x a n) e h
+-- a run between places, and of steps, that are given in other words
+pub leads_as : (p : List sock_filter) (r : List ℕ) {x a y x' y' : ℕ} → Leads p r x a y → x ≡ x' → y ≡ y' → Leads p r x' a y'
+leads_as p r h e f = rw (← e, ← f) h
 
-pub leads_from : (p : List sock_filter) (r : List ℕ) (x x' a y : ℕ) → x ≡ x' → Leads p r x a y → Leads p r x' a y
-leads_from p r x x' a y e h = subst (λ n. Leads p r n a y) e h
+pub goes_as : (p : List sock_filter) (r : List ℕ) {x a n y b x' n' y' : ℕ} → Goes p r x a n y b → x ≡ x' → n ≡ n' → y ≡ y'
+    → Goes p r x' a n' y' b
+goes_as p r g e f h = rw (← e, ← f, ← h) g
 
 -- what the second piece does
 pub leads_second : (a b : List sock_filter) (r : List ℕ) (x s y : ℕ) → Leads b r x s y → Leads (a ++ b) r (length a + x) s (length a + y)
@@ -99,12 +87,6 @@ leads_second a b r x s y h = record {
 pub stays_small : (p : List sock_filter) (r : List ℕ) {x a n y b : ℕ} → a < 2 ^ 32 → Goes p r x a n y b → b < 2 ^ 32
 stays_small p r h stays = h
 stays_small p r h (then_step g s) = s.after
-
-leads_on : (p : List sock_filter) (r : List ℕ) (x a y z : ℕ) → a < 2 ^ 32 → Leads p r x a y
-    → ((b : ℕ) → b < 2 ^ 32 → Leads p r y b z) → Leads p r x a z
-leads_on p r x a y z small g f =
-    let h = f g.accumulator (stays_small p r small g.goes) in
-    record { count = g.count + h.count; accumulator = h.accumulator; goes = goes_on p r g.goes h.goes }
 
 -- a run of the first piece is one of both
 pub goes_front : (a b : List sock_filter) (r : List ℕ) {x s n y t : ℕ} → Goes a r x s n y t → Goes (a ++ b) r x s n y t
@@ -124,17 +106,15 @@ leads_front a b r x s y h = record { count = h.count; accumulator = h.accumulato
 pub leads_through : (cc code : List sock_filter) (r : List ℕ) (a y : ℕ) (g : Leads cc r 0 a (length cc))
     → Leads code r 0 g.accumulator y → Leads (cc ++ code) r 0 a (length cc + y)
 leads_through cc code r a y g h =
-    let z : length cc + 0 ≡ length cc = omega arith in
-    let k = leads_from (cc ++ code) r _ _ g.accumulator _ z (leads_second cc code r 0 g.accumulator y h) in
+    let k = leads_as (cc ++ code) r {x' = length cc} (leads_second cc code r 0 g.accumulator y h) (omega arith) refl in
     record { count = g.count + k.count; accumulator = k.accumulator; goes = goes_on (cc ++ code) r (goes_front cc code r g.goes) k.goes }
 
 -- what a first piece and then a run in a second do together
-module _ (cc code : List sock_filter) (r : List ℕ) where
-  pub leads_both : (a x y : ℕ) → a < 2 ^ 32 → Leads cc r 0 a (length cc + x) → ((b : ℕ) → b < 2 ^ 32 → Leads code r x b y)
-      → Leads (cc ++ code) r 0 a (length cc + y)
-  leads_both a x y small g f =
-      leads_on (cc ++ code) r 0 a (length cc + x) (length cc + y) small (leads_front cc code r 0 a (length cc + x) g)
-      (λ b fits. leads_second cc code r x b y (f b fits))
+pub leads_both : (cc code : List sock_filter) (r : List ℕ) (a x y : ℕ) → a < 2 ^ 32 → Leads cc r 0 a (length cc + x)
+    → ((b : ℕ) → b < 2 ^ 32 → Leads code r x b y) → Leads (cc ++ code) r 0 a (length cc + y)
+leads_both cc code r a x y small g f =
+    let h = leads_second cc code r x g.accumulator y (f g.accumulator (stays_small cc r small g.goes)) in
+    record { count = g.count + h.count; accumulator = h.accumulator; goes = goes_on (cc ++ code) r (goes_front cc code r g.goes) h.goes }
 
 -- one step and then a run
 pub via : (p : List sock_filter) (r : List ℕ) (x a y z : ℕ) → Step p r x a y a → Leads p r y a z → Leads p r x a z

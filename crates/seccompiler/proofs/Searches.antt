@@ -1,5 +1,5 @@
 -- What holds of each item of a list, or of some, and what a loop over it has shown of the items so far.
-use Rattle.std.proofs.Common.{◌≡◌, ℕ, suc, ◌+◌, ◌<◌, ◌≤◌, List, [], ◌∷◌, length, get_or, take, refl, subst, sym, ◌⊎◌, inl, inr, arith}
+use Rattle.std.proofs.Common.{◌≡◌, ℕ, zero, suc, ◌+◌, ◌<◌, ◌≤◌, List, [], ◌∷◌, length, get_or, take, refl, subst, sym, ◌⊎◌, inl, inr, arith}
 use Rattle.std.specs.Prelude.{All, Any}
 use Rattle.std.proofs.lemmas.List.{take_all}
 use Rattle.std.specs.List.Sorted.{IsPermutation}
@@ -35,3 +35,18 @@ all_or_any P Q either (x ∷ xs) = elim (either x) [
     | inr (k, y, within, is, later) ↦ inr (suc k, y, omega arith, is, later)
   ]
 ]
+
+-- Some item of a list is its first or one of the others.
+module _ {X : Type 0} (P : X → Type 0) where
+  pub any_head : (x : X) (xs : List X) → P x → Any P (x ∷ xs)
+  any_head x xs has = (0, x, omega arith, refl, has)
+
+  pub any_tail : (x : X) (xs : List X) → Any P xs → Any P (x ∷ xs)
+  any_tail x xs (k, y, within, is, has) = (suc k, y, omega arith, is, has)
+
+  pub any_cases : (x : X) (xs : List X) → Any P (x ∷ xs) → P x ⊎ Any P xs
+  any_cases x xs (zero, y, within, is, has) = inl (subst P (sym is) has)
+  any_cases x xs (suc k, y, within, is, has) = inr (k, y, omega arith, is, has)
+
+  pub any_nil : Any P [] → ⊥
+  any_nil (k, y, within, is, has) = omega arith

@@ -1,20 +1,22 @@
 -- For `write_rule` and `write_rules`: what the rules of a chain do, each with its return behind it, one after another.
-use Rattle.std.proofs.Common.{◌≡◌, ℕ, zero, suc, ◌+◌, ◌<◌, ◌≤◌, ◌^◌, List, [], ◌∷◌, ◌++◌, length, refl, sym, ap, ◌∙◌}
+use Rattle.std.proofs.Common.{◌≡◌, ℕ, ◌+◌, ◌<◌, ◌≤◌, ◌^◌, List, [], ◌∷◌, ◌++◌, length, refl, sym, ap, ◌∙◌}
 use Rattle.std.proofs.Common.{subst, arith, length-append, ◌⊎◌, inl, inr, ⊎_elim, get_or, take, drop}
-use Rattle.std.specs.Prelude.{Any, sum_by}
+use Rattle.std.specs.Prelude.{Any}
 use Rattle.std.proofs.lemmas.List.Quantifiers.{Any-push}
 use Rattle.std.proofs.lemmas.List.Sums.{sum_by_push, sum_by-append, sum_by-cons}
 use Rattle.std.proofs.lemmas.List.{get_or_append_left, get_or_push, take_more, take_all}
 use Rattle.std.proofs.lemmas.Bool.{cases_lt}
 use Rattle.seccompiler.specs.declared.bpf.sock_filter.{sock_filter}
 use Rattle.seccompiler.specs.Code.{give}
-use Rattle.seccompiler.specs.Machine.{Goes, stays}
+use Rattle.seccompiler.specs.Machine.{stays}
 use Rattle.seccompiler.specs.Policy.{Rule, Chain, RuleHolds}
 use Rattle.seccompiler.specs.Layout.{rule_length, rule_steps, rules_length}
 use Rattle.seccompiler.specs.Pieces.{IsRuleCode}
 use Rattle.seccompiler.specs.ChainCode.{IsRulesCode}
 use Rattle.seccompiler.proofs.Blocks.{returns_front, returns_back, gives, block_join, block_from_closed, block_give, give_in_range}
-use Rattle.seccompiler.proofs.Runs.{goes_shift, goes_on, goes_front, leads_front, leads_through, stands_second, leads_to, stays_small}
+use Rattle.seccompiler.proofs.Runs.{goes_shift, goes_on, goes_front, leads_front, leads_through, stands_second}
+use Rattle.seccompiler.proofs.Runs.{leads_as, goes_as, stays_small}
+use Rattle.seccompiler.proofs.Searches.{any_head, any_cases, any_nil}
 use Rattle.seccompiler.proofs.Parts.{around}
 use Rattle.seccompiler.proofs.Closed.{ranges_join, ranges_from}
 
@@ -31,13 +33,9 @@ rules_empty w = record {
   skips = λ r a small. stays;
 }
 
--- some rule of a chain of one rule
-any_here : (P : Rule → Type 0) (q : Rule) → P q → Any P (q ∷ [])
-any_here P q h = (0, q, omega arith, refl, h)
-
+-- the rule of a chain of one rule
 any_only : (P : Rule → Type 0) (q : Rule) → Any P (q ∷ []) → P q
-any_only P q (zero, x, within, is, has) = subst P (sym is) has
-any_only P q (suc k, x, within, is, has) = absurd (omega arith)
+any_only P q any = ⊎_elim (λ here. here) (λ later. absurd (any_nil P later)) (any_cases P q [] any)
 
 -- some rule of a chain with one rule more
 any_front : (P : Rule → Type 0) (chain : Chain) (q : Rule) → Any P chain → Any P (chain ++ q ∷ [])
@@ -67,19 +65,16 @@ with_return q w own fits h =
           (block_give w 0) (omega arith) (omega arith);
       enters = λ r rec a small.
           ⊎_elim (λ t. inl (
-            any_here (λ x. RuleHolds x r) q t.0,
+            any_head (λ x. RuleHolds x r) q [] t.0,
             returns_back own (give w ∷ []) r a w (leads_front own (give w ∷ []) r 0 a (length own) t.1) (0, gives w [] r _),
           ))
           (λ t. inr (
             λ any. t.0 (any_only (λ x. RuleHolds x r) q any),
-            leads_to p r 0 a _ _ (sym len) (leads_front own (give w ∷ []) r 0 a (length own + 1) t.1),
+            leads_as p r (leads_front own (give w ∷ []) r 0 a (length own + 1) t.1) refl (sym len),
           ))
           (h.enters r rec a small);
       skips = λ r a small.
-          let to_far : length own + 2 ≡ length p + 1 = omega arith in
-          let steps : rule_steps q ≡ sum_by rule_steps (q ∷ []) = omega arith in
-          subst (λ n. Goes p r 1 a n (length p + 1) a) steps
-          (subst (λ n. Goes p r 1 a (rule_steps q) n a) to_far (goes_front own (give w ∷ []) r (h.skips r a small)));
+          goes_as p r (goes_front own (give w ∷ []) r (h.skips r a small)) refl (omega arith) (omega arith);
     }
 
 -- one rule more
@@ -101,19 +96,15 @@ rules_more chain w code one q last h =
           let fits = stays_small code r small t.1.goes in
           ⊎_elim (λ u. inl (Any-push (λ x. RuleHolds x r) chain q (any_only (λ x. RuleHolds x r) q u.0), returns_back code one r a w g u.1))
           (λ u. inr (
-            λ any. ⊎_elim t.0 (λ h. u.0 (any_here (λ x. RuleHolds x r) q h)) (any_split (λ x. RuleHolds x r) chain q any),
-            leads_to p r 0 a _ _ (sym len) (leads_through code one r a (length one) t.1 u.1),
+            λ any. ⊎_elim t.0 (λ h. u.0 (any_head (λ x. RuleHolds x r) q [] h)) (any_split (λ x. RuleHolds x r) chain q any),
+            leads_as p r (leads_through code one r a (length one) t.1 u.1) refl (sym len),
           ))
           (last.enters r rec g.accumulator fits))
           (h.enters r rec a small);
       skips = λ r a small.
           let first = goes_front code one r (h.skips r a small) in
           let second = goes_shift p one r (length code) (stands_second code one) (last.skips r a small) in
-          let steps : sum_by rule_steps chain + sum_by rule_steps (q ∷ []) ≡ sum_by rule_steps (chain ++ q ∷ []) =
-          omega (arith, sum_by_push rule_steps chain q) in
-          let to_far : length code + (length one + 1) ≡ length p + 1 = omega arith in
-          subst (λ n. Goes p r 1 a n (length p + 1) a) steps
-          (subst (λ n. Goes p r 1 a (sum_by rule_steps chain + sum_by rule_steps (q ∷ [])) n a) to_far (goes_on p r first second));
+          goes_as p r (goes_on p r first second) refl (omega (arith, sum_by_push rule_steps chain q)) (omega arith);
     }
 
 -- a step of the loop over the rules

@@ -1,6 +1,6 @@
 -- For `SeccompCondition::write`: what the code of each comparison does: it leaves at its end where the comparison
 -- holds, and d places further where not.
-use Rattle.std.proofs.Common.{◌≡◌, ◌≢◌, ℕ, ◌+◌, ◌*◌, ◌/◌, ◌%◌, ◌<◌, ◌≤◌, ◌^◌, List, [], ◌∷◌, length, refl, sym, ap, ◌∙◌, arith, ◌⊎◌, inl}
+use Rattle.std.proofs.Common.{◌≡◌, ℕ, ◌+◌, ◌*◌, ◌/◌, ◌%◌, ◌<◌, ◌≤◌, ◌^◌, List, [], ◌∷◌, length, refl, sym, ap, ◌∙◌, arith, ◌⊎◌, inl}
 use Rattle.std.proofs.Common.{inr, ⊎_elim}
 use Rattle.std.specs.Prelude.{bit_and}
 use Rattle.std.proofs.lemmas.Nat.{and_le_l}
@@ -9,7 +9,7 @@ use Rattle.seccompiler.specs.declared.backend.SeccompCmpOp.{SeccompCmpOp}
 use Rattle.seccompiler.specs.declared.backend.SeccompCmpOp.TheVariants.{Eq, Ge, Gt, Le, Lt, MaskedEq, Ne}
 use Rattle.seccompiler.specs.declared.backend.SeccompCmpArgLen.{SeccompCmpArgLen}
 use Rattle.seccompiler.specs.declared.backend.SeccompCmpArgLen.TheVariants.{Dword, Qword}
-use Rattle.seccompiler.specs.Machine.{word_at, Step, stays, then_step}
+use Rattle.seccompiler.specs.Machine.{word_at, Step, Goes, stays, then_step}
 use Rattle.seccompiler.specs.Code.{load, jump_equal, jump_greater}
 use Rattle.seccompiler.specs.Policy.{part_of, operator_part, Compares}
 use Rattle.seccompiler.specs.ConditionCode.{comparison_code}
@@ -33,119 +33,75 @@ turned f g t = ⊎_elim (λ u. inr (f u.0, u.1)) (λ u. inl (g u.0, u.1)) t
 module _ (low v d x X Y : ℕ) (r : List ℕ) (within : low + 8 ≤ length r) (fits_X : X < 2 ^ 32)
     (fits_Y : Y < 2 ^ 32) (is_X : X ≡ word_at r low) (is_Y : Y ≡ word_at r (low + 4)) (is_x : x ≡ X + 2 ^ 32 * Y)
     (a : ℕ) (small : a < 2 ^ 32) where
+  -- a run to a test by which it leaves
+  tested : (p : List sock_filter) (fact : Type 0) {n place b : ℕ} → Goes p r 0 a n place b
+      → Tests p r place b (length p) (length p + d) fact → Exits p d r a fact
+  tested p fact g t = ⊎_elim (λ u. inl (u.0, arrive p r _ (then_step g u.1) refl)) (λ u. inr (u.0, arrive p r _ (then_step g u.1) refl)) t
+
   -- a load of the low half and a test
   low_half : (test : sock_filter) (fact : Type 0) → let p = load low ∷ test ∷ [] in Tests p r 1 X 2 (2 + d) fact → Exits p d r a fact
   low_half test fact t =
-      let p = load low ∷ test ∷ [] in
-      let g = then_step stays (on_load p r 0 a low X refl (omega arith) small fits_X is_X) in
-      ⊎_elim (λ u. inl (u.0, arrive p r 2 (then_step g u.1) refl)) (λ u. inr (u.0, arrive p r (2 + d) (then_step g u.1) refl)) t
+      let p = load low ∷ test ∷ [] in tested p fact (then_step stays (on_load p r 0 a low X refl (omega arith) small fits_X is_X)) t
 
-  dword_eq : Exits (comparison_code Dword Eq low v d) d r a (x % 2 ^ 32 ≡ v % 2 ^ 32)
-  dword_eq = low_half _ _ (reworded (λ e. omega arith) (λ n h. n (omega arith)) (on_equal _ r 1 X (v % 2 ^ 32) 0 d refl fits_X))
+  -- a fact that an unequal high half settles; between equal ones the low half is tested
+  halves : (up down : ℕ) (test : sock_filter) (fact : Type 0)
+      → let p = load (low + 4) ∷ jump_greater (v / 2 ^ 32) up 0 ∷ jump_equal (v / 2 ^ 32) 0 down ∷ load low ∷ test ∷ [] in
+      (v / 2 ^ 32 < Y → (fact × (2 + up ≡ 5)) ⊎ ((fact → ⊥) × (2 + up ≡ 5 + d)))
+      → (Y < v / 2 ^ 32 → (fact × (3 + down ≡ 5)) ⊎ ((fact → ⊥) × (3 + down ≡ 5 + d)))
+      → (Y ≡ v / 2 ^ 32 → Tests p r 4 X 5 (5 + d) fact) → Exits p d r a fact
+  halves up down test fact greater less test_low =
+      let p = load (low + 4) ∷ jump_greater (v / 2 ^ 32) up 0 ∷ jump_equal (v / 2 ^ 32) 0 down ∷ load low ∷ test ∷ [] in
+      let g = then_step stays (on_load p r 0 a (low + 4) Y refl (omega arith) small fits_Y is_Y) in
+      ⊎_elim (λ t. let k = then_step g t.1 in
+      ⊎_elim (λ u. inl (u.0, arrive p r 5 k u.1)) (λ u. inr (u.0, arrive p r (5 + d) k u.1)) (greater t.0))
+      (λ t. ⊎_elim (λ s. tested p fact
+      (then_step (then_step (then_step g t.1) s.1) (on_load p r 3 Y low X refl (omega arith) fits_Y fits_X is_X)) (test_low s.0))
+      (λ s. let k = then_step (then_step g t.1) s.1 in
+      ⊎_elim (λ u. inl (u.0, arrive p r 5 k u.1)) (λ u. inr (u.0, arrive p r (5 + d) k u.1)) (less (omega (arith, s.0))))
+      (on_equal p r 2 Y (v / 2 ^ 32) 0 down refl fits_Y))
+      (on_greater p r 1 Y (v / 2 ^ 32) up 0 refl fits_Y)
 
-  dword_ne : Exits (comparison_code Dword Ne low v d) d r a (x % 2 ^ 32 ≢ v % 2 ^ 32)
-  dword_ne = low_half _ _ (turned (λ e h. h (omega arith)) (λ n h. n (omega arith)) (on_equal _ r 1 X (v % 2 ^ 32) d 0 refl fits_X))
-
-  dword_ge : Exits (comparison_code Dword Ge low v d) d r a (v % 2 ^ 32 ≤ x % 2 ^ 32)
-  dword_ge = low_half _ _ (reworded (λ e. omega arith) (λ n h. omega arith) (on_at_least _ r 1 X (v % 2 ^ 32) 0 d refl fits_X))
-
-  dword_gt : Exits (comparison_code Dword Gt low v d) d r a (v % 2 ^ 32 < x % 2 ^ 32)
-  dword_gt = low_half _ _ (reworded (λ e. omega arith) (λ n h. omega arith) (on_greater _ r 1 X (v % 2 ^ 32) 0 d refl fits_X))
-
-  dword_le : Exits (comparison_code Dword Le low v d) d r a (x % 2 ^ 32 ≤ v % 2 ^ 32)
-  dword_le = low_half _ _ (turned (λ e h. omega arith) (λ n. omega arith) (on_greater _ r 1 X (v % 2 ^ 32) d 0 refl fits_X))
-
-  dword_lt : Exits (comparison_code Dword Lt low v d) d r a (x % 2 ^ 32 < v % 2 ^ 32)
-  dword_lt = low_half _ _ (turned (λ e h. omega arith) (λ n. omega arith) (on_at_least _ r 1 X (v % 2 ^ 32) d 0 refl fits_X))
-
-  dword_masked : (m : ℕ) → Exits (comparison_code Dword (MaskedEq m) low v d) d r a
-      (bit_and (x % 2 ^ 32) (m % 2 ^ 32) ≡ bit_and (v % 2 ^ 32) (m % 2 ^ 32))
-  dword_masked m =
+  pub comparison_exits : (len : SeccompCmpArgLen) (op : SeccompCmpOp)
+      → Exits (comparison_code len op low v d) d r a (Compares (operator_part len op) (part_of len x) (part_of len v))
+  comparison_exits Dword Eq = low_half _ _ (reworded (λ e. omega arith) (λ n h. n (omega arith)) (on_equal _ r 1 X _ 0 d refl fits_X))
+  comparison_exits Dword Ne = low_half _ _ (turned (λ e h. h (omega arith)) (λ n h. n (omega arith)) (on_equal _ r 1 X _ d 0 refl fits_X))
+  comparison_exits Dword Ge = low_half _ _ (reworded (λ e. omega arith) (λ n h. omega arith) (on_at_least _ r 1 X _ 0 d refl fits_X))
+  comparison_exits Dword Gt = low_half _ _ (reworded (λ e. omega arith) (λ n h. omega arith) (on_greater _ r 1 X _ 0 d refl fits_X))
+  comparison_exits Dword Le = low_half _ _ (turned (λ e h. omega arith) (λ n. omega arith) (on_greater _ r 1 X _ d 0 refl fits_X))
+  comparison_exits Dword Lt = low_half _ _ (turned (λ e h. omega arith) (λ n. omega arith) (on_at_least _ r 1 X _ d 0 refl fits_X))
+  comparison_exits Dword (MaskedEq m) =
       let p = comparison_code Dword (MaskedEq m) low v d in
       let M = m % 2 ^ 32 in
       let e : x % 2 ^ 32 ≡ X = omega arith in
       let same : bit_and (x % 2 ^ 32) M ≡ bit_and X M = ap (λ n. bit_and n M) e in
       let g = then_step (then_step stays (on_load p r 0 a low X refl (omega arith) small fits_X is_X)) (on_mask p r 1 X M refl fits_X) in
-      ⊎_elim (λ t. inl (same ∙ t.0, arrive p r 3 (then_step g t.1) refl))
-      (λ t. inr (λ h. t.0 (sym same ∙ h), arrive p r (3 + d) (then_step g t.1) refl))
-      (on_equal p r 2 (bit_and X M) (bit_and (v % 2 ^ 32) M) 0 d refl (omega (arith, and_le_l X M)))
-
-  qword_eq : Exits (comparison_code Qword Eq low v d) d r a (x ≡ v)
-  qword_eq =
+      tested p _ g (reworded (λ e. same ∙ e) (λ n h. n (sym same ∙ h))
+      (on_equal p r 2 (bit_and X M) (bit_and (v % 2 ^ 32) M) 0 d refl (omega (arith, and_le_l X M))))
+  comparison_exits Qword Eq =
       let p = comparison_code Qword Eq low v d in
       let g = then_step stays (on_load p r 0 a (low + 4) Y refl (omega arith) small fits_Y is_Y) in
       ⊎_elim (λ t.
       let k = then_step (then_step g t.1) (on_load p r 2 Y low X refl (omega arith) fits_Y fits_X is_X) in
-      ⊎_elim (λ u. inl (omega arith, arrive p r 4 (then_step k u.1) refl))
-      (λ u. inr (λ h. u.0 (omega arith), arrive p r (4 + d) (then_step k u.1) refl))
-      (on_equal p r 3 X (v % 2 ^ 32) 0 d refl fits_X))
+      tested p _ k (reworded (λ u. omega arith) (λ u h. u (omega arith)) (on_equal p r 3 X (v % 2 ^ 32) 0 d refl fits_X)))
       (λ t. inr (λ h. t.0 (omega arith), arrive p r (4 + d) (then_step g t.1) (omega arith)))
       (on_equal p r 1 Y (v / 2 ^ 32) 0 (d + 2) refl fits_Y)
-
-  qword_ne : Exits (comparison_code Qword Ne low v d) d r a (x ≢ v)
-  qword_ne =
+  comparison_exits Qword Ne =
       let p = comparison_code Qword Ne low v d in
       let g = then_step stays (on_load p r 0 a (low + 4) Y refl (omega arith) small fits_Y is_Y) in
       ⊎_elim (λ t.
       let k = then_step (then_step g t.1) (on_load p r 2 Y low X refl (omega arith) fits_Y fits_X is_X) in
-      ⊎_elim (λ u. inr (λ h. h (omega arith), arrive p r (4 + d) (then_step k u.1) refl))
-      (λ u. inl (λ h. u.0 (omega arith), arrive p r 4 (then_step k u.1) refl))
-      (on_equal p r 3 X (v % 2 ^ 32) d 0 refl fits_X))
+      tested p _ k (turned (λ u h. h (omega arith)) (λ u h. u (omega arith)) (on_equal p r 3 X (v % 2 ^ 32) d 0 refl fits_X)))
       (λ t. inl (λ h. t.0 (omega arith), arrive p r 4 (then_step g t.1) refl))
       (on_equal p r 1 Y (v / 2 ^ 32) 0 2 refl fits_Y)
-
-  -- a fact that a greater high half settles, and that a lesser one refutes; between equal ones the low half is tested
-  above : (test : sock_filter) (fact : Type 0)
-      → let p = load (low + 4) ∷ jump_greater (v / 2 ^ 32) 3 0 ∷ jump_equal (v / 2 ^ 32) 0 (d + 2) ∷ load low ∷ test ∷ [] in
-      (v / 2 ^ 32 < Y → fact) → (Y < v / 2 ^ 32 → fact → ⊥) → (Y ≡ v / 2 ^ 32 → Tests p r 4 X 5 (5 + d) fact) → Exits p d r a fact
-  above test fact greater less test_low =
-      let p = load (low + 4) ∷ jump_greater (v / 2 ^ 32) 3 0 ∷ jump_equal (v / 2 ^ 32) 0 (d + 2) ∷ load low ∷ test ∷ [] in
-      let g = then_step stays (on_load p r 0 a (low + 4) Y refl (omega arith) small fits_Y is_Y) in
-      ⊎_elim (λ t. inl (greater t.0, arrive p r 5 (then_step g t.1) refl))
-      (λ t. ⊎_elim (λ s.
-      let k = then_step (then_step (then_step g t.1) s.1) (on_load p r 3 Y low X refl (omega arith) fits_Y fits_X is_X) in
-      ⊎_elim (λ u. inl (u.0, arrive p r 5 (then_step k u.1) refl))
-      (λ u. inr (u.0, arrive p r (5 + d) (then_step k u.1) refl))
-      (test_low s.0))
-      (λ s. inr (less (omega (arith, s.0)), arrive p r (5 + d) (then_step (then_step g t.1) s.1) (omega arith)))
-      (on_equal p r 2 Y (v / 2 ^ 32) 0 (d + 2) refl fits_Y))
-      (on_greater p r 1 Y (v / 2 ^ 32) 3 0 refl fits_Y)
-
-  -- a fact that a lesser high half settles, and that a greater one refutes; between equal ones the low half is tested
-  below : (test : sock_filter) (fact : Type 0)
-      → let p = load (low + 4) ∷ jump_greater (v / 2 ^ 32) (d + 3) 0 ∷ jump_equal (v / 2 ^ 32) 0 2 ∷ load low ∷ test ∷ [] in
-      (v / 2 ^ 32 < Y → fact → ⊥) → (Y < v / 2 ^ 32 → fact) → (Y ≡ v / 2 ^ 32 → Tests p r 4 X 5 (5 + d) fact) → Exits p d r a fact
-  below test fact greater less test_low =
-      let p = load (low + 4) ∷ jump_greater (v / 2 ^ 32) (d + 3) 0 ∷ jump_equal (v / 2 ^ 32) 0 2 ∷ load low ∷ test ∷ [] in
-      let g = then_step stays (on_load p r 0 a (low + 4) Y refl (omega arith) small fits_Y is_Y) in
-      ⊎_elim (λ t. inr (greater t.0, arrive p r (5 + d) (then_step g t.1) (omega arith)))
-      (λ t. ⊎_elim (λ s.
-      let k = then_step (then_step (then_step g t.1) s.1) (on_load p r 3 Y low X refl (omega arith) fits_Y fits_X is_X) in
-      ⊎_elim (λ u. inl (u.0, arrive p r 5 (then_step k u.1) refl))
-      (λ u. inr (u.0, arrive p r (5 + d) (then_step k u.1) refl))
-      (test_low s.0))
-      (λ s. inl (less (omega (arith, s.0)), arrive p r 5 (then_step (then_step g t.1) s.1) refl))
-      (on_equal p r 2 Y (v / 2 ^ 32) 0 2 refl fits_Y))
-      (on_greater p r 1 Y (v / 2 ^ 32) (d + 3) 0 refl fits_Y)
-
-  qword_ge : Exits (comparison_code Qword Ge low v d) d r a (v ≤ x)
-  qword_ge = above _ _ (λ t. omega arith) (λ t h. omega arith)
+  comparison_exits Qword Ge = halves 3 (d + 2) _ _ (λ t. inl (omega arith, refl)) (λ t. inr (λ h. omega arith, omega arith))
       (λ s. reworded (λ u. omega arith) (λ u h. omega arith) (on_at_least _ r 4 X (v % 2 ^ 32) 0 d refl fits_X))
-
-  qword_gt : Exits (comparison_code Qword Gt low v d) d r a (v < x)
-  qword_gt = above _ _ (λ t. omega arith) (λ t h. omega arith)
+  comparison_exits Qword Gt = halves 3 (d + 2) _ _ (λ t. inl (omega arith, refl)) (λ t. inr (λ h. omega arith, omega arith))
       (λ s. reworded (λ u. omega arith) (λ u h. omega arith) (on_greater _ r 4 X (v % 2 ^ 32) 0 d refl fits_X))
-
-  qword_le : Exits (comparison_code Qword Le low v d) d r a (x ≤ v)
-  qword_le = below _ _ (λ t h. omega arith) (λ t. omega arith)
+  comparison_exits Qword Le = halves (d + 3) 2 _ _ (λ t. inr (λ h. omega arith, omega arith)) (λ t. inl (omega arith, refl))
       (λ s. turned (λ u h. omega arith) (λ u. omega arith) (on_greater _ r 4 X (v % 2 ^ 32) d 0 refl fits_X))
-
-  qword_lt : Exits (comparison_code Qword Lt low v d) d r a (x < v)
-  qword_lt = below _ _ (λ t h. omega arith) (λ t. omega arith)
+  comparison_exits Qword Lt = halves (d + 3) 2 _ _ (λ t. inr (λ h. omega arith, omega arith)) (λ t. inl (omega arith, refl))
       (λ s. turned (λ u h. omega arith) (λ u. omega arith) (on_at_least _ r 4 X (v % 2 ^ 32) d 0 refl fits_X))
-
-  qword_masked : (m : ℕ) → Exits (comparison_code Qword (MaskedEq m) low v d) d r a (bit_and x m ≡ bit_and v m)
-  qword_masked m =
+  comparison_exits Qword (MaskedEq m) =
       let p = comparison_code Qword (MaskedEq m) low v d in
       let M = m % 2 ^ 32 in
       let N = m / 2 ^ 32 in
@@ -153,8 +109,7 @@ module _ (low v d x X Y : ℕ) (r : List ℕ) (within : low + 8 ≤ length r) (f
       let W = v / 2 ^ 32 in
       let eX : x % 2 ^ 32 ≡ X = omega arith in
       let eY : x / 2 ^ 32 ≡ Y = omega arith in
-      let of_x : bit_and x m ≡ bit_and Y N * 2 ^ 32 + bit_and X M =
-      mask_halves x m ∙ ap (λ n. bit_and n N * 2 ^ 32 + bit_and (x % 2 ^ 32) M) eY ∙ ap (λ n. bit_and Y N * 2 ^ 32 + bit_and n M) eX in
+      let of_x : bit_and x m ≡ bit_and Y N * 2 ^ 32 + bit_and X M = rw (eX, eY) at (mask_halves x m) in
       let of_v : bit_and v m ≡ bit_and W N * 2 ^ 32 + bit_and V M = mask_halves v m in
       let small_X : bit_and X M < 2 ^ 32 = omega (arith, and_le_l X M) in
       let small_Y : bit_and Y N < 2 ^ 32 = omega (arith, and_le_l Y N) in
@@ -164,25 +119,6 @@ module _ (low v d x X Y : ℕ) (r : List ℕ) (within : low + 8 ≤ length r) (f
       ⊎_elim (λ t.
       let k = then_step (then_step (then_step g t.1) (on_load p r 3 (bit_and Y N) low X refl (omega arith) small_Y fits_X is_X))
       (on_mask p r 4 X M refl fits_X) in
-      ⊎_elim (λ u. inl (omega arith, arrive p r 6 (then_step k u.1) refl))
-      (λ u. inr (λ h. u.0 (omega arith), arrive p r (6 + d) (then_step k u.1) refl))
-      (on_equal p r 5 (bit_and X M) (bit_and V M) 0 d refl small_X))
+      tested p _ k (reworded (λ u. omega arith) (λ u h. u (omega arith)) (on_equal p r 5 (bit_and X M) (bit_and V M) 0 d refl small_X)))
       (λ t. inr (λ h. t.0 (omega arith), arrive p r (6 + d) (then_step g t.1) (omega arith)))
       (on_equal p r 2 (bit_and Y N) (bit_and W N) 0 (d + 3) refl small_Y)
-
-  pub comparison_exits : (len : SeccompCmpArgLen) (op : SeccompCmpOp)
-      → Exits (comparison_code len op low v d) d r a (Compares (operator_part len op) (part_of len x) (part_of len v))
-  comparison_exits Dword Eq = dword_eq
-  comparison_exits Dword Ne = dword_ne
-  comparison_exits Dword Ge = dword_ge
-  comparison_exits Dword Gt = dword_gt
-  comparison_exits Dword Le = dword_le
-  comparison_exits Dword Lt = dword_lt
-  comparison_exits Dword (MaskedEq m) = dword_masked m
-  comparison_exits Qword Eq = qword_eq
-  comparison_exits Qword Ne = qword_ne
-  comparison_exits Qword Ge = qword_ge
-  comparison_exits Qword Gt = qword_gt
-  comparison_exits Qword Le = qword_le
-  comparison_exits Qword Lt = qword_lt
-  comparison_exits Qword (MaskedEq m) = qword_masked m

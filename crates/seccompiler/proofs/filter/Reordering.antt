@@ -10,9 +10,9 @@ use Rattle.std.specs.Ordering.{int_cmp}
 use Rattle.std.proofs.lemmas.List.{nil_from_length}
 use Rattle.std.proofs.lemmas.List.Elements.{All-weaker, length_all_zip}
 use Rattle.std.proofs.lemmas.List.Sorted.{All-permutation, IsPermutation-sym, length_permutation}
-use Rattle.seccompiler.specs.Machine.{number_at, word_at, argument_at}
+use Rattle.seccompiler.specs.Machine.{number_at, word_at}
 use Rattle.seccompiler.specs.Architecture.{audit_word}
-use Rattle.seccompiler.specs.Policy.{word_of, Condition, part_of, operator_part, Compares, Holds, Rule, Chain, Filter, chain_under}
+use Rattle.seccompiler.specs.Policy.{word_of, Condition, Holds, Rule, Chain, Filter, chain_under}
 use Rattle.seccompiler.specs.Policy.{RuleHolds, ChainMatches, Matches, IsDecision, other_architecture, policy_matches, policy_differs}
 use Rattle.seccompiler.specs.Reorder.{IsReorderedChain, IsReorderedEntry, IsReordered, IsSameCall}
 use Rattle.seccompiler.proofs.Zipped.{Any-all_zip, all_zip_back}
@@ -23,18 +23,11 @@ same_number : (r s : List ℕ) (k n : ℕ) → ((j : ℕ) → k ≤ j → j < k 
     → number_at r k n ≡ number_at s k n
 same_number r s k zero same = refl
 same_number r s k (suc n) same =
-    let first : slice_index r k ≡ slice_index s k = same k (omega arith) (omega arith) in
-    let rest : number_at r (k + 1) n ≡ number_at s (k + 1) n =
-    same_number r s (k + 1) n (λ j low high. same j (omega arith) (omega arith)) in
-    cc
+    cc (same k (omega arith) (omega arith), same_number r s (k + 1) n (λ j low high. same j (omega arith) (omega arith)))
 
 -- Two records of one call have the same call number and architecture word.
 same_word : (r s : List ℕ) (k : ℕ) → IsSameCall r s → k ≤ 4 → word_at r k ≡ word_at s k
 same_word r s k same within = same_number r s k 4 (λ j low high. same.bytes j (inl (omega arith)))
-
--- Two records of one call have the same arguments.
-same_argument : (r s : List ℕ) (i : ℕ) → IsSameCall r s → argument_at r i ≡ argument_at s i
-same_argument r s i same = same_number r s (16 + 8 * i) 8 (λ j low high. same.bytes j (inr (omega arith)))
 
 -- Two records of one call are so in either order.
 same_call_back : (r s : List ℕ) → IsSameCall r s → IsSameCall s r
@@ -43,10 +36,7 @@ same_call_back r s same = record { bytes = λ k outside. sym (same.bytes k outsi
 -- A condition reads its argument alone, so it holds on any record of the call.
 same_condition : (c : Condition) (r s : List ℕ) → IsSameCall r s → Holds c r → Holds c s
 same_condition c r s same holds =
-    subst
-    (λ (x : ℕ). Compares (operator_part c.arg_len c.operator) (part_of c.arg_len x) (part_of c.arg_len c.value))
-    (same_argument r s c.arg_index same)
-    holds
+    let argument = same_number r s (16 + 8 * c.arg_index) 8 (λ j low high. same.bytes j (inr (omega arith))) in rw argument at holds
 
 -- A rule holds in any order of its conditions, on any record of the call.
 same_rule : (q q' : Rule) (r s : List ℕ) → IsPermutation q q' → IsSameCall r s → RuleHolds q r → RuleHolds q' s
@@ -87,8 +77,7 @@ lookup_step : {X : Type 0} (S : X → X → Type 0) (b : Bool) (v v' : X) (rest 
     → (rest ≡ Some x → (y : X) × (rest' ≡ Some y) × S x y) → cond b (Some v) rest ≡ Some x
     → (y : X) × (cond b (Some v') rest' ≡ Some y) × S x y
 lookup_step S true v v' rest rest' x pair more found =
-    let is : v ≡ x = cc in
-    (v', refl, subst (λ z. S z v') is pair)
+    let is : v ≡ x = cc in (v', refl, subst (λ z. S z v') is pair)
 lookup_step S false v v' rest rest' x pair more found = more found
 
 -- Where the entries of two lists, place by place, have one key and related values, look-ups find related values.
@@ -98,11 +87,8 @@ lookup_all_zip : {K X : Type 0} (R : K × X → K × X → Type 0) (S : X → X 
 lookup_all_zip R S test [] [] x parts pairs found = absurd (cc)
 lookup_all_zip R S test [] (e' ∷ es') x parts pairs found = absurd pairs
 lookup_all_zip R S test (e ∷ es) [] x parts pairs found = absurd pairs
-lookup_all_zip {K} {X} R S test (e ∷ es) (e' ∷ es') x parts pairs found =
-    let pair = parts e e' pairs.0 in
-    subst
-    (λ (key : K). (y : X) × (cond (test key) (Some e'.1) (lookup test es') ≡ Some y) × S x y)
-    pair.0
+lookup_all_zip R S test (e ∷ es) (e' ∷ es') x parts pairs found = let pair = parts e e' pairs.0 in
+    rw (← pair.0)
     (lookup_step S (test e.0) e.1 e'.1 (lookup test es) (lookup test es') x pair.1 (lookup_all_zip R S test es es' x parts pairs.1) found)
 
 -- A filter matches where another does whose chains, entry by entry, match where its own do.
@@ -137,15 +123,11 @@ reordered_matches_back f g r s order same =
 -- The order of the rules in a chain and of the conditions in a rule does not change the decision, and neither does the instruction pointer.
 pub same_decision : (f g : Filter) (r s : List ℕ) (w : ℕ) → IsReordered f g → IsSameCall r s → IsDecision f r w → IsDecision g s w
 same_decision f g r s w order same (other_architecture differs is) =
-    let word : word_at r 4 ≡ word_at s 4 = same_word r s 4 same (omega arith) in
     let audit : audit_word f.target_arch ≡ audit_word g.target_arch = ap audit_word order.target_arch in
-    other_architecture (λ e. differs (word ∙ e ∙ sym audit)) is
+    other_architecture (λ e. differs (same_word r s 4 same (omega arith) ∙ e ∙ sym audit)) is
 same_decision f g r s w order same (policy_matches here matches is) =
-    let word : word_at r 4 ≡ word_at s 4 = same_word r s 4 same (omega arith) in
-    policy_matches (sym word ∙ here ∙ ap audit_word order.target_arch) (reordered_matches f g r s order same matches)
-    (is ∙ ap word_of order.match_action)
+    policy_matches (sym (same_word r s 4 same (omega arith)) ∙ here ∙ ap audit_word order.target_arch)
+    (reordered_matches f g r s order same matches) (is ∙ ap word_of order.match_action)
 same_decision f g r s w order same (policy_differs here differs is) =
-    let word : word_at r 4 ≡ word_at s 4 = same_word r s 4 same (omega arith) in
-    policy_differs (sym word ∙ here ∙ ap audit_word order.target_arch)
-    (λ matches. differs (reordered_matches_back f g r s order same matches))
-    (is ∙ ap word_of order.mismatch_action)
+    policy_differs (sym (same_word r s 4 same (omega arith)) ∙ here ∙ ap audit_word order.target_arch)
+    (λ matches. differs (reordered_matches_back f g r s order same matches)) (is ∙ ap word_of order.mismatch_action)

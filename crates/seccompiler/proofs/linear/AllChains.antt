@@ -10,7 +10,7 @@ use Rattle.seccompiler.specs.Machine.{IsRecord, Goes, stays}
 use Rattle.seccompiler.specs.Policy.{Rule, Chain, chains_of, chain_under}
 use Rattle.seccompiler.specs.Layout.{chain_length, chains_length, chain_steps}
 use Rattle.seccompiler.specs.ChainCode.{Returns, IsChainCode, Dispatches, in_chain, no_chain, IsChainsCode}
-use Rattle.seccompiler.proofs.Runs.{goes_shift, goes_on, goes_front, stands_second}
+use Rattle.seccompiler.proofs.Runs.{goes_shift, goes_on, goes_front, stands_second, goes_as}
 use Rattle.seccompiler.proofs.Closed.{ranges_join, ranges_from}
 use Rattle.seccompiler.proofs.Blocks.{returns_front, back_returns, block_join}
 use Rattle.seccompiler.proofs.FoundChains.{Entry, found_before, last_same, last_other, MapEntry}
@@ -33,9 +33,8 @@ past_chains : (code own : List sock_filter) (r : List ℕ) (a k m : ℕ) → Goe
     → Goes own r 0 a m (length own) a → Goes (code ++ own) r 0 a (k + m) (length (code ++ own)) a
 past_chains code own r a k m g h =
     let p = code ++ own in
-    let z : length code + 0 ≡ length code = omega arith in
-    let second = subst (λ y. Goes p r y a m (length code + length own) a) z (goes_shift p own r (length code) (stands_second code own) h) in
-    subst (λ y. Goes p r 0 a (k + m) y a) (sym (length-append code own)) (goes_on p r (goes_front code own r g) second)
+    let second = goes_as p r {x' = length code} (goes_shift p own r (length code) (stands_second code own) h) (omega arith) refl refl in
+    goes_as p r (goes_on p r (goes_front code own r g) second) refl refl (sym (length-append code own))
 
 -- what one chain more does with a call number
 dispatches_more : (chains : List Entry) (mismatch matched n : ℕ) (chain : Chain) (code own : List sock_filter)
@@ -79,13 +78,8 @@ pub chains_step : (done : List MapEntry) (mismatch matched n : ℕ) (k : ℤ) (c
     → code' ≡ code ++ own → IsChainsCode (chains_of done) mismatch matched code
     → IsChainsCode (chains_of (done ++ (k, chain) ∷ [])) mismatch matched code'
 chains_step done mismatch matched n k chain items code own code' ek ei one ec h =
-    let all = chains_more (chains_of done) mismatch matched n chain.items code own
-    (subst (λ x. IsChainCode n x mismatch matched own) ei one) h in
-    let keyed = subst (λ (x : ℤ). IsChainsCode (chains_of done ++ (x, chain.items) ∷ []) mismatch matched (code ++ own)) (sym ek) all in
-    let mapped : chains_of (done ++ (k, chain) ∷ []) ≡ chains_of done ++ (k, chain.items) ∷ [] =
-    map-append (λ (e : MapEntry). (e.0, e.1.items)) done ((k, chain) ∷ []) in
-    subst (λ x. IsChainsCode x mismatch matched code') (sym mapped)
-    (subst (λ x. IsChainsCode (chains_of done ++ (k, chain.items) ∷ []) mismatch matched x) (sym ec) keyed)
+    rw (map-append {B = Entry} (λ (e : MapEntry). (e.0, e.1.items)) done ((k, chain) ∷ []), ek, ec)
+    (chains_more (chains_of done) mismatch matched n chain.items code own (rw ei at one) h)
 
 -- there is room for the chain of an entry that is left
 pub chains_room : (entries done rest t : List MapEntry) (e : MapEntry) (start : ℕ) → rest ≡ e ∷ t → done ++ rest ≡ entries

@@ -1,8 +1,7 @@
 -- For `SeccompFilter::write`: the guard in front of a filter's program, and what the program is and does with code behind
 -- the guard that answers each call number.
-use Rattle.std.proofs.Common.{◌≡◌, ◌≢◌, ℕ, ◌+◌, ◌-◌, ◌<◌, ◌≤◌, ◌^◌, List, [], ◌∷◌, ◌++◌, length, Some, refl, sym, ap, ◌∙◌, subst, arith}
-use Rattle.std.proofs.Common.{length-append, append_assoc, ◌⊎◌, inl, inr, ⊎_elim, ℤ, Vec, Global}
-use Rattle.std.specs.Prelude.{slice_get}
+use Rattle.std.proofs.Common.{◌≡◌, ◌≢◌, ℕ, ◌+◌, ◌-◌, ◌<◌, ◌≤◌, ◌^◌, List, [], ◌∷◌, ◌++◌, length, refl, sym, ap, ◌∙◌, subst, arith}
+use Rattle.std.proofs.Common.{length-append, ◌⊎◌, inl, inr, ⊎_elim, ℤ, Vec, Global}
 use Rattle.std.proofs.lemmas.Option.{slice_get_within}
 use Rattle.seccompiler.specs.declared.bpf.sock_filter.{sock_filter}
 use Rattle.seccompiler.specs.declared.backend.SeccompAction.{SeccompAction}
@@ -89,8 +88,7 @@ checked_of front w ranges block short =
           (λ back. fine_return back) (block.each place i here);
       last = λ i here.
           let at : length p - 1 ≡ length front + 0 = omega arith in
-          let there : slice_get p (length front + 0) ≡ Some i = subst (λ n. slice_get p n ≡ Some i) at here in
-          let same = sym (get_behind front (give w ∷ []) 0 (give w) refl) ∙ there in
+          let same = sym (get_behind front (give w ∷ []) 0 (give w) refl) ∙ rw at at here in
           let found : give w ≡ i = cc in
           ap (λ (x : sock_filter). x.code) (sym found);
     }
@@ -159,24 +157,17 @@ module _ (f : Filter) where
       (x.decision same))
 
   -- and may be run
-  pub head_checked : (body front : List sock_filter) (w : ℕ) → body ≡ front ++ give w ∷ [] → AreInRange body → IsBlock body (length front)
-      → length body + 4 ≤ greatest_length → IsChecked (head ++ body)
-  head_checked body front w ends ranges block short =
-      let last = give w ∷ [] in
+  pub head_checked : (front : List sock_filter) (w : ℕ) → AreInRange (front ++ give w ∷ []) → IsBlock (front ++ give w ∷ []) (length front)
+      → length front + 5 ≤ greatest_length → IsChecked (head ++ (front ++ give w ∷ []))
+  head_checked front w ranges block short =
+      let body = front ++ give w ∷ [] in
       let len : length (head ++ front) ≡ 4 + length front = length-append head front in
-      let len_body : length body ≡ length front + 1 = ap length ends ∙ length-append front last in
       let head_block : IsBlock head 4 =
       block_join guard (load 0 ∷ []) 3 1 4 guard_block (block_one _ 1 (inside_load refl refl (omega arith))) (omega arith) (omega arith) in
-      let head_ranges : AreInRange head =
-      ranges_join guard (load 0 ∷ []) guard_ranges (ranges_from (load 0 ∷ []) (load_in_range 0 (omega arith), tt)) in
-      let all : head ++ body ≡ (head ++ front) ++ last =
-      ap (λ (l : List sock_filter). head ++ l) ends ∙ sym (append_assoc head front last) in
-      subst (λ (p : List sock_filter). IsChecked p) (sym all)
-      (checked_of (head ++ front) w
-      (subst (λ (p : List sock_filter). AreInRange p) all (ranges_join head body head_ranges ranges))
-      (subst (λ (p : List sock_filter). IsBlock p (length (head ++ front))) all
-      (block_join head body 4 (length front) (length (head ++ front)) head_block block (omega (arith, len)) (omega (arith, len))))
-      (omega (arith, len, len_body)))
+      let head_ranges = ranges_join guard (load 0 ∷ []) guard_ranges (ranges_from (load 0 ∷ []) (load_in_range 0 (omega arith), tt)) in
+      checked_of (head ++ front) w (ranges_join head body head_ranges ranges)
+      (block_join head body 4 (length front) (length (head ++ front)) head_block block (omega (arith, len)) (omega (arith, len)))
+      (omega (arith, len))
 
 -- What is known of a filter whose program is written: its words, and its chains as the map holds them.
 pub record Written (f : Filter) (entries : List (ℤ × Vec Rule Global)) (mismatch matched : ℕ) : Type 0 where

@@ -1,28 +1,22 @@
 -- For `write_chain`: what the code of one chain does: a test of the call number, the rules, and a return.
-use Rattle.std.proofs.Common.{◌≡◌, ◌≢◌, ℕ, ◌+◌, ◌<◌, ◌^◌, List, [], ◌∷◌, ◌++◌, length, Some, refl, sym, ap, ◌∙◌, subst, arith}
+use Rattle.std.proofs.Common.{◌≡◌, ◌≢◌, ℕ, ◌+◌, ◌<◌, ◌^◌, List, [], ◌∷◌, ◌++◌, length, Some, refl, sym, ap, ◌∙◌, arith}
 use Rattle.std.proofs.Common.{length-append, inl, inr, ⊎_elim}
-use Rattle.std.specs.Prelude.{slice_get, sum_by}
+use Rattle.std.specs.Prelude.{slice_get}
 use Rattle.seccompiler.specs.declared.bpf.sock_filter.{sock_filter}
 use Rattle.seccompiler.specs.Code.{give, jump, jump_equal}
-use Rattle.seccompiler.specs.Machine.{Step, Goes, stays, then_step, is_equal, is_not_equal}
+use Rattle.seccompiler.specs.Machine.{Step, stays, then_step, is_equal, is_not_equal}
 use Rattle.seccompiler.specs.Pieces.{inside_jump, inside_equal, Leads}
 use Rattle.seccompiler.specs.Policy.{Rule, Chain}
-use Rattle.seccompiler.specs.Layout.{rule_steps}
 use Rattle.seccompiler.specs.ChainCode.{IsRulesCode, IsChainCode}
-use Rattle.seccompiler.proofs.Runs.{goes_shift, goes_on, goes_front, leads_front, stands_second}
+use Rattle.seccompiler.proofs.Runs.{goes_shift, goes_on, goes_front, leads_front, stands_second, goes_as}
 use Rattle.seccompiler.proofs.Closed.{ranges_join, ranges_from, jump_in_range}
 use Rattle.seccompiler.proofs.Steps.{on_jump}
 use Rattle.seccompiler.proofs.Blocks.{returns_front, returns_back, gives, block_join, block_give, give_in_range, block_one, test_in_range}
 
 -- the test of the call number goes on with this number, and skips one instruction with another
 on_number : (p : List sock_filter) (r : List ℕ) (n : ℕ) → slice_get p 0 ≡ Some (jump_equal n 0 1) → n < 2 ^ 32 → Step p r 0 n 1 n
-on_number p r n here small = record {
-  instruction = jump_equal n 0 1;
-  here = here;
-  before = small;
-  after = small;
-  does = is_equal refl refl refl refl;
-}
+on_number p r n here small =
+    record { instruction = jump_equal n 0 1; here = here; before = small; after = small; does = is_equal refl refl refl refl }
 
 on_others : (p : List sock_filter) (r : List ℕ) (n a : ℕ) → slice_get p 0 ≡ Some (jump_equal n 0 1) → a < 2 ^ 32 → a ≢ n → Step p r 0 a 2 a
 on_others p r n a here small differs =
@@ -92,19 +86,16 @@ module _ (n mismatch matched : ℕ) (fits : n < 2 ^ 32) (fits_mismatch : mismatc
             (h.enters r rec n fits);
         passes = λ r a small differs.
             let g = goes_shift p both r 1 (stands_second head both) (goes_front rules last r (h.skips r a small)) in
-            let e : 1 + (length rules + 1) ≡ length p = sym len in
-            subst (λ k. Goes p r 0 a (1 + sum_by rule_steps (q ∷ chain)) k a) e
-            (goes_on p r (then_step stays (on_others p r n a refl small differs)) g);
+            goes_as p r (goes_on p r (then_step stays (on_others p r n a refl small differs)) g) refl refl (sym len);
       }
 
   -- the same of a chain of which it is known whether it has rules
   pub chain_without : (chain : Chain) (code : List sock_filter) → length chain ≡ 0
       → code ≡ jump_equal n 0 1 ∷ jump 1 ∷ jump 2 ∷ give matched ∷ give mismatch ∷ [] → IsChainCode n chain mismatch matched code
-  chain_without [] code none e = subst (λ x. IsChainCode n [] mismatch matched x) (sym e) empty_chain
+  chain_without [] code none e = rw e empty_chain
   chain_without (q ∷ chain) code none e = absurd (omega arith)
 
   pub chain_with : (chain : Chain) (rules code : List sock_filter) → 0 < length chain → IsRulesCode chain matched rules
       → code ≡ jump_equal n 0 1 ∷ (rules ++ give mismatch ∷ []) → IsChainCode n chain mismatch matched code
   chain_with [] rules code some h e = absurd (omega arith)
-  chain_with (q ∷ chain) rules code some h e =
-      subst (λ x. IsChainCode n (q ∷ chain) mismatch matched x) (sym e) (full_chain q chain rules h)
+  chain_with (q ∷ chain) rules code some h e = rw e (full_chain q chain rules h)

@@ -1,5 +1,6 @@
 -- For `SeccompFilter::write`: what the program of a filter is and does.
-use Rattle.std.proofs.Common.{◌≡◌, ℕ, suc, ◌+◌, ◌<◌, ◌≤◌, List, [], ◌∷◌, ◌++◌, length, None, refl, sym, ap, ◌∙◌, subst, arith}
+use Rattle.std.proofs.Common.{◌≡◌, ℕ, ◌+◌, ◌<◌, ◌≤◌, List, [], ◌∷◌, ◌++◌, length, None, refl, sym, ap, ◌∙◌, subst, arith}
+use Rattle.std.proofs.lemmas.List.{length-map}
 use Rattle.std.proofs.Common.{length-append, inl, inr, ⊎_elim, ℤ, Vec, Global}
 use Rattle.seccompiler.specs.declared.bpf.sock_filter.{sock_filter}
 use Rattle.seccompiler.specs.Machine.{IsRecord, word_at, Goes, Ends, greatest_length}
@@ -57,9 +58,8 @@ module _ (f : Filter) where
   passed : (chains : List sock_filter) (r : List ℕ) (a n : ℕ) → Goes chains r 0 a n (length chains) a
       → ReturnsAfter (chains ++ last) r 0 a n mismatch_word
   passed chains r a n g =
-      let z : n + 0 ≡ n = omega arith in
-      subst (λ k. ReturnsAfter (chains ++ last) r 0 a k mismatch_word) z
-      (back_returns chains last r a a n 0 mismatch_word (goes_front chains last r g) (gives mismatch_word [] r a))
+      let z : n ≡ n + 0 = omega arith in
+      rw z (back_returns chains last r a a n 0 mismatch_word (goes_front chains last r g) (gives mismatch_word [] r a))
 
   -- what the chains and the return behind them answer
   dispatched : (chains : List sock_filter) (r : List ℕ) → Dispatches f.chains mismatch_word match_word chains r (word_at r 0)
@@ -107,7 +107,7 @@ module _ (f : Filter) where
       let len : length (chains ++ last) ≡ length chains + 1 = length-append chains last in
       record {
         long = omega (arith, length-append (head f) (chains ++ last), len, h.long);
-        checked = head_checked f (chains ++ last) chains mismatch_word refl
+        checked = head_checked f chains mismatch_word
             (ranges_join chains last h.ranges (ranges_from last (give_in_range mismatch_word (action_word_fits f.mismatch_action), tt)))
             (block_join chains last (length chains) 0 (length chains) h.block (block_give mismatch_word 0) (omega arith) (omega arith))
             (omega (arith, len, h.long));
@@ -118,42 +118,20 @@ module _ (f : Filter) where
         };
       }
 
--- chains are there where the map has entries
-some_mapped : (entries : List (ℤ × Vec Rule Global)) (chains : List (ℤ × Chain)) → chains_of entries ≡ chains
-    → 0 < length entries → 0 < length chains
-some_mapped [] chains e some = absurd (omega arith)
-some_mapped (x ∷ entries) chains e some = let n : suc (length (chains_of entries)) ≡ length chains = ap length e in omega arith
-
--- the counted length of a filter, as the map has its chains
-pub counted_full : (entries : List (ℤ × Vec Rule Global)) (chains : List (ℤ × Chain))
-    → chains_of entries ≡ chains → 0 < length entries → counted_length_of chains ≡ 5 + chains_length (chains_of entries)
-counted_full [] chains e some = absurd (omega arith)
-counted_full (x ∷ entries) chains e some = ap counted_length_of (sym e)
-
-pub counted_empty : (entries : List (ℤ × Vec Rule Global)) (chains : List (ℤ × Chain))
-    → chains_of entries ≡ chains → length entries ≡ 0 → counted_length_of chains ≡ 4
-counted_empty [] chains e none = ap counted_length_of (sym e)
-counted_empty (x ∷ entries) chains e none = absurd (omega arith)
-
 -- the program of a filter with chains, as it was written
 pub written_full : (f : Filter) (entries : List (ℤ × Vec Rule Global)) (mismatch matched : ℕ) (chains p : List sock_filter)
     → Written f entries mismatch matched → 0 < length entries → counted_length f ≤ greatest_length
     → IsChainsCode (chains_of entries) mismatch matched chains
     → p ≡ load 4 ∷ jump_equal (audit_word f.target_arch) 1 0 ∷ give 0x80000000 ∷ load 0 ∷ (chains ++ give mismatch ∷ []) → IsCompiled f p
 written_full f entries mismatch matched chains p w some short code e =
-    let own = subst (λ l. IsChainsCode l (word_of f.mismatch_action) (word_of f.match_action) chains) w.chains
-    (subst (λ n. IsChainsCode (chains_of entries) n (word_of f.match_action) chains) w.mismatch_is
-    (subst (λ n. IsChainsCode (chains_of entries) mismatch n chains) w.matched_is code)) in
-    let same = ap (λ (n : ℕ). load 4 ∷ jump_equal (audit_word f.target_arch) 1 0 ∷ give 0x80000000 ∷ load 0 ∷ (chains ++ give n ∷ []))
-    w.mismatch_is in
-    let some_chains = some_mapped entries f.chains w.chains some in
-    subst (λ q. IsCompiled f q) (sym (e ∙ same)) (full_program f chains some_chains short own)
+    let mapped = length-map {B = ℤ × Chain} entries (λ (x : ℤ × Vec Rule Global). (x.0, x.1.items)) in
+    let some_chains : 0 < length f.chains = omega (arith, ap length w.chains, mapped) in
+    let own = rw (w.mismatch_is, w.matched_is, w.chains) at code in
+    rw (e, w.mismatch_is) (full_program f chains some_chains short own)
 
 -- the program of a filter without chains, as it was written
 pub written_empty : (f : Filter) (entries : List (ℤ × Vec Rule Global)) (mismatch matched : ℕ) (p : List sock_filter)
     → Written f entries mismatch matched → length entries ≡ 0
     → p ≡ load 4 ∷ jump_equal (audit_word f.target_arch) 1 0 ∷ give 0x80000000 ∷ give mismatch ∷ [] → IsCompiled f p
-written_empty f [] mismatch matched p w none e =
-    let same = ap (λ (n : ℕ). load 4 ∷ jump_equal (audit_word f.target_arch) 1 0 ∷ give 0x80000000 ∷ give n ∷ []) w.mismatch_is in
-    subst (λ q. IsCompiled f q) (sym (e ∙ same)) (empty_program f (sym w.chains))
+written_empty f [] mismatch matched p w none e = rw (e, w.mismatch_is) (empty_program f (sym w.chains))
 written_empty f (x ∷ entries) mismatch matched p w none e = absurd (omega arith)

@@ -1,5 +1,5 @@
 -- For `SeccompRule::code_len` and `SeccompRule::write`: what the code of a rule does, from its last condition to its entry.
-use Rattle.std.proofs.Common.{◌≡◌, ℕ, suc, ◌+◌, ◌*◌, ◌<◌, ◌≤◌, ◌^◌, List, [], ◌∷◌, ◌++◌, length, refl, sym, subst, arith, length-append}
+use Rattle.std.proofs.Common.{◌≡◌, ℕ, suc, ◌+◌, ◌*◌, ◌<◌, ◌≤◌, ◌^◌, List, [], ◌∷◌, ◌++◌, length, refl, sym, arith, length-append}
 use Rattle.std.proofs.Common.{⊎_elim, inl, inr}
 use Rattle.std.proofs.lemmas.List.Elements.{All-nil, All-push, All-pop}
 use Rattle.std.proofs.lemmas.List.Sums.{sum_by_push}
@@ -15,7 +15,7 @@ use Rattle.seccompiler.specs.Pieces.{inside_jump, IsClosed, Leads, Exits, IsCond
 use Rattle.seccompiler.specs.Policy.{Condition, Holds, size_by, size_of, RuleHolds}
 use Rattle.seccompiler.specs.Layout.{greatest_offset, total_size, relays}
 use Rattle.seccompiler.specs.ChainCode.{relay_code}
-use Rattle.seccompiler.proofs.Runs.{goes_shift, goes_on, stands_second, leads_to, leads_from, leads_second, stays_small, leads_through}
+use Rattle.seccompiler.proofs.Runs.{goes_shift, goes_on, stands_second, leads_as, goes_as, leads_second, stays_small, leads_through}
 use Rattle.seccompiler.proofs.Runs.{leads_both, via}
 use Rattle.seccompiler.proofs.Closed.{closed_join, closed_from, ranges_join, ranges_from, jump_in_range}
 use Rattle.seccompiler.proofs.Steps.{on_jump}
@@ -58,16 +58,6 @@ body_empty = record {
   skips = λ r a small. stays;
 }
 
--- of the conditions with one more at the end
-hold_more : (q : List Condition) (c : Condition) (r : List ℕ) → RuleHolds q r → Holds c r → RuleHolds (q ++ c ∷ []) r
-hold_more q c r h here = All-push (λ x. Holds x r) q c h here
-
-hold_front : (q : List Condition) (c : Condition) (r : List ℕ) → RuleHolds (q ++ c ∷ []) r → RuleHolds q r
-hold_front q c r h = (All-pop (λ x. Holds x r) (q ++ c ∷ []) q (Some c) refl h).0
-
-hold_last : (q : List Condition) (c : Condition) (r : List ℕ) → RuleHolds (q ++ c ∷ []) r → Holds c r
-hold_last q c r h = (All-pop (λ x. Holds x r) (q ++ c ∷ []) q (Some c) refl h).1
-
 -- one condition more, in front
 pub body_more : (q : List Condition) (code own : List sock_filter) (o k : ℕ) (c : Condition)
     → o ≤ greatest_offset → IsConditionCode c o own → Body q code o k → Body (q ++ c ∷ []) (own ++ code) (o + size_of c) k
@@ -76,6 +66,7 @@ body_more q code own o k c room one body =
     let small_size : size_of c ≤ 6 = size_small c in
     let len : length (own ++ code) ≡ length own + length code = length-append own code in
     let to_end : length own + (length code + 1) ≡ length (own ++ code) + 1 = omega arith in
+    let pop = λ (r : List ℕ). All-pop (λ x. Holds x r) (q ++ c ∷ []) q (Some c) refl in
     record {
       low = omega (arith, body.low);
       high = omega arith;
@@ -89,37 +80,34 @@ body_more q code own o k c room one body =
           let g = t.1 in
           let fits = stays_small own r small g.goes in
           ⊎_elim
-          (λ u. inl (hold_more q c r u.0 t.0, leads_to (own ++ code) r 0 a _ _ (sym len) (leads_through own code r a (length code) g u.1)))
+          (λ u. inl (
+            All-push (λ x. Holds x r) q c u.0 t.0,
+            leads_as (own ++ code) r (leads_through own code r a (length code) g u.1) refl (sym len),
+          ))
           (λ u. inr (
-            λ h. u.0 (hold_front q c r h),
-            leads_to (own ++ code) r 0 a _ _ to_end (leads_through own code r a (length code + 1) g u.1),
+            λ h. u.0 (pop r h).0,
+            leads_as (own ++ code) r (leads_through own code r a (length code + 1) g u.1) refl to_end,
           ))
           (body.enters r rec g.accumulator fits))
           (λ t. inr (
-            λ h. t.0 (hold_last q c r h),
-            leads_to (own ++ code) r 0 a _ _ to_end (leads_both own code r a o (length code + 1) small t.1 (body.fails r)),
+            λ h. t.0 (pop r h).1,
+            leads_as (own ++ code) r (leads_both own code r a o (length code + 1) small t.1 (body.fails r)) refl to_end,
           ))
           (one.enters r rec a small);
-      fails = λ r a small. let e : length own + o ≡ o + size_of c = omega arith in
-          leads_from (own ++ code) r _ _ a _ e
-          (leads_to (own ++ code) r _ a _ _ to_end (leads_second own code r o a (length code + 1) (body.fails r a small)));
-      skips = λ r a small.
-          let e : length own + (o + 1) ≡ o + size_of c + 1 = omega arith in
-          let to_far : length own + (length code + 2) ≡ length (own ++ code) + 2 = omega arith in
-          subst (λ n. Goes (own ++ code) r n a k (length (own ++ code) + 2) a) e
-          (subst (λ n. Goes (own ++ code) r (length own + (o + 1)) a k n a) to_far
-          (goes_shift (own ++ code) code r (length own) (stands_second own code) (body.skips r a small)));
+      fails = λ r a small.
+          leads_as (own ++ code) r (leads_second own code r o a (length code + 1) (body.fails r a small)) (omega arith) to_end;
+      skips = λ r a small. goes_as (own ++ code) r (goes_shift (own ++ code) code r (length own) (stands_second own code)
+          (body.skips r a small)) (omega arith) refl (omega arith);
     }
 
 -- code to which jumps in front of it lead has the exits that it had
 exits_behind : (front code : List sock_filter) (r : List ℕ) (a : ℕ) (fact : Type 0) → Step (front ++ code) r 0 a (length front) a
     → Exits code 1 r a fact → Exits (front ++ code) 1 r a fact
 exits_behind front code r a fact step exits =
-    let z : length front + 0 ≡ length front = omega arith in
     let len = length-append front code in
     let at : (y y' : ℕ) → length front + y ≡ y' → Leads code r 0 a y → Leads (front ++ code) r 0 a y' =
-    λ y y' e h. leads_to (front ++ code) r 0 a _ _ e (via (front ++ code) r 0 a (length front) _ step
-    (leads_from (front ++ code) r _ _ a _ z (leads_second front code r 0 a y h))) in
+    λ y y' e h. via (front ++ code) r 0 a (length front) y' step
+    (leads_as (front ++ code) r (leads_second front code r 0 a y h) (omega arith) e) in
     ⊎_elim (λ t. inl (t.0, at (length code) _ (sym len) t.1))
     (λ t. inr (t.0, at (length code + 1) _ (omega arith) t.1))
     exits
@@ -130,8 +118,6 @@ body_relay q code o k body =
     let p = relay_code o ++ code in
     let far = jump_in_range (o + 1) (omega (arith, body.high)) in
     let len : length p ≡ 3 + length code = length-append (relay_code o) code in
-    let to_next : 3 + (length code + 1) ≡ length p + 1 = omega arith in
-    let to_far : 3 + (length code + 2) ≡ length p + 2 = omega arith in
     record {
       low = omega arith;
       high = omega arith;
@@ -147,14 +133,10 @@ body_relay q code o k body =
       enters = λ r rec a small.
           exits_behind (relay_code o) code r a (RuleHolds q r) (on_jump p r 0 a 2 refl small) (body.enters r rec a small);
       fails = λ r a small.
-          let e : 3 + o ≡ 1 + 1 + (o + 1) = omega arith in
-          leads_to p r 1 a _ _ to_next (via p r 1 a _ _ (on_jump p r 1 a (o + 1) refl small)
-          (leads_from p r _ _ a _ e (leads_second (relay_code o) code r o a (length code + 1) (body.fails r a small))));
-      skips = λ r a small.
-          let one_more : 1 + k ≡ suc k = omega arith in
-          subst (λ n. Goes p r 2 a n (length p + 2) a) one_more (goes_on p r (then_step stays (on_jump p r 2 a (o + 1) refl small))
-          (subst (λ n. Goes p r (3 + (o + 1)) a k n a) to_far
-          (goes_shift p code r 3 (stands_second (relay_code o) code) (body.skips r a small))));
+          via p r 1 a _ _ (on_jump p r 1 a (o + 1) refl small)
+          (leads_as p r (leads_second (relay_code o) code r o a (length code + 1) (body.fails r a small)) (omega arith) (omega arith));
+      skips = λ r a small. goes_as p r (goes_on p r (then_step stays (on_jump p r 2 a (o + 1) refl small))
+          (goes_shift p code r 3 (stands_second (relay_code o) code) (body.skips r a small))) refl (omega arith) (omega arith);
     }
 
 -- The two jumps in front of a rule whose failure exit is o places behind them.
@@ -167,7 +149,6 @@ pub rule_of : (q : List Condition) (code : List sock_filter) (o k : ℕ) → k �
 rule_of q code o k is_k body =
     let p = entry_code o ++ code in
     let len : length p ≡ 2 + length code = length-append (entry_code o) code in
-    let to_far : 2 + (length code + 2) ≡ length p + 2 = omega arith in
     record {
       long = omega (arith, body.long);
       ranges = ranges_join (entry_code o) code
@@ -177,8 +158,6 @@ rule_of q code o k is_k body =
           body.closed (omega arith) (omega arith);
       enters = λ r rec a small.
           exits_behind (entry_code o) code r a (RuleHolds q r) (on_jump p r 0 a 1 refl small) (body.enters r rec a small);
-      skips = λ r a small. subst (λ n. Goes p r 1 a (1 + n) (length p + 2) a) is_k
-          (goes_on p r (then_step stays (on_jump p r 1 a (o + 1) refl small))
-          (subst (λ n. Goes p r (2 + (o + 1)) a k n a) to_far
-          (goes_shift p code r 2 (stands_second (entry_code o) code) (body.skips r a small))));
+      skips = λ r a small. goes_as p r (goes_on p r (then_step stays (on_jump p r 1 a (o + 1) refl small))
+          (goes_shift p code r 2 (stands_second (entry_code o) code) (body.skips r a small))) refl (omega arith) (omega arith);
     }

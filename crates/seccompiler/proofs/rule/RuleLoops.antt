@@ -2,7 +2,6 @@
 -- instructions, one writes them from the end to the front.
 use Rattle.std.proofs.Common.{◌≡◌, ℕ, suc, ◌+◌, ◌-◌, ◌*◌, ◌<◌, ◌≤◌, ◌^◌, List, [], ◌∷◌, ◌++◌, length, min, refl, sym, ap, ◌∙◌, subst, arith}
 use Rattle.std.proofs.Common.{take, drop, get_or, true, false, nat_lt, length-drop, ⊎_elim}
-use Rattle.std.specs.Prelude.{if◌then◌else◌}
 use Rattle.std.proofs.lemmas.Bool.{cases_lt}
 use Rattle.std.proofs.lemmas.Bool.Decides.{nat_tests}
 use Rattle.std.proofs.lemmas.List.{take_more, take_all}
@@ -18,14 +17,10 @@ use Rattle.seccompiler.proofs.rule.RelayCount.{Cutting, none, cutting_more, cutt
 
 -- What is needed of an offset at which a relay is or is not put.
 relay_none : (o : ℕ) → o ≤ greatest_offset → (relay_front o ≡ []) × (offset_behind o ≡ o)
-relay_none o near =
-    let test : nat_lt greatest_offset o ≡ false = grind (arith, nat_tests) in
-    (ap (λ b. if b then relay_code o else []) test, ap (λ b. if b then 1 else o) test)
+relay_none o near = let test : nat_lt greatest_offset o ≡ false = grind (arith, nat_tests) in (rw test refl, rw test refl)
 
 relay_one : (o : ℕ) → greatest_offset < o → (relay_front o ≡ relay_code o) × (offset_behind o ≡ 1)
-relay_one o far =
-    let test : nat_lt greatest_offset o ≡ true = grind (arith, nat_tests) in
-    (ap (λ b. if b then relay_code o else []) test, ap (λ b. if b then 1 else o) test)
+relay_one o far = let test : nat_lt greatest_offset o ≡ true = grind (arith, nat_tests) in (rw test refl, rw test refl)
 
 -- What the writing loop has made: the code of the conditions so far, and how far the cut has come.
 pub record Built (q : List Condition) (code : List sock_filter) (o : ℕ) : Type 0 where
@@ -39,46 +34,28 @@ built_empty = record { k = 0; body = body_empty; cutting = none refl refl refl }
 -- one condition more
 built_more : (q : List Condition) (code own : List sock_filter) (o : ℕ) (c : Condition) → IsConditionCode c (offset_behind o) own
     → Built q code o → Built (q ++ c ∷ []) (own ++ (relay_front o ++ code)) (offset_behind o + size_of c)
-built_more q code own o c one h =
-    ⊎_elim (λ lt.
-    let near : o ≤ greatest_offset = omega arith in
-    let e = relay_none o near in
-    let own_code = subst (λ d. IsConditionCode c d own) e.1 one in
-    let made : Built (q ++ c ∷ []) (own ++ code) (o + size_of c) = record {
+built_more q code own o c one h = ⊎_elim
+    (λ lt. let e = relay_none o (omega arith) in rw (e.0, e.1) record {
       k = h.k;
-      body = body_more q code own o h.k c (omega arith) own_code h.body;
+      body = body_more q code own o h.k c (omega arith) (rw e.1 at one) h.body;
       cutting = cutting_more q o h.k c (omega arith) h.cutting;
-    } in
-    subst (λ l. Built (q ++ c ∷ []) (own ++ (l ++ code)) (offset_behind o + size_of c))
-    (sym e.0) (subst (λ d. Built (q ++ c ∷ []) (own ++ code) (d + size_of c)) (sym e.1) made))
-    (λ far.
-    let e = relay_one o far in
-    let own_code = subst (λ d. IsConditionCode c d own) e.1 one in
-    let made : Built (q ++ c ∷ []) (own ++ (relay_code o ++ code)) (1 + size_of c) = record {
+    })
+    (λ far. let e = relay_one o far in rw (e.0, e.1) record {
       k = suc h.k;
-      body = body_more q (relay_code o ++ code) own 1 (suc h.k) c (omega arith) own_code (body_relay q code o h.k h.body);
+      body = body_more q (relay_code o ++ code) own 1 (suc h.k) c (omega arith) (rw e.1 at one) (body_relay q code o h.k h.body);
       cutting = cutting_relay q o h.k c far h.cutting;
-    } in
-    subst (λ l. Built (q ++ c ∷ []) (own ++ (l ++ code)) (offset_behind o + size_of c))
-    (sym e.0) (subst (λ d. Built (q ++ c ∷ []) (own ++ (relay_code o ++ code)) (d + size_of c)) (sym e.1) made))
+    })
     (cases_lt o (greatest_offset + 1))
-
--- the size of a list around one condition
-total_around : (q rest : List Condition) (c : Condition) → total_size (q ++ c ∷ rest) ≡ total_size q + (size_of c + total_size rest)
-total_around q rest c = sum_by-append size_of q (c ∷ rest) ∙ ap (λ n. total_size q + n) (sum_by-cons size_of c rest)
 
 -- there is room for what a further condition needs
 room_for : (q rest : List Condition) (code : List sock_filter) (o free : ℕ) (c : Condition)
     → Built q code o → free + length code ≡ rule_length (q ++ c ∷ rest) → 2 + length (relay_front o) + size_of c ≤ free
 room_for q rest code o free c h whole =
-    let sizes = total_around q rest c in
-    ⊎_elim (λ lt.
-    let near : o ≤ greatest_offset = omega arith in
-    let none_put : length (relay_front o) ≡ 0 = ap length (relay_none o near).0 in
-    omega (arith, h.body.long, relays_so_far q (c ∷ rest) o h.k h.cutting))
-    (λ far.
-    let one_put : length (relay_front o) ≡ 3 = ap length (relay_one o far).0 in
-    omega (arith, h.body.long, relays_so_far_full q rest o h.k c far h.cutting))
+    let sizes = sum_by-append size_of q (c ∷ rest) in
+    let more = sum_by-cons size_of c rest in
+    ⊎_elim
+    (λ lt. omega (arith, ap length (relay_none o (omega arith)).0, h.body.long, relays_so_far q (c ∷ rest) o h.k h.cutting))
+    (λ far. omega (arith, ap length (relay_one o far).0, h.body.long, relays_so_far_full q rest o h.k c far h.cutting))
     (cases_lt o (greatest_offset + 1))
 
 -- there is room for it at an index of the loop
@@ -94,9 +71,7 @@ pub built_step : (items : List Condition) (i : ℕ) (c : Condition) (code own co
     → o' ≡ offset_behind o + size_of c → Built (take i items) code o → Built (take (i + 1) items) code' o'
 built_step items i c code own code' o o' within is one ec eo h =
     let q : take (i + 1) items ≡ take i items ++ c ∷ [] = take_more items i c within ∙ ap (λ x. take i items ++ x ∷ []) (sym is) in
-    subst (λ l. Built l code' o') (sym q) (subst (λ l. Built (take i items ++ c ∷ []) l o') (sym ec)
-    (subst (λ d. Built (take i items ++ c ∷ []) (own ++ (relay_front o ++ code)) d) (sym eo)
-    (built_more (take i items) code own o c one h)))
+    rw (q, ec, eo) (built_more (take i items) code own o c one h)
 
 -- the end of the loop
 pub built_all : (items : List Condition) (i : ℕ) (code : List sock_filter) (o : ℕ) → length items ≤ i
@@ -148,8 +123,7 @@ counted_relay q c n n' o o' far en eo h = record {
 pub counted_at : (items : List Condition) (i : ℕ) (c : Condition) (n o : ℕ) → i < length items
     → c ≡ get_or items i c → Counted (take i items ++ c ∷ []) n o → Counted (take (i + 1) items) n o
 counted_at items i c n o within is h =
-    let q : take (i + 1) items ≡ take i items ++ c ∷ [] = take_more items i c within ∙ ap (λ x. take i items ++ x ∷ []) (sym is) in
-    subst (λ l. Counted l n o) (sym q) h
+    subst (λ l. Counted l n o) (sym (take_more items i c within ∙ ap (λ x. take i items ++ x ∷ []) (sym is))) h
 
 pub counted_rule : (items : List Condition) (i n o : ℕ) → 1 ≤ length items → length items ≤ i
     → Counted (take i items) n o → n ≡ min (rule_length items) (2 ^ 64 - 1)

@@ -1,6 +1,6 @@
 -- For `SyscallTable::lookup`: what one comparison with the middle of a part of a table tells of the look-up in it.
-use Rattle.std.proofs.Common.{◌≡◌, ◌≢◌, ℕ, zero, suc, ◌+◌, ◌-◌, ◌*◌, ◌/◌, ◌^◌, ◌<◌, ◌≤◌, ℤ, pos, List, [], ◌∷◌, true, false, Option, Some}
-use Rattle.std.proofs.Common.{None, Ordering, Less, Equal, Greater, nat_cmp, length, ◌++◌, ◌⊎◌, take, drop, get_or, AllPairs, bytes_eq}
+use Rattle.std.proofs.Common.{◌≡◌, ◌≢◌, ℕ, zero, suc, ◌+◌, ◌-◌, ◌*◌, ◌/◌, ◌^◌, ◌<◌, ◌≤◌, ℤ, pos, List, [], ◌∷◌, false, Option, Some}
+use Rattle.std.proofs.Common.{None, Ordering, Less, Equal, Greater, nat_cmp, length, ◌++◌, take, drop, get_or, AllPairs, bytes_eq}
 use Rattle.std.proofs.Common.{if◌then◌else◌, inl, inr, refl, sym, ap, ◌∙◌, subst, arith, Bool, nat_eq, w64}
 use mir.Val.{to_z, of_z}
 use Rattle.std.specs.Borrow.{Bor}
@@ -8,7 +8,7 @@ use Rattle.std.specs.Cmp.Lexicographic.{slice_cmp}
 use Rattle.std.specs.Ordering.{is_eq}
 use Rattle.std.proofs.Math.Nat.{pow-succ'}
 use Rattle.std.proofs.Math.Seq.{drop-cons}
-use Rattle.std.proofs.lemmas.Bool.{cases_lt, eqb-false}
+use Rattle.std.proofs.lemmas.Bool.{cases_lt, eqb-false, false_from_ne_true}
 use Rattle.std.proofs.lemmas.Cmp.{nat_list_cmp_total, tied_itself}
 use Rattle.std.proofs.lemmas.Int.{to_z-of_z, ints}
 use Rattle.std.proofs.lemmas.List.{take-append-drop, get_or-take, get_or-drop, get_or-map, take-map, drop-map, length-take-le, length-drop}
@@ -26,10 +26,7 @@ HasNot table name Place = (k : ℕ) (d : Pair) → Place k → k < length table 
 
 -- names that differ are told apart
 apart : (pair : Pair) (name : List ℕ) → pair.0 ≢ name → bytes_eq pair.0 name ≡ false
-apart pair name other = elim (bytes_eq pair.0 name) as (λ same. bytes_eq pair.0 name ≡ same → same ≡ false) [
-  | true ↦ λ same. absurd (other ((bytes_eq-Decides pair.0 name).0 same))
-  | false ↦ λ _. refl
-] refl
+apart pair name other = false_from_ne_true (bytes_eq pair.0 name) (λ same. other ((bytes_eq-Decides pair.0 name).0 same))
 
 -- a table without the name has no number for it
 number_of-none : (table : List Pair) (name : List ℕ) → HasNot table name (λ k. 0 ≤ k) → number_of table name ≡ None
@@ -58,15 +55,6 @@ number_of-drop (pair ∷ table) name (suc i) none =
     rw (apart pair name (none 0 pair (omega arith) (omega arith)))
     (number_of-drop table name i (λ k d at within. none (suc k) d (omega arith) (omega arith)))
 
--- the number of a name that stands at a place, where no earlier one is it
-number_of-at : (table : List Pair) (name : List ℕ) (i : ℕ) (d : Pair) → i < length table
-    → HasNot table name (λ k. k < i) → (get_or table i d).0 ≡ name → number_of table name ≡ Some (get_or table i d).1
-number_of-at table name i d within none here =
-    let cut : drop i table ≡ get_or table i d ∷ drop (suc i) table = drop-cons table i d within in
-    let same : bytes_eq (get_or table i d).0 name ≡ true = (bytes_eq-Decides (get_or table i d).0 name).1 here in
-    let found : number_of (get_or table i d ∷ drop (suc i) table) name ≡ Some (get_or table i d).1 = rw same refl in
-    sym (number_of-drop table name i none) ∙ ap (λ pairs. number_of pairs name) cut ∙ found
-
 -- a name that comes before another isn't that
 pub differs : (first second : List ℕ) → ComesBefore first second → first ≢ second
 differs first second before same =
@@ -76,15 +64,11 @@ differs first second before same =
 
 -- what compares as greater comes after
 turned : (first second : List ℕ) → slice_cmp nat_cmp first second ≡ Greater → ComesBefore second first
-turned first second greater =
-    let mirrored = nat_list_cmp_total.antisymm second first in
-    rw greater at mirrored
+turned first second greater = let mirrored = nat_list_cmp_total.antisymm second first in rw greater at mirrored
 
 -- names that compare as equal are one name
 tied : (first second : List ℕ) → slice_cmp nat_cmp first second ≡ Equal → first ≡ second
-tied first second equal =
-    let same : bytes_eq first second ≡ true = sym (is_eq-slice_cmp first second) ∙ ap is_eq equal in
-    (bytes_eq-Decides first second).0 same
+tied first second equal = (bytes_eq-Decides first second).0 (sym (is_eq-slice_cmp first second) ∙ ap is_eq equal)
 
 -- behind a name that the asked one comes before, and at it, no name is the asked one
 none_from : (table : List Pair) (name : List ℕ) (i : ℕ) → AllPairs StandsBefore table
@@ -146,10 +130,7 @@ enough (suc k) n half many halved =
 pub below_nine : (compared n : ℕ) → compared ≤ 9 → 0 < n → n < 2 ^ (9 - compared) → compared < 9
 below_nine compared n few some most = elim (cases_lt compared 9) [
   | inl below ↦ below
-  | inr from ↦
-      let none : 9 - compared ≡ 0 = omega arith in
-      let one : n < 2 ^ 0 = subst (λ k. n < 2 ^ k) none most in
-      absurd (omega arith)
+  | inr from ↦ let none : 9 - compared ≡ 0 = omega arith in absurd (omega (arith, rw none at most))
 ]
 
 -- one more comparison leaves this half of the part
@@ -199,22 +180,18 @@ compared_with part name some tested is compared =
           (sym compared ∙ is);
     }
 
--- one half of a number less one is the other, or one less
-halves_of : (n : ℕ) → 0 < n → (n / 2 ≡ n - (n / 2 + 1)) ⊎ (n / 2 ≡ n - (n / 2 + 1) + 1)
-halves_of n some = elim (cases_lt (n - (n / 2 + 1)) (n / 2)) [ inl less ↦ inr (omega arith) | inr from ↦ inl (omega arith) ]
-
 -- the pair at half the length is the middle one
 middle_of : (pairs : List Pair) (middle : ℕ) (d : Pair) → middle < length pairs → middle ≡ length pairs / 2
     → IsMiddle pairs (take middle pairs) (get_or pairs middle d) (drop (middle + 1) pairs)
 middle_of pairs middle d here half =
     let front : length (take middle pairs) ≡ middle = length-take-le middle pairs (omega (arith, here)) in
-    let back : length (drop (middle + 1) pairs) ≡ length pairs - (middle + 1) = length-drop (middle + 1) pairs in
+    let back = length-drop (middle + 1) pairs in
     let next : suc middle ≡ middle + 1 = omega arith in
-    let cut : drop middle pairs ≡ get_or pairs middle d ∷ drop (middle + 1) pairs =
-    subst (λ k. drop middle pairs ≡ get_or pairs middle d ∷ drop k pairs) next (drop-cons pairs middle d here) in
+    let cut = rw next at (drop-cons pairs middle d here) in
     record {
       whole = sym (take-append-drop middle pairs) ∙ ap (λ behind. take middle pairs ++ behind) cut;
-      halves = rw (front, back, half) (halves_of (length pairs) (omega (arith, here)));
+      halves = rw (front, back, half) (elim (cases_lt (length pairs - (length pairs / 2 + 1)) (length pairs / 2))
+          [ inl less ↦ inr (omega (arith, here)) | inr from ↦ inl (omega (arith, here)) ]);
     }
 
 -- what is left where the asked name comes before the middle one
@@ -223,17 +200,13 @@ pub lower : (table : List Pair) (name : List ℕ) (compared middle : ℕ) (part 
     → IsHalf table name (compared + 1) (pairs_of (take middle part))
 lower table name compared middle part is less =
     let pairs : List Pair = pairs_of part in
-    let cut : take middle pairs ≡ pairs_of (take middle part) = take-map _ middle part in
-    let long : length (take middle pairs) ≡ middle = length-take-le middle pairs (omega (arith, less.here)) in
-    let same = number_of-take pairs name middle (none_from pairs name middle is.ascending less.order less.here) in
-    let ascending : AllPairs StandsBefore (take middle pairs) = λ i j d i<j inside.
-    rw (get_or-take middle pairs i d (omega arith), get_or-take middle pairs j d (omega arith))
-    (is.ascending i j d i<j (omega (arith, less.here))) in
     let d : Pair = ([], pos 0) in
-    let counts : (n : ℕ) → HalvingCompares name (take middle pairs) n → HalvingCompares name pairs (suc n) = λ n compares.
-    before_middle (middle_of pairs middle d less.here less.half) (less.order d) compares in
-    subst (IsHalf table name (compared + 1)) cut (halved table name compared pairs (take middle pairs) is (omega (arith, less.here))
-    same ascending (omega (arith, less.half)) (omega (arith, less.half)) counts)
+    let long : length (take middle pairs) ≡ middle = length-take-le middle pairs (omega (arith, less.here)) in
+    subst (IsHalf table name (compared + 1)) (take-map _ middle part) (halved table name compared pairs (take middle pairs) is
+    (omega (arith, less.here)) (number_of-take pairs name middle (none_from pairs name middle is.ascending less.order less.here))
+    (λ i j d i<j inside. rw (get_or-take middle pairs i d (omega arith), get_or-take middle pairs j d (omega arith))
+    (is.ascending i j d i<j (omega (arith, less.here)))) (omega (arith, less.half)) (omega (arith, less.half))
+    (λ n compares. before_middle (middle_of pairs middle d less.here less.half) (less.order d) compares))
 
 -- what is left where the asked name comes after the middle one
 pub upper : (table : List Pair) (name : List ℕ) (compared middle : ℕ) (part : Slice)
@@ -241,21 +214,16 @@ pub upper : (table : List Pair) (name : List ℕ) (compared middle : ℕ) (part 
     → IsHalf table name (compared + 1) (pairs_of (drop (middle + 1) part))
 upper table name compared middle part is greater =
     let pairs : List Pair = pairs_of part in
-    let cut : drop (middle + 1) pairs ≡ pairs_of (drop (middle + 1) part) = drop-map _ (middle + 1) part in
-    let long : length (drop (middle + 1) pairs) ≡ length pairs - (middle + 1) = length-drop (middle + 1) pairs in
-    let passed : HasNot pairs name (λ k. k < suc middle) =
-    none_to pairs name middle is.ascending (λ d. turned name (get_or pairs middle d).0 (greater.order d)) greater.here in
-    let same = number_of-drop pairs name (middle + 1) (λ k d before inside. passed k d (omega arith) inside) in
-    let ascending : AllPairs StandsBefore (drop (middle + 1) pairs) = λ i j d i<j inside.
-    rw (get_or-drop (middle + 1) pairs i d, get_or-drop (middle + 1) pairs j d)
-    (is.ascending (middle + 1 + i) (middle + 1 + j) d (omega arith) (omega arith)) in
     let d : Pair = ([], pos 0) in
-    let after = turned name (get_or pairs middle d).0 (greater.order d) in
-    let counts : (n : ℕ) → HalvingCompares name (drop (middle + 1) pairs) n → HalvingCompares name pairs (suc n) = λ n compares.
-    behind_middle (middle_of pairs middle d greater.here greater.half) after compares in
-    subst (IsHalf table name (compared + 1)) cut
-    (halved table name compared pairs (drop (middle + 1) pairs) is (omega (arith, greater.here))
-    same ascending (omega (arith, greater.half)) (omega (arith, greater.half)) counts)
+    let long : length (drop (middle + 1) pairs) ≡ length pairs - (middle + 1) = length-drop (middle + 1) pairs in
+    let after = λ (d : Pair). turned name (get_or pairs middle d).0 (greater.order d) in
+    let passed : HasNot pairs name (λ k. k < suc middle) = none_to pairs name middle is.ascending after greater.here in
+    subst (IsHalf table name (compared + 1)) (drop-map _ (middle + 1) part) (halved table name compared pairs (drop (middle + 1) pairs) is
+    (omega (arith, greater.here)) (number_of-drop pairs name (middle + 1) (λ k d before inside. passed k d (omega arith) inside))
+    (λ i j d i<j inside. rw (get_or-drop (middle + 1) pairs i d, get_or-drop (middle + 1) pairs j d)
+    (is.ascending (middle + 1 + i) (middle + 1 + j) d (omega arith) (omega arith)))
+    (omega (arith, greater.half)) (omega (arith, greater.half))
+    (λ n compares. behind_middle (middle_of pairs middle d greater.here greater.half) (after d) compares))
 
 -- the number of a name that stands at some place
 pub number_of-there : (part : Slice) (name : List ℕ) (i : ℕ) (e : Bor (List ℕ) × ℤ) → AllPairs StandsBefore (pairs_of part)
@@ -268,8 +236,8 @@ number_of-there part name i e ascends within here =
     let named : (d : Pair) → (get_or pairs i d).0 ≡ name = λ d. ap (λ (pair : Pair). pair.0) (read d) ∙ here in
     let before : HasNot pairs name (λ k. k < i) = λ k d ahead inside same.
     differs (get_or pairs k d).0 (get_or pairs i d).0 (ascends k i d ahead (omega arith)) (same ∙ sym (named d)) in
-    let d : Pair = ([], (get_or part i e).1) in
-    number_of-at pairs name i d (omega arith) before (named d) ∙ ap (λ (pair : Pair). Some pair.1) (read d)
+    let same = (bytes_eq-Decides (get_or part i e).0.now name).1 here in
+    rw (← number_of-drop pairs name i before, drop-cons pairs i ([], pos 0) (omega arith), read ([], pos 0), same) refl
 
 -- the number where the asked name is the middle one
 pub found : (table : List Pair) (name : List ℕ) (compared middle : ℕ) (part : Slice) → IsCallTable table
@@ -299,8 +267,7 @@ missed table name compared part is none = elim (cases_lt compared 8) [
   | inl below ↦
       let same : length (pairs_of part) ≡ length part = length-map part _ in
       let some : 8 - compared ≡ suc (7 - compared) = omega arith in
-      let power : 2 ^ suc (7 - compared) ≤ length (pairs_of part) + 1 = subst (λ k. 2 ^ k ≤ length (pairs_of part) + 1) some is.least in
-      let double : 2 * 2 ^ (7 - compared) ≤ length (pairs_of part) + 1 = rw pow-succ' at power in
+      let double = rw (some, pow-succ') at is.least in
       absurd (omega (arith, pow_pos (7 - compared)))
   | inr from ↦ from
 ]

@@ -66,10 +66,8 @@ module _ (arch : TargetArch) where
   pub all_fine_or_fault : (entries : List JsonRule) → All (IsFineEntry arch) entries ⊎ ((fault : Fault) × IsFirstOf arch entries fault)
   all_fine_or_fault [] = inl (All-nil (IsFineEntry arch))
   all_fine_or_fault (entry ∷ entries) = elim (fine_or_fault entry) [
-    | inr wrong ↦ inr (
-      wrong.0,
-      record { front = []; entry = entry; back = entries; whole = refl; fine = All-nil (IsFineEntry arch); wrong = wrong.1 },
-    )
+    | inr (fault, wrong) ↦
+        inr (fault, record { front = []; entry = entry; back = entries; whole = refl; fine = All-nil (IsFineEntry arch); wrong = wrong })
     | inl fine ↦ elim (all_fine_or_fault entries) [
       | inl all ↦ inl (All-cons (IsFineEntry arch) entry entries fine all)
       | inr (fault, later) ↦ inr (

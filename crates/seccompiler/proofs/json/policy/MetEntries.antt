@@ -1,6 +1,6 @@
 -- For `JsonCompiler::make_seccomp_filter`: the policy matches the records that meet one of the entries.
-use Rattle.std.proofs.Common.{◌≡◌, ◌↔◌, ℕ, zero, suc, ℤ, pos, List, [], ◌∷◌, ◌++◌, Bool, true, false, ◌||◌, ◌&&◌, cond}
-use Rattle.std.proofs.Common.{Option, Some, None, Any, refl, sym, ap, ◌∙◌, subst, ◌⊎◌, inl, inr, arith}
+use Rattle.std.proofs.Common.{◌≡◌, ◌↔◌, ℕ, ℤ, pos, List, [], ◌∷◌, ◌++◌, Bool, true, false, ◌||◌, ◌&&◌, cond}
+use Rattle.std.proofs.Common.{Option, Some, None, Any, refl, sym, ap, ◌∙◌, subst, ◌⊎◌, inl, inr}
 use Rattle.std.specs.List.{list_any}
 use Rattle.std.specs.Option.{is_none}
 use Rattle.std.proofs.lemmas.Bool.{true≢false}
@@ -11,22 +11,9 @@ use Rattle.seccompiler.specs.JsonPolicyOf.{all_rules, chain_at, chain_for, is_al
 use Rattle.seccompiler.specs.JsonTypes.{JsonFilter, JsonRule}
 use Rattle.seccompiler.specs.Machine.{word_at}
 use Rattle.seccompiler.specs.Policy.{Rule, Chain, ChainMatches, Filter, Matches, RuleHolds}
+use Rattle.seccompiler.proofs.Searches.{any_head, any_tail, any_cases, any_nil}
 use Rattle.seccompiler.proofs.json.policy.Policies.{for_decides, for_either, found_in, some_rules}
 use Rattle.seccompiler.proofs.json.policy.WidenedNumbers.{always_decides}
-
-module _ {X : Type 0} (P : X → Type 0) where
-  any_head : (x : X) (xs : List X) → P x → Any P (x ∷ xs)
-  any_head x xs has = (0, x, omega arith, refl, has)
-
-  any_tail : (x : X) (xs : List X) → Any P xs → Any P (x ∷ xs)
-  any_tail x xs (k, y, within, is, has) = (suc k, y, omega arith, is, has)
-
-  any_cases : (x : X) (xs : List X) → Any P (x ∷ xs) → P x ⊎ Any P xs
-  any_cases x xs (zero, y, within, is, has) = inl (subst P (sym is) has)
-  any_cases x xs (suc k, y, within, is, has) = inr (k, y, omega arith, is, has)
-
-  any_nil : Any P [] → ⊥
-  any_nil (k, y, within, is, has) = omega arith
 
 module _ (arch : TargetArch) (r : List ℕ) where
   -- The record's call number.

@@ -1,5 +1,4 @@
 use Rattle.std.proofs.Common.{◌≡◌, ℕ, ◌+◌, ◌-◌, ◌≤◌, ◌++◌, ◌∷◌, [], List, length, take, sym, ap, ◌∙◌, arith}
-use Rattle.std.proofs.lemmas.Grind.{common_steps}
 use lib.Seq.{length-take-le}
 use borrow.Rule.Slice.PartMut.{same_len_mid}
 use Rattle.seccompiler.specs.declared.bpf.sock_filter.{sock_filter}
@@ -67,9 +66,3 @@ write_chain-start-requires-clause-room c =
     c.in-Some.ensures.steps l.invariant.rest c.deref.ensures.value l.invariant.made l.invariant.within l.auto.part
     (omega (arith, c.requires.room)) in
     omega (arith, fits, length-part l.start (length l.part) l.part l.invariant.within (omega arith))
-
-pub overflow_add-start : goal.overflow_add-start
-overflow_add-start c = grind (arith, common_steps)
-
-pub returns : goal.returns
-returns c = grind (arith, common_steps)

@@ -1,5 +1,4 @@
 use Rattle.std.proofs.Common.{◌≡◌, ◌+◌, ◌<◌, All, length, refl, sym, ap, ◌∙◌, subst, arith}
-use Rattle.std.proofs.lemmas.Grind.{common_steps}
 use Rattle.std.proofs.lemmas.Bool.Decides.{nat_tests}
 use Rattle.seccompiler.specs.Architecture.{audit_word}
 use Rattle.seccompiler.specs.Code.{jump_equal, guard_code}
@@ -8,7 +7,8 @@ use Rattle.seccompiler.specs.Compiled.{numbers_of}
 use Rattle.seccompiler.proofs.Parts.{four-written, headed}
 use Rattle.seccompiler.proofs.ChainNumbers.{numbers_are_keys}
 use Rattle.seccompiler.proofs.linear.Guarded.{words_of}
-use Rattle.seccompiler.proofs.linear.WholeProgram.{written_full, written_empty, counted_full, counted_empty}
+use Rattle.seccompiler.proofs.linear.WholeProgram.{written_full, written_empty}
+use Rattle.seccompiler.proofs.CappedLengths.{counted_full, counted_empty}
 use Rattle.seccompiler.proofs.filter.SeccompFilter.write.Goals as goal
 
 pub returns-then-is_empty : goal.returns-then-is_empty
@@ -23,9 +23,8 @@ returns-then-is_empty c =
     let words = words_of c.args.self.now c.self.inside.rules.entries
     c.self.inside.mismatch_action c.self.inside.match_action c.self.inside.target_arch
     c.from-mismatch.result _ c.self.view_is c.from-mismatch.ensures refl in
-    let compiled = written_empty c.args.self.now c.self.inside.rules.entries c.from-mismatch.result _ _ words none
-    (written ∙ cc (c.return_word.ensures.instruction)) in
-    record { compiled = compiled }
+    record { compiled = written_empty c.args.self.now c.self.inside.rules.entries c.from-mismatch.result _ _ words none
+    (written ∙ cc (c.return_word.ensures.instruction)) }
 
 pub write_chains-requires-clause-numbers : goal.write_chains-requires-clause-numbers
 write_chains-requires-clause-numbers c =
@@ -45,13 +44,6 @@ returns c =
     let words = words_of c.args.self.now c.self.inside.rules.entries c.self.inside.mismatch_action
     c.self.inside.match_action c.self.inside.target_arch c.from-mismatch.result c.into.result
     c.self.view_is c.from-mismatch.ensures c.into.ensures in
-    let compiled = written_full c.args.self.now c.self.inside.rules.entries c.from-mismatch.result c.into.result c.write_chains.new.part
-    _ words some c.requires.compilable.short c.write_chains.ensures.code
-    (written ∙ cc (c.load_word.ensures.instruction, c.from.ensures, c.return_word-2.ensures.instruction)) in
-    record { compiled = compiled }
-
-pub slice_bounds-write_chains-count : goal.slice_bounds-write_chains-count
-slice_bounds-write_chains-count c = grind (arith, common_steps)
-
-pub slice_bounds-write_chains-start : goal.slice_bounds-write_chains-start
-slice_bounds-write_chains-start c = grind (arith, common_steps)
+    record { compiled = written_full c.args.self.now c.self.inside.rules.entries c.from-mismatch.result c.into.result
+    c.write_chains.new.part _ words some c.requires.compilable.short c.write_chains.ensures.code
+    (written ∙ cc (c.load_word.ensures.instruction, c.from.ensures, c.return_word-2.ensures.instruction)) }

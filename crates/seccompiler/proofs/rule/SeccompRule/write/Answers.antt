@@ -3,9 +3,8 @@ use Rattle.std.proofs.lemmas.List.{drop_all}
 use lib.Seq.{length-take-le}
 use borrow.Rule.Slice.PartMut.{put_mid}
 use Rattle.seccompiler.specs.Layout.{rule_length}
-use Rattle.seccompiler.specs.Policy.{Rule}
 use Rattle.seccompiler.specs.ChainCode.{relay_front}
-use Rattle.seccompiler.specs.Pieces.{IsConditionCode, IsRuleCode}
+use Rattle.seccompiler.specs.Pieces.{IsConditionCode}
 use Rattle.seccompiler.proofs.rule.RuleCode.{entry_code}
 use Rattle.seccompiler.proofs.rule.RuleLoops.{Built, built_empty, built_step, built_all, built_rule, entry_room, room_at, end_within}
 use Rattle.seccompiler.proofs.Parts.{drop-written, length-part}
@@ -23,22 +22,19 @@ loop-condition-init c =
 pub relay_if_far-front-requires-clause-room : goal.relay_if_far-front-requires-clause-room
 relay_if_far-front-requires-clause-room c =
     let l = c.loop-condition in
-    let room = room_at c.deref-condition-items.result.now l.condition-index _ l.offset
-    l.end c.condition-item.result c.loop-condition-test.true c.condition-item.is l.invariant.built l.invariant.free in
+    let room = room_at _ _ _ _ _ _ c.loop-condition-test.true c.condition-item.is l.invariant.built l.invariant.free in
     omega arith
 
 pub overflow_sub-front : goal.overflow_sub-front
 overflow_sub-front c =
     let l = c.loop-condition in
-    let room = room_at c.deref-condition-items.result.now l.condition-index _ l.offset
-    l.end c.condition-item.result c.loop-condition-test.true c.condition-item.is l.invariant.built l.invariant.free in
+    let room = room_at _ _ _ _ _ _ c.loop-condition-test.true c.condition-item.is l.invariant.built l.invariant.free in
     omega (arith, c.relay_if_far-front.ensures.front, c.code_len-size.ensures)
 
 pub write-requires-clause-room : goal.write-requires-clause-room
 write-requires-clause-room c =
     let l = c.loop-condition in
-    let room = room_at c.deref-condition-items.result.now l.condition-index _ l.offset
-    l.end c.condition-item.result c.loop-condition-test.true c.condition-item.is l.invariant.built l.invariant.free in
+    let room = room_at _ _ _ _ _ _ c.loop-condition-test.true c.condition-item.is l.invariant.built l.invariant.free in
     let within = end_within l.end l.part c.deref-condition-items.result.now
     (omega (arith, c.requires.room, ap rule_length (c.deref-condition-items.ensures.value ∙ c.self.view_is))) l.invariant.free in
     let front = c.relay_if_far-front.ensures.front in
@@ -52,8 +48,7 @@ loop-condition-preserved c =
     let q = c.deref-condition-items.result.now in
     let front = c.relay_if_far-front.result.0 in
     let start = front - c.code_len-size.result in
-    let room = room_at q l.condition-index _ l.offset l.end c.condition-item.result c.loop-condition-test.true
-    c.condition-item.is l.invariant.built l.invariant.free in
+    let room = room_at _ _ _ _ _ _ c.loop-condition-test.true c.condition-item.is l.invariant.built l.invariant.free in
     let within = end_within l.end l.part q
     (omega (arith, c.requires.room, ap rule_length (c.deref-condition-items.ensures.value ∙ c.self.view_is))) l.invariant.free in
     let relay = c.relay_if_far-front.ensures in
@@ -94,6 +89,4 @@ returns c =
     ∙ cc (c.jump_over.ensures.instruction, c.jump_over-2.ensures.instruction, c.from.ensures) in
     let code = built_rule q (drop l.end l.part) (c.copy_from_slice.new.self ++ drop l.end l.part) l.offset some all
     (ap (λ e. e ++ drop l.end l.part) entry) in
-    let whole = c.copy_from_slice.new.self ++ drop l.end l.part in
-    let same = c.deref-condition-items.ensures.value ∙ c.self.view_is in
-    record { code = subst (λ (r : Rule). IsRuleCode r whole) same code }
+    record { code = rw (← c.self.view_is, ← c.deref-condition-items.ensures.value) code }

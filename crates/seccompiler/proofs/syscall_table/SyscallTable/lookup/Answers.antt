@@ -1,4 +1,4 @@
-use Rattle.std.proofs.Common.{◌≡◌, ◌+◌, ◌-◌, ◌/◌, length, take, drop, eqb-true, refl, sym, ◌∙◌, ap, subst, arith}
+use Rattle.std.proofs.Common.{◌≡◌, ◌+◌, ◌-◌, ◌/◌, length, drop, eqb-true, refl, sym, ◌∙◌, ap, subst, arith}
 use Rattle.std.proofs.lemmas.List.{take_all, length-take, length-drop, length-map}
 use Rattle.seccompiler.specs.Architecture.{table_of}
 use Rattle.seccompiler.specs.SyscallTable.{IsTableNumber, pairs_of}
@@ -50,8 +50,7 @@ loop-part-preserved c =
     let half = upper (table_of c.args.self.now) c.args.name.now c.loop-part.compared _ part c.loop-part.invariant.half
     (compared_with part c.args.name.now c.loop-part-test.true c.is_empty.ensures c.in-Greater.is c.cmp.ensures) in
     let long = length-drop (length part / 2 + 1) part in
-    let whole : take (length part - (length part / 2 + 1)) (drop (length part / 2 + 1) part) ≡ drop (length part / 2 + 1) part =
-    take_all _ _ (omega (arith, long)) in
+    let whole = take_all (length part - (length part / 2 + 1)) (drop (length part / 2 + 1) part) (omega (arith, long)) in
     record {
       half = subst (λ part. IsHalf (table_of c.args.self.now) c.args.name.now (c.loop-part.compared + 1) (pairs_of part)) (sym whole) half;
       short = omega (arith, long, ap length whole);

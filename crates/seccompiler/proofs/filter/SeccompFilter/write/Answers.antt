@@ -23,8 +23,10 @@ returns-then-is_empty c =
     let words = words_of c.args.self.now c.self.inside.rules.entries
     c.self.inside.mismatch_action c.self.inside.match_action c.self.inside.target_arch
     c.from-mismatch.result _ c.self.view_is c.from-mismatch.ensures refl in
-    record { compiled = written_empty c.args.self.now c.self.inside.rules.entries c.from-mismatch.result _ _ words none
-    (written ∙ cc (c.return_word.ensures.instruction)) }
+    record {
+      compiled = written_empty c.args.self.now c.self.inside.rules.entries c.from-mismatch.result _ _ words none
+          (written ∙ cc (c.return_word.ensures.instruction));
+    }
 
 pub write_chains-requires-clause-numbers : goal.write_chains-requires-clause-numbers
 write_chains-requires-clause-numbers c =
@@ -44,6 +46,8 @@ returns c =
     let words = words_of c.args.self.now c.self.inside.rules.entries c.self.inside.mismatch_action
     c.self.inside.match_action c.self.inside.target_arch c.from-mismatch.result c.into.result
     c.self.view_is c.from-mismatch.ensures c.into.ensures in
-    record { compiled = written_full c.args.self.now c.self.inside.rules.entries c.from-mismatch.result c.into.result
-    c.write_chains.new.part _ words some c.requires.compilable.short c.write_chains.ensures.code
-    (written ∙ cc (c.load_word.ensures.instruction, c.from.ensures, c.return_word-2.ensures.instruction)) }
+    record {
+      compiled = written_full c.args.self.now c.self.inside.rules.entries c.from-mismatch.result c.into.result
+          c.write_chains.new.part _ words some c.requires.compilable.short c.write_chains.ensures.code
+          (written ∙ cc (c.load_word.ensures.instruction, c.from.ensures, c.return_word-2.ensures.instruction));
+    }

@@ -1,16 +1,12 @@
 -- Default values: where the next one begins, and steps that have them.
-use Rattle.std.proofs.Common.{◌≡◌, ℕ, zero, suc, get_or, ◌+◌, ◌<◌, ◌≤◌, ◌^◌, List, [], ◌∷◌, length, true, false, nat_le, ◌⊎◌, inl, inr}
-use Rattle.std.proofs.Common.{refl, sym, ap, ◌∙◌, subst, arith}
+use Rattle.std.proofs.Common.{◌≡◌, ℕ, zero, suc, get_or, ◌<◌, ◌≤◌, ◌^◌, List, [], ◌∷◌, length, true, false, nat_le, ◌⊎◌, inl, inr}
+use Rattle.std.proofs.Common.{refl, ap, arith}
 use Rattle.std.proofs.lemmas.Bool.Decides.{nat_tests}
 use Rattle.std.proofs.lemmas.Bool.{cases_lt}
 use Rattle.std.proofs.lemmas.List.{get_or_default}
 use Rattle.seccomp_tree.specs.declared.decisions.DefaultValue.{DefaultValue}
-use Rattle.seccomp_tree.specs.declared.steps.Target.TheVariants.{Give}
-use Rattle.seccomp_tree.specs.declared.steps.Step.{Step}
-use Rattle.seccomp_tree.specs.Steps.{IsPushed}
-use Rattle.seccomp_tree.specs.Decided.{StartAbove, AscendFromZero, default_from, default_for}
-use Rattle.seccomp_tree.specs.CallSteps.{AreDefaultsPushed, IsNextDefault}
-use Rattle.seccomp_tree.proofs.Begun.{steps_more}
+use Rattle.seccomp_tree.specs.Decided.{StartAbove, AscendFromZero, default_from}
+use Rattle.seccomp_tree.specs.CallSteps.{IsNextDefault}
 
 -- numbers that no start parts have one default
 same_from : (value : ℕ) (defaults : List DefaultValue) (m n : ℕ)
@@ -57,9 +53,10 @@ abbrev pub StartBy : List DefaultValue → ℕ → ℕ → Type 0
 StartBy defaults number i = (k : ℕ) (d : DefaultValue) → k < i → k < length defaults → (get_or defaults k d).start ≤ number
 
 pub next_found : (defaults : List DefaultValue) (number i next : ℕ) (x : DefaultValue) → AscendFromZero defaults → StartBy defaults number i
-    → i < length defaults → next ≡ (get_or defaults i x).start → number < next → IsNextDefault defaults number next
-next_found defaults number i next x ascend by lt is above = record {
+    → i < length defaults → next ≡ (get_or defaults i x).start → next ≤ 2 ^ 32 → number < next → IsNextDefault defaults number next
+next_found defaults number i next x ascend by lt is small above = record {
   above = above;
+  within = small;
   same = λ n le less. same_from 0 defaults n number (λ k d inside. elim (cases_lt k i) [
     | inl front ↦ let low = by k d front inside in inl (omega arith, low)
     | inr back ↦
@@ -73,20 +70,6 @@ pub next_none : (defaults : List DefaultValue) (number i : ℕ) → number < 2 ^
     → IsNextDefault defaults number (2 ^ 32)
 next_none defaults number i small all by = record {
   above = small;
+  within = omega arith;
   same = λ n le less. same_from 0 defaults n number (λ k d inside. let low = by k d (omega arith) inside in inl (omega arith, low));
-}
-
-pub defaults_more : (old mid new : List Step) (defaults : List DefaultValue) (start number next end value : ℕ) → start ≤ number
-    → AreDefaultsPushed old defaults start number mid → value ≡ default_for defaults number → value < 2 ^ 32
-    → IsPushed mid number (Give value) new → IsNextDefault defaults number next → number < end → end ≤ next
-    → AreDefaultsPushed old defaults start end new
-defaults_more old mid new defaults start number next end value order h is fits pushed on some within = record {
-  are = steps_more (number + 1) end new (omega arith) (omega arith) pushed.are;
-  inside = λ n le lt. elim (cases_lt n number) [
-    | inl low ↦ let was = h.inside n le low in (pushed.below n low ∙ was.0, was.1)
-    | inr from ↦
-        let same = is ∙ sym (on.same n from (omega arith)) in
-        (pushed.from n from ∙ ap Give same, subst (λ v. v < 2 ^ 32) same fits)
-  ];
-  below = λ n lt. pushed.below n (omega arith) ∙ h.below n lt;
 }

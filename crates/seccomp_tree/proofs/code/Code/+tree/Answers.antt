@@ -1,4 +1,4 @@
-use Rattle.std.proofs.Common.{◌-◌, ◌/◌, ◌^◌, ◌<◌, length, take, refl, sym, ◌∙◌, arith, inl, inr}
+use Rattle.std.proofs.Common.{◌/◌, ◌^◌, ◌<◌, length, take, refl, sym, ◌∙◌, arith, inl, inr}
 use Rattle.std.proofs.lemmas.Bool.{cases_lt, false≢true}
 use Rattle.seccomp_tree.specs.Rows.{row}
 use Rattle.std.proofs.lemmas.Result.{err_from_is_err_and, IfOk-weaker}

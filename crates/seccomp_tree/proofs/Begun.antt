@@ -112,17 +112,25 @@ begun_some m [] a h some = absurd (h.first some)
 begun_some m (x ∷ steps) a h some =
     let yes : nat_lt x.start (a + 1) ≡ true = grind (arith, nat_tests, h.first some) in rw yes (omega arith)
 
+begun_none : (m from : ℕ) (steps : List Step) (a : ℕ) → AscendFrom m from steps → a ≤ from → begun steps a ≡ 0
+begun_none m from [] a h le = refl
+begun_none m from (x ∷ steps) a h le = let no : nat_lt x.start a ≡ false = grind (arith, nat_tests, h.0) in rw no refl
+
+-- at most one starts at a number
+pub begun_next : (m from : ℕ) (steps : List Step) (a : ℕ) → AscendFrom m from steps → begun steps (a + 1) ≤ begun steps a + 1
+begun_next m from [] a h = omega arith
+begun_next m from (x ∷ steps) a h =
+    let rest = begun_next m (x.start + 1) steps a h.1.1 in
+    let none = λ (e : x.start ≡ a). begun_none m (x.start + 1) steps (a + 1) h.1.1 (omega arith) in
+    grind (arith, nat_tests, rest, none)
+
 -- a step is the last of those that start up to its start
 pub begun_at : (m from : ℕ) (steps : List Step) (k : ℕ) (d : Step) → AscendFrom m from steps → k < length steps
     → begun steps ((get_or steps k d).start + 1) ≡ k + 1
 begun_at m from [] k d h lt = absurd (omega arith)
 begun_at m from (x ∷ steps) zero d h lt =
     let yes : nat_lt x.start (x.start + 1) ≡ true = grind (arith, nat_tests) in
-    rw yes (omega (arith, none steps h.1.1))
-  where
-    none : (l : List Step) → AscendFrom m (x.start + 1) l → begun l (x.start + 1) ≡ 0
-    none [] h = refl
-    none (y ∷ l) h = let no : nat_lt y.start (x.start + 1) ≡ false = grind (arith, nat_tests, h.0) in rw no refl
+    rw yes (omega (arith, begun_none m (x.start + 1) steps (x.start + 1) h.1.1 (omega arith)))
 begun_at m from (x ∷ steps) (suc k) d h lt =
     let up = starts_rise m (x.start + 1) steps k d h.1.1 (omega arith) in
     let yes : nat_lt x.start ((get_or steps k d).start + 1) ≡ true = grind (arith, nat_tests, up.0) in

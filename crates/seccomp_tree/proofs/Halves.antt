@@ -1,6 +1,7 @@
 -- Arguments of 64 bits: steps by their high and their low halves.
 use Rattle.std.proofs.Common.{◌≡◌, ℕ, suc, ◌+◌, ◌-◌, ◌*◌, ◌/◌, ◌^◌, ◌<◌, ◌≤◌, List, [], length, get_or, sym, ap, subst, arith, inl, inr}
-use Rattle.std.proofs.lemmas.Bool.{cases_lt}
+use Rattle.std.specs.Prelude.{max}
+use Rattle.std.proofs.lemmas.Bool.{cases_lt, cases_eq}
 use Rattle.std.proofs.Math.Nat.{pow-succ'}
 use Rattle.seccompiler.specs.declared.bpf.sock_filter.{sock_filter}
 use Rattle.seccompiler.specs.Machine.{IsRecord, word_at, argument_at, greatest_length}
@@ -55,67 +56,43 @@ half_of_word old new index steps lows high t are h word = record {
 
 -- ---- the next high half
 
-module _ (steps : List Step) (high : ℕ) (are : AreSteps (2 ^ 64) steps) where
-  -- a step starts inside this one
-  pub next_behind : high < 2 ^ 32 → begun steps (high * 2 ^ 32 + 1) < begun steps (high * 2 ^ 32 + 0xffffffff + 1)
-      → IsNext steps high (high + 1)
-  next_behind small more = record {
-    above = omega arith;
-    within = omega arith;
-    same = λ h a le lt fits. let is : h ≡ high = omega arith in ap (λ x. found_in steps (x * 2 ^ 32 + a)) is;
-    more = λ _.
-        let end : high * 2 ^ 32 + 0xffffffff + 1 ≡ (high + 1) * 2 ^ 32 = omega arith in
-        let e = ap (λ n. begun steps n) end in
-        let low = begun_more steps (high * 2 ^ 32) (high * 2 ^ 32 + 1) (omega arith) in
-        let up = begun_more steps ((high + 1) * 2 ^ 32) ((high + 1 + 1) * 2 ^ 32) (omega arith) in
-        omega (arith, e, low, up, more);
-  }
+-- that of the number at which a further step starts, if it is none of this half; or none does, and it is past all
+pub next_is : (steps : List Step) (high start next : ℕ) → AreSteps (2 ^ 64) steps → high < 2 ^ 32 → start ≤ 2 ^ 64
+    → begun steps start ≤ begun steps (high * 2 ^ 32 + 1)
+    → (start < 2 ^ 64 → begun steps (high * 2 ^ 32 + 1) < begun steps (start + 1)) → next ≡ max (start / 2 ^ 32) (high + 1)
+    → IsNext steps high next
+next_is steps high start next are small within none some is = record {
+  above = omega (arith, is);
+  within = omega (arith, is);
+  same = λ h a le lt fits. elim (cases_eq h high) [
+    | inl here ↦ ap (λ x. found_in steps (x * 2 ^ 32 + a)) here
+    | inr further ↦
+        let one = begun_more steps (high * 2 ^ 32 + 1) (h * 2 ^ 32 + a + 1) (omega arith) in
+        let two = begun_more steps (h * 2 ^ 32 + a + 1) start (omega arith) in
+        let three = begun_more steps (high * 2 ^ 32 + 1) (high * 2 ^ 32 + a + 1) (omega arith) in
+        let four = begun_more steps (high * 2 ^ 32 + a + 1) start (omega arith) in
+        found_same (2 ^ 64) steps (h * 2 ^ 32 + a) (high * 2 ^ 32 + a) are (omega arith) (omega (arith, one, two, three, four))
+  ];
+  more = λ less.
+      let low = begun_more steps (high * 2 ^ 32) (high * 2 ^ 32 + 1) (omega arith) in
+      let up = begun_more steps ((high + 1) * 2 ^ 32) (next * 2 ^ 32) (omega (arith, is)) in
+      let far = begun_more steps (start + 1) ((next + 1) * 2 ^ 32) (omega (arith, is)) in
+      let there = some (omega (arith, is)) in
+      omega (arith, low, up, far, there);
+}
 
-  -- none does: there is the same up to the next step, or to the end
-  between : (next h a : ℕ) → begun steps (high * 2 ^ 32 + 0xffffffff + 1) ≤ begun steps (high * 2 ^ 32 + 1)
-      → begun steps (next * 2 ^ 32) ≤ begun steps (high * 2 ^ 32 + 1) → high ≤ h → h < next → a < 2 ^ 32
-      → found_in steps (h * 2 ^ 32 + a) ≡ found_in steps (high * 2 ^ 32 + a)
-  between next h a none far le lt fits =
-      let one = begun_more steps (high * 2 ^ 32 + 1) (h * 2 ^ 32 + a + 1) (omega arith) in
-      let two = begun_more steps (h * 2 ^ 32 + a + 1) (next * 2 ^ 32) (omega arith) in
-      let three = begun_more steps (high * 2 ^ 32 + 1) (high * 2 ^ 32 + a + 1) (omega arith) in
-      let four = begun_more steps (high * 2 ^ 32 + a + 1) (high * 2 ^ 32 + 0xffffffff + 1) (omega arith) in
-      found_same (2 ^ 64) steps (h * 2 ^ 32 + a) (high * 2 ^ 32 + a) are (omega arith) (omega (arith, one, two, three, four))
-
-  pub next_none : high < 2 ^ 32 → begun steps (high * 2 ^ 32 + 0xffffffff + 1) ≤ begun steps (high * 2 ^ 32 + 1)
-      → begun steps (high * 2 ^ 32 + 0xffffffff + 1) ≡ length steps → IsNext steps high (2 ^ 32)
-  next_none small none all = record {
-    above = small;
-    within = omega arith;
-    same = λ h a le lt fits. between (2 ^ 32) h a none (omega (arith, begun_few steps (2 ^ 32 * 2 ^ 32))) le lt fits;
-    more = λ less. absurd (omega arith);
-  }
-
-  pub next_some : (n next : ℕ) (d : Step) → n ≡ begun steps (high * 2 ^ 32 + 0xffffffff + 1)
-      → n ≤ begun steps (high * 2 ^ 32 + 1) → n < length steps → next ≡ (get_or steps n d).start / 2 ^ 32 → IsNext steps high next
-  next_some n next d count none lt is =
-      let s = (get_or steps n d).start in
-      let rise = starts_rise (2 ^ 64) 0 steps n d are.ascend lt in
-      let end : high * 2 ^ 32 + 0xffffffff + 1 ≡ (high + 1) * 2 ^ 32 = omega arith in
-      let e = ap (λ m. begun steps m) end in
-      let above : (high + 1) * 2 ^ 32 ≤ s = elim (cases_lt s ((high + 1) * 2 ^ 32)) [
-        | inl low ↦ absurd (omega (arith, begun_counts (2 ^ 64) 0 steps ((high + 1) * 2 ^ 32) n d are.ascend lt low, e, count))
-        | inr up ↦ up
-      ] in
-      let near : begun steps (next * 2 ^ 32) ≤ n = elim (cases_lt n (begun steps (next * 2 ^ 32))) [
-        | inl more ↦ absurd (omega (arith, begun_below steps (next * 2 ^ 32) n d more))
-        | inr le ↦ le
-      ] in
-      record {
-        above = omega (arith, above);
-        within = omega (arith, rise.1);
-        same = λ h a le less fits. between next h a (omega (arith, count, none)) (omega (arith, near, none)) le less fits;
-        more = λ _.
-            let low = begun_more steps (high * 2 ^ 32) ((high + 1) * 2 ^ 32) (omega arith) in
-            let up = begun_more steps ((high + 1) * 2 ^ 32) (next * 2 ^ 32) (omega (arith, above)) in
-            let there = begun_counts (2 ^ 64) 0 steps ((next + 1) * 2 ^ 32) n d are.ascend lt (omega arith) in
-            omega (arith, low, up, there, count, e);
-      }
+pub next_some : (steps : List Step) (high n next : ℕ) (d : Step) → AreSteps (2 ^ 64) steps → high < 2 ^ 32
+    → n ≡ begun steps (high * 2 ^ 32 + 1) → n < length steps → next ≡ max ((get_or steps n d).start / 2 ^ 32) (high + 1)
+    → IsNext steps high next
+next_some steps high n next d are small count lt is =
+    let s = (get_or steps n d).start in
+    let near : begun steps s ≤ n = elim (cases_lt n (begun steps s)) [
+      | inl more ↦ absurd (omega (arith, begun_below steps s n d more))
+      | inr le ↦ le
+    ] in
+    let rise = starts_rise (2 ^ 64) 0 steps n d are.ascend lt in
+    let there = begun_counts (2 ^ 64) 0 steps (s + 1) n d are.ascend lt (omega arith) in
+    next_is steps high s next are small (omega (arith, rise.1)) (omega (arith, near, count)) (λ _. omega (arith, there, count)) is
 
 -- ---- the loop of `high_halves`
 

@@ -34,12 +34,12 @@ abbrev pub over : Option Target → Target → Target
 over None t = t
 over (Some u) t = u
 
--- From the first number to the last there is this target over what others have.
-pub record IsOverPushed (old others : List Step) (first last : ℕ) (target : Option Target) (new : List Step) : Type 0 where
-  pub are : AreSteps (last + 1) new
-  pub inside : (a : ℕ) → first ≤ a → a ≤ last → found_in new a ≡ over target (found_in others a)
+-- From the first number up to the end there is this target over what others have.
+pub record IsOverPushed (old others : List Step) (first end : ℕ) (target : Option Target) (new : List Step) : Type 0 where
+  pub are : AreSteps end new
+  pub inside : (a : ℕ) → first ≤ a → a < end → found_in new a ≡ over target (found_in others a)
   pub below : (a : ℕ) → a < first → found_in new a ≡ found_in old a
-  pub few : length new + begun others (first + 1) ≤ length old + 1 + begun others (last + 1)
+  pub few : length new + begun others (first + 1) ≤ length old + 1 + begun others end
 
 -- For the numbers below the size the steps have the target if the condition's comparison holds, and else what others
 -- have; there are at most so many more.

@@ -91,13 +91,9 @@ fn next_half(steps: &[Step], high: u64) -> u64
     requires are { AreSteps (2 ^ 64) steps.now }
     ensures { IsNext steps.now high result }
 {
-    let first = high * HALVES;
-    let end = until(steps, first + GREATEST_HALF);
-    if until(steps, first) < end {
-        return high + 1;
-    }
+    let end = until(steps, high * HALVES);
     if end == steps.len() {
         return HALVES;
     }
-    steps[end].start / HALVES
+    (steps[end].start / HALVES).max(high + 1)
 }

@@ -54,63 +54,38 @@ starts_sorted m from (x ∷ steps) h (suc i) (suc j) d le lt =
 
 pub begun_few : (steps : List Step) (a : ℕ) → begun steps a ≤ length steps
 begun_few [] a = omega arith
-begun_few (x ∷ steps) a = elim (cases_lt x.start a) [
-  | inl lt ↦ let yes : nat_lt x.start a ≡ true = grind (arith, nat_tests) in rw yes (omega (arith, begun_few steps a))
-  | inr le ↦ let no : nat_lt x.start a ≡ false = grind (arith, nat_tests) in rw no (omega arith)
-]
+begun_few (x ∷ steps) a = grind (arith, nat_tests, begun_few steps a)
 
 -- what is counted starts below the number
 pub begun_below : (steps : List Step) (a k : ℕ) (d : Step) → k < begun steps a → (get_or steps k d).start < a
 begun_below [] a k d lt = absurd (omega arith)
-begun_below (x ∷ steps) a zero d lt = elim (cases_lt x.start a) [
-  | inl below ↦ below
-  | inr le ↦
-      let no : nat_lt x.start a ≡ false = grind (arith, nat_tests) in
-      let none : 0 < 0 = rw no at lt in
-      absurd (omega arith)
-]
-begun_below (x ∷ steps) a (suc k) d lt = elim (cases_lt x.start a) [
-  | inl below ↦
-      let yes : nat_lt x.start a ≡ true = grind (arith, nat_tests) in
-      let more : suc k < 1 + begun steps a = rw yes at lt in
-      begun_below steps a k d (omega arith)
-  | inr le ↦
-      let no : nat_lt x.start a ≡ false = grind (arith, nat_tests) in
-      let none : suc k < 0 = rw no at lt in
-      absurd (omega arith)
-]
+begun_below (x ∷ steps) a zero d lt = grind (arith, nat_tests)
+begun_below (x ∷ steps) a (suc k) d lt = grind (arith, nat_tests, begun_below steps a k d)
 
 -- and what starts below the number is counted
 pub begun_counts : (m from : ℕ) (steps : List Step) (a k : ℕ) (d : Step) → AscendFrom m from steps → k < length steps
     → (get_or steps k d).start < a → k < begun steps a
 begun_counts m from [] a k d h lt below = absurd (omega arith)
-begun_counts m from (x ∷ steps) a zero d h lt below = let yes : nat_lt x.start a ≡ true = grind (arith, nat_tests) in rw yes (omega arith)
-begun_counts m from (x ∷ steps) a (suc k) d h lt below =
-    let up = starts_rise m (x.start + 1) steps k d h.1.1 (omega arith) in
-    let yes : nat_lt x.start a ≡ true = grind (arith, nat_tests, up.0) in
-    rw yes (omega (arith, begun_counts m (x.start + 1) steps a k d h.1.1 (omega arith) below))
+begun_counts m from (x ∷ steps) a zero d h lt below = grind (arith, nat_tests)
+begun_counts m from (x ∷ steps) a (suc k) d h lt below = grind (
+  arith,
+  nat_tests,
+  (starts_rise m (x.start + 1) steps k d h.1.1 (omega arith)).0,
+  begun_counts m (x.start + 1) steps a k d h.1.1 (omega arith) below,
+)
 
 pub begun_more : (steps : List Step) (a b : ℕ) → a ≤ b → begun steps a ≤ begun steps b
 begun_more [] a b le = omega arith
-begun_more (x ∷ steps) a b le = elim (cases_lt x.start a) [
-  | inl lt ↦
-      let yes : nat_lt x.start a ≡ true = grind (arith, nat_tests) in
-      let too : nat_lt x.start b ≡ true = grind (arith, nat_tests) in
-      rw (yes, too) (omega (arith, begun_more steps a b le))
-  | inr ge ↦ let no : nat_lt x.start a ≡ false = grind (arith, nat_tests) in rw no (omega arith)
-]
+begun_more (x ∷ steps) a b le = grind (arith, nat_tests, begun_more steps a b le)
 
 -- all of them start below the size
 pub begun_all : (m from : ℕ) (steps : List Step) (a : ℕ) → AscendFrom m from steps → m ≤ a → begun steps a ≡ length steps
 begun_all m from [] a h le = refl
-begun_all m from (x ∷ steps) a h le =
-    let yes : nat_lt x.start a ≡ true = grind (arith, nat_tests, h.1.0) in
-    rw yes (omega (arith, begun_all m (x.start + 1) steps a h.1.1 le))
+begun_all m from (x ∷ steps) a h le = grind (arith, nat_tests, h.1.0, begun_all m (x.start + 1) steps a h.1.1 le)
 
 pub begun_some : (m : ℕ) (steps : List Step) (a : ℕ) → AreSteps m steps → 0 < m → 1 ≤ begun steps (a + 1)
 begun_some m [] a h some = absurd (h.first some)
-begun_some m (x ∷ steps) a h some =
-    let yes : nat_lt x.start (a + 1) ≡ true = grind (arith, nat_tests, h.first some) in rw yes (omega arith)
+begun_some m (x ∷ steps) a h some = grind (arith, nat_tests, h.first some)
 
 begun_none : (m from : ℕ) (steps : List Step) (a : ℕ) → AscendFrom m from steps → a ≤ from → begun steps a ≡ 0
 begun_none m from [] a h le = refl
@@ -128,13 +103,9 @@ begun_next m from (x ∷ steps) a h =
 pub begun_at : (m from : ℕ) (steps : List Step) (k : ℕ) (d : Step) → AscendFrom m from steps → k < length steps
     → begun steps ((get_or steps k d).start + 1) ≡ k + 1
 begun_at m from [] k d h lt = absurd (omega arith)
-begun_at m from (x ∷ steps) zero d h lt =
-    let yes : nat_lt x.start (x.start + 1) ≡ true = grind (arith, nat_tests) in
-    rw yes (omega (arith, begun_none m (x.start + 1) steps (x.start + 1) h.1.1 (omega arith)))
+begun_at m from (x ∷ steps) zero d h lt = grind (arith, nat_tests, begun_none m (x.start + 1) steps (x.start + 1) h.1.1 (omega arith))
 begun_at m from (x ∷ steps) (suc k) d h lt =
-    let up = starts_rise m (x.start + 1) steps k d h.1.1 (omega arith) in
-    let yes : nat_lt x.start ((get_or steps k d).start + 1) ≡ true = grind (arith, nat_tests, up.0) in
-    rw yes (omega (arith, begun_at m (x.start + 1) steps k d h.1.1 (omega arith)))
+    grind (arith, nat_tests, (starts_rise m (x.start + 1) steps k d h.1.1 (omega arith)).0, begun_at m (x.start + 1) steps k d h.1.1 (omega arith))
 
 -- where the tests of a search part the steps
 pub begun_point : (steps : List Step) (number n : ℕ) → n ≤ length steps
@@ -142,18 +113,16 @@ pub begun_point : (steps : List Step) (number n : ℕ) → n ≤ length steps
     → n ≡ begun steps (number + 1)
 begun_point [] number n le point = omega arith
 begun_point (x ∷ steps) number zero le point =
-    let above = leb-false x.start number (point.1 0 x (omega arith) (omega arith)) in
-    let no : nat_lt x.start (number + 1) ≡ false = grind (arith, nat_tests, above) in rw no refl
-begun_point (x ∷ steps) number (suc n) le point =
-    let low = leb-true x.start number (point.0 0 x (omega arith) (omega arith)) in
-    let yes : nat_lt x.start (number + 1) ≡ true = grind (arith, nat_tests, low) in
-    rw yes (omega (
-      arith,
-      begun_point steps number n (omega arith) (
-        (λ k d lt lt'. point.0 (suc k) d (omega arith) (omega arith)),
-        (λ k d lt lt'. point.1 (suc k) d (omega arith) (omega arith)),
-      ),
-    ))
+    grind (arith, nat_tests, leb-false x.start number (point.1 0 x (omega arith) (omega arith)))
+begun_point (x ∷ steps) number (suc n) le point = grind (
+  arith,
+  nat_tests,
+  leb-true x.start number (point.0 0 x (omega arith) (omega arith)),
+  begun_point steps number n (omega arith) (
+    (λ k d lt lt'. point.0 (suc k) d (omega arith) (omega arith)),
+    (λ k d lt lt'. point.1 (suc k) d (omega arith) (omega arith)),
+  ),
+)
 
 -- ---- targets
 
@@ -161,30 +130,17 @@ begun_point (x ∷ steps) number (suc n) le point =
 from_begun : (t : Target) (steps : List Step) (a : ℕ) (y d : Step) → y.target ≡ t
     → found_from t steps a ≡ (get_or (y ∷ steps) (begun steps (a + 1)) d).target
 from_begun t [] a y d is = sym is
-from_begun t (x ∷ steps) a y d is = elim (cases_lt a x.start) [
-  | inl lt ↦
-      let no : nat_le x.start a ≡ false = grind (arith, nat_tests) in
-      let none : nat_lt x.start (a + 1) ≡ false = grind (arith, nat_tests) in
-      rw (no, none) (sym is)
-  | inr le ↦
-      let yes : nat_le x.start a ≡ true = grind (arith, nat_tests) in
-      let too : nat_lt x.start (a + 1) ≡ true = grind (arith, nat_tests) in
-      let at : 1 + begun steps (a + 1) ≡ suc (begun steps (a + 1)) = omega arith in
-      rw (yes, too, at) (from_begun x.target steps a x d refl)
-]
+from_begun t (x ∷ steps) a y d is = grind (arith, nat_tests, from_begun x.target steps a x d refl)
 
 pub found_begun : (m : ℕ) (steps : List Step) (a : ℕ) (d : Step) → AreSteps m steps → 0 < m
     → found_in steps a ≡ (get_or steps (begun steps (a + 1) - 1) d).target
 found_begun m [] a d h some = absurd (h.first some)
-found_begun m (x ∷ steps) a d h some =
-    let yes : nat_lt x.start (a + 1) ≡ true = grind (arith, nat_tests, h.first some) in
-    let at : 1 + begun steps (a + 1) - 1 ≡ begun steps (a + 1) = omega arith in
-    rw (yes, at) (from_begun x.target steps a x d refl)
+found_begun m (x ∷ steps) a d h some = grind (arith, nat_tests, h.first some, from_begun x.target steps a x d refl)
 
 -- a number in front of all starts has what there is
 pub found_before : (m from : ℕ) (t : Target) (steps : List Step) (a : ℕ) → AscendFrom m from steps → a < from → found_from t steps a ≡ t
 found_before m from t [] a h lt = refl
-found_before m from t (x ∷ steps) a h lt = let no : nat_le x.start a ≡ false = grind (arith, nat_tests, h.0) in rw no refl
+found_before m from t (x ∷ steps) a h lt = grind (arith, nat_tests, h.0)
 
 -- what doesn't start between two numbers doesn't part them
 pub found_same : (m : ℕ) (steps : List Step) (a b : ℕ) → AreSteps m steps → 0 < m → begun steps (a + 1) ≡ begun steps (b + 1)
@@ -216,15 +172,13 @@ ascend_push from [] x le h = (le, (omega arith, tt))
 ascend_push from (y ∷ steps) x le h = (h.0, (omega (arith, h.1.0), ascend_push (y.start + 1) steps x (omega (arith, h.1.0)) h.1.1))
 
 below_push : (t : Target) (steps : List Step) (x : Step) (a : ℕ) → a < x.start → found_from t (steps ++ x ∷ []) a ≡ found_from t steps a
-below_push t [] x a below = let no : nat_le x.start a ≡ false = grind (arith, nat_tests) in rw no refl
+below_push t [] x a below = grind (arith, nat_tests)
 below_push t (y ∷ steps) x a below = ap (λ v. if nat_le y.start a then v else t) (below_push y.target steps x a below)
 
 from_push : (t : Target) (from : ℕ) (steps : List Step) (x : Step) (a : ℕ) → AscendFrom x.start from steps → x.start ≤ a
     → found_from t (steps ++ x ∷ []) a ≡ x.target
-from_push t from [] x a h le = let yes : nat_le x.start a ≡ true = grind (arith, nat_tests) in rw yes refl
-from_push t from (y ∷ steps) x a h le =
-    let yes : nat_le y.start a ≡ true = grind (arith, nat_tests, h.1.0) in
-    rw yes (from_push y.target (y.start + 1) steps x a h.1.1 le)
+from_push t from [] x a h le = grind (arith, nat_tests)
+from_push t from (y ∷ steps) x a h le = grind (arith, nat_tests, h.1.0, from_push y.target (y.start + 1) steps x a h.1.1 le)
 
 tight_from : (t : Target) (from : ℕ) (steps : List Step) (x : Step) → AscendFrom x.start from steps
     → (found_from t steps x.start ≢ x.target)

@@ -28,23 +28,15 @@ compares_or_not Lt a v = elim (cases_lt a v) [ inl lt ↦ inl lt | inr le ↦ in
 compares_or_not (MaskedEq m) a v = cases_eq (bit_and a m) (bit_and v m)
 
 -- numbers on one side of a value compare alike
-below_alike : (o : SeccompCmpOp) (a b v : ℕ) → is_plain o ≡ true → a < v → b < v → Compares o a v → Compares o b v
-below_alike Eq a b v plain la lb h = absurd (omega arith)
-below_alike Ne a b v plain la lb h = λ e. absurd (omega arith)
-below_alike Ge a b v plain la lb h = absurd (omega arith)
-below_alike Gt a b v plain la lb h = absurd (omega arith)
-below_alike Le a b v plain la lb h = omega arith
-below_alike Lt a b v plain la lb h = omega arith
-below_alike (MaskedEq m) a b v plain la lb h = absurd (cc)
-
-above_alike : (o : SeccompCmpOp) (a b v : ℕ) → is_plain o ≡ true → v < a → v < b → Compares o a v → Compares o b v
-above_alike Eq a b v plain la lb h = absurd (omega arith)
-above_alike Ne a b v plain la lb h = λ e. absurd (omega arith)
-above_alike Ge a b v plain la lb h = omega arith
-above_alike Gt a b v plain la lb h = omega arith
-above_alike Le a b v plain la lb h = absurd (omega arith)
-above_alike Lt a b v plain la lb h = absurd (omega arith)
-above_alike (MaskedEq m) a b v plain la lb h = absurd (cc)
+side_alike : (o : SeccompCmpOp) (a b v : ℕ) → is_plain o ≡ true → ((a < v) × (b < v)) ⊎ ((v < a) × (v < b)) → Compares o a v
+    → Compares o b v
+side_alike Eq a b v plain side h = grind (arith, side)
+side_alike Ne a b v plain side h = λ e. grind (arith, side)
+side_alike Ge a b v plain side h = grind (arith, side)
+side_alike Gt a b v plain side h = grind (arith, side)
+side_alike Le a b v plain side h = grind (arith, side)
+side_alike Lt a b v plain side h = grind (arith, side)
+side_alike (MaskedEq m) a b v plain side h = absurd (cc)
 
 pub numbers_many : (l : SeccompCmpArgLen) → 2 ^ 32 ≤ numbers_of l
 numbers_many Dword = omega arith
@@ -89,15 +81,15 @@ pub laid_whole : (c : Condition) (target : Target) (others low mid new : List St
 laid_whole c target others low mid new value one two three part plain are first lower at own third upper =
     laid_on c target others mid new (value + 1) (numbers_of c.arg_len) (value + 1) 2 three plain third
     (λ a from lt. (
-      above_alike c.operator a (value + 1) (part_of c.arg_len c.value) plain (omega arith) (omega arith),
-      above_alike c.operator (value + 1) a (part_of c.arg_len c.value) plain (omega arith) (omega arith),
+      side_alike c.operator a (value + 1) (part_of c.arg_len c.value) plain (inr (omega arith, omega arith)),
+      side_alike c.operator (value + 1) a (part_of c.arg_len c.value) plain (inr (omega arith, omega arith)),
     )) until.each (omega (arith, until.few, begun_more others (value + 1) (value + 1 + 1) (omega arith))) upper
   where
     below : AreLaidTo c target others value 0 low
     below = laid_on c target others [] low 0 value 0 0 one plain first
         (λ a from lt. (
-          below_alike c.operator a 0 (part_of c.arg_len c.value) plain (omega arith) (omega arith),
-          below_alike c.operator 0 a (part_of c.arg_len c.value) plain (omega arith) (omega arith),
+          side_alike c.operator a 0 (part_of c.arg_len c.value) plain (inl (omega arith, omega arith)),
+          side_alike c.operator 0 a (part_of c.arg_len c.value) plain (inl (omega arith, omega arith)),
         )) (λ a lt. absurd (omega arith))
         (omega (arith, begun_some (numbers_of c.arg_len) others 0 are (omega (arith, numbers_many c.arg_len)))) lower
 

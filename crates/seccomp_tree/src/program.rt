@@ -3,7 +3,7 @@
 ghost use Rattle.std.specs.Prelude.{◌≡◌, ℕ, ◌≤◌, ◌<◌, ◌^◌, [], IfOk, IfErr};
 ghost use Rattle.seccomp_tree.specs.Code.{IsFullBy};
 ghost use Rattle.seccomp_tree.specs.Decisions.{rules_length};
-ghost use Rattle.seccomp_tree.specs.Decided.{AscendFromZero, calls_of, rulings_for};
+ghost use Rattle.seccomp_tree.specs.Decided.{calls_of, rulings_for};
 ghost use Rattle.seccomp_tree.specs.TreeProgram.{one_value};
 ghost use Rattle.seccomp_tree.specs.CallSteps.{IsAnswered, IsNextDefault};
 
@@ -120,15 +120,16 @@ fn one_value(rulings: &[Decision], default: u32) -> Option<u32>
 
 // The number of the next default after this number, or 2^32.
 fn next_default(defaults: &[DefaultValue], number: u32) -> u64
-    requires { AscendFromZero defaults.now }
     ensures { IsNextDefault defaults.now number result }
 {
+    let mut next = NUMBERS;
     for default in defaults {
-        if default.start > number {
-            return u64::from(default.start);
+        let start = u64::from(default.start);
+        if u64::from(number) < start && start < next {
+            next = start;
         }
     }
-    NUMBERS
+    next
 }
 
 // The next number after this one that has rulings, or 2^32.

@@ -86,7 +86,7 @@ returns-clause-ok t c =
     let all = all_behind steps 1 in
     IfOk-weaker c.test-2.result _ _
     (λ u h.
-    tree_first c.args.self.now c.tree-2.new.self c.test-2.new.self steps _ c.in_ok-rest-2.rest u c.requires.ascend
+    tree_first c.args.self.now c.tree-2.new.self c.test-2.new.self steps _ c.in_ok-rest-2.rest u
     (omega (arith, c.requires.some)) (sym c.stands_out.ensures ∙ c.if-stands_out.false) (c.is_row.ensures.0 c.if-not-is_row.false)
     (rw all at c.in_ok-rest-2.ensures.ok) h)
     c.test-2.ensures.ok

@@ -5,7 +5,6 @@ use Rattle.std.proofs.Common.{Option, Some, None, Vec, nat_eq, if◌then◌else�
 use Rattle.std.proofs.lemmas.List.{drop_more}
 use Rattle.std.proofs.lemmas.List.Elements.{All-cons}
 use Rattle.std.proofs.lemmas.Bool.Decides.{nat_tests}
-use Rattle.std.specs.Prelude.{◌↔◌}
 use Rattle.std.specs.BTreeMap.{is_at}
 use Rattle.std.specs.Map.{lookup}
 use Rattle.std.specs.Ordering.{nat_cmp}
@@ -66,26 +65,6 @@ rulings_under (e ∷ entries) n =
     go false rest = rest
 
 -- ---- what is decided
-
--- the word that the first of the number's rulings names, and no other
-pub record IsOnly (d : DecisionSet) (r : List ℕ) (w : ℕ) : Type 0 where
-  pub decision : IsDecided d r w
-  pub only : (v : ℕ) → IsDecided d r v → v ≡ w
-
-pub decided_by : (d : DecisionSet) (r : List ℕ) (n default w : ℕ) (rulings : List Ruling) → word_at r 4 ≡ audit_word d.target_arch
-    → n ≡ word_at r 0 → default ≡ default_for d.defaults n → rulings ≡ rulings_for d.calls n
-    → ((v : ℕ) → First default r rulings v ↔ (v ≡ w)) → IsOnly d r w
-decided_by d r n default w rulings own number value found first =
-    record { decision = decided own ((there w).1 refl); only = λ v h. go v h }
-  where
-    there : (v : ℕ) → First (default_for d.defaults (word_at r 0)) r (rulings_for d.calls (word_at r 0)) v ↔ (v ≡ w)
-    there v =
-        subst (λ x. First x r (rulings_for d.calls (word_at r 0)) v ↔ (v ≡ w)) (value ∙ ap (default_for d.defaults) number)
-        (subst (λ (q : List Ruling). First default r q v ↔ (v ≡ w)) (found ∙ ap (rulings_for d.calls) number) (first v))
-
-    go : (v : ℕ) → IsDecided d r v → v ≡ w
-    go v (other_architecture not is) = absurd (not own)
-    go v (decided same h) = (there v).0 h
 
 first_some : (default : ℕ) (r : List ℕ) (rulings : List Ruling) → (w : ℕ) × First default r rulings w
 first_some default r [] = (default, nothing)

@@ -21,15 +21,12 @@ use Rattle.seccomp_tree.proofs.Begun.{steps_more, begun_some, found_in_code}
 
 -- if numbers have their low halves alone
 pub half_in : (code : List sock_filter) (steps lows : List Step) (high : ℕ) → AreSteps (2 ^ 64) steps → AreIn code steps
-    → IsPartPushed [] steps (high * 2 ^ 32) (high * 2 ^ 32 + 0xffffffff) (high * 2 ^ 32) lows → AreSteps (2 ^ 32) lows × AreIn code lows
+    → IsPartPushed [] steps (high * 2 ^ 32) (high * 2 ^ 32 + 0xffffffff) (high * 2 ^ 32) lows → AreIn code lows
 half_in code steps lows high whole inside h =
     let size : high * 2 ^ 32 + 0xffffffff + 1 - high * 2 ^ 32 ≡ 2 ^ 32 = omega arith in
-    let are = subst (λ n. AreSteps n lows) size h.are in (
-      are,
-      are_in_below code (2 ^ 32) lows (omega arith) are (λ a lt.
-          subst (IsIn code) (sym (h.inside a (omega arith) (omega arith)))
-          (found_in_code code (2 ^ 64) steps (record { start = 0; target = Give 0 }) (high * 2 ^ 32 + a) (omega arith) whole inside)),
-    )
+    are_in_below code (2 ^ 32) lows (omega arith) (subst (λ n. AreSteps n lows) size h.are) (λ a lt.
+    subst (IsIn code) (sym (h.inside a (omega arith) (omega arith)))
+    (found_in_code code (2 ^ 64) steps (record { start = 0; target = Give 0 }) (high * 2 ^ 32 + a) (omega arith) whole inside))
 
 pub half_room : (steps lows : List Step) (high : ℕ)
     → IsPartPushed [] steps (high * 2 ^ 32) (high * 2 ^ 32 + 0xffffffff) (high * 2 ^ 32) lows

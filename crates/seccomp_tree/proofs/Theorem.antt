@@ -10,7 +10,7 @@ use Rattle.seccompiler.specs.Policy.{Condition, Holds, RuleHolds}
 use Rattle.seccomp_tree.specs.declared.steps.Target.{Target}
 use Rattle.seccomp_tree.specs.declared.steps.Target.TheVariants.{Give}
 use Rattle.seccomp_tree.specs.declared.steps.Step.{Step}
-use Rattle.seccomp_tree.specs.Steps.{found_in, AreSteps}
+use Rattle.seccomp_tree.specs.Steps.{found_in}
 use Rattle.seccomp_tree.specs.Code.{AreIn, IsFullBy, Starts, StartsAlways, Leads, to_return, LeadsAlways, IsPart, IsSound, Returns, chosen}
 use Rattle.seccompiler.specs.declared.backend.SeccompCmpArgLen.TheVariants.{Dword}
 use Rattle.seccomp_tree.specs.Decisions.{Ruling, First, nothing, Takes, stops, passes, ends, Enters, begins, RunTakes}
@@ -64,10 +64,9 @@ answer_leads d code t r w n rec h arch first takes = go (value_for d (word_at r 
     go None is m (own k takes) = h.own is r rec w k first takes
 
 -- what `word` needs
-pub calls_room : (d : DecisionSet) (old mid : List sock_filter) (steps : List Step) → AreCallSteps old d steps mid
-    → AreSteps (2 ^ 32) steps × AreIn mid steps
+pub calls_room : (d : DecisionSet) (old mid : List sock_filter) (steps : List Step) → AreCallSteps old d steps mid → AreIn mid steps
 calls_room d old mid steps h =
-    (h.answers.are, are_in_below mid (2 ^ 32) steps (omega arith) h.answers.are (λ a lt. (h.answers.each a lt).inside))
+    are_in_below mid (2 ^ 32) steps (omega arith) h.answers.are (λ a lt. (h.answers.each a lt).inside)
 
 pub calls_full : (d : DecisionSet) (old mid : List sock_filter) (steps : List Step) (e : TreeError) → AreCallSteps old d steps mid
     → IsFullBy mid (3 * length steps - 2) e → IsTooFull d old 0 e

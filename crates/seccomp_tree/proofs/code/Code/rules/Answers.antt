@@ -1,9 +1,9 @@
 use Rattle.std.proofs.Common.{◌≡◌, ◌-◌, ◌+◌, ◌∷◌, List, drop, length, sym, ap, ◌∙◌, subst, arith}
 use Rattle.std.proofs.lemmas.List.{drop_all}
-use Rattle.std.proofs.lemmas.Result.{err_from_is_err_and, IfErr-weaker, IfOk-weaker}
+use Rattle.std.proofs.lemmas.Result.{err_from_is_err_and, IfOk-weaker}
 use Rattle.seccomp_tree.specs.Decisions.{Ruling, rules_length}
 use Rattle.seccomp_tree.proofs.Deciding.{drop_at}
-use Rattle.seccomp_tree.proofs.Ruled.{IsRest, rest_none, rest_fit, rest_room, rules_less, in_front, settled}
+use Rattle.seccomp_tree.proofs.Ruled.{IsRest, rest_none, rest_room, rules_less, in_front, settled}
 use Rattle.seccomp_tree.proofs.code.Code.rules.Goals as goal
 use Rattle.seccomp_tree.proofs.code.Code.rules.Goals.{After-index-rulings-left}
 
@@ -21,12 +21,6 @@ loop-left-init c = (
   rw (drop_all (length c.args.rulings.now) c.args.rulings.now (omega arith), c.in_ok-steps.ensures.ok)
       (rest_none c.args.self.now c.args.default c.ranges.default.fits),
 )
-
-pub ruling-requires : goal.ruling-requires
-ruling-requires c = record {
-  fit = let l = c.loop-left in
-      rest_fit c.args.self.now c.args.default (drop l.left c.args.rulings.now) l.rest.like l.rest.steps.items l.self l.invariant.1;
-}
 
 pub returns-in_err-rest-clause-err : goal.returns-in_err-rest-clause-err
 returns-in_err-rest-clause-err c =
@@ -49,12 +43,6 @@ loop-left-preserved c =
           l.rest.like new.like l.rest.steps.items new.steps.items l.invariant.1 c.in_ok-rest.ensures.ok),
     )
 
-pub settle-requires : goal.settle-requires
-settle-requires c = record {
-  fit = let l = c.loop-left in
-      rest_fit c.args.self.now c.args.default (drop l.left c.args.rulings.now) l.rest.like l.rest.steps.items l.self l.invariant.1;
-}
-
 pub returns-clause-ok : goal.returns-clause-ok
 returns-clause-ok c =
     let l = c.loop-left in
@@ -63,11 +51,3 @@ returns-clause-ok c =
     IfOk-weaker c.settle.result _ _
     (λ t s. settled c.args.self.now l.self c.settle.new.self c.args.default c.args.rulings.now l.rest.like l.rest.steps.items t h s)
     c.settle.ensures.ok
-
-pub returns-clause-err : goal.returns-clause-err
-returns-clause-err c =
-    let l = c.loop-left in
-    let none : l.left ≡ 0 = omega arith in
-    let h = rw none at l.invariant.1 in
-    let room = rest_room c.args.self.now l.self c.args.default c.args.rulings.now l.rest.like l.rest.steps.items h in
-    IfErr-weaker c.settle.result _ _ (λ e full is. omega (arith, full is, room)) c.settle.ensures.err

@@ -5,13 +5,6 @@ use Rattle.seccomp_tree.proofs.Begun.{not_none}
 use Rattle.seccomp_tree.proofs.Words.{word_one, word_more}
 use Rattle.seccomp_tree.proofs.code.Code.word.Goals as goal
 
-pub tree-requires : goal.tree-requires
-tree-requires c = record {
-  some = not_none (2 ^ 32) c.args.steps.now c.requires.are (omega arith);
-  ascend = c.requires.are.ascend;
-  inside = c.requires.inside;
-}
-
 pub returns-then-steps-eq1-clause-ok : goal.returns-then-steps-eq1-clause-ok
 returns-then-steps-eq1-clause-ok c =
     word_one c.args.self.now c.tree.new.self c.args.byte c.args.steps.now c.in_ok-tested.tested c.if-steps-eq1.true

@@ -1,10 +1,7 @@
 use Rattle.std.proofs.Common.{arith}
 use Rattle.std.proofs.lemmas.Result.{err_from_is_err_and}
-use Rattle.seccomp_tree.proofs.CallsPushed.{calls_begin, calls_on, calls_room, calls_end}
+use Rattle.seccomp_tree.proofs.CallsPushed.{calls_on, calls_room, calls_end}
 use Rattle.seccomp_tree.proofs.decisions.Decisions.call_steps.Goals as goal
-
-pub loop-next-init : goal.loop-next-init
-loop-next-init c = rw c.new-steps.ensures.items (calls_begin c.args.self.now c.args.code.now)
 
 pub loop-next-preserved : goal.loop-next-preserved
 loop-next-preserved c =

@@ -1,23 +1,15 @@
-use Rattle.std.proofs.Common.{◌-◌, ◌*◌, ◌^◌, length, refl, sym, subst, List, arith}
+use Rattle.std.proofs.Common.{◌-◌, ◌*◌, length, sym, subst, List}
 use Rattle.seccomp_tree.specs.declared.steps.Step.{Step}
-use Rattle.seccomp_tree.specs.Steps.{AreSteps}
 use Rattle.seccomp_tree.specs.Code.{AreIn, IsFullBy}
 use Rattle.seccomp_tree.specs.CallSteps.{AreCallSteps, IsCallsTarget, IsTooFull}
 use Rattle.std.proofs.lemmas.Result.{IfErr-weaker, IfOk-weaker}
 use Rattle.seccomp_tree.proofs.Theorem.{calls_target, calls_room, calls_full}
 use Rattle.seccomp_tree.proofs.decisions.Decisions.write_calls.Goals as goal
 
-pub word-requires : goal.word-requires
-word-requires c =
-    let steps = c.in_ok-steps.steps.items in
-    let mid = c.call_steps.new.code in
-    let room = calls_room c.args.self.now c.args.code.now mid steps c.in_ok-steps.ensures.ok in
-    record {
-      aligned = refl;
-      inside_record = omega arith;
-      are = subst (λ (l : List Step). AreSteps (2 ^ 32) l) (sym c.deref.ensures.value) room.0;
-      inside = subst (λ (l : List Step). AreIn mid l) (sym c.deref.ensures.value) room.1;
-    }
+pub word-requires-clause-inside : goal.word-requires-clause-inside
+word-requires-clause-inside c =
+    subst (λ (l : List Step). AreIn c.call_steps.new.code l) (sym c.deref.ensures.value)
+    (calls_room c.args.self.now c.args.code.now c.call_steps.new.code c.in_ok-steps.steps.items c.in_ok-steps.ensures.ok)
 
 pub returns-clause-ok : goal.returns-clause-ok
 returns-clause-ok c =

@@ -17,7 +17,7 @@ use Rattle.seccomp_tree.specs.Decisions.{Ruling, rules_length}
 use Rattle.seccomp_tree.specs.Decided.{DecisionSet, default_for, rulings_for, calls_of}
 use Rattle.seccomp_tree.specs.TreeProgram.{calls_length}
 use Rattle.seccomp_tree.specs.CallSteps.{IsAnswer, IsAnswered, AreAnswers, AreCallSteps, IsNextNumber}
-use Rattle.seccomp_tree.proofs.Runs.{grows_not, grows_on, is_in_grown, grown_long, leads_grown}
+use Rattle.seccomp_tree.proofs.Runs.{grows_on, is_in_grown, grown_long, leads_grown}
 use Rattle.seccomp_tree.proofs.Begun.{steps_more}
 use Rattle.seccomp_tree.proofs.Deciding.{items_of, rulings_under}
 
@@ -62,13 +62,6 @@ pub record CallsOn (d : DecisionSet) (old : List sock_filter) (next : ℕ) (step
   pub within : next ≤ 2 ^ 32
   pub grows : Grows old (below_length d.calls next) code
   pub answers : AreAnswers d next code steps
-
-pub calls_begin : (d : DecisionSet) (code : List sock_filter) → CallsOn d code 0 [] code
-calls_begin d code = record {
-  within = omega arith;
-  grows = grows_not code _;
-  answers = record { are = record { first = λ lt. absurd (omega arith); ascend = tt; tight = tt }; each = λ n lt. absurd (omega arith) };
-}
 
 pub calls_on : (d : DecisionSet) (old mid new : List sock_filter) (steps more : List Step) (number next : ℕ) (t : Target)
     → CallsOn d old number steps mid → IsAnswered mid (default_for d.defaults number) (rulings_for d.calls number) t new

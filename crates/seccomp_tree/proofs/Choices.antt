@@ -1,5 +1,5 @@
 -- Comparisons as steps, laid over others.
-use Rattle.std.proofs.Common.{◌≡◌, ℕ, ◌+◌, ◌-◌, ◌^◌, ◌<◌, ◌≤◌, List, [], length, true, sym, ap, ◌∙◌, ◌↔◌, Option, Some, None}
+use Rattle.std.proofs.Common.{◌≡◌, ℕ, ◌+◌, ◌^◌, ◌<◌, ◌≤◌, List, [], length, true, sym, ap, ◌↔◌, Option, Some}
 use Rattle.std.proofs.Common.{subst, ◌⊎◌, inl, inr, arith, refl}
 use Rattle.std.proofs.lemmas.Bool.{cases_lt, cases_eq}
 use Rattle.std.specs.Prelude.{bit_and}
@@ -11,7 +11,7 @@ use Rattle.seccompiler.specs.declared.backend.SeccompCmpOp.TheVariants.{Eq, Ge, 
 use Rattle.seccompiler.specs.Policy.{Condition, Compares, part_of}
 use Rattle.seccomp_tree.specs.declared.steps.Target.{Target}
 use Rattle.seccomp_tree.specs.declared.steps.Step.{Step}
-use Rattle.seccomp_tree.specs.Steps.{found_in, AreSteps, begun, IsPushed, IsPartPushed}
+use Rattle.seccomp_tree.specs.Steps.{found_in, AreSteps, begun, IsPushed}
 use Rattle.seccomp_tree.specs.Code.{IsIn, AreIn}
 use Rattle.seccomp_tree.specs.Intervals.{numbers_of, is_plain, IsChosen, IsSide, over, IsOverPushed, AreLaidTo, AreLaid}
 use Rattle.seccomp_tree.proofs.Begun.{steps_more, begun_more, begun_next, begun_some, are_in_below}
@@ -117,15 +117,6 @@ over_none others old first end target none all h = record {
   inside = λ a from lt. absurd (omega arith);
   below = λ a lt. refl;
   few = let e = ap (begun others) none in omega (arith, e, begun_next (2 ^ 64) 0 others first all.ascend);
-}
-
-pub over_part : (old others new : List Step) (first end last : ℕ) (target : Option Target) → None ≡ target → last + 1 ≡ end
-    → IsPartPushed old others first last 0 new → IsOverPushed old others first end target new
-over_part old others new first end last target is all h = subst (λ o. IsOverPushed old others first end o new) is record {
-  are = let size : last + 1 - 0 ≡ end = omega arith in subst (λ n. AreSteps n new) size h.are;
-  inside = λ a from lt. let at : 0 + a ≡ a = omega arith in h.inside a (omega arith) (omega arith) ∙ ap (λ n. found_in others n) at;
-  below = λ a lt. h.below a (omega arith);
-  few = let e = ap (begun others) all in omega (arith, h.few, e);
 }
 
 pub over_step : (old others new : List Step) (first end : ℕ) (t : Target) (target : Option Target) → first < end → Some t ≡ target

@@ -13,7 +13,7 @@ use Rattle.seccomp_tree.specs.Steps.{found_in, AreSteps, begun, IsPushed, IsPart
 use Rattle.seccompiler.specs.declared.backend.SeccompCmpArgLen.TheVariants.{Dword, Qword}
 use Rattle.seccomp_tree.specs.Code.{AreIn, IsIn, LeadsAlways, IsPart}
 use Rattle.seccomp_tree.specs.Arguments.{half_length, IsHalf, IsNext, AreHighs}
-use Rattle.seccomp_tree.proofs.Runs.{grows_not, grows_on, grown_long, is_in_grown, leads_by, leads_grown, starts_more}
+use Rattle.seccomp_tree.proofs.Runs.{grows_on, grown_long, is_in_grown, leads_by, leads_grown, starts_more}
 use Rattle.seccomp_tree.proofs.Begun.{begun_few, begun_more, begun_below, begun_counts, starts_rise, found_same, are_in_below, not_none}
 use Rattle.seccomp_tree.proofs.Begun.{steps_more, begun_some, found_in_code}
 
@@ -92,18 +92,6 @@ next_some steps high n next d are small count lt is =
     next_is steps high s next are small (omega (arith, rise.1)) (omega (arith, near, count)) (λ _. omega (arith, there, count)) is
 
 -- ---- the loop of `high_halves`
-
-pub highs_none : (code : List sock_filter) (index : ℕ) (steps : List Step) → AreSteps (2 ^ 64) steps → AreHighs code index steps 0 [] code
-highs_none code index steps are = record {
-  within = omega arith;
-  turns = 0;
-  soon = λ _. omega (arith, begun_some (2 ^ 64) steps (1 * 2 ^ 32 - 1) are (omega arith));
-  end = omega arith;
-  are = record { first = λ lt. absurd (omega arith); ascend = tt; tight = tt };
-  few = omega arith;
-  grows = grows_not code _;
-  leads = λ h lt. absurd (omega arith);
-}
 
 pub highs_one : (old mid new : List sock_filter) (index : ℕ) (steps highs more : List Step) (high next : ℕ) (t : Target)
     → AreHighs old index steps high highs mid → high < 2 ^ 32

@@ -2,6 +2,7 @@
 use Rattle.std.proofs.Common.{◌≡◌, ℕ, zero, suc, ◌+◌, ◌*◌, ◌<◌, ◌≤◌, ◌^◌, List, [], ◌∷◌, length, drop, true, false, refl, sym, ap, ◌∙◌}
 use Rattle.std.proofs.Common.{subst, inl, inr, Option, Some, None, arith}
 use Rattle.std.specs.Prelude.{Bool, nat_eq, if◌then◌else◌}
+use Rattle.std.proofs.lemmas.Bool.Decides.{nat_tests}
 use Rattle.std.proofs.lemmas.Bool.{eqb-true, and_parts, false≢true, true≢false}
 use Rattle.std.proofs.lemmas.List.Elements.{All-nil, All-cons, All-head, All-tail}
 use Rattle.seccompiler.specs.declared.bpf.sock_filter.{sock_filter}
@@ -19,7 +20,7 @@ use Rattle.seccomp_tree.specs.Conditions.{condition_length, IsConditionMet}
 use Rattle.seccomp_tree.specs.Decisions.{Ruling, First, nothing, only, alike, same_length, joins, joined, conditions_length}
 use Rattle.seccomp_tree.specs.Decisions.{conditions_steps, rules_length, RunTakes, by_steps, by_conditions, Enters, goes_on, begins, Takes}
 use Rattle.seccomp_tree.specs.Decisions.{stops, passes, ends}
-use Rattle.seccomp_tree.specs.Rules.{IsRulingMet, AreRules, AreFit, rest_length, IsSettled, IsInFront, along, afresh, alone}
+use Rattle.seccomp_tree.specs.Rules.{IsRulingMet, AreRules, rest_length, IsSettled, IsInFront, along, afresh, alone}
 use Rattle.seccomp_tree.proofs.Runs.{grows_not, grows_on, grown_long, leads_by, starts_more}
 use Rattle.seccomp_tree.proofs.Begun.{begun_few, found_in_code}
 use Rattle.seccomp_tree.proofs.Choices.{numbers_many, laid_in}
@@ -99,11 +100,6 @@ abbrev pub head : List Ruling → List Condition
 head [] = []
 head (d ∷ rest) = d.conditions
 
--- The steps of rulings whose run was entered.
-pub data Left (r : List ℕ) (d : Ruling) (rest : List Ruling) : ℕ → Type 0 where
-  stops_here : RuleHolds d.conditions r → Left r d rest 0
-  goes_further : (n : ℕ) → (RuleHolds d.conditions r → ⊥) → Takes r d.conditions rest n → Left r d rest n
-
 enters_joined : (first : List Condition) (d : Ruling) (rest : List Ruling) (n : ℕ) → joins first d.conditions ≡ true → Enters first d rest
     n → n ≡ 0
 enters_joined first d rest n on (goes_on e) = refl
@@ -114,29 +110,12 @@ enters_first : (first : List Condition) (d : Ruling) (rest : List Ruling) (n : �
 enters_first first d rest n apart (goes_on on) = absurd (true≢false (sym on ∙ apart))
 enters_first first d rest n apart (begins m e takes) = takes
 
-takes_joined : (r : List ℕ) (first : List Condition) (d : Ruling) (rest : List Ruling) (n : ℕ) → joins first d.conditions ≡ true
-    → Takes r first (d ∷ rest) n → Left r d rest n
-takes_joined r first d rest n on (stops q e l m holds enters) =
-    let none = enters_joined first d rest m on enters in
-    subst (Left r d rest) (sym none) (stops_here holds)
-takes_joined r first d rest n on (passes q e l m k not enters takes) =
-    let none = enters_joined first d rest m on enters in
-    let count : k ≡ m + k = omega (arith, none) in
-    subst (Left r d rest) count (goes_further k not takes)
-
-record IsBegun (r : List ℕ) (d : Ruling) (rest : List Ruling) (n : ℕ) : Type 0 where
-  run : ℕ
-  left : ℕ
-  takes : RunTakes d.conditions (1 + joined d.conditions rest) run
-  further : Left r d rest left
-  sum : run + left ≡ n
-
-takes_begun : (r : List ℕ) (first : List Condition) (d : Ruling) (rest : List Ruling) (n : ℕ) → joins first d.conditions ≡ false
-    → Takes r first (d ∷ rest) n → IsBegun r d rest n
-takes_begun r first d rest n apart (stops q e l m holds enters) =
-    record { run = m; left = 0; takes = enters_first first d rest m apart enters; further = stops_here holds; sum = omega arith }
-takes_begun r first d rest n apart (passes q e l m k not enters takes) =
-    record { run = m; left = k; takes = enters_first first d rest m apart enters; further = goes_further k not takes; sum = refl }
+joins_itself : (q : List Condition) (c : Condition) → only q ≡ Some c → joins q q ≡ true
+joins_itself q c own = rw own (let e : nat_eq c.arg_index c.arg_index ≡ true = grind (arith, nat_tests) in rw e (same_itself c.arg_len))
+  where
+    same_itself : (l : SeccompCmpArgLen) → same_length l l ≡ true
+    same_itself Dword = refl
+    same_itself Qword = refl
 
 takes_fresh : (r : List ℕ) (p : List Condition) (rest : List Ruling) (n : ℕ) → joins p (head rest) ≡ false → Takes r p rest n
     → Takes r [] rest n
@@ -146,9 +125,18 @@ takes_fresh r p (d ∷ rest) n apart (stops q e l m holds enters) = stops [] d r
 takes_fresh r p (d ∷ rest) n apart (passes q e l m k not enters takes) =
     passes [] d rest m k not (begins m refl (enters_first p d rest m apart enters)) takes
 
+-- what those behind a ruling take that doesn't hold, in whose run they are
+takes_behind : (r : List ℕ) (first : List Condition) (d : Ruling) (rest : List Ruling) (n : ℕ) → joins first d.conditions ≡ true
+    → (RuleHolds d.conditions r → ⊥) → Takes r first (d ∷ rest) n → Takes r d.conditions rest n
+takes_behind r first d rest n on not (stops q e l m holds enters) = absurd (not holds)
+takes_behind r first d rest n on not (passes q e l m k other enters takes) =
+    let none = enters_joined first d rest m on enters in
+    let count : k ≡ m + k = omega (arith, none) in
+    subst (Takes r d.conditions rest) count takes
+
 -- ---- what comes after
 
--- Steps over what a condition compares, the only one of the first of the rulings, whose run is still to be entered.
+-- Steps over what a condition compares, the only one of the first of the rulings, whose run was entered in front of it.
 pub record ArePending (old : List sock_filter) (default : ℕ) (c : Condition) (d : Ruling) (rest : List Ruling) (steps : List Step)
     (code : List sock_filter) : Type 0 where
   pub own : only d.conditions ≡ Some c
@@ -158,8 +146,8 @@ pub record ArePending (old : List sock_filter) (default : ℕ) (c : Condition) (
   pub few : length steps ≤ 2 * (1 + joined d.conditions rest) + 1
   pub are : AreSteps (numbers_of c.arg_len) steps
   pub inside : AreIn code steps
-  pub leads : (r : List ℕ) → IsRecord r → (w n : ℕ) → First default r (d ∷ rest) w → Left r d rest n
-      → LeadsAlways code r (found_in steps (part_of c.arg_len (argument_at r c.arg_index))) w (n + 1)
+  pub leads : (r : List ℕ) → IsRecord r → (w n : ℕ) (first : List Condition) → joins first d.conditions ≡ true
+      → First default r (d ∷ rest) w → Takes r first (d ∷ rest) n → LeadsAlways code r (found_in steps (part_of c.arg_len (argument_at r c.arg_index))) w (n + 1)
 
 abbrev pub IsRest : List sock_filter → ℕ → List Ruling → Option Condition → List Step → List sock_filter → Type 0
 IsRest old default rulings None steps code =
@@ -177,12 +165,6 @@ rest_none old default fits = (
   where
     given : (r : List ℕ) (w a n : ℕ) → First default r [] w → Leads old r (Give default) a w (n + 1)
     given r w a n nothing = to_return default a (n + 1) (omega arith)
-
-pub rest_fit : (old : List sock_filter) (default : ℕ) (rulings : List Ruling) (like : Option Condition) (steps : List Step) (code : List
-    sock_filter)
-    → IsRest old default rulings like steps code → AreFit code like steps
-rest_fit old default rulings None steps code h = (h.0, h.1, h.3.inside)
-rest_fit old default rulings (Some c) steps code h = (h.3.are, h.3.inside)
 
 -- ---- a ruling laid over steps
 
@@ -237,19 +219,14 @@ module _ (old code : List sock_filter) (default : ℕ) (c : Condition) (d : Ruli
         inside = laid_in code c (Give d.value) steps laid h fits
             (λ a. found_in_code code (numbers_of like.arg_len) steps (record { start = 0; target = Give 0 }) a
             (omega (arith, numbers_many like.arg_len)) x.are x.inside);
-        leads = λ r rec w n first left.
+        leads = λ r rec w n front on first takes.
             laid_leads steps laid r w n rec h (λ holds. first_here d (e ∷ rest) holds first)
             (λ not.
             let place : part_of like.arg_len (argument_at r like.arg_index) ≡ part_of c.arg_len (argument_at r c.arg_index)
             = ap (λ l. part_of l (argument_at r like.arg_index)) (sym is.1) ∙ ap (λ i. part_of c.arg_len (argument_at r i)) (sym is.0) in
             subst (λ p. LeadsAlways code r (found_in steps p) w (n + 1)) place
-            (x.leads r rec w n (first_behind d (e ∷ rest) not first) (further r n joins_on not left)));
+            (x.leads r rec w n d.conditions joins_on (first_behind d (e ∷ rest) not first) (takes_behind r front d (e ∷ rest) n on not takes)));
       }
-    where
-      further : (r : List ℕ) (n : ℕ) → joins d.conditions e.conditions ≡ true → (RuleHolds d.conditions r → ⊥) → Left r d (e ∷ rest) n
-          → Left r e rest n
-      further r n on not (stops_here holds) = absurd (not holds)
-      further r n on not (goes_further m other takes) = takes_joined r d.conditions e rest m on takes
 
   pub pending_afresh : (t : Target) (rest : List Ruling) (laid : List Step) → joins d.conditions (head rest) ≡ false
       → AreRules old rest default t code → AreLaid c (Give d.value) (single t) laid → ArePending old default c d rest laid code
@@ -264,18 +241,15 @@ module _ (old code : List sock_filter) (default : ℕ) (c : Condition) (d : Ruli
         few = omega (arith, h.few, few);
         are = h.are;
         inside = laid_in code c (Give d.value) (single t) laid h fits (λ a. x.inside);
-        leads = λ r rec w n first left.
+        leads = λ r rec w n front on first takes.
             laid_leads (single t) laid r w n rec h (λ holds. first_here d rest holds first)
-            (λ not. x.leads r rec w n (first_behind d rest not first) (further r n not left));
+            (λ not. x.leads r rec w n (first_behind d rest not first)
+            (takes_fresh r d.conditions rest n apart (takes_behind r front d rest n on not takes)));
       }
     where
       alone_joined : (l : List Ruling) → joins d.conditions (head l) ≡ false → joined d.conditions l ≡ 0
       alone_joined [] e = refl
       alone_joined (x ∷ l) e = ap (λ b. if b then suc (joined x.conditions l) else 0) e
-
-      further : (r : List ℕ) (n : ℕ) → (RuleHolds d.conditions r → ⊥) → Left r d rest n → Takes r [] rest n
-      further r n not (stops_here holds) = absurd (not holds)
-      further r n not (goes_further m other takes) = takes_fresh r d.conditions rest m apart takes
 
 -- ---- a ruling by its conditions
 
@@ -284,9 +258,7 @@ rules_alone : (old mid new : List sock_filter) (default : ℕ) (d : Ruling) (res
 rules_alone old mid new default d rest t u none x h = record {
   grows = grows_on (rules_length (d ∷ rest)) x.grows h.grows (omega arith);
   inside = h.inside;
-  leads = λ r rec w n first takes.
-      let b = takes_begun r [] d rest n refl takes in
-      leads r rec w n first b (by_itself b.run b.takes) b.further;
+  leads = leads;
 }
   where
     by_itself : (m : ℕ) → RunTakes d.conditions (1 + joined d.conditions rest) m → m ≡ conditions_steps d.conditions
@@ -296,16 +268,17 @@ rules_alone old mid new default d rest t u none x h = record {
     apart : joins d.conditions (head rest) ≡ false
     apart = ap (λ o. alike o (only (head rest))) none
 
-    leads : (r : List ℕ) → IsRecord r → (w n : ℕ) → First default r (d ∷ rest) w → (b : IsBegun r d rest n)
-        → b.run ≡ conditions_steps d.conditions → Left r d rest b.left → LeadsAlways new r u w (n + 1)
-    leads r rec w n first b run (stops_here holds) a small =
+    leads : (r : List ℕ) → IsRecord r → (w n : ℕ) → First default r (d ∷ rest) w → Takes r [] (d ∷ rest) n → LeadsAlways new r u w (n + 1)
+    leads r rec w n first (stops q e l m holds enters) a small =
         let value = first_here d rest holds first in
-        starts_more (n + 1) (omega (arith, b.sum, run))
-        (h.met r rec holds w 1 (subst (λ v. LeadsAlways mid r (Give v) w 1) value (λ b' fits. to_return w b' 1 (omega arith))) a small)
-    leads r rec w n first b run (goes_further m not takes) a small =
-        starts_more (n + 1) (omega (arith, b.sum, run))
-        (h.unmet r rec not w (m + 1) (x.leads r rec w m (first_behind d rest not first)
-        (takes_fresh r d.conditions rest m apart takes)) a small)
+        let run = by_itself m (enters_first [] d rest m refl enters) in
+        starts_more (n + 1) (omega (arith, run))
+        (h.met r rec holds w 1 (subst (λ v. LeadsAlways mid r (Give v) w 1) value (λ b fits. to_return w b 1 (omega arith))) a small)
+    leads r rec w n first (passes q e l m k not enters takes) a small =
+        let run = by_itself m (enters_first [] d rest m refl enters) in
+        starts_more (n + 1) (omega (arith, run))
+        (h.unmet r rec not w (k + 1) (x.leads r rec w k (first_behind d rest not first)
+        (takes_fresh r d.conditions rest k apart takes)) a small)
 
 -- ---- what comes after, as a target
 
@@ -317,17 +290,30 @@ rules_settled old code new default c d rest steps t x part = record {
   grows = grows_on (rules_length (d ∷ rest)) x.grows part.grows
       (omega (arith, x.room, run_room c.arg_len (length steps) (joined d.conditions rest) x.few));
   inside = part.inside;
-  leads = λ r rec w n first takes. let b = takes_begun r [] d rest n refl takes in leads r rec w n first b b.run b.takes refl;
+  leads = leads;
 }
   where
-    leads : (r : List ℕ) → IsRecord r → (w n : ℕ) → First default r (d ∷ rest) w → (b : IsBegun r d rest n) → (m : ℕ)
-        → RunTakes d.conditions (1 + joined d.conditions rest) m → m ≡ b.run → LeadsAlways new r t w (n + 1)
-    leads r rec w n first b m (by_conditions e) is a small = absurd (cc)
-    leads r rec w n first b m (by_steps y k e le) is a small =
+    on : joins d.conditions d.conditions ≡ true
+    on = joins_itself d.conditions c x.own
+
+    -- the run is entered, and what is left goes on in it
+    enters : (r : List ℕ) → IsRecord r → (w m k : ℕ) → First default r (d ∷ rest) w → RunTakes d.conditions (1 + joined d.conditions rest) m
+        → Takes r d.conditions (d ∷ rest) k → LeadsAlways new r t w (m + k + 1)
+    enters r rec w m k first (by_conditions e) takes a small = let e' = x.own in absurd (cc)
+    enters r rec w m k first (by_steps y j e le) takes a small =
+        let e' = x.own in
         let same : y ≡ c = cc in
-        let cost : part_steps y.arg_len k ≡ part_steps c.arg_len k = ap (λ (z : Condition). part_steps z.arg_len k) same in
-        starts_more (n + 1) (omega (arith, b.sum, is, cost))
-        (leads_by (part.leads r rec w (b.left + 1) k (omega (arith, x.few, le)) (x.leads r rec w b.left first b.further) a small))
+        let cost : part_steps y.arg_len j ≡ part_steps c.arg_len j = ap (λ (z : Condition). part_steps z.arg_len j) same in
+        starts_more (m + k + 1) (omega (arith, cost))
+        (leads_by (part.leads r rec w (k + 1) j (omega (arith, x.few, le)) (x.leads r rec w k d.conditions on first takes) a small))
+
+    leads : (r : List ℕ) → IsRecord r → (w n : ℕ) → First default r (d ∷ rest) w → Takes r [] (d ∷ rest) n → LeadsAlways new r t w (n + 1)
+    leads r rec w n first (stops q e l m holds enter) a small =
+        starts_more (n + 1) (omega arith)
+        (enters r rec w m 0 first (enters_first [] d rest m refl enter) (stops d.conditions d rest 0 holds (goes_on on)) a small)
+    leads r rec w n first (passes q e l m k not enter takes) a small =
+        starts_more (n + 1) (omega arith) (enters r rec w m (0 + k) first (enters_first [] d rest m refl enter)
+        (passes d.conditions d rest 0 k not (goes_on on) takes) a small)
 
 pub settled : (old code new : List sock_filter) (default : ℕ) (rulings : List Ruling) (like : Option Condition) (steps : List Step)
     (t : Target) → IsRest old default rulings like steps code → IsSettled code like steps t new → AreRules old rulings default t new

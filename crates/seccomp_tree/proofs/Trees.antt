@@ -12,7 +12,7 @@ use Rattle.seccomp_tree.specs.Code.{IsIn, AreIn, Grows, Starts, Leads, GoesOn, c
 use Rattle.seccomp_tree.proofs.Begun.{starts_rise, found_before}
 use Rattle.std.proofs.lemmas.Bool.{and_parts, cases_lt}
 use Rattle.seccomp_tree.specs.declared.steps.Target.TheVariants.{Give, At}
-use Rattle.seccomp_tree.specs.Rows.{same, second_stands_out, settled, row}
+use Rattle.seccomp_tree.specs.Rows.{same, second_stands_out, row}
 use Rattle.seccomp_tree.specs.declared.code.Test.{Test}
 use Rattle.seccomp_tree.specs.declared.code.Test.TheVariants.{Equal, AtLeast}
 use Rattle.seccomp_tree.proofs.Runs.{grows_not, grows_on, last_in, starts_more, starts_last, leads_by, leads_grown}
@@ -107,20 +107,6 @@ out_long [] out = absurd (cc)
 out_long (x ∷ []) out = absurd (cc)
 out_long (x ∷ y ∷ []) out = absurd (cc)
 out_long (x ∷ y ∷ z ∷ steps) out = omega arith
-
--- one test, and those of the steps that it leaves
-pub row_step : (steps : List Step) → 2 ≤ length steps
-    → (row steps ≡ 1 + row (drop (settled steps) steps)) × (1 ≤ settled steps) × (settled steps < length steps)
-row_step [] some = absurd (omega arith)
-row_step (x ∷ []) some = absurd (omega arith)
-row_step (x ∷ y ∷ []) some = (refl, omega arith, omega arith)
-row_step (x ∷ y ∷ z ∷ steps) some = go (second_stands_out (x ∷ y ∷ z ∷ steps)) refl
-  where
-    go : (b : Bool) → second_stands_out (x ∷ y ∷ z ∷ steps) ≡ b
-        → (row (x ∷ y ∷ z ∷ steps) ≡ 1 + row (drop (settled (x ∷ y ∷ z ∷ steps)) (x ∷ y ∷ z ∷ steps)))
-        × (1 ≤ settled (x ∷ y ∷ z ∷ steps)) × (settled (x ∷ y ∷ z ∷ steps) < length (x ∷ y ∷ z ∷ steps))
-    go true e = rw e (refl, omega arith, omega arith)
-    go false e = rw e (refl, omega arith, omega arith)
 
 -- a row has fewer tests than steps
 pub row_few : (steps : List Step) → 1 ≤ length steps → row steps + 1 ≤ length steps

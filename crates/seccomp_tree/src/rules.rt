@@ -119,6 +119,7 @@ impl Code {
 
 // The condition laid over steps, which return its value if it holds. (A program has fewer tests than so many steps
 // need.)
+#[tactic(auto, using(crate::proofs::Begun::begun_few))]
 fn laid_rest(
     alloc: Global,
     condition: SeccompCondition,

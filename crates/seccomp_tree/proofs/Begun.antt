@@ -268,10 +268,8 @@ module _ (old others : List Step) (first last base : ℕ) (are : AreSteps (2 ^ 6
   part_room i d new lt h =
       let s = (get_or others i d).start in
       let within = begun_few others (last + 1) in
-      let above : base + h.at < s = elim (cases_lt s (base + h.at + 1)) [
-        | inl low ↦ absurd (omega (arith, begun_counts (2 ^ 64) 0 others (base + h.at + 1) i d are.ascend (omega arith) low, h.done))
-        | inr up ↦ omega arith
-      ] in
+      let counted = begun_counts (2 ^ 64) 0 others (base + h.at + 1) i d are.ascend (omega arith) in
+      let above : base + h.at < s = grind (arith, counted, h.done) in
       (omega arith, omega (arith, h.low), steps_more (h.at + 1) (s - base) new (omega arith) (omega arith) h.are)
 
   pub part_turn : (i : ℕ) (d : Step) (mid new : List Step) → i < begun others (last + 1) → PartOn old others first last base i mid
@@ -292,10 +290,7 @@ module _ (old others : List Step) (first last base : ℕ) (are : AreSteps (2 ^ 6
         done = let e = ap (λ n. begun others (n + 1)) back in omega (arith, e, here);
         found = λ a le few. elim (cases_lt (base + a) s) [
           | inl lower ↦
-              let less : begun others (base + a + 1) ≤ i = elim (cases_lt i (begun others (base + a + 1))) [
-                | inl more ↦ absurd (omega (arith, begun_below others (base + a + 1) i d more))
-                | inr le ↦ le
-              ] in
+              let less : begun others (base + a + 1) ≤ i = grind (arith, begun_below others (base + a + 1) i d) in
               pushed.below a (omega arith) ∙ h.found a le less
           | inr upper ↦
               let more = begun_more others (s + 1) (base + a + 1) (omega arith) in

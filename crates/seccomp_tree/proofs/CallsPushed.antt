@@ -1,6 +1,6 @@
 -- Steps over call numbers: the numbers up to the next that is answered otherwise.
-use Rattle.std.proofs.Common.{◌≡◌, ℕ, ◌+◌, ◌<◌, ◌≤◌, ◌^◌, List, [], ◌∷◌, length, Option, Some, None, Vec, sym, ◌∙◌, subst}
-use Rattle.std.proofs.Common.{⊎_elim, arith, if◌then◌else◌, refl}
+use Rattle.std.proofs.Common.{◌≡◌, ℕ, ◌+◌, ◌<◌, ◌≤◌, ◌^◌, List, [], ◌∷◌, length, Option, Some, None, Vec, sym, ◌∙◌, subst, ⊎_elim, arith}
+use Rattle.std.proofs.Common.{if◌then◌else◌, refl, suc, get_or, ◌⊎◌, inl, inr}
 use Rattle.std.specs.Prelude.{nat_lt, IsSome}
 use Rattle.std.proofs.lemmas.Bool.Decides.{nat_tests}
 use Rattle.std.proofs.lemmas.Bool.{cases_lt}
@@ -14,12 +14,43 @@ use Rattle.seccomp_tree.specs.declared.steps.Step.{Step}
 use Rattle.seccomp_tree.specs.Steps.{found_in, IsPushed}
 use Rattle.seccomp_tree.specs.Code.{Grows}
 use Rattle.seccomp_tree.specs.Decisions.{Ruling, rules_length}
-use Rattle.seccomp_tree.specs.Decided.{DecisionSet, default_for, rulings_for, calls_of}
+use Rattle.seccomp_tree.specs.Decided.{DecisionSet, default_for, rulings_for, calls_of, default_from}
 use Rattle.seccomp_tree.specs.TreeProgram.{calls_length}
-use Rattle.seccomp_tree.specs.CallSteps.{IsAnswer, IsAnswered, AreAnswers, AreCallSteps, IsNextNumber}
+use Rattle.seccomp_tree.specs.CallSteps.{IsAnswer, IsAnswered, AreAnswers, AreCallSteps, IsNextNumber, IsNextDefault}
 use Rattle.seccomp_tree.proofs.Runs.{grows_on, is_in_grown, grown_long, leads_grown}
 use Rattle.seccomp_tree.proofs.Begun.{steps_more}
 use Rattle.seccomp_tree.proofs.Deciding.{items_of, rulings_under}
+use Rattle.seccomp_tree.specs.declared.decisions.DefaultValue.{DefaultValue}
+
+-- numbers that no start parts have one default
+same_from : (value : ℕ) (defaults : List DefaultValue) (m n : ℕ)
+    → ((k : ℕ) (d : DefaultValue) → k < length defaults
+    → ((get_or defaults k d).start ≤ m × ((get_or defaults k d).start ≤ n))
+    ⊎ (m < (get_or defaults k d).start × (n < (get_or defaults k d).start)))
+    → default_from value defaults m ≡ default_from value defaults n
+same_from value [] m n parts = refl
+same_from value (x ∷ defaults) m n parts = elim (parts 0 x (omega arith)) [
+  | inl low ↦ grind (arith, nat_tests, low, same_from x.value defaults m n (λ k d lt. parts (suc k) d (omega arith)))
+  | inr high ↦ grind (arith, nat_tests, high, same_from value defaults m n (λ k d lt. parts (suc k) d (omega arith)))
+]
+
+-- The next default so far: the first defaults start at the number or below it, or there or later.
+pub record NextSoFar (defaults : List DefaultValue) (number next i : ℕ) : Type 0 where
+  pub above : number < next
+  pub within : next ≤ 2 ^ 32
+  pub none : (k : ℕ) (d : DefaultValue) → k < i → k < length defaults
+      → ((get_or defaults k d).start ≤ number) ⊎ (next ≤ (get_or defaults k d).start)
+
+pub next_is : (defaults : List DefaultValue) (number next i : ℕ) → length defaults ≤ i → NextSoFar defaults number next i
+    → IsNextDefault defaults number next
+next_is defaults number next i all h = record {
+  above = h.above;
+  within = h.within;
+  same = λ n le less. same_from 0 defaults n number (λ k d inside. elim (h.none k d (omega arith) inside) [
+    | inl low ↦ inl (omega arith, low)
+    | inr high ↦ inr (omega arith, omega (arith, h.above))
+  ]);
+}
 
 answer_grown : (old new : List sock_filter) (most default : ℕ) (rulings : List Ruling) (t : Target) → Grows old most new
     → IsAnswer old default rulings t → IsAnswer new default rulings t

@@ -1,6 +1,6 @@
 -- Comparisons as steps, laid over others.
-use Rattle.std.proofs.Common.{◌≡◌, ℕ, ◌+◌, ◌^◌, ◌<◌, ◌≤◌, List, [], length, true, sym, ap, ◌↔◌, Option, Some}
-use Rattle.std.proofs.Common.{subst, ◌⊎◌, inl, inr, arith, refl}
+use Rattle.std.proofs.Common.{◌≡◌, ℕ, ◌+◌, ◌^◌, ◌<◌, ◌≤◌, List, [], length, true, sym, ap, ◌↔◌, Option, Some, subst, ◌⊎◌, inl, inr, arith}
+use Rattle.std.proofs.Common.{refl}
 use Rattle.std.proofs.lemmas.Bool.{cases_lt, cases_eq}
 use Rattle.std.specs.Prelude.{bit_and}
 use Rattle.seccompiler.specs.declared.bpf.sock_filter.{sock_filter}
@@ -13,7 +13,7 @@ use Rattle.seccomp_tree.specs.declared.steps.Target.{Target}
 use Rattle.seccomp_tree.specs.declared.steps.Step.{Step}
 use Rattle.seccomp_tree.specs.Steps.{found_in, AreSteps, begun, IsPushed}
 use Rattle.seccomp_tree.specs.Code.{IsIn, AreIn}
-use Rattle.seccomp_tree.specs.Intervals.{numbers_of, is_plain, IsChosen, IsSide, over, IsOverPushed, AreLaidTo, AreLaid}
+use Rattle.seccomp_tree.specs.Conditions.{numbers_of, is_plain, IsChosen, IsSide, over, IsOverPushed, AreLaidTo, AreLaid}
 use Rattle.seccomp_tree.proofs.Begun.{steps_more, begun_more, begun_next, begun_some, are_in_below}
 
 -- ---- comparing

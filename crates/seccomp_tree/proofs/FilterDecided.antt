@@ -167,8 +167,7 @@ rulings_found w (e ∷ chains) n numbers =
     let rest = rulings_found w chains n (All-tail IsCallNumber e.0 (numbers_of chains) numbers) in
     let same : is_at (int_cmp (pos n)) e.0 ≡ nat_eq n (unsigned_abs e.0) =
     subst (λ z. is_at (int_cmp (pos n)) z ≡ nat_eq n (unsigned_abs z)) (sym call.1) (at_same n call.0) in
-    go (nat_eq n (unsigned_abs e.0)) rest
-    ∙ ap (λ b. found_rulings w (cond b (Some e.1) (lookup (is_at (int_cmp (pos n))) chains))) (sym same)
+    rw same (go (nat_eq n (unsigned_abs e.0)) rest)
   where
     go : (b : Bool) → rulings_for (map (call_of w) chains) n ≡ found_rulings w (chain_under chains n)
         → (if b then rulings_of w e.1 else rulings_for (map (call_of w) chains) n)

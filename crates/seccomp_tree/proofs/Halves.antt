@@ -83,10 +83,7 @@ pub next_some : (steps : List Step) (high n next : ℕ) (d : Step) → AreSteps 
     → IsNext steps high next
 next_some steps high n next d are small count lt is =
     let s = (get_or steps n d).start in
-    let near : begun steps s ≤ n = elim (cases_lt n (begun steps s)) [
-      | inl more ↦ absurd (omega (arith, begun_below steps s n d more))
-      | inr le ↦ le
-    ] in
+    let near : begun steps s ≤ n = grind (arith, begun_below steps s n d) in
     let rise = starts_rise (2 ^ 64) 0 steps n d are.ascend lt in
     let there = begun_counts (2 ^ 64) 0 steps (s + 1) n d are.ascend lt (omega arith) in
     next_is steps high s next are small (omega (arith, rise.1)) (omega (arith, near, count)) (λ _. omega (arith, there, count)) is

@@ -4,10 +4,8 @@ pub mod Meeting
 pub mod Ruled
 pub mod Reaching
 pub mod Trees
-pub mod Words
 pub mod ProgramEnds
 pub mod Deciding
-pub mod Defaults
 pub mod CallsPushed
 pub mod FewestSteps
 pub mod Theorem

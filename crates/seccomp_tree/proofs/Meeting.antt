@@ -19,11 +19,11 @@ use Rattle.seccomp_tree.specs.declared.steps.Target.{Target}
 use Rattle.seccomp_tree.specs.declared.steps.Target.TheVariants.{At}
 use Rattle.seccomp_tree.specs.declared.steps.Step.{Step}
 use Rattle.seccomp_tree.specs.Steps.{found_in, single}
-use Rattle.seccomp_tree.specs.Intervals.{numbers_of, is_plain, IsChosen, AreLaid}
+use Rattle.seccomp_tree.specs.Conditions.{numbers_of, is_plain, IsChosen, AreLaid, condition_length, condition_steps, IsMet}
+use Rattle.seccomp_tree.specs.Conditions.{IsConditionMet, HasBits}
 use Rattle.seccomp_tree.specs.Code.{Starts, Leads, LeadsAlways, Returns, goes_on, IsIn, chosen, IsTested, part_length, part_steps, IsPart}
-use Rattle.seccomp_tree.specs.Conditions.{condition_length, condition_steps, IsMet, IsConditionMet, HasBits}
 use Rattle.seccomp_tree.proofs.Runs.{grows_not, grows_one, grows_on, starts_more, leads_by, leads_grown, starts_last}
-use Rattle.seccomp_tree.proofs.Words.{load_run}
+use Rattle.seccomp_tree.proofs.Trees.{load_run}
 use Rattle.seccomp_tree.proofs.Begun.{begun_few}
 use Rattle.seccomp_tree.proofs.Choices.{compares_or_not}
 

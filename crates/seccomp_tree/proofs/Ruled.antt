@@ -14,12 +14,11 @@ use Rattle.seccomp_tree.specs.declared.steps.Target.{Target}
 use Rattle.seccomp_tree.specs.declared.steps.Target.TheVariants.{Give}
 use Rattle.seccomp_tree.specs.declared.steps.Step.{Step}
 use Rattle.seccomp_tree.specs.Steps.{found_in, AreSteps, single}
-use Rattle.seccomp_tree.specs.Intervals.{numbers_of, is_plain, AreLaid}
+use Rattle.seccomp_tree.specs.Conditions.{numbers_of, is_plain, AreLaid, condition_length, IsConditionMet}
 use Rattle.seccomp_tree.specs.Code.{Leads, LeadsAlways, to_return, AreIn, Grows, part_length, part_steps, IsPart}
-use Rattle.seccomp_tree.specs.Conditions.{condition_length, IsConditionMet}
 use Rattle.seccomp_tree.specs.Decisions.{Ruling, First, nothing, only, alike, same_length, joins, joined, conditions_length}
-use Rattle.seccomp_tree.specs.Decisions.{conditions_steps, rules_length, RunTakes, by_steps, by_conditions, Enters, goes_on, begins, Takes}
-use Rattle.seccomp_tree.specs.Decisions.{stops, passes, ends}
+use Rattle.seccomp_tree.specs.Decisions.{conditions_steps, rules_length, RunTakes, by_steps, by_conditions, Enters, goes_on, begins}
+use Rattle.seccomp_tree.specs.Decisions.{Takes, stops, passes, ends}
 use Rattle.seccomp_tree.specs.Rules.{IsRulingMet, AreRules, rest_length, IsSettled, IsInFront, along, afresh, alone}
 use Rattle.seccomp_tree.proofs.Runs.{grows_not, grows_on, grown_long, leads_by, starts_more}
 use Rattle.seccomp_tree.proofs.Begun.{begun_few, found_in_code}

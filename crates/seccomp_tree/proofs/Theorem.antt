@@ -11,10 +11,11 @@ use Rattle.seccomp_tree.specs.declared.steps.Target.{Target}
 use Rattle.seccomp_tree.specs.declared.steps.Target.TheVariants.{Give}
 use Rattle.seccomp_tree.specs.declared.steps.Step.{Step}
 use Rattle.seccomp_tree.specs.Steps.{found_in}
-use Rattle.seccomp_tree.specs.Code.{AreIn, IsFullBy, Starts, StartsAlways, Leads, to_return, LeadsAlways, IsPart, IsSound, Returns, chosen}
+use Rattle.seccomp_tree.specs.Code.{AreIn, IsFullBy, Starts, StartsAlways, Leads, to_return, LeadsAlways, IsPart, IsSound, Returns}
+use Rattle.seccomp_tree.specs.Code.{chosen, part_steps}
 use Rattle.seccompiler.specs.declared.backend.SeccompCmpArgLen.TheVariants.{Dword}
-use Rattle.seccomp_tree.specs.Decisions.{Ruling, First, nothing, Takes, stops, passes, ends, Enters, begins, RunTakes}
-use Rattle.seccomp_tree.specs.Decisions.{by_steps, by_conditions, only, joins, joined, conditions_steps, goes_on as runs_on}
+use Rattle.seccomp_tree.specs.Decisions.{Ruling, First, nothing, Takes, stops, passes, ends, Enters, begins, RunTakes, by_steps}
+use Rattle.seccomp_tree.specs.Decisions.{by_conditions, only, joins, joined, conditions_steps, goes_on as runs_on}
 use Rattle.seccomp_tree.specs.Decided.{DecisionSet, default_for, rulings_for, IsDecided, other_architecture, decided}
 use Rattle.seccomp_tree.specs.TreeProgram.{one_value, value_for, calls_length, TakesOwn, other, one, own, EndsAsDecided, IsTreeProgram}
 use Rattle.seccomp_tree.specs.CallSteps.{IsAnswer, AreCallSteps, IsCallsTarget, IsTooFull, IsWritten}
@@ -22,13 +23,12 @@ use Rattle.seccomp_tree.specs.declared.error.TreeError.{TreeError}
 use Rattle.seccomp_tree.proofs.Deciding.{first_here, decided_some}
 use Rattle.seccomp_tree.proofs.Begun.{are_in_below, not_none}
 use Rattle.seccomp_tree.proofs.Runs.{grows_on, grown_long, starts_more, returns_more}
-use Rattle.seccomp_tree.proofs.Words.{load_run}
+use Rattle.seccomp_tree.proofs.Trees.{load_run}
 use Rattle.seccompiler.proofs.Words.{word_fits}
 use Rattle.seccomp_tree.proofs.FewestSteps.{fewest}
 use Rattle.std.proofs.Math.Nat.{pow-succ', one-le-pow}
 use Rattle.seccompiler.specs.Code.{give}
 use Rattle.seccomp_tree.specs.declared.code.Test.TheVariants.{Equal}
-use Rattle.seccomp_tree.specs.Code.{part_steps}
 use Rattle.seccomp_tree.proofs.Meeting.{rule_or_not}
 use Rattle.seccomp_tree.proofs.ProgramEnds.{program_ends, sound_checked}
 

@@ -5,9 +5,8 @@ ghost use Rattle.seccompiler.specs.Machine.{argument_at};
 ghost use Rattle.seccompiler.specs.Policy.{part_of};
 ghost use Rattle.seccompiler.specs.declared.backend.SeccompCmpOp.TheVariants.{MaskedEq};
 ghost use Rattle.seccomp_tree.specs.Steps.{AreSteps};
-ghost use Rattle.seccomp_tree.specs.Intervals.{numbers_of};
 ghost use Rattle.seccomp_tree.specs.Code.{AreIn, IsIn, IsFullBy, IsPart, part_length};
-ghost use Rattle.seccomp_tree.specs.Conditions.{HasBits, IsConditionMet, IsMet, condition_length};
+ghost use Rattle.seccomp_tree.specs.Conditions.{HasBits, IsConditionMet, IsMet, condition_length, numbers_of};
 
 use crate::code::{Code, Test};
 use crate::error::TreeError;

@@ -3,7 +3,7 @@
 ghost use Rattle.std.specs.Prelude.{◌≡◌, ◌≤◌, ◌<◌, ◌^◌, ◌↔◌, IsTrue, IfOk, IsOkUnless, true};
 ghost use Rattle.seccompiler.specs.Policy.{Compares, part_of};
 ghost use Rattle.seccomp_tree.specs.Steps.{AreSteps};
-ghost use Rattle.seccomp_tree.specs.Intervals.{AreLaid, IsOverPushed, IsSide, is_plain, numbers_of};
+ghost use Rattle.seccomp_tree.specs.Conditions.{AreLaid, IsOverPushed, IsSide, is_plain, numbers_of};
 ghost use Rattle.seccomp_tree.specs.declared.error.TreeError.TheVariants.{OutOfMemory};
 
 use crate::error::TreeError;

@@ -4,7 +4,7 @@ ghost use Rattle.std.specs.Prelude.{◌≡◌, ◌<◌, ◌+◌, IfOk, IfErr, So
 ghost use Rattle.seccompiler.specs.Machine.{greatest_length};
 ghost use Rattle.seccomp_tree.specs.Steps.{AreSteps};
 ghost use Rattle.seccomp_tree.specs.Code.{IsFullBy, IsIn};
-ghost use Rattle.seccomp_tree.specs.Intervals.{AreLaid, is_plain, numbers_of};
+ghost use Rattle.seccomp_tree.specs.Conditions.{AreLaid, is_plain, numbers_of};
 ghost use Rattle.seccomp_tree.specs.Decisions.{alike, only, rules_length, conditions_length, same_length};
 ghost use Rattle.seccomp_tree.specs.Rules.{AreFit, AreRules, IsInFront, IsRulingMet, IsSettled, rest_length};
 ghost use Rattle.seccomp_tree.specs.declared.steps.Target.TheVariants.{Give};

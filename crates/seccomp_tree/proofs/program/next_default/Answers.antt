@@ -1,4 +1,4 @@
-use Rattle.seccomp_tree.proofs.Defaults.{next_is}
+use Rattle.seccomp_tree.proofs.CallsPushed.{next_is}
 use Rattle.seccomp_tree.proofs.program.next_default.Goals as goal
 
 pub returns : goal.returns

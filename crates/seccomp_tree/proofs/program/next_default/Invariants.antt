@@ -1,4 +1,4 @@
-use Rattle.seccomp_tree.proofs.Defaults.{NextSoFar}
+use Rattle.seccomp_tree.proofs.CallsPushed.{NextSoFar}
 use Rattle.seccomp_tree.proofs.program.next_default.Given as goal
 
 abbrev pub invariant-loop-default : goal.invariant-loop-default

@@ -105,7 +105,8 @@ pub begun_at : (m from : ℕ) (steps : List Step) (k : ℕ) (d : Step) → Ascen
 begun_at m from [] k d h lt = absurd (omega arith)
 begun_at m from (x ∷ steps) zero d h lt = grind (arith, nat_tests, begun_none m (x.start + 1) steps (x.start + 1) h.1.1 (omega arith))
 begun_at m from (x ∷ steps) (suc k) d h lt =
-    grind (arith, nat_tests, (starts_rise m (x.start + 1) steps k d h.1.1 (omega arith)).0, begun_at m (x.start + 1) steps k d h.1.1 (omega arith))
+    let up = starts_rise m (x.start + 1) steps k d h.1.1 (omega arith) in
+    grind (arith, nat_tests, up.0, begun_at m (x.start + 1) steps k d h.1.1 (omega arith))
 
 -- where the tests of a search part the steps
 pub begun_point : (steps : List Step) (number n : ℕ) → n ≤ length steps

@@ -105,7 +105,8 @@ calls_on d old mid new steps more number next t h answered pushed on = record {
     each = λ n lt. ⊎_elim
         (λ (less : n < number).
         subst (IsAnswer new (default_for d.defaults n) (rulings_for d.calls n)) (sym (pushed.below n less))
-        (answer_grown mid new _ (default_for d.defaults n) (rulings_for d.calls n) (found_in steps n) answered.grows (h.answers.each n less)))
+        (answer_grown mid new _ (default_for d.defaults n) (rulings_for d.calls n) (found_in steps n) answered.grows
+        (h.answers.each n less)))
         (λ (le : number ≤ n). rw (pushed.from n le, on.default n le lt, on.rulings n le lt) answered.answer)
         (cases_lt n number);
   };

@@ -118,21 +118,15 @@ module _ (r : List ℕ) (default w : ℕ) where
   hold_cases q chain (zero, y, within, is, has) = inl (subst (λ (x : Rule). RuleHolds x r) (sym is) has)
   hold_cases q chain (suc k, y, within, is, has) = inr (k, y, omega arith, is, has)
 
-  hold_none : Hold [] → ⊥
-  hold_none (k, y, within, is, has) = omega arith
-
   -- the word if a rule holds, or else the default
   first_is : (chain : Chain) (v : ℕ) → First default r (rulings chain) v
       → (Hold chain × (v ≡ w)) ⊎ ((Hold chain → ⊥) × (v ≡ default))
-  first_is [] v nothing = inr (hold_none, refl)
+  first_is [] v nothing = inr (λ some. absurd (omega (arith, some.2)), refl)
   first_is (q ∷ chain) v (here d rest holds) = inl ((0, q, omega arith, refl, holds), refl)
   first_is (q ∷ chain) v (behind d rest u not first) = elim (first_is chain v first) [
-    | inl h ↦ inl (behind_held h.0, h.1)
+    | inl h ↦ inl ((suc h.0.0, h.0.1, omega (arith, h.0.2), h.0.3, h.0.4), h.1)
     | inr h ↦ inr (λ some. elim (hold_cases q chain some) [ inl holds ↦ not holds | inr rest ↦ h.0 rest ], h.1)
   ]
-    where
-      behind_held : Hold chain → Hold (q ∷ chain)
-      behind_held (k, y, within, is, has) = (suc k, y, omega arith, is, has)
 
   -- so for a chain, which matches if it has no rules
   chain_is : (chain : Chain) (v : ℕ) → First default r (rulings_of w chain) v

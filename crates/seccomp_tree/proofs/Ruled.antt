@@ -146,7 +146,8 @@ pub record ArePending (old : List sock_filter) (default : ℕ) (c : Condition) (
   pub are : AreSteps (numbers_of c.arg_len) steps
   pub inside : AreIn code steps
   pub leads : (r : List ℕ) → IsRecord r → (w n : ℕ) (first : List Condition) → joins first d.conditions ≡ true
-      → First default r (d ∷ rest) w → Takes r first (d ∷ rest) n → LeadsAlways code r (found_in steps (part_of c.arg_len (argument_at r c.arg_index))) w (n + 1)
+      → First default r (d ∷ rest) w → Takes r first (d ∷ rest) n
+      → LeadsAlways code r (found_in steps (part_of c.arg_len (argument_at r c.arg_index))) w (n + 1)
 
 abbrev pub IsRest : List sock_filter → ℕ → List Ruling → Option Condition → List Step → List sock_filter → Type 0
 IsRest old default rulings None steps code =
@@ -224,7 +225,8 @@ module _ (old code : List sock_filter) (default : ℕ) (c : Condition) (d : Ruli
             let place : part_of like.arg_len (argument_at r like.arg_index) ≡ part_of c.arg_len (argument_at r c.arg_index)
             = ap (λ l. part_of l (argument_at r like.arg_index)) (sym is.1) ∙ ap (λ i. part_of c.arg_len (argument_at r i)) (sym is.0) in
             subst (λ p. LeadsAlways code r (found_in steps p) w (n + 1)) place
-            (x.leads r rec w n d.conditions joins_on (first_behind d (e ∷ rest) not first) (takes_behind r front d (e ∷ rest) n on not takes)));
+            (x.leads r rec w n d.conditions joins_on (first_behind d (e ∷ rest) not first)
+            (takes_behind r front d (e ∷ rest) n on not takes)));
       }
 
   pub pending_afresh : (t : Target) (rest : List Ruling) (laid : List Step) → joins d.conditions (head rest) ≡ false

@@ -69,7 +69,7 @@ impl Code {
             }
             None => {
                 let behind = self.settle(alloc, &rest)?;
-                let target = self.conditions(alloc, ruling, behind)?;
+                let target = self.conditions(alloc, &ruling.conditions, ruling.value, behind)?;
                 let steps = one(alloc, target)?;
                 Ok(Rest { like: None, steps })
             }
@@ -95,23 +95,24 @@ impl Code {
         }
     }
 
-    // Goes on as the ruling says if all its conditions hold: the last of them first, since code is written from its
+    // Returns the value if all conditions hold, and else goes on: the last of them first, since code is written from its
     // end.
     fn conditions(
         &mut self,
         alloc: Global,
-        ruling: &Decision,
+        conditions: &[SeccompCondition],
+        value: u32,
         after: Target,
     ) -> Result<Target, TreeError>
         requires after { IsIn self.old after }
-        ensures ok { IfOk result (λ t. IsRulingMet self.old ruling.now.conditions ruling.now.value after t self.new) }
-        ensures err { IfErr result (IsFullBy self.old (conditions_length ruling.now.conditions)) }
+        ensures ok { IfOk result (λ t. IsRulingMet self.old conditions.now value after t self.new) }
+        ensures err { IfErr result (IsFullBy self.old (conditions_length conditions.now)) }
     {
-        let mut target = Target::Give(ruling.value);
-        let mut left = ruling.conditions.len();
+        let mut target = Target::Give(value);
+        let mut left = conditions.len();
         while left > 0 {
             left -= 1;
-            target = self.condition(alloc, &ruling.conditions[left], target, after)?;
+            target = self.condition(alloc, &conditions[left], target, after)?;
         }
         Ok(target)
     }

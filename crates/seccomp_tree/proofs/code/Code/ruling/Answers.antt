@@ -39,6 +39,7 @@ returns-in-Some-clause-ok c =
 pub returns-clause-ok : goal.returns-clause-ok
 returns-clause-ok c =
     let b = (goal.at.returns-clause-ok c).After-only in
+    let own = c.deref-in-None.ensures.value ∙ ap (λ (d : Ruling). d.conditions) c.ruling.view_is in
     alone c.in_ok-behind-in-None.behind c.in_ok-target-in-None.target c.settle-in-None.new.self (only_of b ∙ c.in-None.is)
     c.in_ok-behind-in-None.ensures.ok
-    c.in_ok-target-in-None.ensures.ok c.in_ok-steps-in-None.ensures.ok refl
+    (rw (value_of b, own) at c.in_ok-target-in-None.ensures.ok) c.in_ok-steps-in-None.ensures.ok refl

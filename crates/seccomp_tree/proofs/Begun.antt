@@ -89,15 +89,12 @@ begun_some m (x ∷ steps) a h some = grind (arith, nat_tests, h.first some)
 
 begun_none : (m from : ℕ) (steps : List Step) (a : ℕ) → AscendFrom m from steps → a ≤ from → begun steps a ≡ 0
 begun_none m from [] a h le = refl
-begun_none m from (x ∷ steps) a h le = let no : nat_lt x.start a ≡ false = grind (arith, nat_tests, h.0) in rw no refl
+begun_none m from (x ∷ steps) a h le = grind (arith, nat_tests, h.0)
 
 -- at most one starts at a number
 pub begun_next : (m from : ℕ) (steps : List Step) (a : ℕ) → AscendFrom m from steps → begun steps (a + 1) ≤ begun steps a + 1
 begun_next m from [] a h = omega arith
-begun_next m from (x ∷ steps) a h =
-    let rest = begun_next m (x.start + 1) steps a h.1.1 in
-    let none = λ (e : x.start ≡ a). begun_none m (x.start + 1) steps (a + 1) h.1.1 (omega arith) in
-    grind (arith, nat_tests, rest, none)
+begun_next m from (x ∷ steps) a h = grind (arith, nat_tests, begun_next m (x.start + 1) steps a h.1.1, begun_none m (x.start + 1) steps (a + 1) h.1.1)
 
 -- a step is the last of those that start up to its start
 pub begun_at : (m from : ℕ) (steps : List Step) (k : ℕ) (d : Step) → AscendFrom m from steps → k < length steps
@@ -131,7 +128,7 @@ begun_point (x ∷ steps) number (suc n) le point = grind (
 from_begun : (t : Target) (steps : List Step) (a : ℕ) (y d : Step) → y.target ≡ t
     → found_from t steps a ≡ (get_or (y ∷ steps) (begun steps (a + 1)) d).target
 from_begun t [] a y d is = sym is
-from_begun t (x ∷ steps) a y d is = grind (arith, nat_tests, from_begun x.target steps a x d refl)
+from_begun t (x ∷ steps) a y d is = grind (arith, nat_tests, from_begun x.target steps a x d refl, is)
 
 pub found_begun : (m : ℕ) (steps : List Step) (a : ℕ) (d : Step) → AreSteps m steps → 0 < m
     → found_in steps a ≡ (get_or steps (begun steps (a + 1) - 1) d).target

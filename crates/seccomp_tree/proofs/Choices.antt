@@ -30,13 +30,8 @@ compares_or_not (MaskedEq m) a v = cases_eq (bit_and a m) (bit_and v m)
 -- numbers on one side of a value compare alike
 side_alike : (o : SeccompCmpOp) (a b v : ℕ) → is_plain o ≡ true → ((a < v) × (b < v)) ⊎ ((v < a) × (v < b)) → Compares o a v
     → Compares o b v
-side_alike Eq a b v plain side h = grind (arith, side)
-side_alike Ne a b v plain side h = λ e. grind (arith, side)
-side_alike Ge a b v plain side h = grind (arith, side)
-side_alike Gt a b v plain side h = grind (arith, side)
-side_alike Le a b v plain side h = grind (arith, side)
-side_alike Lt a b v plain side h = grind (arith, side)
 side_alike (MaskedEq m) a b v plain side h = absurd (cc)
+side_alike _ a b v plain side h = grind (arith, side)
 
 pub numbers_many : (l : SeccompCmpArgLen) → 2 ^ 32 ≤ numbers_of l
 numbers_many Dword = omega arith

@@ -55,12 +55,7 @@ items_of (Some v) = v.items
 pub rulings_under : (entries : List (ℕ × Vec Ruling Global)) (n : ℕ)
     → items_of (lookup (is_at (nat_cmp n)) entries) ≡ rulings_for (calls_of entries) n
 rulings_under [] n = refl
-rulings_under (e ∷ entries) n = rw at_same (go (nat_eq n e.0) (rulings_under entries n))
-  where
-    go : (b : Bool) → items_of (lookup (is_at (nat_cmp n)) entries) ≡ rulings_for (calls_of entries) n
-        → items_of (cond b (Some e.1) (lookup (is_at (nat_cmp n)) entries)) ≡ (if b then e.1.items else rulings_for (calls_of entries) n)
-    go true rest = refl
-    go false rest = rest
+rulings_under (e ∷ entries) n = grind (arith, nat_tests, rulings_under entries n)
 
 -- ---- what is decided
 

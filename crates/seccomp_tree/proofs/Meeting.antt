@@ -78,13 +78,8 @@ part_of_word old new index steps t word = record {
 -- ---- conditions without a mask
 
 plain_operator : (l : SeccompCmpArgLen) (o : SeccompCmpOp) → is_plain o ≡ true → operator_part l o ≡ o
-plain_operator l Eq plain = refl
-plain_operator l Ne plain = refl
-plain_operator l Ge plain = refl
-plain_operator l Gt plain = refl
-plain_operator l Le plain = refl
-plain_operator l Lt plain = refl
 plain_operator l (MaskedEq m) plain = absurd (cc)
+plain_operator l _ plain = refl
 
 pub plain_cost : (l : SeccompCmpArgLen) (o : SeccompCmpOp) → is_plain o ≡ true
     → (condition_steps l o ≡ part_steps l 2) × (condition_length l o ≡ part_length l 3)

@@ -3,6 +3,7 @@ use Rattle.std.proofs.Common.{◌≡◌, ℕ, zero, suc, ◌+◌, ◌<◌, ◌�
 use Rattle.std.proofs.lemmas.List.{length-reverse}
 use Rattle.std.proofs.Common.{subst, arith, Bool, true, false, ◌⊎◌, inl, inr, ⊎_elim, nat_eq, nat_le, if◌then◌else◌}
 use Rattle.std.proofs.lemmas.Bool.Decides.{nat_tests}
+use Rattle.std.proofs.lemmas.Bool.{cases_eq, cases_lt}
 use Rattle.seccompiler.specs.declared.bpf.sock_filter.{sock_filter}
 use Rattle.seccompiler.specs.Machine.{Does, jumps, is_equal, is_not_equal, is_at_least, is_less}
 use Rattle.seccomp_tree.specs.declared.steps.Target.{Target}
@@ -76,16 +77,14 @@ Chooses test i r a met other =
     ((chosen test i.k met other a ≡ met) × Does i r 0 a (1 + i.jt) a) ⊎ ((chosen test i.k met other a ≡ other) × Does i r 0 a (1 + i.jf) a)
 
 chooses : (test : Test) (i : sock_filter) (r : List ℕ) (a : ℕ) (met other : Target) → i.code ≡ code_of test → Chooses test i r a met other
-chooses Equal i r a met other is = go (nat_eq a i.k) refl
-  where
-    go : (b : Bool) → nat_eq a i.k ≡ b → Chooses Equal i r a met other
-    go true e = inl (ap (λ b. if b then met else other) e, is_equal is (grind (arith, nat_tests)) (omega arith) refl)
-    go false e = inr (ap (λ b. if b then met else other) e, is_not_equal is (grind (arith, nat_tests)) (omega arith) refl)
-chooses AtLeast i r a met other is = go (nat_le i.k a) refl
-  where
-    go : (b : Bool) → nat_le i.k a ≡ b → Chooses AtLeast i r a met other
-    go true e = inl (ap (λ b. if b then met else other) e, is_at_least is (grind (arith, nat_tests)) (omega arith) refl)
-    go false e = inr (ap (λ b. if b then met else other) e, is_less is (grind (arith, nat_tests)) (omega arith) refl)
+chooses Equal i r a met other is = elim (cases_eq a i.k) [
+  | inl e ↦ inl (grind (arith, nat_tests), is_equal is e (omega arith) refl)
+  | inr e ↦ inr (grind (arith, nat_tests), is_not_equal is e (omega arith) refl)
+]
+chooses AtLeast i r a met other is = elim (cases_lt a i.k) [
+  | inl e ↦ inr (grind (arith, nat_tests), is_less is e (omega arith) refl)
+  | inr e ↦ inl (grind (arith, nat_tests), is_at_least is e (omega arith) refl)
+]
 
 -- a test whose targets are reached, the one first
 pub tested : (old mid code : List sock_filter) (test : Test) (i : sock_filter) (met other : Target) (y n : ℕ) (new : List sock_filter)

@@ -59,14 +59,7 @@ ruling_room old mid value after t q k c rest cons h =
 
 pub only_is : (q : List Condition) (c : Condition) → only q ≡ Some c → (q ≡ c ∷ []) × (is_plain c.operator ≡ true)
 only_is [] c e = absurd (cc)
-only_is (x ∷ []) c e = plain (is_plain x.operator) refl
-  where
-    plain : (b : Bool) → is_plain x.operator ≡ b → (x ∷ [] ≡ c ∷ []) × (is_plain c.operator ≡ true)
-    plain true is =
-        let same : Some x ≡ Some c = subst (λ b. (if b then Some x else None) ≡ Some c) is e in
-        let x_is : x ≡ c = cc in
-        (ap (λ (y : Condition). y ∷ []) x_is, subst (λ (y : Condition). is_plain y.operator ≡ true) x_is is)
-    plain false is = let other : None ≡ Some c = subst (λ b. (if b then Some x else None) ≡ Some c) is e in absurd (cc)
+only_is (x ∷ []) c e = grind (arith, e)
 only_is (x ∷ y ∷ q) c e = absurd (cc)
 
 same_length_is : (l m : SeccompCmpArgLen) → same_length l m ≡ true → l ≡ m
@@ -76,9 +69,7 @@ same_length_is Dword Qword e = absurd (false≢true e)
 same_length_is Qword Dword e = absurd (false≢true e)
 
 pub alike_is : (c d : Condition) → alike (Some c) (Some d) ≡ true → (c.arg_index ≡ d.arg_index) × (c.arg_len ≡ d.arg_len)
-alike_is c d e =
-    let both = and_parts (nat_eq c.arg_index d.arg_index) (same_length c.arg_len d.arg_len) e in
-    (eqb-true c.arg_index d.arg_index both.0, same_length_is c.arg_len d.arg_len both.1)
+alike_is c d e = grind (arith, nat_tests, e, same_length_is c.arg_len d.arg_len)
 
 only_length : (q : List Condition) (c : Condition) → only q ≡ Some c → conditions_length q ≡ part_length c.arg_len 3
 only_length q c is =
@@ -110,11 +101,7 @@ enters_first first d rest n apart (goes_on on) = absurd (true≢false (sym on �
 enters_first first d rest n apart (begins m e takes) = takes
 
 joins_itself : (q : List Condition) (c : Condition) → only q ≡ Some c → joins q q ≡ true
-joins_itself q c own = rw own (let e : nat_eq c.arg_index c.arg_index ≡ true = grind (arith, nat_tests) in rw e (same_itself c.arg_len))
-  where
-    same_itself : (l : SeccompCmpArgLen) → same_length l l ≡ true
-    same_itself Dword = refl
-    same_itself Qword = refl
+joins_itself q c own = rw own (grind (arith, nat_tests))
 
 takes_fresh : (r : List ℕ) (p : List Condition) (rest : List Ruling) (n : ℕ) → joins p (head rest) ≡ false → Takes r p rest n
     → Takes r [] rest n

@@ -39,13 +39,9 @@ one_first default v w (d ∷ rulings) r is h = go d.conditions refl is
   where
     go : (q : List Condition) → d.conditions ≡ q → (if nat_eq (length q) 0 then Some d.value else None) ≡ Some v → w ≡ v
     go [] e some =
-        let holds = subst (λ (q : List Condition). RuleHolds q r) (sym e) (All-nil (λ (c : Condition). Holds c r)) in
-        let value = first_here d rulings holds h in
+        let value = first_here d rulings (subst (λ (q : List Condition). RuleHolds q r) (sym e) (All-nil (λ (c : Condition). Holds c r))) h in
         cc
-    go (c ∷ q) e some =
-        let no : nat_eq (length (c ∷ q)) 0 ≡ false = grind (arith, nat_tests) in
-        let none : None ≡ Some v = subst (λ b. (if b then Some d.value else None) ≡ Some v) no some in
-        absurd (cc)
+    go (c ∷ q) e some = grind (arith, nat_tests, some)
 
 -- what answers a number leads to what is decided, within its own steps and one
 answer_leads : (d : DecisionSet) (code : List sock_filter) (t : Target) (r : List ℕ) (w n : ℕ) → IsRecord r

@@ -100,16 +100,11 @@ halvings n m zero some le half = absurd (omega arith)
 halvings n m (suc k) some le half = let two : 2 ^ suc k ≡ 2 * 2 ^ k = pow-succ' 2 k in (k, refl, omega arith)
 
 pub same_one : (t u : Target) → same t u ≡ true → t ≡ u
-same_one (Give v) (Give w) e = ap Give (grind (arith, nat_tests))
-same_one (Give v) (At n) e = cc
-same_one (At m) (Give w) e = cc
-same_one (At m) (At n) e = ap At (grind (arith, nat_tests))
+same_one t u e = grind (arith, nat_tests)
 
 pub out_long : (steps : List Step) → second_stands_out steps ≡ true → 3 ≤ length steps
-out_long [] out = absurd (cc)
-out_long (x ∷ []) out = absurd (cc)
-out_long (x ∷ y ∷ []) out = absurd (cc)
 out_long (x ∷ y ∷ z ∷ steps) out = omega arith
+out_long _ out = absurd (cc)
 
 -- a row has fewer tests than steps
 pub row_few : (steps : List Step) → 1 ≤ length steps → row steps + 1 ≤ length steps
@@ -121,10 +116,8 @@ row_few (x ∷ y ∷ z ∷ steps) some =
 
 -- a row of few tests takes at most two steps for each halving
 pub row_halvings : (steps : List Step) (k : ℕ) → 1 ≤ length steps → row steps ≤ 6 → length steps ≤ 2 ^ k → row steps ≤ 2 * k
-row_halvings steps zero some six le = omega (arith, row_few steps some)
-row_halvings steps (suc zero) some six le = omega (arith, row_few steps some)
-row_halvings steps (suc (suc zero)) some six le = omega (arith, row_few steps some)
 row_halvings steps (suc (suc (suc k))) some six le = omega arith
+row_halvings steps k some six le = omega (arith, row_few steps some)
 
 -- beside a second step that stands out the others decide
 stands_beside : (m i : ℕ) (x y z : Step) (steps : List Step) → AscendFrom m 0 (x ∷ y ∷ z ∷ steps)
@@ -214,8 +207,7 @@ tree_first old mid new (a ∷ b ∷ steps) d x t some out six tree h =
     (tree.soon (omega (arith, one steps out))) (plain_goes old mid a.target (row (b ∷ steps)) tree.grows) h)
   where
     one : (l : List Step) → second_stands_out (a ∷ b ∷ l) ≡ false → row (a ∷ b ∷ l) ≡ suc (row (b ∷ l))
-    one [] out = refl
-    one (c ∷ l) out = grind (arith, out)
+    one l out = grind (arith, out)
 
 -- a test in front of two halves
 pub tree_halves : (old mid both new : List sock_filter) (steps : List Step) (n : ℕ) (d : Step) (u v t : Target) → n ≡ length steps / 2

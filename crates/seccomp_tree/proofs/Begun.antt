@@ -38,17 +38,14 @@ pub starts_rise : (m from : ℕ) (steps : List Step) (k : ℕ) (d : Step) → As
     → (from + k ≤ (get_or steps k d).start) × ((get_or steps k d).start < m)
 starts_rise m from [] k d h lt = absurd (omega arith)
 starts_rise m from (x ∷ steps) zero d h lt = (omega (arith, h.0), h.1.0)
-starts_rise m from (x ∷ steps) (suc k) d h lt =
-    let up = starts_rise m (x.start + 1) steps k d h.1.1 (omega arith) in (omega (arith, up.0, h.0), up.1)
+starts_rise m from (x ∷ steps) (suc k) d h lt = grind (arith, starts_rise m (x.start + 1) steps k d h.1.1, h.0, lt)
 
 pub starts_sorted : (m from : ℕ) (steps : List Step) → AscendFrom m from steps → (i j : ℕ) (d : Step) → i ≤ j → j < length steps
     → (get_or steps i d).start ≤ (get_or steps j d).start
-starts_sorted m from [] h i j d le lt = absurd (omega arith)
-starts_sorted m from (x ∷ steps) h zero zero d le lt = omega arith
 starts_sorted m from (x ∷ steps) h zero (suc j) d le lt = omega (arith, (starts_rise m (x.start + 1) steps j d h.1.1 (omega arith)).0)
-starts_sorted m from (x ∷ steps) h (suc i) zero d le lt = absurd (omega arith)
 starts_sorted m from (x ∷ steps) h (suc i) (suc j) d le lt =
     starts_sorted m (x.start + 1) steps h.1.1 i j d (omega arith) (omega arith)
+starts_sorted m from _ h i j d le lt = grind (arith, le, lt)
 
 -- ---- counting
 
@@ -67,12 +64,8 @@ pub begun_counts : (m from : ℕ) (steps : List Step) (a k : ℕ) (d : Step) →
     → (get_or steps k d).start < a → k < begun steps a
 begun_counts m from [] a k d h lt below = absurd (omega arith)
 begun_counts m from (x ∷ steps) a zero d h lt below = grind (arith, nat_tests)
-begun_counts m from (x ∷ steps) a (suc k) d h lt below = grind (
-  arith,
-  nat_tests,
-  (starts_rise m (x.start + 1) steps k d h.1.1 (omega arith)).0,
-  begun_counts m (x.start + 1) steps a k d h.1.1 (omega arith) below,
-)
+begun_counts m from (x ∷ steps) a (suc k) d h lt below =
+    grind (arith, nat_tests, starts_rise m (x.start + 1) steps k d h.1.1, begun_counts m (x.start + 1) steps a k d h.1.1)
 
 pub begun_more : (steps : List Step) (a b : ℕ) → a ≤ b → begun steps a ≤ begun steps b
 begun_more [] a b le = omega arith
@@ -102,8 +95,7 @@ pub begun_at : (m from : ℕ) (steps : List Step) (k : ℕ) (d : Step) → Ascen
 begun_at m from [] k d h lt = absurd (omega arith)
 begun_at m from (x ∷ steps) zero d h lt = grind (arith, nat_tests, begun_none m (x.start + 1) steps (x.start + 1) h.1.1 (omega arith))
 begun_at m from (x ∷ steps) (suc k) d h lt =
-    let up = starts_rise m (x.start + 1) steps k d h.1.1 (omega arith) in
-    grind (arith, nat_tests, up.0, begun_at m (x.start + 1) steps k d h.1.1 (omega arith))
+    grind (arith, nat_tests, starts_rise m (x.start + 1) steps k d h.1.1, begun_at m (x.start + 1) steps k d h.1.1)
 
 -- where the tests of a search part the steps
 pub begun_point : (steps : List Step) (number n : ℕ) → n ≤ length steps
@@ -112,15 +104,10 @@ pub begun_point : (steps : List Step) (number n : ℕ) → n ≤ length steps
 begun_point [] number n le point = omega arith
 begun_point (x ∷ steps) number zero le point =
     grind (arith, nat_tests, leb-false x.start number (point.1 0 x (omega arith) (omega arith)))
-begun_point (x ∷ steps) number (suc n) le point = grind (
-  arith,
-  nat_tests,
-  leb-true x.start number (point.0 0 x (omega arith) (omega arith)),
-  begun_point steps number n (omega arith) (
-    (λ k d lt lt'. point.0 (suc k) d (omega arith) (omega arith)),
-    (λ k d lt lt'. point.1 (suc k) d (omega arith) (omega arith)),
-  ),
-)
+begun_point (x ∷ steps) number (suc n) le point =
+    let rest = begun_point steps number n (omega arith) (λ k d lt lt'. point.0 (suc k) d (omega arith) (omega arith),
+    λ k d lt lt'. point.1 (suc k) d (omega arith) (omega arith)) in
+    grind (arith, nat_tests, leb-true x.start number (point.0 0 x (omega arith) (omega arith)), rest)
 
 -- ---- targets
 
@@ -179,12 +166,10 @@ from_push t from [] x a h le = grind (arith, nat_tests)
 from_push t from (y ∷ steps) x a h le = grind (arith, nat_tests, h.1.0, from_push y.target (y.start + 1) steps x a h.1.1 le)
 
 tight_from : (t : Target) (from : ℕ) (steps : List Step) (x : Step) → AscendFrom x.start from steps
-    → (found_from t steps x.start ≢ x.target)
-    → TightFrom t steps → TightFrom t (steps ++ x ∷ [])
+    → (found_from t steps x.start ≢ x.target) → TightFrom t steps → TightFrom t (steps ++ x ∷ [])
 tight_from t from [] x h not tight = (not, tt)
 tight_from t from (y ∷ steps) x h not tight =
-    let yes : nat_le y.start x.start ≡ true = grind (arith, nat_tests, h.1.0) in
-    (tight.0, tight_from y.target (y.start + 1) steps x h.1.1 (rw yes at not) tight.1)
+    (tight.0, tight_from y.target (y.start + 1) steps x h.1.1 (λ e. not (grind (arith, nat_tests, h.1.0, e))) tight.1)
 
 tight_pushed : (old : List Step) (x : Step) → AreSteps x.start old → (1 ≤ length old → found_in old x.start ≢ x.target) → AreTight old
     → AreTight (old ++ x ∷ [])
@@ -219,16 +204,13 @@ pushed_more old x h not = record {
 -- steps that end in the target need no step more
 pub pushed_same : (old : List Step) (start : ℕ) (target : Target) → AreSteps start old → 1 ≤ length old → found_in old start ≡ target
     → IsPushed old start target old
-pushed_same old start target h some same =
-    let above = above_none start 0 old h.ascend some in
-    record {
-      are = steps_more start (start + 1) old above (omega arith) h;
-      from = λ a le.
-          found_same start old a start h above
-          (begun_all start 0 old (a + 1) h.ascend (omega arith) ∙ sym (begun_all start 0 old (start + 1) h.ascend (omega arith))) ∙ same;
-      below = λ a lt. refl;
-      few = omega arith;
-    }
+pushed_same old start target h some same = record {
+  are = steps_more start (start + 1) old (above_none start 0 old h.ascend some) (omega arith) h;
+  from = λ a le. found_same start old a start h (above_none start 0 old h.ascend some)
+      (grind (arith, begun_all start 0 old (a + 1), begun_all start 0 old (start + 1), h.ascend)) ∙ same;
+  below = λ a lt. refl;
+  few = omega arith;
+}
 
 -- ---- the loop of `push_part`
 

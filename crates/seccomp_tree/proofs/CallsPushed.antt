@@ -29,10 +29,9 @@ same_from : (value : ℕ) (defaults : List DefaultValue) (m n : ℕ)
     ⊎ (m < (get_or defaults k d).start × (n < (get_or defaults k d).start)))
     → default_from value defaults m ≡ default_from value defaults n
 same_from value [] m n parts = refl
-same_from value (x ∷ defaults) m n parts = elim (parts 0 x (omega arith)) [
-  | inl low ↦ grind (arith, nat_tests, low, same_from x.value defaults m n (λ k d lt. parts (suc k) d (omega arith)))
-  | inr high ↦ grind (arith, nat_tests, high, same_from value defaults m n (λ k d lt. parts (suc k) d (omega arith)))
-]
+same_from value (x ∷ defaults) m n parts =
+    let rest = λ (v : ℕ). same_from v defaults m n (λ k d lt. parts (suc k) d (omega arith)) in
+    grind (arith, nat_tests, parts 0 x (omega arith), rest x.value, rest value)
 
 -- The next default so far: the first defaults start at the number or below it, or there or later.
 pub record NextSoFar (defaults : List DefaultValue) (number next i : ℕ) : Type 0 where
@@ -57,7 +56,7 @@ answer_grown : (old new : List sock_filter) (most default : ℕ) (rulings : List
 answer_grown old new most default rulings t g h = record {
   inside = is_in_grown t g h.inside;
   one = h.one;
-  own = λ none r rec w n first takes a small. leads_grown g (h.own none r rec w n first takes a small);
+  own = λ none r rec w n first takes a small. leads_grown g (h.own none r rec w n first takes a small)
 }
 
 -- a number that the map has only if it is another's or above it

@@ -161,13 +161,7 @@ rulings_found w (e ∷ chains) n numbers =
     let rest = rulings_found w chains n (All-tail IsCallNumber e.0 (numbers_of chains) numbers) in
     let same : is_at (int_cmp (pos n)) e.0 ≡ nat_eq n (unsigned_abs e.0) =
     subst (λ z. is_at (int_cmp (pos n)) z ≡ nat_eq n (unsigned_abs z)) (sym call.1) (at_same n call.0) in
-    rw same (go (nat_eq n (unsigned_abs e.0)) rest)
-  where
-    go : (b : Bool) → rulings_for (map (call_of w) chains) n ≡ found_rulings w (chain_under chains n)
-        → (if b then rulings_of w e.1 else rulings_for (map (call_of w) chains) n)
-        ≡ found_rulings w (cond b (Some e.1) (lookup (is_at (int_cmp (pos n))) chains))
-    go true rest = refl
-    go false rest = rest
+    rw same (grind (arith, nat_tests, rest))
 
 -- ---- the decisions
 
@@ -182,8 +176,7 @@ module _ (f : Filter) (r : List ℕ) where
 
   given_decision : (found : Option Chain) → own_chain ≡ found → word_at r 4 ≡ audit_word f.target_arch → (v : ℕ) → Gives found v
       → IsDecision f r v
-  given_decision None is own v nothing =
-      policy_differs own (λ m. let e : None ≡ Some m.chain = sym is ∙ m.there in cc) refl
+  given_decision None is own v nothing = policy_differs own (λ m. let e = m.there in cc) refl
   given_decision (Some chain) is own v first = elim (chain_is r (word_of f.mismatch_action) (word_of f.match_action) chain v first) [
     | inl h ↦ policy_matches own (record { chain = chain; there = is; matches = h.0 }) h.1
     | inr h ↦ policy_differs own (λ m. let e : Some chain ≡ Some m.chain = sym is ∙ m.there in

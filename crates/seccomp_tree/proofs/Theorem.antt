@@ -56,7 +56,7 @@ answer_leads d code t r w n rec h arch first takes = go (value_for d (word_at r 
         let gives : Give w ≡ t = ap Give value ∙ sym (h.one v is) in
         λ a small. subst (λ u. Leads code r u a w (m + 1)) gives (to_return w a (m + 1) (omega arith))
     go None is m (other not) = absurd (not arch)
-    go None is m (one v some) = let e : None ≡ Some v = sym is ∙ some in absurd (cc)
+    go None is m (one v some) = absurd (cc)
     go None is m (own k takes) = h.own is r rec w k first takes
 
 -- what `word` needs
@@ -109,12 +109,10 @@ enters_some first d rest = go (joins first d.conditions) refl
 
 takes_some : (r : List ℕ) (first : List Condition) (rulings : List Ruling) → (n : ℕ) × Takes r first rulings n
 takes_some r first [] = (0, ends first)
-takes_some r first (d ∷ rest) =
-    let e = enters_some first d rest in
-    elim (rule_or_not d.conditions r) [
-      | inl h ↦ (e.0, stops first d rest e.0 h e.1)
-      | inr not ↦ let x = takes_some r d.conditions rest in (e.0 + x.0, passes first d rest e.0 x.0 not e.1 x.1)
-    ]
+takes_some r first (d ∷ rest) = let e = enters_some first d rest in elim (rule_or_not d.conditions r) [
+  | inl h ↦ (e.0, stops first d rest e.0 h e.1)
+  | inr not ↦ let x = takes_some r d.conditions rest in (e.0 + x.0, passes first d rest e.0 x.0 not e.1 x.1)
+]
 
 -- ---- the whole
 

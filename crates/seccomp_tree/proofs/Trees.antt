@@ -23,9 +23,8 @@ use Rattle.seccompiler.proofs.Words.{word_fits}
 -- ---- the first ones
 
 pub ascend_take : (m from n : ℕ) (steps : List Step) → AscendFrom m from steps → AscendFrom m from (take n steps)
-ascend_take m from zero steps h = tt
-ascend_take m from (suc n) [] h = tt
 ascend_take m from (suc n) (x ∷ steps) h = (h.0, (h.1.0, ascend_take m (x.start + 1) n steps h.1.1))
+ascend_take m from _ steps h = tt
 
 pub in_take : (code : List sock_filter) (n : ℕ) (steps : List Step) → AreIn code steps → AreIn code (take n steps)
 in_take code n steps h k d lt =
@@ -72,9 +71,9 @@ from_drop m from t (x ∷ steps) (suc n) a d h lt above = grind (
 
 pub found_drop : (m : ℕ) (steps : List Step) (n a : ℕ) (d : Step) → AscendFrom m 0 steps → n < length steps → (get_or steps n d).start ≤ a
     → found_in steps a ≡ found_in (drop n steps) a
-found_drop m [] n a d h lt above = absurd (omega arith)
-found_drop m (x ∷ steps) zero a d h lt above = refl
 found_drop m (x ∷ steps) (suc n) a d h lt above = from_drop m (x.start + 1) x.target steps n a d h.1.1 (omega arith) above
+found_drop m steps zero a d h lt above = refl
+found_drop m [] n a d h lt above = absurd (omega arith)
 
 -- the rest of a slice is what is left of the list
 pub all_behind : (steps : List Step) (n : ℕ) → take (length steps - n) (drop n steps) ≡ drop n steps
@@ -97,7 +96,7 @@ rest_long n steps = ap length (all_behind steps n) ∙ length-drop n steps
 -- the number of halvings of a half is one less
 pub halvings : (n m k : ℕ) → 2 ≤ n → n ≤ 2 ^ k → m ≤ n - n / 2 → (j : ℕ) × (k ≡ suc j) × (m ≤ 2 ^ j)
 halvings n m zero some le half = absurd (omega arith)
-halvings n m (suc k) some le half = let two : 2 ^ suc k ≡ 2 * 2 ^ k = pow-succ' 2 k in (k, refl, omega arith)
+halvings n m (suc k) some le half = (k, refl, omega (arith, pow-succ' 2 k))
 
 pub same_one : (t u : Target) → same t u ≡ true → t ≡ u
 same_one t u e = grind (arith, nat_tests)
@@ -108,11 +107,9 @@ out_long _ out = absurd (cc)
 
 -- a row has fewer tests than steps
 pub row_few : (steps : List Step) → 1 ≤ length steps → row steps + 1 ≤ length steps
-row_few [] some = absurd (omega arith)
-row_few (x ∷ []) some = omega arith
-row_few (x ∷ y ∷ []) some = omega arith
 row_few (x ∷ y ∷ z ∷ steps) some =
     grind (arith, nat_tests, row_few (z ∷ steps) (omega arith), row_few (y ∷ z ∷ steps) (omega arith))
+row_few _ some = omega arith
 
 -- a row of few tests takes at most two steps for each halving
 pub row_halvings : (steps : List Step) (k : ℕ) → 1 ≤ length steps → row steps ≤ 6 → length steps ≤ 2 ^ k → row steps ≤ 2 * k
@@ -125,10 +122,7 @@ stands_beside : (m i : ℕ) (x y z : Step) (steps : List Step) → AscendFrom m 
     → found_in (x ∷ y ∷ z ∷ steps) i ≡ chosen Equal y.start y.target (found_in (z ∷ steps) i) i
 stands_beside m i x y z steps h out =
     let both = and_parts (same x.target z.target) (nat_eq (z.start - y.start) 1) out in
-    let alike = same_one x.target z.target both.0 in
-    let next : z.start ≡ y.start + 1 = grind (arith, nat_tests, both.1) in
-    let first = λ (below : i < y.start). found_before m (z.start + 1) z.target steps i h.1.1.1.1.1.1 (omega arith) in
-    grind (arith, nat_tests, alike, next, first)
+    grind (arith, nat_tests, same_one x.target z.target both.0, both.1, found_before m (z.start + 1) z.target steps i h.1.1.1.1.1.1)
 
 -- ---- the code
 
@@ -139,8 +133,6 @@ plain_goes old new t m g r a w n small h = starts_more (n + m) (omega arith) (le
 -- one step is its target
 pub tree_single : (code : List sock_filter) (steps : List Step) (d : Step) → length steps ≡ 1 → AreIn code steps
     → IsTree code steps (get_or steps 0 d).target code
-tree_single code [] d one inside = absurd (omega arith)
-tree_single code (x ∷ y ∷ steps) d one inside = absurd (omega arith)
 tree_single code (x ∷ []) d one inside = record {
   grows = grows_not code _;
   inside = inside 0 d (omega arith);
@@ -148,6 +140,7 @@ tree_single code (x ∷ []) d one inside = record {
   leads = λ k le. plain_goes code code x.target (2 * k) (grows_not code 0);
   soon = λ few. plain_goes code code x.target 0 (grows_not code 0);
 }
+tree_single code _ d one inside = absurd (omega arith)
 
 either : (b : Bool) → ((p q : Target) → (if b then p else q) ≡ p) ⊎ ((p q : Target) → (if b then p else q) ≡ q)
 either true = inl (λ p q. refl)
@@ -186,21 +179,17 @@ row_tree old mid new steps rest test k u v x t tree h one six some less run = re
 pub tree_out : (old mid new : List sock_filter) (steps : List Step) (d : Step) (x t : Target) → AscendFrom (2 ^ 32) 0 steps
     → second_stands_out steps ≡ true → row steps ≤ 6 → IsTree old (drop 2 steps) x mid
     → IsTested mid Equal (get_or steps 1 d).start (get_or steps 1 d).target x t new → IsTree old steps t new
-tree_out old mid new [] d x t up out six tree h = absurd (cc)
-tree_out old mid new (a ∷ []) d x t up out six tree h = absurd (cc)
-tree_out old mid new (a ∷ b ∷ []) d x t up out six tree h = absurd (cc)
 tree_out old mid new (a ∷ b ∷ c ∷ steps) d x t up out six tree h =
     let one : row (a ∷ b ∷ c ∷ steps) ≡ suc (row (c ∷ steps)) = grind (arith, out) in
     row_tree old mid new (a ∷ b ∷ c ∷ steps) (c ∷ steps) Equal b.start b.target x x t tree h one six (omega arith) (omega arith)
     (test_goes old mid new (a ∷ b ∷ c ∷ steps) (single b.target) (c ∷ steps) Equal b.start b.target x t (row (c ∷ steps))
     (λ i. stands_beside (2 ^ 32) i a b c steps up out) (plain_goes old mid b.target (row (c ∷ steps)) tree.grows)
     (tree.soon (omega (arith, one))) h)
+tree_out old mid new _ d x t up out six tree h = absurd (cc)
 
 pub tree_first : (old mid new : List sock_filter) (steps : List Step) (d : Step) (x t : Target) → 2 ≤ length steps
     → second_stands_out steps ≡ false → row steps ≤ 6 → IsTree old (drop 1 steps) x mid
     → IsTested mid AtLeast (get_or steps 1 d).start x (get_or steps 0 d).target t new → IsTree old steps t new
-tree_first old mid new [] d x t some out six tree h = absurd (omega arith)
-tree_first old mid new (a ∷ []) d x t some out six tree h = absurd (omega arith)
 tree_first old mid new (a ∷ b ∷ steps) d x t some out six tree h =
     row_tree old mid new (a ∷ b ∷ steps) (b ∷ steps) AtLeast b.start x a.target x t tree h (one steps out) six (omega arith) (omega arith)
     (test_goes old mid new (a ∷ b ∷ steps) (b ∷ steps) (single a.target) AtLeast b.start x a.target t (row (b ∷ steps)) (λ i. refl)
@@ -208,6 +197,7 @@ tree_first old mid new (a ∷ b ∷ steps) d x t some out six tree h =
   where
     one : (l : List Step) → second_stands_out (a ∷ b ∷ l) ≡ false → row (a ∷ b ∷ l) ≡ suc (row (b ∷ l))
     one l out = grind (arith, out)
+tree_first old mid new _ d x t some out six tree h = absurd (omega arith)
 
 -- a test in front of two halves
 pub tree_halves : (old mid both new : List sock_filter) (steps : List Step) (n : ℕ) (d : Step) (u v t : Target) → n ≡ length steps / 2
@@ -243,9 +233,8 @@ tree_halves old mid both new steps n d u v t half up some long upper lower h = r
 -- ---- after the load of a word
 
 found_one : (steps : List Step) (a b : ℕ) → length steps ≤ 1 → found_in steps a ≡ found_in steps b
-found_one [] a b few = refl
-found_one (x ∷ []) a b few = refl
 found_one (x ∷ y ∷ steps) a b few = absurd (omega arith)
+found_one _ a b few = refl
 
 -- one step needs no load
 pub word_one : (old new : List sock_filter) (byte : ℕ) (steps : List Step) (t : Target) → length steps ≡ 1 → IsTree old steps t new

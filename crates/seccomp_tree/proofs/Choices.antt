@@ -34,8 +34,7 @@ side_alike (MaskedEq m) a b v plain side h = absurd (cc)
 side_alike _ a b v plain side h = grind (arith, side)
 
 pub numbers_many : (l : SeccompCmpArgLen) → 2 ^ 32 ≤ numbers_of l
-numbers_many Dword = omega arith
-numbers_many Qword = omega arith
+numbers_many l = grind arith
 
 pub numbers_few : (l : SeccompCmpArgLen) (steps : List Step) → AreSteps (numbers_of l) steps → AreSteps (2 ^ 64) steps
 numbers_few Dword steps h = steps_more (2 ^ 32) (2 ^ 64) steps (omega arith) (omega arith) h

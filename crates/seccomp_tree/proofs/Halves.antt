@@ -23,18 +23,15 @@ use Rattle.seccomp_tree.proofs.Begun.{steps_more, begun_some, found_in_code}
 pub half_in : (code : List sock_filter) (steps lows : List Step) (high : ℕ) → AreSteps (2 ^ 64) steps → AreIn code steps
     → IsPartPushed [] steps (high * 2 ^ 32) (high * 2 ^ 32 + 0xffffffff) (high * 2 ^ 32) lows → AreIn code lows
 half_in code steps lows high whole inside h =
-    let size : high * 2 ^ 32 + 0xffffffff + 1 - high * 2 ^ 32 ≡ 2 ^ 32 = omega arith in
-    are_in_below code (2 ^ 32) lows (omega arith) (subst (λ n. AreSteps n lows) size h.are) (λ a lt.
+    are_in_below code (high * 2 ^ 32 + 0xffffffff + 1 - high * 2 ^ 32) lows (omega arith) h.are (λ a lt.
     subst (IsIn code) (sym (h.inside a (omega arith) (omega arith)))
     (found_in_code code (2 ^ 64) steps (record { start = 0; target = Give 0 }) (high * 2 ^ 32 + a) (omega arith) whole inside))
 
 pub half_room : (steps lows : List Step) (high : ℕ)
     → IsPartPushed [] steps (high * 2 ^ 32) (high * 2 ^ 32 + 0xffffffff) (high * 2 ^ 32) lows
     → 3 * length lows - 2 ≤ half_length steps high
-half_room steps lows high h =
-    let end : high * 2 ^ 32 + 0xffffffff + 1 ≡ (high + 1) * 2 ^ 32 = omega arith in
-    let e = ap (λ n. begun steps n) end in
-    omega (arith, h.few, e, begun_more steps (high * 2 ^ 32) (high * 2 ^ 32 + 1) (omega arith))
+half_room steps lows high h = omega (arith, h.few, begun_more steps (high * 2 ^ 32 + 0xffffffff + 1) ((high + 1) * 2 ^ 32) (omega arith),
+    begun_more steps (high * 2 ^ 32) (high * 2 ^ 32 + 1) (omega arith))
 
 pub half_of_word : (old new : List sock_filter) (index : ℕ) (steps lows : List Step) (high : ℕ) (t : Target) → AreSteps (2 ^ 64) steps
     → IsPartPushed [] steps (high * 2 ^ 32) (high * 2 ^ 32 + 0xffffffff) (high * 2 ^ 32) lows
@@ -44,11 +41,9 @@ half_of_word old new index steps lows high t are h word = record {
   grows = record { front = word.grows.front; whole = word.grows.whole; few = omega (arith, word.grows.few, half_room steps lows high h) };
   inside = word.inside;
   leads = λ r rec w n k few lead.
-      let fits = word_fits r (16 + 8 * index) rec in
-      let same = h.inside (word_at r (16 + 8 * index)) (omega arith) (omega (arith, fits)) in
-      let one = begun_some (2 ^ 64) steps (high * 2 ^ 32) are (omega arith) in
-      word.leads r rec w n k (omega (arith, h.few, one, begun_few steps (high * 2 ^ 32 + 0xffffffff + 1)))
-      (subst (λ u. LeadsAlways old r u w n) (sym same) lead);
+      let same = h.inside (word_at r (16 + 8 * index)) (omega arith) (omega (arith, word_fits r (16 + 8 * index) rec)) in
+      word.leads r rec w n k (omega (arith, h.few, begun_some (2 ^ 64) steps (high * 2 ^ 32) are (omega arith),
+      begun_few steps (high * 2 ^ 32 + 0xffffffff + 1))) (rw same lead);
 }
 
 -- ---- the next high half
@@ -70,12 +65,9 @@ next_is steps high start next are small within none some is = record {
         let four = begun_more steps (high * 2 ^ 32 + a + 1) start (omega arith) in
         found_same (2 ^ 64) steps (h * 2 ^ 32 + a) (high * 2 ^ 32 + a) are (omega arith) (omega (arith, one, two, three, four))
   ];
-  more = λ less.
-      let low = begun_more steps (high * 2 ^ 32) (high * 2 ^ 32 + 1) (omega arith) in
-      let up = begun_more steps ((high + 1) * 2 ^ 32) (next * 2 ^ 32) (omega (arith, is)) in
-      let far = begun_more steps (start + 1) ((next + 1) * 2 ^ 32) (omega (arith, is)) in
-      let there = some (omega (arith, is)) in
-      omega (arith, low, up, far, there);
+  more = λ less. omega (arith, begun_more steps (high * 2 ^ 32) (high * 2 ^ 32 + 1) (omega arith), some (omega (arith, is)),
+      begun_more steps ((high + 1) * 2 ^ 32) (next * 2 ^ 32) (omega (arith, is)),
+      begun_more steps (start + 1) ((next + 1) * 2 ^ 32) (omega (arith, is)));
 }
 
 pub next_some : (steps : List Step) (high n next : ℕ) (d : Step) → AreSteps (2 ^ 64) steps → high < 2 ^ 32
@@ -95,19 +87,17 @@ pub highs_one : (old mid new : List sock_filter) (index : ℕ) (steps highs more
     → IsHalf mid index steps high t new
     → IsNext steps high next → IsPushed highs high t more → AreHighs old index steps next more new
 highs_one old mid new index steps highs more high next t h small half on pushed =
-    let few = begun_few steps (high * 2 ^ 32) in
-    let few' = begun_few steps ((high + 1) * 2 ^ 32) in
     let up = begun_more steps (high * 2 ^ 32) ((high + 1) * 2 ^ 32) (omega arith) in
-    let far = begun_more steps ((high + 1) * 2 ^ 32) (next * 2 ^ 32) (omega (arith, on.above)) in
     let turn = h.soon small in
     record {
       within = on.within;
       turns = h.turns + 1;
       soon = λ lt. omega (arith, turn, on.more lt);
-      end = omega (arith, turn, few, few');
-      are = widened;
+      end = omega (arith, turn, begun_few steps (high * 2 ^ 32), begun_few steps ((high + 1) * 2 ^ 32));
+      are = steps_more (high + 1) next more (omega arith) (omega (arith, on.above)) pushed.are;
       few = omega (arith, h.few, pushed.few);
-      grows = grows_on _ h.grows half.grows (omega (arith, up, far));
+      grows = grows_on _ h.grows half.grows
+          (omega (arith, up, begun_more steps ((high + 1) * 2 ^ 32) (next * 2 ^ 32) (omega (arith, on.above))));
       leads = λ x lt. elim (cases_lt x high) [
         | inl below ↦
             let was = h.leads x below in
@@ -118,9 +108,7 @@ highs_one old mid new index steps highs more high next t h small half on pushed 
         | inr le ↦ subst (Both x) (sym (pushed.from x le)) (
           half.inside,
           λ r rec w n k few lead a fits.
-              let low = word_at r (16 + 8 * index) in
-              let here : LeadsAlways old r (found_in steps (high * 2 ^ 32 + low)) w n =
-              subst (λ u. LeadsAlways old r u w n) (on.same x low le lt (word_fits r (16 + 8 * index) rec)) lead in
+              let here = rw (on.same x (word_at r (16 + 8 * index)) le lt (word_fits r (16 + 8 * index) rec)) at lead in
               starts_more (n + 2 + 2 * k) (omega arith)
               (leads_by (half.leads r rec w n k few (λ b fits'. leads_grown h.grows (here b fits')) a fits)),
         )
@@ -130,9 +118,6 @@ highs_one old mid new index steps highs more high next t h small half on pushed 
     Both : ℕ → Target → Type 0
     Both x u = IsIn new u × ((r : List ℕ) → IsRecord r → (w n k : ℕ) → length steps ≤ 2 ^ k
         → LeadsAlways old r (found_in steps (x * 2 ^ 32 + word_at r (16 + 8 * index))) w n → LeadsAlways new r u w (n + 2 + 2 * k))
-
-    widened : AreSteps next more
-    widened = steps_more (high + 1) next more (omega arith) (omega (arith, on.above)) pushed.are
 
 -- ---- both halves
 
@@ -146,37 +131,29 @@ pub is_argument : (old mid new : List sock_filter) (index : ℕ) (steps highs : 
     → IsPart old Qword (13 * length steps - 2) (λ r. argument_at r index) steps t new
 is_argument old mid new index steps highs t are h word =
     let some = not_none (2 ^ 64) steps are (omega arith) in
-    let done = begun_few steps (2 ^ 32 * 2 ^ 32) in
     record {
-      grows = grows_on _ h.grows word.grows (omega (arith, h.few, h.end, done));
+      grows = grows_on _ h.grows word.grows (omega (arith, h.few, h.end, begun_few steps (2 ^ 32 * 2 ^ 32)));
       inside = word.inside;
       leads = λ r rec w n k few lead.
-          let two : 2 ^ suc k ≡ 2 * 2 ^ k = pow-succ' 2 k in
-          let at : 16 + 8 * index + 4 ≡ 20 + 8 * index = omega arith in
           let high = word_at r (20 + 8 * index) in
-          let low = word_at r (16 + 8 * index) in
-          let high_same : word_at r (16 + 8 * index + 4) ≡ high = ap (λ i. word_at r i) at in
-          let whole : argument_at r index ≡ high * 2 ^ 32 + low = omega (arith, number_halves r (16 + 8 * index), high_same) in
-          let there : LeadsAlways old r (found_in steps (high * 2 ^ 32 + low)) w n = subst (λ u. LeadsAlways old r (found_in steps u) w n)
-          whole lead in
-          let behind = (h.leads high (word_fits r (20 + 8 * index) rec)).1 r rec w n k few there in
+          let at : word_at r (16 + 8 * index + 4) ≡ high = ap (λ i. word_at r i) (omega arith) in
+          let whole : argument_at r index ≡ high * 2 ^ 32 + word_at r (16 + 8 * index) = omega (arith, number_halves r (16 + 8 * index), at)
+          in
+          let behind = (h.leads high (word_fits r (20 + 8 * index) rec)).1 r rec w n k few
+          (subst (λ u. LeadsAlways old r (found_in steps u) w n) whole lead) in
           λ a fits. starts_more (n + (5 + 4 * k)) (omega arith)
-          (word.leads r rec w (n + 2 + 2 * k) (suc k) (omega (arith, h.few, h.end)) behind a fits);
+          (word.leads r rec w (n + 2 + 2 * k) (suc k) (omega (arith, h.few, h.end, pow-succ' 2 k)) behind a fits);
     }
 
 -- what a half has no room for, all steps have none for; and what the high halves have none for
 pub full_half : (old mid : List sock_filter) (index : ℕ) (steps highs : List Step) (high : ℕ) → AreHighs old index steps high highs mid
     → high < 2 ^ 32 → greatest_length < length mid + (half_length steps high)
     → greatest_length < length old + 5 * length steps
-full_half old mid index steps highs high h small full =
-    let few = begun_few steps (high * 2 ^ 32) in
-    let few' = begun_few steps ((high + 1) * 2 ^ 32) in
-    let up = begun_more steps (high * 2 ^ 32) ((high + 1) * 2 ^ 32) (omega arith) in
-    omega (arith, full, h.soon small, (grown_long h.grows).1, up)
+full_half old mid index steps highs high h small full = omega (arith, full, h.soon small, (grown_long h.grows).1,
+    begun_few steps ((high + 1) * 2 ^ 32), begun_more steps (high * 2 ^ 32) ((high + 1) * 2 ^ 32) (omega arith))
 
 pub full_highs : (old mid : List sock_filter) (index : ℕ) (steps highs : List Step) → AreSteps (2 ^ 64) steps
     → AreHighs old index steps (2 ^ 32) highs mid → greatest_length < length mid + (3 * length highs - 2)
     → greatest_length < length old + (13 * length steps - 2)
-full_highs old mid index steps highs are h full =
-    let some = not_none (2 ^ 64) steps are (omega arith) in
-    omega (arith, full, (grown_long h.grows).1, h.few, h.end, begun_few steps (2 ^ 32 * 2 ^ 32))
+full_highs old mid index steps highs are h full = omega (arith, full, (grown_long h.grows).1, h.few, h.end,
+    not_none (2 ^ 64) steps are (omega arith), begun_few steps (2 ^ 32 * 2 ^ 32))

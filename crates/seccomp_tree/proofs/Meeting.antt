@@ -30,23 +30,17 @@ use Rattle.seccomp_tree.proofs.Choices.{compares_or_not}
 -- ---- numbers of an argument
 
 pub low_word : (r : List ℕ) (index : ℕ) → IsRecord r → argument_at r index % 2 ^ 32 ≡ word_at r (16 + 8 * index)
-low_word r index rec =
-    let low = word_fits r (16 + 8 * index) rec in
-    omega (arith, number_halves r (16 + 8 * index))
+low_word r index rec = omega (arith, number_halves r (16 + 8 * index), word_fits r (16 + 8 * index) rec)
 
 pub high_word : (r : List ℕ) (index : ℕ) → IsRecord r → argument_at r index / 2 ^ 32 ≡ word_at r (20 + 8 * index)
 high_word r index rec =
-    let low = word_fits r (16 + 8 * index) rec in
-    let at : 16 + 8 * index + 4 ≡ 20 + 8 * index = omega arith in
-    let same : word_at r (16 + 8 * index + 4) ≡ word_at r (20 + 8 * index) = ap (λ i. word_at r i) at in
-    omega (arith, number_halves r (16 + 8 * index), same)
+    let same : word_at r (16 + 8 * index + 4) ≡ word_at r (20 + 8 * index) = ap (λ i. word_at r i) (omega arith) in
+    omega (arith, number_halves r (16 + 8 * index), same, word_fits r (16 + 8 * index) rec)
 
 pub part_fits : (l : SeccompCmpArgLen) (r : List ℕ) (index : ℕ) → IsRecord r → part_of l (argument_at r index) < numbers_of l
 part_fits Dword r index rec = omega arith
 part_fits Qword r index rec =
-    let low = word_fits r (16 + 8 * index) rec in
-    let high = word_fits r (16 + 8 * index + 4) rec in
-    omega (arith, number_halves r (16 + 8 * index))
+    omega (arith, number_halves r (16 + 8 * index), word_fits r (16 + 8 * index) rec, word_fits r (16 + 8 * index + 4) rec)
 
 -- each condition holds or doesn't
 pub holds_or_not : (c : Condition) (r : List ℕ) → Holds c r ⊎ (Holds c r → ⊥)
@@ -86,8 +80,7 @@ pub plain_cost : (l : SeccompCmpArgLen) (o : SeccompCmpOp) → is_plain o ≡ tr
 plain_cost l o plain = rw plain (refl, refl)
 
 pub shorter_part : (l : SeccompCmpArgLen) (n m : ℕ) → n ≤ m → part_length l n ≤ part_length l m
-shorter_part Dword n m le = omega arith
-shorter_part Qword n m le = omega arith
+shorter_part l n m le = grind (arith, le)
 
 -- whether a condition without a mask holds is what its comparison says of the argument's part
 pub chosen_plain : (c : Condition) (r : List ℕ) (fit unfit t : Target) → is_plain c.operator ≡ true

@@ -1,6 +1,6 @@
 -- The two ends of the theorem: sound code is a checked program, and a run that returns a word ends with it there.
 use Rattle.std.proofs.Common.{◌≡◌, ℕ, zero, suc, ◌+◌, ◌-◌, ◌<◌, ◌≤◌, ◌^◌, List, [], ◌∷◌, ◌++◌, length, drop, Some}
-use Rattle.std.proofs.Common.{length-append, length-drop, refl, sym, ap, ◌∙◌, subst, arith}
+use Rattle.std.proofs.Common.{length-append, length-drop, refl, sym, ap, ◌∙◌, subst, arith, add-one}
 use Rattle.std.specs.Prelude.{slice_get}
 use Rattle.std.proofs.lemmas.List.{drop-drop}
 use Rattle.seccompiler.specs.declared.bpf.sock_filter.{sock_filter}
@@ -89,9 +89,8 @@ each_fine : (p : List sock_filter) (place : ℕ) (i : sock_filter) → AreFine p
     → IsFine i place (length p) × IsInRange i
 each_fine [] place i h here = absurd (cc)
 each_fine (x ∷ p) zero i h here =
-    let same : x ≡ i = cc in
-    let long : length p + 1 ≡ suc (length p) = omega arith in
-    (subst (λ j. IsFine j 0 (suc (length p))) same (subst (λ n. IsFine x 0 n) long h.0), subst IsInRange same h.1.0)
+    let same : i ≡ x = cc in
+    rw (same, ← add-one) (h.0, h.1.0)
 each_fine (x ∷ p) (suc place) i h here =
     let both = each_fine p place i h.1.1 here in
     (fine_behind i place (length p) both.0, both.1)
@@ -112,7 +111,6 @@ sound_checked p h =
       each = λ place i here. (each_fine p place i h.fine here).0;
       last = λ i here.
           let at : length p - 1 ≡ length h.front = omega (arith, long) in
-          let end : slice_get p (length p - 1) ≡ Some kill =
-          ap (λ l. slice_get l (length p - 1)) h.ends ∙ ap (λ n. slice_get (h.front ++ kill ∷ []) n) at ∙ last_get h.front kill in
-          let same : i ≡ kill = cc in ap (λ (j : sock_filter). j.code) same;
+          let end = rw (at, h.ends) at here in
+          let same : i ≡ kill = cc (last_get h.front kill) in ap (λ (j : sock_filter). j.code) same;
     }

@@ -43,7 +43,7 @@ ruling_one old mid new value after t u c rest h one = met_both _ _ (holds_or_not
 conditions_less : (n : ℕ) (q : List Condition) → conditions_length (drop n q) ≤ conditions_length q
 conditions_less zero q = omega arith
 conditions_less (suc n) [] = omega arith
-conditions_less (suc n) (c ∷ q) = let h = conditions_less n q in omega arith
+conditions_less (suc n) (c ∷ q) = omega (arith, conditions_less n q)
 
 -- how much room a condition takes at most, of what all take
 pub ruling_room : (old mid : List sock_filter) (value : ℕ) (after t : Target) (q : List Condition) (k : ℕ) (c : Condition) (rest : List
@@ -51,9 +51,7 @@ pub ruling_room : (old mid : List sock_filter) (value : ℕ) (after t : Target) 
     → drop k q ≡ c ∷ rest → IsRulingMet old rest value after t mid → length mid + condition_length c.arg_len c.operator ≤ length old +
     conditions_length q
 ruling_room old mid value after t q k c rest cons h =
-    let less = conditions_less k q in
-    let same : conditions_length (drop k q) ≡ condition_length c.arg_len c.operator + conditions_length rest = ap conditions_length cons in
-    omega (arith, (grown_long h.grows).1)
+    omega (arith, (grown_long h.grows).1, conditions_less k q, ap conditions_length cons)
 
 -- ---- what a condition alone is
 
@@ -63,10 +61,7 @@ only_is (x ∷ []) c e = grind (arith, e)
 only_is (x ∷ y ∷ q) c e = absurd (cc)
 
 same_length_is : (l m : SeccompCmpArgLen) → same_length l m ≡ true → l ≡ m
-same_length_is Dword Dword e = refl
-same_length_is Qword Qword e = refl
-same_length_is Dword Qword e = absurd (false≢true e)
-same_length_is Qword Dword e = absurd (false≢true e)
+same_length_is l m e = grind (arith, e)
 
 pub alike_is : (c d : Condition) → alike (Some c) (Some d) ≡ true → (c.arg_index ≡ d.arg_index) × (c.arg_len ≡ d.arg_len)
 alike_is c d e = grind (arith, nat_tests, e, same_length_is c.arg_len d.arg_len)
@@ -116,9 +111,7 @@ takes_behind : (r : List ℕ) (first : List Condition) (d : Ruling) (rest : List
     → (RuleHolds d.conditions r → ⊥) → Takes r first (d ∷ rest) n → Takes r d.conditions rest n
 takes_behind r first d rest n on not (stops q e l m holds enters) = absurd (not holds)
 takes_behind r first d rest n on not (passes q e l m k other enters takes) =
-    let none = enters_joined first d rest m on enters in
-    let count : k ≡ m + k = omega (arith, none) in
-    subst (Takes r d.conditions rest) count takes
+    subst (Takes r d.conditions rest) (omega (arith, enters_joined first d rest m on enters)) takes
 
 -- ---- what comes after
 
@@ -156,12 +149,10 @@ rest_none old default fits = (
 -- ---- a ruling laid over steps
 
 run_more : (l : SeccompCmpArgLen) (j : ℕ) → (1 + suc j) * part_length l 3 ≡ part_length l 3 + (1 + j) * part_length l 3
-run_more Dword j = omega arith
-run_more Qword j = omega arith
+run_more l j = grind arith
 
 run_room : (l : SeccompCmpArgLen) (n j : ℕ) → n ≤ 2 * (1 + j) + 1 → part_length l n ≤ (1 + j) * part_length l 3
-run_room Dword n j le = omega arith
-run_room Qword n j le = omega arith
+run_room l n j le = grind (arith, le)
 
 module _ (old code : List sock_filter) (default : ℕ) (c : Condition) (d : Ruling) (own : only d.conditions ≡ Some c)
     (fits : d.value < 2 ^ 32) where

@@ -66,12 +66,8 @@ calls_room d old mid steps h =
 
 pub calls_full : (d : DecisionSet) (old mid : List sock_filter) (steps : List Step) (e : TreeError) → AreCallSteps old d steps mid
     → IsFullBy mid (3 * length steps - 2) e → IsTooFull d old 0 e
-calls_full d old mid steps e h full = λ is starts ranges.
-    let long = grown_long h.grows in
-    let few = fewest d mid steps starts h.answers ranges in
-    let some = not_none (2 ^ 32) steps h.answers.are (omega arith) in
-    let more = full is in
-    omega (arith, long.1, few, some, more)
+calls_full d old mid steps e h full = λ is starts ranges. omega (arith, (grown_long h.grows).1, full is,
+    fewest d mid steps starts h.answers ranges, not_none (2 ^ 32) steps h.answers.are (omega arith))
 
 -- after the load of the number stands what answers all calls
 pub calls_target : (d : DecisionSet) (old mid new : List sock_filter) (steps : List Step) (t : Target) → AreCallSteps old d steps mid
@@ -129,14 +125,10 @@ chosen_runs d old p h r u w m rec is enters =
 -- a program that is written returns what is decided
 written_returns : (d : DecisionSet) (old p : List sock_filter) (h : IsWritten old d p) (r : List ℕ) (w n k : ℕ) → IsRecord r
     → h.answers.ranges ≤ 2 ^ k → IsDecided d r w → TakesOwn d r n → Returns r p 0 w (4 + 2 * k + n)
-written_returns d old p h r w n k rec few (other_architecture not is) takes =
-    let no : nat_eq (word_at r 4) (audit_word d.target_arch) ≡ false = grind (arith, nat_tests, not) in
-    returns_more (4 + 2 * k + n) (omega arith) (chosen_runs d old p h r (Give w) w 1 rec
-    (ap (λ b. if b then h.calls else Give 0x80000000) no ∙ ap Give (sym is)) (λ a small. to_return w a 1 (omega arith)))
-written_returns d old p h r w n k rec few (decided arch first) takes =
-    let yes : nat_eq (word_at r 4) (audit_word d.target_arch) ≡ true = grind (arith, nat_tests, arch) in
-    returns_more (4 + 2 * k + n) (omega arith) (chosen_runs d old p h r h.calls w (n + 2 + 2 * k) rec
-    (ap (λ b. if b then h.calls else Give 0x80000000) yes) (h.answers.enters r rec w n k few arch first takes))
+written_returns d old p h r w n k rec few (other_architecture not is) takes = returns_more (4 + 2 * k + n) (omega arith)
+    (chosen_runs d old p h r (Give w) w 1 rec (grind (arith, nat_tests, not, is)) (λ a small. to_return w a 1 (omega arith)))
+written_returns d old p h r w n k rec few (decided arch first) takes = returns_more (4 + 2 * k + n) (omega arith)
+    (chosen_runs d old p h r h.calls w (n + 2 + 2 * k) rec (grind (arith, nat_tests, arch)) (h.answers.enters r rec w n k few arch first takes))
 
 written_decides : (d : DecisionSet) (old p : List sock_filter) → IsWritten old d p → (r : List ℕ) → IsRecord r → EndsAsDecided d p r
 written_decides d old p h r rec =
@@ -151,15 +143,9 @@ written_program d p h sound = record {
   checked = sound_checked p sound;
   decides = λ r rec. written_decides d (give 0x80000000 ∷ []) p h r rec;
   soon = λ r rec w n k decision takes starts ranges few.
-      let all = h.answers.few starts ranges in
-      let end = program_ends p r w (4 + 2 * k + n) (written_returns d (give 0x80000000 ∷ []) p h r w n k rec (omega arith) decision takes)
-      in
+      let end = program_ends p r w (4 + 2 * k + n) (written_returns d (give 0x80000000 ∷ []) p h r w n k rec
+      (omega (arith, h.answers.few starts ranges)) decision takes) in
       record { steps = end.steps; few = end.few; ends = end.ends };
-  short = λ starts ranges.
-      let all = h.answers.few starts ranges in
-      let some = h.answers.some in
-      let one = grown_long h.answers.grows in
-      let two = grown_long h.tests.grows in
-      let three = ap length h.whole in
-      omega (arith, all, some, one.1, two.1, three);
+  short = λ starts ranges. omega (arith, h.answers.few starts ranges, h.answers.some, (grown_long h.answers.grows).1,
+      (grown_long h.tests.grows).1, ap length h.whole);
 }

@@ -17,7 +17,7 @@ use Rattle.seccomp_tree.specs.Decisions.{Ruling, rules_length}
 use Rattle.seccomp_tree.specs.Decided.{DecisionSet, default_for, rulings_for, calls_of, default_from}
 use Rattle.seccomp_tree.specs.TreeProgram.{calls_length}
 use Rattle.seccomp_tree.specs.CallSteps.{IsAnswer, IsAnswered, AreAnswers, AreCallSteps, IsNextNumber, IsNextDefault}
-use Rattle.seccomp_tree.proofs.Runs.{grows_on, is_in_grown, grown_long, leads_grown}
+use Rattle.seccomp_tree.proofs.Runs.{grows_not, grows_on, is_in_grown, grown_long, leads_grown}
 use Rattle.seccomp_tree.proofs.Begun.{steps_more}
 use Rattle.seccomp_tree.proofs.Deciding.{items_of, rulings_under}
 use Rattle.seccomp_tree.specs.declared.decisions.DefaultValue.{DefaultValue}
@@ -45,10 +45,7 @@ pub next_is : (defaults : List DefaultValue) (number next i : ℕ) → length de
 next_is defaults number next i all h = record {
   above = h.above;
   within = h.within;
-  same = λ n le less. same_from 0 defaults n number (λ k d inside. elim (h.none k d (omega arith) inside) [
-    | inl low ↦ inl (omega arith, low)
-    | inr high ↦ inr (omega arith, omega (arith, h.above))
-  ]);
+  same = λ n le less. same_from 0 defaults n number (λ k d inside. grind (arith, h.none k d (omega arith) inside, h.above));
 }
 
 answer_grown : (old new : List sock_filter) (most default : ℕ) (rulings : List Ruling) (t : Target) → Grows old most new
@@ -66,7 +63,7 @@ none_before entries n next least lt = sym (rulings_under entries n) ∙ go (look
   where
     go : (o : Option (Vec Ruling Global)) → (IsSome o → next ≤ n) → items_of o ≡ []
     go None least = refl
-    go (Some v) least = let le : next ≤ n = least refl in absurd (omega arith)
+    go (Some v) least = absurd (omega (arith, least refl))
 
 -- How many instructions the rulings of the numbers below one take.
 abbrev pub below_length : List (ℕ × List Ruling) → ℕ → ℕ
@@ -101,13 +98,10 @@ calls_on d old mid new steps more number next t h answered pushed on = record {
   grows = grows_on _ h.grows answered.grows (below_one d.calls number next on.above);
   answers = record {
     are = steps_more (number + 1) next more (omega arith) (omega (arith, on.above)) pushed.are;
-    each = λ n lt. ⊎_elim
-        (λ (less : n < number).
-        subst (IsAnswer new (default_for d.defaults n) (rulings_for d.calls n)) (sym (pushed.below n less))
-        (answer_grown mid new _ (default_for d.defaults n) (rulings_for d.calls n) (found_in steps n) answered.grows
-        (h.answers.each n less)))
-        (λ (le : number ≤ n). rw (pushed.from n le, on.default n le lt, on.rulings n le lt) answered.answer)
-        (cases_lt n number);
+    each = λ n lt. elim (cases_lt n number) [
+      | inl less ↦ rw (pushed.below n less) (answer_grown mid new _ _ _ _ answered.grows (h.answers.each n less))
+      | inr le ↦ rw (pushed.from n le, on.default n le lt, on.rulings n le lt) answered.answer
+    ];
   };
 }
 
@@ -121,8 +115,4 @@ pub calls_end : (d : DecisionSet) (old : List sock_filter) (next : ℕ) (steps :
     → CallsOn d old next steps code → AreCallSteps old d steps code
 calls_end d old next steps code all h =
     let end : next ≡ 2 ^ 32 = omega (arith, h.within) in
-    let x = subst (λ n. CallsOn d old n steps code) end h in
-    record {
-      grows = record { front = x.grows.front; whole = x.grows.whole; few = omega (arith, x.grows.few, below_all d.calls (2 ^ 32)) };
-      answers = x.answers;
-    }
+    record { grows = grows_on _ h.grows (grows_not code 0) (omega (arith, below_all d.calls next)); answers = rw end at h.answers }

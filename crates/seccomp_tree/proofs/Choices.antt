@@ -53,13 +53,11 @@ pub laid_on : (c : Condition) (target : Target) (others old new : List Step) (fi
 laid_on c target others old new first end n more side plain at alike under few h = record {
   are = h.are;
   each = λ a lt. elim (cases_lt a first) [
-    | inl below ↦ subst (IsChosen (Compares c.operator a (part_of c.arg_len c.value)) target (found_in others a)) (sym (h.below a below))
-        (under a below)
-    | inr from ↦ subst (IsChosen (Compares c.operator a (part_of c.arg_len c.value)) target (found_in others a))
-        (sym (h.inside a from lt)) (record {
-          met = λ is. ap (λ o. over o (found_in others a)) (at.met ((alike a from lt).0 is));
-          unmet = λ not. ap (λ o. over o (found_in others a)) (at.unmet (λ is. not ((alike a from lt).1 is)));
-        })
+    | inl below ↦ rw (h.below a below) (under a below)
+    | inr from ↦ rw (h.inside a from lt) record {
+      met = λ is. ap (λ o. over o (found_in others a)) (at.met ((alike a from lt).0 is));
+      unmet = λ not. ap (λ o. over o (found_in others a)) (at.unmet (λ is. not ((alike a from lt).1 is)));
+    }
   ];
   few = omega (arith, h.few, few);
   plain = plain;
@@ -106,16 +104,16 @@ laid_in code c target others new h own inside =
 
 pub over_none : (others old : List Step) (first end : ℕ) (target : Option Target) → first ≡ end → AreSteps (2 ^ 64) others
     → AreSteps first old → IsOverPushed old others first end target old
-over_none others old first end target none all h = record {
-  are = subst (λ n. AreSteps n old) none h;
+over_none others old first end target none all h = rw (← none) record {
+  are = h;
   inside = λ a from lt. absurd (omega arith);
   below = λ a lt. refl;
-  few = let e = ap (begun others) none in omega (arith, e, begun_next (2 ^ 64) 0 others first all.ascend);
+  few = omega (arith, begun_next (2 ^ 64) 0 others first all.ascend);
 }
 
 pub over_step : (old others new : List Step) (first end : ℕ) (t : Target) (target : Option Target) → first < end → Some t ≡ target
     → IsPushed old first t new → IsOverPushed old others first end target new
-over_step old others new first end t target order is h = subst (λ o. IsOverPushed old others first end o new) is record {
+over_step old others new first end t target order is h = rw (← is) record {
   are = steps_more (first + 1) end new (omega arith) (omega arith) h.are;
   inside = λ a from lt. h.from a from;
   below = h.below;

@@ -34,20 +34,15 @@ members d code starts start t (x ∷ steps) ranges ascend tight each q h =
     (λ (e : nat_eq q s ≡ true). let same : q ≡ s = grind (arith, nat_tests) in rw same here)
     (λ (e : nat_eq q s ≡ false).
     members d code starts s x.target steps ranges ascend.1.1 tight.1
-    (λ n le lt.
-    let yes : nat_le s n ≡ true = grind (arith, nat_tests) in
-    subst (λ b. IsAnswer code (default_for d.defaults n) (rulings_for d.calls n) (if b then found_from x.target steps n else t)) yes
-    (each n (omega (arith, ascend.0)) lt))
+    (λ n le lt. let yes : nat_le s n ≡ true = grind (arith, nat_tests) in rw yes at (each n (omega (arith, ascend.0)) lt))
     q (ap (λ b. b || is_member nat_eq (starts_of steps) q) (sym e) ∙ h))
     (cases_Bool (nat_eq q s))
   where
     below : found_from t (x ∷ steps) (x.start - 1) ≡ t
-    below = let no : nat_le x.start (x.start - 1) ≡ false = grind (arith, nat_tests, ascend.0) in rw no refl
+    below = grind (arith, nat_tests, ascend.0)
 
     at : found_from t (x ∷ steps) (x.start - 1 + 1) ≡ x.target
-    at =
-        let yes : nat_le x.start (x.start - 1 + 1) ≡ true = grind (arith, nat_tests, ascend.0) in
-        rw yes (found_before (2 ^ 32) (x.start + 1) x.target steps (x.start - 1 + 1) ascend.1.1 (omega (arith, ascend.0)))
+    at = grind (arith, nat_tests, ascend.0, found_before (2 ^ 32) (x.start + 1) x.target steps (x.start - 1 + 1) ascend.1.1)
 
     begins : (b : Bool) → is_member nat_eq starts (x.start - 1 + 1) ≡ b → is_member nat_eq starts x.start ≡ true
     begins true e = let same : x.start - 1 + 1 ≡ x.start = omega (arith, ascend.0) in ap (is_member nat_eq starts) (sym same) ∙ e

@@ -95,7 +95,7 @@ pub met_by_steps : (old new : List sock_filter) (c : Condition) (fit unfit t : T
     → IsPart old c.arg_len (part_length c.arg_len (length steps)) (λ r. part_of c.arg_len (argument_at r c.arg_index)) steps t new
     → IsConditionMet old c fit unfit t new
 met_by_steps old new c fit unfit t steps h part = record {
-  grows = record { front = part.grows.front; whole = part.grows.whole; few = omega (arith, part.grows.few, cost.1, less) };
+  grows = grows_on _ part.grows (grows_not new 0) (omega (arith, cost.1, shorter_part c.arg_len (length steps) 3 few));
   inside = part.inside;
   met = λ r rec is w n lead. goes r rec w n (subst (λ u. LeadsAlways old r u w n) (sym ((own r rec).met is)) lead);
   unmet = λ r rec not w n lead. goes r rec w n (subst (λ u. LeadsAlways old r u w n) (sym ((own r rec).unmet not)) lead);
@@ -107,9 +107,6 @@ met_by_steps old new c fit unfit t steps h part = record {
 
     few : length steps ≤ 3
     few = omega (arith, h.few, begun_few (single unfit) (numbers_of c.arg_len))
-
-    less : part_length c.arg_len (length steps) ≤ part_length c.arg_len 3
-    less = shorter_part c.arg_len (length steps) 3 few
 
     own : (r : List ℕ) → IsRecord r
         → IsChosen (Holds c r) fit unfit (found_in steps (part_of c.arg_len (argument_at r c.arg_index)))
@@ -160,11 +157,8 @@ met_both {s = s} most steps which both room time h g = record {
 -- a mask of nothing is met by each word
 pub masked_none : (old : List sock_filter) (byte m value : ℕ) (fit unfit : Target) → m ≡ 0 → IsIn old fit
     → IsMet (HasBits byte m value) 5 4 old fit unfit fit old
-masked_none old byte m value fit unfit z inside = met_now fit unfit fit inside (λ r is. refl) (λ r not. absurd (not (both r)))
-  where
-    both : (r : List ℕ) → HasBits byte m value r
-    both r =
-        ap (λ k. bit_and (word_at r byte) k) z ∙ and_zero_r (word_at r byte) ∙ sym (and_zero_r value) ∙ sym (ap (λ k. bit_and value k) z)
+masked_none old byte m value fit unfit z inside = met_now fit unfit fit inside (λ r is. refl)
+    (λ r not. absurd (not (rw (z, and_zero_r (word_at r byte), and_zero_r value) refl)))
 
 pub masked_some : (old mid new : List sock_filter) (byte m value : ℕ) (fit unfit t : Target) → byte ≤ 60 → m < 2 ^ 32
     → IsTested old Equal (bit_and value m) fit unfit t mid → new ≡ load byte ∷ mask m ∷ mid
@@ -172,10 +166,8 @@ pub masked_some : (old mid new : List sock_filter) (byte m value : ℕ) (fit unf
 masked_some old mid new byte m value fit unfit t low small tested is = rw is record {
   grows = grows_on 5 tested.grows (grows_on 2 (grows_one mid (mask m)) (grows_one (mask m ∷ mid) (load byte)) (omega arith)) (omega arith);
   inside = omega arith;
-  met = λ r rec same. goes r rec fit
-      (let e = eq-eqb (bit_and (word_at r byte) m) (bit_and value m) same in ap (λ v. if v then fit else unfit) e);
-  unmet = λ r rec not. goes r rec unfit
-      (let e = ne_eqb (bit_and (word_at r byte) m) (bit_and value m) not in ap (λ v. if v then fit else unfit) e);
+  met = λ r rec same. goes r rec fit (ap (λ v. if v then fit else unfit) (eq-eqb (bit_and (word_at r byte) m) (bit_and value m) same));
+  unmet = λ r rec not. goes r rec unfit (ap (λ v. if v then fit else unfit) (ne_eqb (bit_and (word_at r byte) m) (bit_and value m) not));
 }
   where
     goes : (r : List ℕ) → IsRecord r → (u : Target) → chosen Equal (bit_and value m) fit unfit (bit_and (word_at r byte) m) ≡ u → (w n : ℕ)
@@ -184,22 +176,15 @@ masked_some old mid new byte m value fit unfit t low small tested is = rw is rec
     goes r rec u which w n lead a fits =
         let x = bit_and (word_at r byte) m in
         let x_small : x < 2 ^ 32 = and_lt 32 (word_at r byte) m (word_fits r byte rec) small in
-        let run = tested.leads r x w n x_small
-        (subst (λ v. Starts 1 old r v x w n) (sym which) (leads_grown (grows_not old 0) (lead x x_small))) in
-        let masked : Returns r (mask m ∷ mid) (word_at r byte) w (suc (suc n)) =
-        goes_on (mask m) mid (word_at r byte) x w (suc n) 0 (masks refl refl refl) x_small run in
+        let run = tested.leads r x w n x_small (rw which (leads_grown (grows_not old 0) (lead x x_small))) in
         starts_more (n + 4) (omega arith)
-        (leads_by (starts_last refl (omega arith) (load_run r (mask m ∷ mid) byte a w (suc (suc n)) rec low masked)))
+        (leads_by (starts_last refl (omega arith) (load_run r (mask m ∷ mid) byte a w (suc (suc n)) rec low
+        (goes_on (mask m) mid (word_at r byte) x w (suc n) 0 (masks refl refl refl) x_small run))))
 
 -- a condition with a mask holds if the halves of the argument have the value's bits
 pub mask_dword : (c : Condition) (m : ℕ) → c.arg_len ≡ Dword → c.operator ≡ MaskedEq m → (r : List ℕ) → IsRecord r
     → Holds c r ↔ HasBits (16 + 8 * c.arg_index) (m % 2 ^ 32) (c.value % 2 ^ 32) r
-mask_dword c m short is r rec = low c.arg_len c.operator (argument_at r c.arg_index) c.value (word_at r (16 + 8 * c.arg_index)) short is
-    (low_word r c.arg_index rec)
-  where
-    low : (l : SeccompCmpArgLen) (o : SeccompCmpOp) (x v y : ℕ) → l ≡ Dword → o ≡ MaskedEq m → x % 2 ^ 32 ≡ y
-        → Compares (operator_part l o) (part_of l x) (part_of l v) ↔ (bit_and y (m % 2 ^ 32) ≡ bit_and (v % 2 ^ 32) (m % 2 ^ 32))
-    low l o x v y short is same = rw (short, is, ← same) (λ h. h, λ h. h)
+mask_dword c m short is r rec = rw (short, is, ← low_word r c.arg_index rec) (λ h. h, λ h. h)
 
 -- numbers agree under a mask if their halves do
 mask_parts : (x v m : ℕ) → (bit_and x m ≡ bit_and v m)
@@ -216,26 +201,18 @@ pub mask_qword : (c : Condition) (m : ℕ) → c.arg_len ≡ Qword → c.operato
     → Holds c r
     ↔ (HasBits (20 + 8 * c.arg_index) (m / 2 ^ 32) (c.value / 2 ^ 32) r × HasBits (16 + 8 * c.arg_index) (m % 2 ^ 32) (c.value % 2 ^ 32) r)
 mask_qword c m long is r rec =
-    both c.arg_len c.operator (argument_at r c.arg_index) c.value (word_at r (20 + 8 * c.arg_index)) (word_at r (16 + 8 * c.arg_index))
-    long is
-    (high_word r c.arg_index rec) (low_word r c.arg_index rec)
-  where
-    both : (l : SeccompCmpArgLen) (o : SeccompCmpOp) (x v y z : ℕ) → l ≡ Qword → o ≡ MaskedEq m → x / 2 ^ 32 ≡ y → x % 2 ^ 32 ≡ z
-        → Compares (operator_part l o) (part_of l x) (part_of l v)
-        ↔ ((bit_and y (m / 2 ^ 32) ≡ bit_and (v / 2 ^ 32) (m / 2 ^ 32)) × (bit_and z (m % 2 ^ 32) ≡ bit_and (v % 2 ^ 32) (m % 2 ^ 32)))
-    both l o x v y z long is up down = rw (long, is, ← up, ← down) (mask_parts x v m)
+    rw (long, is, ← high_word r c.arg_index rec, ← low_word r c.arg_index rec) (mask_parts (argument_at r c.arg_index) c.value m)
 
 pub masked_dword : (old new : List sock_filter) (c : Condition) (m : ℕ) (fit unfit t : Target) → c.arg_len ≡ Dword → c.operator ≡ MaskedEq m
     → IsMet (HasBits (16 + 8 * c.arg_index) (m % 2 ^ 32) (c.value % 2 ^ 32)) 5 4 old fit unfit t new → IsConditionMet old c fit unfit t new
-masked_dword old new c m fit unfit t short is h = rw (cost.0, cost.1) record {
-  grows = h.grows;
-  inside = h.inside;
-  met = λ r rec holds. h.met r rec ((mask_dword c m short is r rec).0 holds);
-  unmet = λ r rec not. h.unmet r rec (λ has. not ((mask_dword c m short is r rec).1 has));
-}
-  where
-    cost : (condition_length c.arg_len c.operator ≡ 5) × (condition_steps c.arg_len c.operator ≡ 3)
-    cost = rw (short, is) (refl, refl)
+masked_dword old new c m fit unfit t short is h =
+    let cost : (condition_length c.arg_len c.operator ≡ 5) × (condition_steps c.arg_len c.operator ≡ 3) = rw (short, is) (refl, refl) in
+    rw (cost.0, cost.1) record {
+      grows = h.grows;
+      inside = h.inside;
+      met = λ r rec holds. h.met r rec ((mask_dword c m short is r rec).0 holds);
+      unmet = λ r rec not. h.unmet r rec (λ has. not ((mask_dword c m short is r rec).1 has));
+    }
 
 pub masked_qword : (old mid new : List sock_filter) (c : Condition) (m : ℕ) (fit unfit one t : Target) → c.arg_len ≡ Qword → c.operator ≡
     MaskedEq m
@@ -243,7 +220,4 @@ pub masked_qword : (old mid new : List sock_filter) (c : Condition) (m : ℕ) (f
     → IsMet (HasBits (20 + 8 * c.arg_index) (m / 2 ^ 32) (c.value / 2 ^ 32)) 5 4 mid one unfit t new → IsConditionMet old c fit unfit t new
 masked_qword old mid new c m fit unfit one t long is low high =
     met_both _ _ (λ r. cases_eq (bit_and (word_at r (20 + 8 * c.arg_index)) (m / 2 ^ 32)) (bit_and (c.value / 2 ^ 32) (m / 2 ^ 32)))
-    (mask_qword c m long is) (omega (arith, cost.0)) (omega (arith, cost.1)) low high
-  where
-    cost : (condition_length c.arg_len c.operator ≡ 10) × (condition_steps c.arg_len c.operator ≡ 7)
-    cost = rw (long, is) (refl, refl)
+    (mask_qword c m long is) (rw (long, is) (omega arith)) (rw (long, is) (omega arith)) low high

@@ -57,13 +57,13 @@ reached_by code t place new g far does close = record {
 pub reached_new : (code : List sock_filter) (t : Target) (i : sock_filter) (new : List sock_filter) (place : ℕ) → IsFar code t
     → new ≡ i ∷ code → place + 1 ≡ length new → Says t i (length code) → IsReached code t place new
 reached_new code t i new place far written last says =
-    let at : length code ≡ place = omega (arith, ap length written) in
-    subst (λ l. IsReached code t place l) (sym written) (reached_by code t place (i ∷ code) (grows_one code i) far (record {
+    let at : place ≡ length code = omega (arith, ap length written) in
+    rw (written, at) (reached_by code t (length code) (i ∷ code) (grows_one code i) far (record {
       inside = omega arith;
       instruction = i;
       rest = code;
-      here = tail_whole (i ∷ code) place (omega arith);
-      says = subst (Says t i) at says;
+      here = tail_whole (i ∷ code) (length code) (omega arith);
+      says = says;
     }) (omega arith))
 
 -- The code of a test.

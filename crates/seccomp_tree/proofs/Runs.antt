@@ -43,10 +43,8 @@ tail_written back place i inside here =
     let long = length-reverse back in
     let k = length (reverse back) - (place + 1) in
     let at : length back - 1 - k ≡ place = omega (arith, long) in
-    let small : k < length back = omega (arith, long) in
-    let more = drop_more (reverse back) k i (omega (arith, long)) in
-    let item = get_or-reverse back k i small ∙ ap (λ n. get_or back n i) at ∙ sym here in
-    (drop (k + 1) (reverse back), more ∙ ap (λ x. x ∷ drop (k + 1) (reverse back)) item)
+    let item = get_or-reverse back k i (omega (arith, long)) ∙ ap (λ n. get_or back n i) at ∙ sym here in
+    (drop (k + 1) (reverse back), drop_more (reverse back) k i (omega (arith, long)) ∙ ap (λ x. x ∷ drop (k + 1) (reverse back)) item)
 
 pub grows_not : (code : List sock_filter) (most : ℕ) → Grows code most code
 grows_not code most = record { front = []; whole = refl; few = omega arith }
@@ -65,8 +63,7 @@ grows_on {a} most g h few = record {
 -- how long the code is then
 pub grown_long : {old new : List sock_filter} {most : ℕ} → Grows old most new → (length old ≤ length new) × (length new ≤ length old + most)
 grown_long {old} g =
-    let long = ap length g.whole ∙ length-append g.front old in
-    (omega (arith, long), omega (arith, long, g.few))
+    let long = ap length g.whole ∙ length-append g.front old in (omega (arith, long), omega (arith, long, g.few))
 
 pub is_in_grown : {old new : List sock_filter} {most : ℕ} (t : Target) → Grows old most new → IsIn old t → IsIn new t
 is_in_grown (Give w) g h = h
@@ -78,10 +75,10 @@ last_in code t is some = subst (IsIn code) (sym is) (omega arith)
 
 -- a run of at most n steps is one of at most m, if that is more
 pub returns_more : {r : List ℕ} {code : List sock_filter} {a w n : ℕ} (m : ℕ) → n ≤ m → Returns r code a w n → Returns r code a w m
-returns_more zero le (gives i rest a w n c k) = absurd (omega arith)
 returns_more (suc m) le (gives i rest a w n c k) = gives i rest a w m c k
-returns_more zero le (goes_on i rest a a' w n d does small h) = absurd (omega arith)
 returns_more (suc m) le (goes_on i rest a a' w n d does small h) = goes_on i rest a a' w m d does small (returns_more m (omega arith) h)
+returns_more zero le (gives i rest a w n c k) = absurd (omega arith)
+returns_more zero le _ = absurd (omega arith)
 
 pub starts_more : {reach : ℕ} {code : List sock_filter} {r : List ℕ} {t : Target} {a w n : ℕ} (m : ℕ) → n ≤ m → Starts reach code r t a w n
     → Starts reach code r t a w m
@@ -127,8 +124,7 @@ pub runs_last : {code : List sock_filter} {r : List ℕ} {t : Target} {a w n : �
     → Starts 1 code r t a w n → Returns r code a w n
 runs_last is some (to_return w a n _) = absurd (cc)
 runs_last {code} {r} is some (to_place m w a n inside h) =
-    let at : m + 1 ≡ length code = let e : m ≡ length code - 1 = cc in omega arith in
-    returns_more (suc n) (omega arith) (subst (λ l. Returns r l a w n) (tail_whole code m at) h)
+    returns_more (suc n) (omega arith) (subst (λ l. Returns r l a w n) (tail_whole code m (grind (arith, is, some))) h)
 runs_last {code} {r} is some (near m w a n inside close h) = subst (λ l. Returns r l a w n) (tail_whole code m (omega arith)) h
 
 pub sound_push : (code : List sock_filter) (i : sock_filter) → IsSound code → IsFine i 0 (length code + 1) → IsInRange i

@@ -72,17 +72,17 @@ pub laid_whole : (c : Condition) (target : Target) (others low mid new : List St
     → IsOverPushed mid others (value + 1) (numbers_of c.arg_len) three new → AreLaid c target others new
 laid_whole c target others low mid new value one two three part plain are first lower at own third upper =
     laid_on c target others mid new (value + 1) (numbers_of c.arg_len) (value + 1) 2 three plain third
-    (λ a from lt. (
-      side_alike c.operator a (value + 1) (part_of c.arg_len c.value) plain (inr (omega arith, omega arith)),
-      side_alike c.operator (value + 1) a (part_of c.arg_len c.value) plain (inr (omega arith, omega arith)),
-    )) until.each (omega (arith, until.few, begun_more others (value + 1) (value + 1 + 1) (omega arith))) upper
+    (λ a from lt. beside a (value + 1) (inr (omega arith, omega arith))) until.each
+    (omega (arith, until.few, begun_more others (value + 1) (value + 1 + 1) (omega arith))) upper
   where
+    beside : (a b : ℕ) → ((a < value) × (b < value)) ⊎ ((value < a) × (value < b))
+        → Compares c.operator a (part_of c.arg_len c.value) ↔ Compares c.operator b (part_of c.arg_len c.value)
+    beside a b side = (side_alike c.operator a b (part_of c.arg_len c.value) plain (rw (← part) side),
+        side_alike c.operator b a (part_of c.arg_len c.value) plain (grind (arith, side, part)))
+
     below : AreLaidTo c target others value 0 low
     below = laid_on c target others [] low 0 value 0 0 one plain first
-        (λ a from lt. (
-          side_alike c.operator a 0 (part_of c.arg_len c.value) plain (inl (omega arith, omega arith)),
-          side_alike c.operator 0 a (part_of c.arg_len c.value) plain (inl (omega arith, omega arith)),
-        )) (λ a lt. absurd (omega arith))
+        (λ a from lt. beside a 0 (inl (omega arith, omega arith))) (λ a lt. absurd (omega arith))
         (omega (arith, begun_some (numbers_of c.arg_len) others 0 are (omega (arith, numbers_many c.arg_len)))) lower
 
     until : AreLaidTo c target others (value + 1) 1 mid
@@ -96,8 +96,8 @@ pub laid_in : (code : List sock_filter) (c : Condition) (target : Target) (other
 laid_in code c target others new h own inside =
     are_in_below code (numbers_of c.arg_len) new (omega (arith, numbers_many c.arg_len)) h.are
     (λ a lt. elim (compares_or_not c.operator a (part_of c.arg_len c.value)) [
-      | inl met ↦ subst (IsIn code) (sym ((h.each a lt).met met)) own
-      | inr not ↦ subst (IsIn code) (sym ((h.each a lt).unmet not)) (inside a)
+      | inl met ↦ rw ((h.each a lt).met met) own
+      | inr not ↦ rw ((h.each a lt).unmet not) (inside a)
     ])
 
 -- ---- pushing

@@ -65,8 +65,7 @@ pub part_of_word : (old new : List sock_filter) (index : ℕ) (steps : List Step
 part_of_word old new index steps t word = record {
   grows = word.grows;
   inside = word.inside;
-  leads = λ r rec w n k few lead.
-      word.leads r rec w n k few (subst (λ a. LeadsAlways old r (found_in steps a) w n) (low_word r index rec) lead);
+  leads = λ r rec w n k few lead. word.leads r rec w n k few (rw (← low_word r index rec) lead);
 }
 
 -- ---- conditions without a mask
@@ -86,9 +85,7 @@ shorter_part l n m le = grind (arith, le)
 pub chosen_plain : (c : Condition) (r : List ℕ) (fit unfit t : Target) → is_plain c.operator ≡ true
     → IsChosen (Compares c.operator (part_of c.arg_len (argument_at r c.arg_index)) (part_of c.arg_len c.value)) fit unfit t
     → IsChosen (Holds c r) fit unfit t
-chosen_plain c r fit unfit t plain h =
-    subst (λ o. IsChosen (Compares o (part_of c.arg_len (argument_at r c.arg_index)) (part_of c.arg_len c.value)) fit unfit t)
-    (sym (plain_operator c.arg_len c.operator plain)) h
+chosen_plain c r fit unfit t plain h = rw (plain_operator c.arg_len c.operator plain) h
 
 pub met_by_steps : (old new : List sock_filter) (c : Condition) (fit unfit t : Target) (steps : List Step)
     → AreLaid c fit (single unfit) steps
@@ -97,8 +94,8 @@ pub met_by_steps : (old new : List sock_filter) (c : Condition) (fit unfit t : T
 met_by_steps old new c fit unfit t steps h part = record {
   grows = grows_on _ part.grows (grows_not new 0) (omega (arith, cost.1, shorter_part c.arg_len (length steps) 3 few));
   inside = part.inside;
-  met = λ r rec is w n lead. goes r rec w n (subst (λ u. LeadsAlways old r u w n) (sym ((own r rec).met is)) lead);
-  unmet = λ r rec not w n lead. goes r rec w n (subst (λ u. LeadsAlways old r u w n) (sym ((own r rec).unmet not)) lead);
+  met = λ r rec is w n lead. goes r rec w n (rw ((own r rec).met is) lead);
+  unmet = λ r rec not w n lead. goes r rec w n (rw ((own r rec).unmet not) lead);
 }
   where
     cost : (condition_steps c.arg_len c.operator ≡ part_steps c.arg_len 2)
@@ -108,8 +105,7 @@ met_by_steps old new c fit unfit t steps h part = record {
     few : length steps ≤ 3
     few = omega (arith, h.few, begun_few (single unfit) (numbers_of c.arg_len))
 
-    own : (r : List ℕ) → IsRecord r
-        → IsChosen (Holds c r) fit unfit (found_in steps (part_of c.arg_len (argument_at r c.arg_index)))
+    own : (r : List ℕ) → IsRecord r → IsChosen (Holds c r) fit unfit (found_in steps (part_of c.arg_len (argument_at r c.arg_index)))
     own r rec = chosen_plain c r fit unfit _ h.plain
         (h.each (part_of c.arg_len (argument_at r c.arg_index)) (part_fits c.arg_len r c.arg_index rec))
 
@@ -191,11 +187,10 @@ mask_parts : (x v m : ℕ) → (bit_and x m ≡ bit_and v m)
     ↔ ((bit_and (x / 2 ^ 32) (m / 2 ^ 32) ≡ bit_and (v / 2 ^ 32) (m / 2 ^ 32))
     × (bit_and (x % 2 ^ 32) (m % 2 ^ 32) ≡ bit_and (v % 2 ^ 32) (m % 2 ^ 32)))
 mask_parts x v m =
+    let small = λ (n : ℕ). and_lt 32 (n % 2 ^ 32) (m % 2 ^ 32) (omega arith) (omega arith) in
     let a = mask_halves x m in
     let b = mask_halves v m in
-    let la : bit_and (x % 2 ^ 32) (m % 2 ^ 32) < 2 ^ 32 = and_lt 32 (x % 2 ^ 32) (m % 2 ^ 32) (omega arith) (omega arith) in
-    let lb : bit_and (v % 2 ^ 32) (m % 2 ^ 32) < 2 ^ 32 = and_lt 32 (v % 2 ^ 32) (m % 2 ^ 32) (omega arith) (omega arith) in
-    (λ e. (omega arith, omega arith), λ e. omega (arith, e.0, e.1))
+    (λ e. (omega (arith, small x, small v), omega (arith, small x, small v)), λ e. omega (arith, e.0, e.1))
 
 pub mask_qword : (c : Condition) (m : ℕ) → c.arg_len ≡ Qword → c.operator ≡ MaskedEq m → (r : List ℕ) → IsRecord r
     → Holds c r

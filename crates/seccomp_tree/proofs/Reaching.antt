@@ -91,7 +91,7 @@ pub tested : (old mid code : List sock_filter) (test : Test) (i : sock_filter) (
     (t : Target) → i.code ≡ code_of test → i.jt + y + 1 ≡ length code → i.jf + n + 1 ≡ length code → IsReached old met y mid
     → IsReached mid other n code → new ≡ i ∷ code → t ≡ At (length new - 1) → IsTested old test i.k met other t new
 tested old mid code test i met other y n new t is over_yes over_no h k written last = record {
-  grows = subst (Grows old 3) (sym written) (grows_on 3 (grows_on 2 h.grows k.grows (omega arith)) (grows_one code i) (omega arith));
+  grows = rw written (grows_on 3 (grows_on 2 h.grows k.grows (omega arith)) (grows_one code i) (omega arith));
   last = last;
   some = omega (arith, ap length written);
   leads = λ r a w m small lead. subst (λ l. Returns r l a w (suc m)) (sym written) (⊎_elim

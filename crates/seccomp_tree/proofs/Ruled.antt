@@ -23,7 +23,7 @@ use Rattle.seccomp_tree.specs.Rules.{IsRulingMet, AreRules, rest_length, IsSettl
 use Rattle.seccomp_tree.proofs.Runs.{grows_not, grows_on, grown_long, leads_by, starts_more}
 use Rattle.seccomp_tree.proofs.Begun.{begun_few, found_in_code}
 use Rattle.seccomp_tree.proofs.Choices.{numbers_many, laid_in}
-use Rattle.seccomp_tree.proofs.Deciding.{first_here, first_behind}
+use Rattle.seccomp_tree.proofs.Deciding.{first_here, first_behind, first_nothing}
 use Rattle.seccomp_tree.proofs.Meeting.{holds_or_not, chosen_plain, part_fits, plain_cost, met_now, met_both}
 
 -- ---- one ruling
@@ -68,16 +68,13 @@ alike_is c d e = grind (arith, nat_tests, e, same_length_is c.arg_len d.arg_len)
 
 only_length : (q : List Condition) (c : Condition) → only q ≡ Some c → conditions_length q ≡ part_length c.arg_len 3
 only_length q c is =
-    let own = only_is q c is in
-    ap conditions_length own.0 ∙ (let cost = plain_cost c.arg_len c.operator own.1 in omega (arith, cost.1))
+    let own = only_is q c is in omega (arith, ap conditions_length own.0, (plain_cost c.arg_len c.operator own.1).1)
 
 only_holds : (q : List Condition) (c : Condition) (r : List ℕ) → only q ≡ Some c → (Holds c r → RuleHolds q r) × (RuleHolds q r → Holds c r)
 only_holds q c r is =
-    let own = only_is q c is in (
-      λ h. subst (λ (l : List Condition). RuleHolds l r) (sym own.0) (All-cons (λ (x : Condition). Holds x r) c [] h (All-nil (λ (x :
-          Condition). Holds x r))),
-      λ h. All-head (λ (x : Condition). Holds x r) c [] (subst (λ (l : List Condition). RuleHolds l r) own.0 h),
-    )
+    let own = only_is q c is in
+    let P = λ (x : Condition). Holds x r in
+    rw own.0 (λ h. All-cons P c [] h (All-nil P), λ h. All-head P c [] h)
 
 -- ---- how many steps rulings take
 
@@ -136,15 +133,11 @@ IsRest old default rulings (Some c) steps code =
     (d : Ruling) × (rest : List Ruling) × (rulings ≡ d ∷ rest) × ArePending old default c d rest steps code
 
 pub rest_none : (old : List sock_filter) (default : ℕ) → default < 2 ^ 32 → IsRest old default [] None (single (Give default)) old
-rest_none old default fits = (
-  Give default,
-  refl,
-  refl,
-  record { grows = grows_not old 0; inside = fits; leads = λ r rec w n is takes a small. given r w a n is },
-)
-  where
-    given : (r : List ℕ) (w a n : ℕ) → First default r [] w → Leads old r (Give default) a w (n + 1)
-    given r w a n nothing = to_return default a (n + 1) (omega arith)
+rest_none old default fits = (Give default, refl, refl, record {
+  grows = grows_not old 0;
+  inside = fits;
+  leads = λ r rec w n is takes a small. rw (first_nothing is) (to_return default a (n + 1) (omega arith));
+})
 
 -- ---- a ruling laid over steps
 
@@ -168,10 +161,8 @@ module _ (old code : List sock_filter) (default : ℕ) (c : Condition) (d : Ruli
       let own_choice = chosen_plain c r (Give d.value) (found_in others x) (found_in laid x) plain
       (h.each x (part_fits c.arg_len r c.arg_index rec)) in
       elim (holds_or_not c r) [
-        | inl is ↦
-            let value : Give w ≡ found_in laid x = ap Give (met (both.0 is)) ∙ sym (own_choice.met is) in
-            subst (λ u. Leads code r u a w (n + 1)) value (to_return w a (n + 1) (omega arith))
-        | inr not ↦ subst (λ u. Leads code r u a w (n + 1)) (sym (own_choice.unmet not)) (unmet (λ holds. not (both.1 holds)) a small)
+        | inl is ↦ rw (own_choice.met is, met (both.0 is)) (to_return d.value a (n + 1) (omega arith))
+        | inr not ↦ rw (own_choice.unmet not) (unmet (λ holds. not (both.1 holds)) a small)
       ]
 
   pub pending_along : (like : Condition) (e : Ruling) (rest : List Ruling) (steps laid : List Step) → alike (Some c) (Some like) ≡ true
@@ -180,19 +171,14 @@ module _ (old code : List sock_filter) (default : ℕ) (c : Condition) (d : Ruli
   pending_along like e rest steps laid same x h =
       let is = alike_is c like same in
       let joins_on : joins d.conditions e.conditions ≡ true = rw (own, x.own) same in
-      let count : joined d.conditions (e ∷ rest) ≡ suc (joined e.conditions rest) =
-      ap (λ b. if b then suc (joined e.conditions rest) else 0) joins_on in
-      let few = begun_few steps (numbers_of c.arg_len) in
+      let count : joined d.conditions (e ∷ rest) ≡ suc (joined e.conditions rest) = grind (arith, joins_on) in
       record {
         own = own;
         before = x.before;
         grows = x.grows;
-        room =
-            let more = run_more c.arg_len (joined e.conditions rest) in
-            let cost = only_length d.conditions c own in
-            let long = ap (λ l. (1 + joined e.conditions rest) * part_length l 3) is.1 in
-            rw count (omega (arith, more, cost, long, x.room));
-        few = omega (arith, h.few, few, x.few, count);
+        room = rw count (omega (arith, run_more c.arg_len (joined e.conditions rest), only_length d.conditions c own, x.room,
+            ap (λ l. (1 + joined e.conditions rest) * part_length l 3) is.1));
+        few = omega (arith, h.few, begun_few steps (numbers_of c.arg_len), x.few, count);
         are = h.are;
         inside = laid_in code c (Give d.value) steps laid h fits
             (λ a. found_in_code code (numbers_of like.arg_len) steps (record { start = 0; target = Give 0 }) a
@@ -200,10 +186,7 @@ module _ (old code : List sock_filter) (default : ℕ) (c : Condition) (d : Ruli
         leads = λ r rec w n front on first takes.
             laid_leads steps laid r w n rec h (λ holds. first_here d (e ∷ rest) holds first)
             (λ not.
-            let place : part_of like.arg_len (argument_at r like.arg_index) ≡ part_of c.arg_len (argument_at r c.arg_index)
-            = ap (λ l. part_of l (argument_at r like.arg_index)) (sym is.1) ∙ ap (λ i. part_of c.arg_len (argument_at r i)) (sym is.0) in
-            subst (λ p. LeadsAlways code r (found_in steps p) w (n + 1)) place
-            (x.leads r rec w n d.conditions joins_on (first_behind d (e ∷ rest) not first)
+            rw (is.0, is.1) (x.leads r rec w n d.conditions joins_on (first_behind d (e ∷ rest) not first)
             (takes_behind r front d (e ∷ rest) n on not takes)));
       }
 
@@ -211,13 +194,12 @@ module _ (old code : List sock_filter) (default : ℕ) (c : Condition) (d : Ruli
       → AreRules old rest default t code → AreLaid c (Give d.value) (single t) laid → ArePending old default c d rest laid code
   pending_afresh t rest laid apart x h =
       let count = alone_joined rest apart in
-      let few = begun_few (single t) (numbers_of c.arg_len) in
       record {
         own = own;
         before = rules_length rest;
         grows = x.grows;
-        room = let cost = only_length d.conditions c own in rw count (omega (arith, cost));
-        few = omega (arith, h.few, few);
+        room = rw count (omega (arith, only_length d.conditions c own));
+        few = omega (arith, h.few, begun_few (single t) (numbers_of c.arg_len));
         are = h.are;
         inside = laid_in code c (Give d.value) (single t) laid h fits (λ a. x.inside);
         leads = λ r rec w n front on first takes.
@@ -227,8 +209,7 @@ module _ (old code : List sock_filter) (default : ℕ) (c : Condition) (d : Ruli
       }
     where
       alone_joined : (l : List Ruling) → joins d.conditions (head l) ≡ false → joined d.conditions l ≡ 0
-      alone_joined [] e = refl
-      alone_joined (x ∷ l) e = ap (λ b. if b then suc (joined x.conditions l) else 0) e
+      alone_joined l e = grind (arith, e)
 
 -- ---- a ruling by its conditions
 
@@ -252,7 +233,7 @@ rules_alone old mid new default d rest t u none x h = record {
         let value = first_here d rest holds first in
         let run = by_itself m (enters_first [] d rest m refl enters) in
         starts_more (n + 1) (omega (arith, run))
-        (h.met r rec holds w 1 (subst (λ v. LeadsAlways mid r (Give v) w 1) value (λ b fits. to_return w b 1 (omega arith))) a small)
+        (h.met r rec holds w 1 (rw (← value) (λ b fits. to_return w b 1 (omega arith))) a small)
     leads r rec w n first (passes q e l m k not enters takes) a small =
         let run = by_itself m (enters_first [] d rest m refl enters) in
         starts_more (n + 1) (omega (arith, run))
@@ -278,12 +259,10 @@ rules_settled old code new default c d rest steps t x part = record {
     -- the run is entered, and what is left goes on in it
     enters : (r : List ℕ) → IsRecord r → (w m k : ℕ) → First default r (d ∷ rest) w → RunTakes d.conditions (1 + joined d.conditions rest) m
         → Takes r d.conditions (d ∷ rest) k → LeadsAlways new r t w (m + k + 1)
-    enters r rec w m k first (by_conditions e) takes a small = let e' = x.own in absurd (cc)
+    enters r rec w m k first (by_conditions e) takes a small = absurd (cc x.own)
     enters r rec w m k first (by_steps y j e le) takes a small =
-        let e' = x.own in
-        let same : y ≡ c = cc in
-        let cost : part_steps y.arg_len j ≡ part_steps c.arg_len j = ap (λ (z : Condition). part_steps z.arg_len j) same in
-        starts_more (m + k + 1) (omega (arith, cost))
+        let same : y ≡ c = cc x.own in
+        starts_more (m + k + 1) (omega (arith, ap (λ (z : Condition). part_steps z.arg_len j) same))
         (leads_by (part.leads r rec w (k + 1) j (omega (arith, x.few, le)) (x.leads r rec w k d.conditions on first takes) a small))
 
     leads : (r : List ℕ) → IsRecord r → (w n : ℕ) → First default r (d ∷ rest) w → Takes r [] (d ∷ rest) n → LeadsAlways new r t w (n + 1)
@@ -297,10 +276,8 @@ rules_settled old code new default c d rest steps t x part = record {
 pub settled : (old code new : List sock_filter) (default : ℕ) (rulings : List Ruling) (like : Option Condition) (steps : List Step)
     (t : Target) → IsRest old default rulings like steps code → IsSettled code like steps t new → AreRules old rulings default t new
 settled old code new default rulings None steps t h s =
-    let same : h.0 ≡ t = ap (λ l. found_in l 0) (sym h.1 ∙ s.0) in
-    subst (λ u. AreRules old rulings default u new) same (subst (AreRules old rulings default h.0) (sym s.1) h.3)
-settled old code new default rulings (Some c) steps t h s =
-    subst (λ (l : List Ruling). AreRules old l default t new) (sym h.2) (rules_settled old code new default c h.0 h.1 steps t h.3 s)
+    let same : t ≡ h.0 = ap (λ l. found_in l 0) (sym s.0 ∙ h.1) in rw (same, s.1) h.3
+settled old code new default rulings (Some c) steps t h s = rw h.2 (rules_settled old code new default c h.0 h.1 steps t h.3 s)
 
 -- ---- a ruling in front
 
@@ -317,34 +294,19 @@ in_front old code new default d rulings None new_like steps laid h (along c own 
 in_front old code new default d rulings (Some x) new_like steps laid h (along c own same fits over is old_is) =
     rw (is, old_is, h.2) (d, h.0 ∷ h.1, refl, pending_along old code default c d own fits x h.0 h.1 steps laid same h.3 over)
 in_front old code new default d rulings like new_like steps laid h (afresh c t own apart fits s over is) =
-    let other : joins d.conditions (head rulings) ≡ false =
-    ap (λ o. alike o (only (head rulings))) own ∙ ap (λ o. alike (Some c) o) (rest_head old default rulings like steps code h) ∙ apart in
-    rw is (
-      d,
-      rulings,
-      refl,
-      pending_afresh old new default c d own fits t rulings laid other
-          (settled old code new default rulings like steps t h s) over,
-    )
+    rw is (d, rulings, refl, pending_afresh old new default c d own fits t rulings laid
+        (rw (own, rest_head old default rulings like steps code h) apart) (settled old code new default rulings like steps t h s) over)
 in_front old code new default d rulings like new_like steps laid h (alone t u mid none s met is_one is) =
-    rw is (
-      u,
-      is_one,
-      none,
-      rules_alone old mid new default d rulings t u none
-          (settled old code mid default rulings like steps t h s) met,
-    )
+    rw is (u, is_one, none, rules_alone old mid new default d rulings t u none (settled old code mid default rulings like steps t h s) met)
 
 -- how much room there is
 pub rest_room : (old code : List sock_filter) (default : ℕ) (rulings : List Ruling) (like : Option Condition) (steps : List Step)
     → IsRest old default rulings like steps code → length code + rest_length like (length steps) ≤ length old + rules_length rulings
 rest_room old code default rulings None steps h = omega (arith, (grown_long h.3.grows).1)
-rest_room old code default rulings (Some c) steps h =
-    let all = ap rules_length h.2 in
-    let room = run_room c.arg_len (length steps) (joined h.0.conditions h.1) h.3.few in
-    omega (arith, (grown_long h.3.grows).1, h.3.room, room, all)
+rest_room old code default rulings (Some c) steps h = omega (arith, (grown_long h.3.grows).1, h.3.room, ap rules_length h.2,
+    run_room c.arg_len (length steps) (joined h.0.conditions h.1) h.3.few)
 
 pub rules_less : (n : ℕ) (rulings : List Ruling) → rules_length (drop n rulings) ≤ rules_length rulings
 rules_less zero rulings = omega arith
 rules_less (suc n) [] = omega arith
-rules_less (suc n) (d ∷ rulings) = let h = rules_less n rulings in omega arith
+rules_less (suc n) (d ∷ rulings) = omega (arith, rules_less n rulings)

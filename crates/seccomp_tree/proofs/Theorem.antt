@@ -51,10 +51,8 @@ answer_leads : (d : DecisionSet) (code : List sock_filter) (t : Target) (r : Lis
 answer_leads d code t r w n rec h arch first takes = go (value_for d (word_at r 0)) refl n takes
   where
     go : (o : Option ℕ) → value_for d (word_at r 0) ≡ o → (m : ℕ) → TakesOwn d r m → LeadsAlways code r t w (m + 1)
-    go (Some v) is m takes =
-        let value = one_first (default_for d.defaults (word_at r 0)) v w (rulings_for d.calls (word_at r 0)) r is first in
-        let gives : Give w ≡ t = ap Give value ∙ sym (h.one v is) in
-        λ a small. subst (λ u. Leads code r u a w (m + 1)) gives (to_return w a (m + 1) (omega arith))
+    go (Some v) is m takes = λ a small.
+        rw (h.one v is, one_first _ v w (rulings_for d.calls (word_at r 0)) r is first) (to_return v a (m + 1) (omega arith))
     go None is m (other not) = absurd (not arch)
     go None is m (one v some) = absurd (cc)
     go None is m (own k takes) = h.own is r rec w k first takes
@@ -117,10 +115,9 @@ chosen_runs : (d : DecisionSet) (old p : List sock_filter) (h : IsWritten old d 
     → chosen Equal (audit_word d.target_arch) h.calls (Give 0x80000000) (word_at r 4) ≡ u → StartsAlways h.behind r u w m
     → Returns r p 0 w (suc (suc m))
 chosen_runs d old p h r u w m rec is enters =
-    let a = word_at r 4 in
     let small = word_fits r 4 rec in
-    subst (λ l. Returns r l 0 w (suc (suc m))) (sym h.whole) (load_run r h.tested 4 0 w (suc m) rec (omega arith)
-    (h.tests.leads r a w m small (subst (λ v. Starts 1 h.behind r v a w m) (sym is) (enters a small))))
+    rw h.whole (load_run r h.tested 4 0 w (suc m) rec (omega arith)
+    (h.tests.leads r (word_at r 4) w m small (rw is (enters (word_at r 4) small))))
 
 -- a program that is written returns what is decided
 written_returns : (d : DecisionSet) (old p : List sock_filter) (h : IsWritten old d p) (r : List ℕ) (w n k : ℕ) → IsRecord r

@@ -156,10 +156,8 @@ test_goes : (old both new : List sock_filter) (steps high low : List Step) (test
     → IsTested both test k u v t new → GoesOn old steps (suc m) t new
 test_goes old both new steps high low test k u v t m is above below h r a w n small lead =
     starts_more (n + suc m) (omega arith) (starts_last h.last h.some (h.leads r a w (n + m) small (elim (chosen_one test k a) [
-      | inl e ↦ subst (λ x. Starts 1 both r x a w (n + m)) (sym (e u v))
-          (above r a w n small (subst (λ x. Leads old r x a w n) (is a ∙ e (found_in high a) (found_in low a)) lead))
-      | inr e ↦ subst (λ x. Starts 1 both r x a w (n + m)) (sym (e u v))
-          (below r a w n small (subst (λ x. Leads old r x a w n) (is a ∙ e (found_in high a) (found_in low a)) lead))
+      | inl e ↦ rw (e u v) (above r a w n small (rw (is a ∙ e (found_in high a) (found_in low a)) at lead))
+      | inr e ↦ rw (e u v) (below r a w n small (rw (is a ∙ e (found_in high a) (found_in low a)) at lead))
     ])))
 
 -- a test of a row, and the rest of it
@@ -240,10 +238,10 @@ found_one _ a b few = refl
 pub word_one : (old new : List sock_filter) (byte : ℕ) (steps : List Step) (t : Target) → length steps ≡ 1 → IsTree old steps t new
     → IsPart old Dword (3 * length steps - 2) (λ r. word_at r byte) steps t new
 word_one old new byte steps t one h = record {
-  grows = record { front = h.grows.front; whole = h.grows.whole; few = omega (arith, h.grows.few) };
+  grows = grows_on _ h.grows (grows_not new 0) (omega arith);
   inside = h.inside;
   leads = λ r is w n k le always a small. starts_more (n + (1 + 2 * k)) (omega arith) (h.leads k le r a w n small
-      (subst (λ u. Leads old r u a w n) (found_one steps (word_at r byte) a (omega arith)) (always a small)));
+      (rw (found_one steps a (word_at r byte) (omega arith)) (always a small)));
 }
 
 -- a run that loads a word of the record
@@ -256,17 +254,14 @@ pub word_more : (old mid new : List sock_filter) (byte : ℕ) (steps : List Step
     → IsTree old steps u mid → new ≡ load byte ∷ mid → t ≡ At (length new - 1)
     → IsPart old Dword (3 * length steps - 2) (λ r. word_at r byte) steps t new
 word_more old mid new byte steps u t inside some h written last = record {
-  grows = subst (Grows old (3 * length steps - 2)) (sym written) (grows_on (3 * length steps - 2) h.grows (grows_one mid (load byte))
-      (omega arith));
+  grows = rw written (grows_on (3 * length steps - 2) h.grows (grows_one mid (load byte)) (omega arith));
   inside = last_in new t last (omega (arith, ap length written));
   leads = λ r is w n k le always a small.
       let v = word_at r byte in
       let fits = word_fits r byte is in
+      let x = rw (h.last some) at h.inside in
       let begins = h.leads k le r v w n fits (always v fits) in
       starts_more (n + (1 + 2 * k)) (omega arith) (starts_last last (omega (arith, ap length written))
       (subst (λ l. Returns r l a w (suc (n + 2 * k))) (sym written)
-      (load_run r mid byte a w (n + 2 * k) is inside (runs_last (h.last some) some_code begins))));
+      (load_run r mid byte a w (n + 2 * k) is inside (runs_last (h.last some) (omega (arith, x)) begins))));
 }
-  where
-    some_code : 1 ≤ length mid
-    some_code = let x : IsIn mid (At (length mid - 1)) = subst (IsIn mid) (h.last some) h.inside in omega arith

@@ -28,23 +28,14 @@ tree-requires-then-not-is_row t c =
     let steps = c.args.steps.now in
     let n = length steps / 2 in
     let long = length-take-le n steps (omega arith) in
-    let falls : length (take n steps) < t = omega (arith, long, c.requires.some, c.decreases) in (
-      falls,
-      (
-        omega (arith, long, c.requires.some),
-        (
-          ascend_take (2 ^ 32) 0 n steps c.requires.ascend,
-          λ k d lt. is_in_grown _ c.in_ok-upper.ensures.ok.grows (in_take c.args.self.now n steps c.requires.inside k d lt),
-        ),
-      ),
-    )
+    (omega (arith, long, c.requires.some, c.decreases), (omega (arith, long, c.requires.some),
+    (ascend_take (2 ^ 32) 0 n steps c.requires.ascend,
+    λ k d lt. is_in_grown _ c.in_ok-upper.ensures.ok.grows (in_take c.args.self.now n steps c.requires.inside k d lt))))
 
 pub overflow_cast-steps : goal.overflow_cast-steps
 overflow_cast-steps t c =
-    let n = length c.args.steps.now / 2 in
-    let rise = starts_rise (2 ^ 32) 0 c.args.steps.now n (record { start = 0; target = Give 0 }) c.requires.ascend
-    (omega (arith, c.requires.some)) in
-    omega (arith, rise.1)
+    omega (arith, (starts_rise (2 ^ 32) 0 c.args.steps.now (length c.args.steps.now / 2) (record { start = 0; target = Give 0 })
+    c.requires.ascend (omega (arith, c.requires.some))).1)
 
 pub returns-then-not-is_row-clause-ok : goal.returns-then-not-is_row-clause-ok
 returns-then-not-is_row-clause-ok t c =

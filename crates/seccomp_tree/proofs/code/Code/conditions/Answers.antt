@@ -11,18 +11,12 @@ use Rattle.seccomp_tree.proofs.code.Code.conditions.Goals.{After-index-condition
 -- the conditions from this one on
 from_here : (c : After-index-conditions-left) → drop (c.loop-left.left - 1) c.args.conditions.now
     ≡ c.index-conditions-left.result ∷ drop c.loop-left.left c.args.conditions.now
-from_here c =
-    let more : c.loop-left.left - 1 + 1 ≡ c.loop-left.left = omega arith in
-    drop_at c.args.conditions.now (c.loop-left.left - 1) c.index-conditions-left.result (omega (arith, c.loop-left.invariant.0))
-    c.index-conditions-left.is ∙ ap (λ n. c.index-conditions-left.result ∷ drop n c.args.conditions.now) more
+from_here c = drop_at c.args.conditions.now (c.loop-left.left - 1) c.index-conditions-left.result (omega (arith, c.loop-left.invariant.0))
+    c.index-conditions-left.is ∙ ap (λ n. c.index-conditions-left.result ∷ drop n c.args.conditions.now) (omega arith)
 
 pub loop-left-init : goal.loop-left-init
-loop-left-init c =
-    let q = c.args.conditions.now in (
-      omega arith,
-      ruling_none c.args.self.now c.args.value c.args.after (drop (length q) q) (drop_all (length q) q (omega arith))
-          c.ranges.value.fits,
-    )
+loop-left-init c = let q = c.args.conditions.now in (omega arith, ruling_none c.args.self.now c.args.value c.args.after (drop (length q) q)
+    (drop_all (length q) q (omega arith)) c.ranges.value.fits)
 
 pub returns-in_err-target-clause-err : goal.returns-in_err-target-clause-err
 returns-in_err-target-clause-err c =
@@ -35,13 +29,10 @@ returns-in_err-target-clause-err c =
 
 pub loop-left-preserved : goal.loop-left-preserved
 loop-left-preserved c =
-    let l = c.loop-left in (
-      omega (arith, l.invariant.0),
-      subst (λ (q : List Condition). IsRulingMet c.args.self.now q c.args.value c.args.after c.in_ok-target.target c.condition.new.self)
-          (sym (from_here ((goal.at.loop-left-preserved c).After-index-conditions-left)))
-          (ruling_one c.args.self.now l.self c.condition.new.self c.args.value c.args.after l.target c.in_ok-target.target _
-          (drop l.left c.args.conditions.now) l.invariant.1 c.in_ok-target.ensures.ok),
-    )
+    let l = c.loop-left in
+    (omega (arith, l.invariant.0), rw (from_here ((goal.at.loop-left-preserved c).After-index-conditions-left))
+    (ruling_one c.args.self.now l.self c.condition.new.self c.args.value c.args.after l.target c.in_ok-target.target _
+    (drop l.left c.args.conditions.now) l.invariant.1 c.in_ok-target.ensures.ok))
 
 pub returns-clause-ok : goal.returns-clause-ok
 returns-clause-ok c =

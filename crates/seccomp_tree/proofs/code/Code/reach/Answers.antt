@@ -5,7 +5,5 @@ use Rattle.seccomp_tree.proofs.code.Code.reach.Goals as goal
 
 pub returns-then-over-le-REACH-clause-ok : goal.returns-then-over-le-REACH-clause-ok
 returns-then-over-le-REACH-clause-ok c =
-    let code = c.args.self.now in
-    let place = c.in-At.place in
-    subst (λ t. IsReached code t place code) (sym c.in-At.is)
-    (reached_itself code place (omega (arith, c.over-over.ensures.over)) (omega (arith, c.over-over.ensures.over)))
+    rw c.in-At.is (reached_itself c.args.self.now c.in-At.place (omega (arith, c.over-over.ensures.over))
+    (omega (arith, c.over-over.ensures.over)))

@@ -10,38 +10,28 @@ use Rattle.seccomp_tree.proofs.code.Code.rules.Goals.{After-index-rulings-left}
 -- the rulings from this one on
 from_here : (c : After-index-rulings-left) → drop (c.loop-left.left - 1) c.args.rulings.now
     ≡ c.index-rulings-left.result ∷ drop c.loop-left.left c.args.rulings.now
-from_here c =
-    let more : c.loop-left.left - 1 + 1 ≡ c.loop-left.left = omega arith in
-    drop_at c.args.rulings.now (c.loop-left.left - 1) c.index-rulings-left.result (omega (arith, c.loop-left.invariant.0))
-    c.index-rulings-left.is ∙ ap (λ n. c.index-rulings-left.result ∷ drop n c.args.rulings.now) more
+from_here c = drop_at c.args.rulings.now (c.loop-left.left - 1) c.index-rulings-left.result (omega (arith, c.loop-left.invariant.0))
+    c.index-rulings-left.is ∙ ap (λ n. c.index-rulings-left.result ∷ drop n c.args.rulings.now) (omega arith)
 
 pub loop-left-init : goal.loop-left-init
-loop-left-init c = (
-  omega arith,
-  rw (drop_all (length c.args.rulings.now) c.args.rulings.now (omega arith), c.in_ok-steps.ensures.ok)
-      (rest_none c.args.self.now c.args.default c.ranges.default.fits),
-)
+loop-left-init c =
+    (omega arith, rw (drop_all (length c.args.rulings.now) c.args.rulings.now (omega arith), c.in_ok-steps.ensures.ok)
+    (rest_none c.args.self.now c.args.default c.ranges.default.fits))
 
 pub returns-in_err-rest-clause-err : goal.returns-in_err-rest-clause-err
 returns-in_err-rest-clause-err c =
     let p = err_from_is_err_and c.from_residual-in_err-rest.result c.from_residual-in_err-rest.ensures.1 in
     let l = c.loop-left in
-    let room = rest_room c.args.self.now l.self c.args.default (drop l.left c.args.rulings.now) l.rest.like l.rest.steps.items l.invariant.1
-    in
-    let all = ap rules_length (from_here ((goal.at.returns-in_err-rest-clause-err c).After-index-rulings-left)) in
-    let less = rules_less (l.left - 1) c.args.rulings.now in
-    rw (p.1, p.2) (λ is. let full = c.in_err-rest.ensures.err is in omega (arith, full, room, all, less))
+    rw (p.1, p.2) (λ is. omega (arith, c.in_err-rest.ensures.err is, rules_less (l.left - 1) c.args.rulings.now,
+    rest_room c.args.self.now l.self c.args.default (drop l.left c.args.rulings.now) l.rest.like l.rest.steps.items l.invariant.1,
+    ap rules_length (from_here ((goal.at.returns-in_err-rest-clause-err c).After-index-rulings-left))))
 
 pub loop-left-preserved : goal.loop-left-preserved
 loop-left-preserved c =
     let l = c.loop-left in
-    let new = c.in_ok-rest.rest in (
-      omega (arith, l.invariant.0),
-      subst (λ (q : List Ruling). IsRest c.args.self.now c.args.default q new.like new.steps.items c.ruling.new.self)
-          (sym (from_here ((goal.at.loop-left-preserved c).After-index-rulings-left)))
-          (in_front c.args.self.now l.self c.ruling.new.self c.args.default c.index-rulings-left.result (drop l.left c.args.rulings.now)
-          l.rest.like new.like l.rest.steps.items new.steps.items l.invariant.1 c.in_ok-rest.ensures.ok),
-    )
+    (omega (arith, l.invariant.0), rw (from_here ((goal.at.loop-left-preserved c).After-index-rulings-left))
+    (in_front c.args.self.now l.self c.ruling.new.self c.args.default c.index-rulings-left.result (drop l.left c.args.rulings.now)
+    l.rest.like _ l.rest.steps.items _ l.invariant.1 c.in_ok-rest.ensures.ok))
 
 pub returns-clause-ok : goal.returns-clause-ok
 returns-clause-ok c =

@@ -14,7 +14,7 @@ value_of : (c : After-only) → c.ruling.inside.value ≡ c.args.ruling.now.valu
 value_of c = ap (λ (d : Ruling). d.value) c.ruling.view_is
 
 fits : (c : After-only) → c.args.ruling.now.value < 2 ^ 32
-fits c = subst (λ v. v < 2 ^ 32) (value_of c) c.ruling.invariant
+fits c = rw (← value_of c) c.ruling.invariant
 
 pub returns-then-is_alike-clause-ok : goal.returns-then-is_alike-clause-ok
 returns-then-is_alike-clause-ok c =

@@ -12,5 +12,4 @@ same : (c : goal.In-Some) → c.in-Some.decisions ≡ decisions_of c.args.filter
 same c = search rules
 
 pub returns-clause-alike : goal.returns-clause-alike
-returns-clause-alike c =
-    subst (DecideAs c.args.filter.now) (sym (same c)) (decide_as c.args.filter.now c.in_ok-check_numbers.ensures.fit)
+returns-clause-alike c = rw (same c) (decide_as c.args.filter.now c.in_ok-check_numbers.ensures.fit)

@@ -2,7 +2,6 @@
 use Rattle.std.proofs.Common.{◌≡◌, ℕ, zero, suc, ◌+◌, ◌-◌, ◌^◌, ◌<◌, ◌≤◌, ◌≢◌, List, [], ◌∷◌, ◌++◌, length, get_or, true, false, refl}
 use Rattle.std.proofs.Common.{sym, ap, ◌∙◌}
 use Rattle.std.proofs.Common.{subst, nat_le, if◌then◌else◌, leb, arith, inl, inr, length-append}
-use Rattle.std.specs.Prelude.{nat_lt}
 use Rattle.std.proofs.lemmas.Bool.Decides.{nat_tests}
 use Rattle.std.proofs.lemmas.Bool.{cases_lt, leb-true, leb-false}
 use Rattle.std.specs.List.Sorted.{IsPartitionPoint}
@@ -105,8 +104,10 @@ begun_point [] number n le point = omega arith
 begun_point (x ∷ steps) number zero le point =
     grind (arith, nat_tests, leb-false x.start number (point.1 0 x (omega arith) (omega arith)))
 begun_point (x ∷ steps) number (suc n) le point =
-    let rest = begun_point steps number n (omega arith) (λ k d lt lt'. point.0 (suc k) d (omega arith) (omega arith),
-    λ k d lt lt'. point.1 (suc k) d (omega arith) (omega arith)) in
+    let rest = begun_point steps number n (omega arith) (
+      λ k d lt lt'. point.0 (suc k) d (omega arith) (omega arith),
+      λ k d lt lt'. point.1 (suc k) d (omega arith) (omega arith),
+    ) in
     grind (arith, nat_tests, leb-true x.start number (point.0 0 x (omega arith) (omega arith)), rest)
 
 -- ---- targets

@@ -1,5 +1,5 @@
 -- Steps over call numbers: the numbers up to the next that is answered otherwise.
-use Rattle.std.proofs.Common.{◌≡◌, ℕ, ◌+◌, ◌<◌, ◌≤◌, ◌^◌, List, [], ◌∷◌, length, Option, Some, None, Vec, sym, ◌∙◌, subst, ⊎_elim, arith}
+use Rattle.std.proofs.Common.{◌≡◌, ℕ, ◌+◌, ◌<◌, ◌≤◌, ◌^◌, List, [], ◌∷◌, length, Option, Some, None, Vec, sym, ◌∙◌, arith}
 use Rattle.std.proofs.Common.{if◌then◌else◌, refl, suc, get_or, ◌⊎◌, inl, inr}
 use Rattle.std.specs.Prelude.{nat_lt, IsSome}
 use Rattle.std.proofs.lemmas.Bool.Decides.{nat_tests}
@@ -11,7 +11,7 @@ use Rattle.std.specs.declared.alloc.Global.{Global}
 use Rattle.seccompiler.specs.declared.bpf.sock_filter.{sock_filter}
 use Rattle.seccomp_tree.specs.declared.steps.Target.{Target}
 use Rattle.seccomp_tree.specs.declared.steps.Step.{Step}
-use Rattle.seccomp_tree.specs.Steps.{found_in, IsPushed}
+use Rattle.seccomp_tree.specs.Steps.{IsPushed}
 use Rattle.seccomp_tree.specs.Code.{Grows}
 use Rattle.seccomp_tree.specs.Decisions.{Ruling, rules_length}
 use Rattle.seccomp_tree.specs.Decided.{DecisionSet, default_for, rulings_for, calls_of, default_from}
@@ -53,7 +53,7 @@ answer_grown : (old new : List sock_filter) (most default : ℕ) (rulings : List
 answer_grown old new most default rulings t g h = record {
   inside = is_in_grown t g h.inside;
   one = h.one;
-  own = λ none r rec w n first takes a small. leads_grown g (h.own none r rec w n first takes a small)
+  own = λ none r rec w n first takes a small. leads_grown g (h.own none r rec w n first takes a small);
 }
 
 -- a number that the map has only if it is another's or above it

@@ -1,5 +1,5 @@
 -- Comparisons as steps, laid over others.
-use Rattle.std.proofs.Common.{◌≡◌, ℕ, ◌+◌, ◌^◌, ◌<◌, ◌≤◌, List, [], length, true, sym, ap, ◌↔◌, Option, Some, subst, ◌⊎◌, inl, inr, arith}
+use Rattle.std.proofs.Common.{◌≡◌, ℕ, ◌+◌, ◌^◌, ◌<◌, ◌≤◌, List, [], length, true, ap, ◌↔◌, Option, Some, ◌⊎◌, inl, inr, arith}
 use Rattle.std.proofs.Common.{refl}
 use Rattle.std.proofs.lemmas.Bool.{cases_lt, cases_eq}
 use Rattle.std.specs.Prelude.{bit_and}
@@ -77,8 +77,10 @@ laid_whole c target others low mid new value one two three part plain are first 
   where
     beside : (a b : ℕ) → ((a < value) × (b < value)) ⊎ ((value < a) × (value < b))
         → Compares c.operator a (part_of c.arg_len c.value) ↔ Compares c.operator b (part_of c.arg_len c.value)
-    beside a b side = (side_alike c.operator a b (part_of c.arg_len c.value) plain (rw (← part) side),
-        side_alike c.operator b a (part_of c.arg_len c.value) plain (grind (arith, side, part)))
+    beside a b side = (
+      side_alike c.operator a b (part_of c.arg_len c.value) plain (rw (← part) side),
+      side_alike c.operator b a (part_of c.arg_len c.value) plain (grind (arith, side, part)),
+    )
 
     below : AreLaidTo c target others value 0 low
     below = laid_on c target others [] low 0 value 0 0 one plain first

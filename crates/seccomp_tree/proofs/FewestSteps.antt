@@ -1,7 +1,7 @@
 -- Steps without alike neighbours are as few as can be: at most as many as any ranges of the decisions.
 use Rattle.std.proofs.Common.{◌≡◌, ℕ, suc, ◌+◌, ◌-◌, ◌<◌, ◌≤◌, ◌||◌, ◌^◌, List, [], ◌∷◌, length, Bool, true, false, refl, sym}
-use Rattle.std.proofs.Common.{ap, ◌∙◌, subst, ⊎_elim, arith, map}
-use Rattle.std.proofs.Common.{nat_eq, nat_le, if◌then◌else◌}
+use Rattle.std.proofs.Common.{ap, ◌∙◌, ⊎_elim, arith, map}
+use Rattle.std.proofs.Common.{nat_eq, nat_le}
 use Rattle.std.proofs.lemmas.Bool.Decides.{nat_tests}
 use Rattle.std.proofs.lemmas.Bool.{cases_Bool}
 use Rattle.std.proofs.lemmas.Map.Made.{length-le_from_is_member}

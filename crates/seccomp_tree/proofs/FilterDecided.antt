@@ -1,14 +1,14 @@
 -- The decisions of a filter decide every record as it does; and the calls that a loop makes of its chains.
 use Rattle.std.proofs.Common.{◌≡◌, ℕ, ℤ, pos, List, [], ◌∷◌, ◌++◌, ◌<◌, ◌<ℤ◌, arith, map, Vec, Global, Less, Greater, refl, sym, ap, ◌∙◌}
-use Rattle.std.proofs.Common.{subst, append_assoc, zero, suc, Bool, true, false, cond, nat_eq, Option, Some, None, ◌⊎◌, inl, inr, Any}
-use Rattle.std.proofs.Common.{if◌then◌else◌, Equal, Ordering}
+use Rattle.std.proofs.Common.{subst, append_assoc, zero, suc, nat_eq, Option, Some, None, ◌⊎◌, inl, inr, Any}
+use Rattle.std.proofs.Common.{Equal, Ordering}
 use Rattle.std.specs.Prelude.{All, unsigned_abs}
 use Rattle.std.specs.List.{AllByRecursion}
 use Rattle.std.specs.List.Sorted.{IsStrictlySortedBy}
 use Rattle.std.specs.Ordering.{int_cmp, nat_cmp, ordering_reverse, MatchOrdering, is_eq}
 use Rattle.std.specs.Cmp.{int_ranks}
 use Rattle.std.proofs.lemmas.Int.{ints}
-use Rattle.std.specs.Map.{keys_of, lookup}
+use Rattle.std.specs.Map.{keys_of}
 use Rattle.std.specs.BTreeMap.{insert_entry, is_at}
 use Rattle.std.proofs.lemmas.Cmp.{nat_cmp_total}
 use Rattle.std.proofs.lemmas.List.Elements.{All-head, All-tail, All-nil}

@@ -30,8 +30,9 @@ half_in code steps lows high whole inside h =
 pub half_room : (steps lows : List Step) (high : ℕ)
     → IsPartPushed [] steps (high * 2 ^ 32) (high * 2 ^ 32 + 0xffffffff) (high * 2 ^ 32) lows
     → 3 * length lows - 2 ≤ half_length steps high
-half_room steps lows high h = omega (arith, h.few, begun_more steps (high * 2 ^ 32 + 0xffffffff + 1) ((high + 1) * 2 ^ 32) (omega arith),
-    begun_more steps (high * 2 ^ 32) (high * 2 ^ 32 + 1) (omega arith))
+half_room steps lows high h =
+    let up = begun_more steps (high * 2 ^ 32 + 0xffffffff + 1) ((high + 1) * 2 ^ 32) (omega arith) in
+    omega (arith, h.few, up, begun_more steps (high * 2 ^ 32) (high * 2 ^ 32 + 1) (omega arith))
 
 pub half_of_word : (old new : List sock_filter) (index : ℕ) (steps lows : List Step) (high : ℕ) (t : Target) → AreSteps (2 ^ 64) steps
     → IsPartPushed [] steps (high * 2 ^ 32) (high * 2 ^ 32 + 0xffffffff) (high * 2 ^ 32) lows
@@ -42,8 +43,8 @@ half_of_word old new index steps lows high t are h word = record {
   inside = word.inside;
   leads = λ r rec w n k few lead.
       let same = h.inside (word_at r (16 + 8 * index)) (omega arith) (omega (arith, word_fits r (16 + 8 * index) rec)) in
-      word.leads r rec w n k (omega (arith, h.few, begun_some (2 ^ 64) steps (high * 2 ^ 32) are (omega arith),
-      begun_few steps (high * 2 ^ 32 + 0xffffffff + 1))) (rw same lead);
+      let one = begun_some (2 ^ 64) steps (high * 2 ^ 32) are (omega arith) in
+      word.leads r rec w n k (omega (arith, h.few, one, begun_few steps (high * 2 ^ 32 + 0xffffffff + 1))) (rw same lead);
 }
 
 -- ---- the next high half
@@ -65,9 +66,10 @@ next_is steps high start next are small within none some is = record {
         let four = begun_more steps (high * 2 ^ 32 + a + 1) start (omega arith) in
         found_same (2 ^ 64) steps (h * 2 ^ 32 + a) (high * 2 ^ 32 + a) are (omega arith) (omega (arith, one, two, three, four))
   ];
-  more = λ less. omega (arith, begun_more steps (high * 2 ^ 32) (high * 2 ^ 32 + 1) (omega arith), some (omega (arith, is)),
-      begun_more steps ((high + 1) * 2 ^ 32) (next * 2 ^ 32) (omega (arith, is)),
-      begun_more steps (start + 1) ((next + 1) * 2 ^ 32) (omega (arith, is)));
+  more = λ less.
+      let up = begun_more steps ((high + 1) * 2 ^ 32) (next * 2 ^ 32) (omega (arith, is)) in
+      let far = begun_more steps (start + 1) ((next + 1) * 2 ^ 32) (omega (arith, is)) in
+      omega (arith, begun_more steps (high * 2 ^ 32) (high * 2 ^ 32 + 1) (omega arith), up, far, some (omega (arith, is)));
 }
 
 pub next_some : (steps : List Step) (high n next : ℕ) (d : Step) → AreSteps (2 ^ 64) steps → high < 2 ^ 32
@@ -149,11 +151,13 @@ is_argument old mid new index steps highs t are h word =
 pub full_half : (old mid : List sock_filter) (index : ℕ) (steps highs : List Step) (high : ℕ) → AreHighs old index steps high highs mid
     → high < 2 ^ 32 → greatest_length < length mid + (half_length steps high)
     → greatest_length < length old + 5 * length steps
-full_half old mid index steps highs high h small full = omega (arith, full, h.soon small, (grown_long h.grows).1,
-    begun_few steps ((high + 1) * 2 ^ 32), begun_more steps (high * 2 ^ 32) ((high + 1) * 2 ^ 32) (omega arith))
+full_half old mid index steps highs high h small full =
+    let up = begun_more steps (high * 2 ^ 32) ((high + 1) * 2 ^ 32) (omega arith) in
+    omega (arith, full, h.soon small, (grown_long h.grows).1, begun_few steps ((high + 1) * 2 ^ 32), up)
 
 pub full_highs : (old mid : List sock_filter) (index : ℕ) (steps highs : List Step) → AreSteps (2 ^ 64) steps
     → AreHighs old index steps (2 ^ 32) highs mid → greatest_length < length mid + (3 * length highs - 2)
     → greatest_length < length old + (13 * length steps - 2)
-full_highs old mid index steps highs are h full = omega (arith, full, (grown_long h.grows).1, h.few, h.end,
-    not_none (2 ^ 64) steps are (omega arith), begun_few steps (2 ^ 32 * 2 ^ 32))
+full_highs old mid index steps highs are h full =
+    let some = not_none (2 ^ 64) steps are (omega arith) in
+    omega (arith, full, (grown_long h.grows).1, h.few, h.end, some, begun_few steps (2 ^ 32 * 2 ^ 32))

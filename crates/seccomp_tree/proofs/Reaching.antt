@@ -1,7 +1,7 @@
 -- For `does`, `reach` and `test`: the places that do what a target says, and what a test does whose targets are reached.
 use Rattle.std.proofs.Common.{◌≡◌, ℕ, zero, suc, ◌+◌, ◌<◌, ◌≤◌, ◌^◌, List, ◌∷◌, ◌-◌, length, reverse, get_or, refl, sym, ap, ◌∙◌}
 use Rattle.std.proofs.lemmas.List.{length-reverse}
-use Rattle.std.proofs.Common.{subst, arith, Bool, true, false, ◌⊎◌, inl, inr, ⊎_elim, nat_eq, nat_le, if◌then◌else◌}
+use Rattle.std.proofs.Common.{subst, arith, ◌⊎◌, inl, inr, ⊎_elim}
 use Rattle.std.proofs.lemmas.Bool.Decides.{nat_tests}
 use Rattle.std.proofs.lemmas.Bool.{cases_eq, cases_lt}
 use Rattle.seccompiler.specs.declared.bpf.sock_filter.{sock_filter}

@@ -1,13 +1,11 @@
 -- Rulings as a target, from the last to the first: each is put in front of what comes after it.
 use Rattle.std.proofs.Common.{◌≡◌, ℕ, zero, suc, ◌+◌, ◌*◌, ◌<◌, ◌≤◌, ◌^◌, List, [], ◌∷◌, length, drop, true, false, refl, sym, ap, ◌∙◌}
 use Rattle.std.proofs.Common.{subst, inl, inr, Option, Some, None, arith}
-use Rattle.std.specs.Prelude.{Bool, nat_eq, if◌then◌else◌}
 use Rattle.std.proofs.lemmas.Bool.Decides.{nat_tests}
-use Rattle.std.proofs.lemmas.Bool.{eqb-true, and_parts, false≢true, true≢false}
+use Rattle.std.proofs.lemmas.Bool.{false≢true, true≢false}
 use Rattle.std.proofs.lemmas.List.Elements.{All-nil, All-cons, All-head, All-tail}
 use Rattle.seccompiler.specs.declared.bpf.sock_filter.{sock_filter}
 use Rattle.seccompiler.specs.declared.backend.SeccompCmpArgLen.{SeccompCmpArgLen}
-use Rattle.seccompiler.specs.declared.backend.SeccompCmpArgLen.TheVariants.{Dword, Qword}
 use Rattle.seccompiler.specs.Machine.{IsRecord, argument_at}
 use Rattle.seccompiler.specs.Policy.{Condition, Holds, RuleHolds, part_of}
 use Rattle.seccomp_tree.specs.declared.steps.Target.{Target}
@@ -15,8 +13,8 @@ use Rattle.seccomp_tree.specs.declared.steps.Target.TheVariants.{Give}
 use Rattle.seccomp_tree.specs.declared.steps.Step.{Step}
 use Rattle.seccomp_tree.specs.Steps.{found_in, AreSteps, single}
 use Rattle.seccomp_tree.specs.Conditions.{numbers_of, is_plain, AreLaid, condition_length, IsConditionMet}
-use Rattle.seccomp_tree.specs.Code.{Leads, LeadsAlways, to_return, AreIn, Grows, part_length, part_steps, IsPart}
-use Rattle.seccomp_tree.specs.Decisions.{Ruling, First, nothing, only, alike, same_length, joins, joined, conditions_length}
+use Rattle.seccomp_tree.specs.Code.{LeadsAlways, to_return, AreIn, Grows, part_length, part_steps, IsPart}
+use Rattle.seccomp_tree.specs.Decisions.{Ruling, First, only, alike, same_length, joins, joined, conditions_length}
 use Rattle.seccomp_tree.specs.Decisions.{conditions_steps, rules_length, RunTakes, by_steps, by_conditions, Enters, goes_on, begins}
 use Rattle.seccomp_tree.specs.Decisions.{Takes, stops, passes, ends}
 use Rattle.seccomp_tree.specs.Rules.{IsRulingMet, AreRules, rest_length, IsSettled, IsInFront, along, afresh, alone}
@@ -133,11 +131,13 @@ IsRest old default rulings (Some c) steps code =
     (d : Ruling) × (rest : List Ruling) × (rulings ≡ d ∷ rest) × ArePending old default c d rest steps code
 
 pub rest_none : (old : List sock_filter) (default : ℕ) → default < 2 ^ 32 → IsRest old default [] None (single (Give default)) old
-rest_none old default fits = (Give default, refl, refl, record {
-  grows = grows_not old 0;
-  inside = fits;
-  leads = λ r rec w n is takes a small. rw (first_nothing is) (to_return default a (n + 1) (omega arith));
-})
+rest_none old default fits =
+    let own : AreRules old [] default (Give default) old = record {
+      grows = grows_not old 0;
+      inside = fits;
+      leads = λ r rec w n is takes a small. rw (first_nothing is) (to_return default a (n + 1) (omega arith));
+    } in
+    (Give default, refl, refl, own)
 
 -- ---- a ruling laid over steps
 
@@ -176,8 +176,9 @@ module _ (old code : List sock_filter) (default : ℕ) (c : Condition) (d : Ruli
         own = own;
         before = x.before;
         grows = x.grows;
-        room = rw count (omega (arith, run_more c.arg_len (joined e.conditions rest), only_length d.conditions c own, x.room,
-            ap (λ l. (1 + joined e.conditions rest) * part_length l 3) is.1));
+        room =
+            let long = ap (λ l. (1 + joined e.conditions rest) * part_length l 3) is.1 in
+            rw count (omega (arith, run_more c.arg_len (joined e.conditions rest), only_length d.conditions c own, long, x.room));
         few = omega (arith, h.few, begun_few steps (numbers_of c.arg_len), x.few, count);
         are = h.are;
         inside = laid_in code c (Give d.value) steps laid h fits
@@ -294,8 +295,9 @@ in_front old code new default d rulings None new_like steps laid h (along c own 
 in_front old code new default d rulings (Some x) new_like steps laid h (along c own same fits over is old_is) =
     rw (is, old_is, h.2) (d, h.0 ∷ h.1, refl, pending_along old code default c d own fits x h.0 h.1 steps laid same h.3 over)
 in_front old code new default d rulings like new_like steps laid h (afresh c t own apart fits s over is) =
-    rw is (d, rulings, refl, pending_afresh old new default c d own fits t rulings laid
-        (rw (own, rest_head old default rulings like steps code h) apart) (settled old code new default rulings like steps t h s) over)
+    let x = settled old code new default rulings like steps t h s in
+    let other : joins d.conditions (head rulings) ≡ false = rw (own, rest_head old default rulings like steps code h) apart in
+    rw is (d, rulings, refl, pending_afresh old new default c d own fits t rulings laid other x over)
 in_front old code new default d rulings like new_like steps laid h (alone t u mid none s met is_one is) =
     rw is (u, is_one, none, rules_alone old mid new default d rulings t u none (settled old code mid default rulings like steps t h s) met)
 
@@ -303,8 +305,9 @@ in_front old code new default d rulings like new_like steps laid h (alone t u mi
 pub rest_room : (old code : List sock_filter) (default : ℕ) (rulings : List Ruling) (like : Option Condition) (steps : List Step)
     → IsRest old default rulings like steps code → length code + rest_length like (length steps) ≤ length old + rules_length rulings
 rest_room old code default rulings None steps h = omega (arith, (grown_long h.3.grows).1)
-rest_room old code default rulings (Some c) steps h = omega (arith, (grown_long h.3.grows).1, h.3.room, ap rules_length h.2,
-    run_room c.arg_len (length steps) (joined h.0.conditions h.1) h.3.few)
+rest_room old code default rulings (Some c) steps h =
+    let room = run_room c.arg_len (length steps) (joined h.0.conditions h.1) h.3.few in
+    omega (arith, (grown_long h.3.grows).1, h.3.room, ap rules_length h.2, room)
 
 pub rules_less : (n : ℕ) (rulings : List Ruling) → rules_length (drop n rulings) ≤ rules_length rulings
 rules_less zero rulings = omega arith

@@ -1,6 +1,6 @@
 -- The theorem: what is written answers every record as is decided.
 use Rattle.std.proofs.Common.{◌≡◌, ℕ, ◌+◌, ◌-◌, ◌*◌, ◌≤◌, ◌^◌, List, [], ◌∷◌, length, Bool, true, false, Option, Some, None, refl, sym}
-use Rattle.std.proofs.Common.{ap, ◌∙◌, subst, inl, inr, arith, nat_eq, if◌then◌else◌, suc, zero}
+use Rattle.std.proofs.Common.{ap, subst, inl, inr, arith, nat_eq, if◌then◌else◌, suc, zero}
 use Rattle.std.proofs.lemmas.Bool.Decides.{nat_tests}
 use Rattle.std.proofs.lemmas.List.Elements.{All-nil}
 use Rattle.seccompiler.specs.declared.bpf.sock_filter.{sock_filter}
@@ -11,7 +11,7 @@ use Rattle.seccomp_tree.specs.declared.steps.Target.{Target}
 use Rattle.seccomp_tree.specs.declared.steps.Target.TheVariants.{Give}
 use Rattle.seccomp_tree.specs.declared.steps.Step.{Step}
 use Rattle.seccomp_tree.specs.Steps.{found_in}
-use Rattle.seccomp_tree.specs.Code.{AreIn, IsFullBy, Starts, StartsAlways, Leads, to_return, LeadsAlways, IsPart, IsSound, Returns}
+use Rattle.seccomp_tree.specs.Code.{AreIn, IsFullBy, StartsAlways, to_return, LeadsAlways, IsPart, IsSound, Returns}
 use Rattle.seccomp_tree.specs.Code.{chosen, part_steps}
 use Rattle.seccompiler.specs.declared.backend.SeccompCmpArgLen.TheVariants.{Dword}
 use Rattle.seccomp_tree.specs.Decisions.{Ruling, First, nothing, Takes, stops, passes, ends, Enters, begins, RunTakes, by_steps}
@@ -64,8 +64,9 @@ calls_room d old mid steps h =
 
 pub calls_full : (d : DecisionSet) (old mid : List sock_filter) (steps : List Step) (e : TreeError) → AreCallSteps old d steps mid
     → IsFullBy mid (3 * length steps - 2) e → IsTooFull d old 0 e
-calls_full d old mid steps e h full = λ is starts ranges. omega (arith, (grown_long h.grows).1, full is,
-    fewest d mid steps starts h.answers ranges, not_none (2 ^ 32) steps h.answers.are (omega arith))
+calls_full d old mid steps e h full = λ is starts ranges.
+    let some = not_none (2 ^ 32) steps h.answers.are (omega arith) in
+    omega (arith, (grown_long h.grows).1, full is, fewest d mid steps starts h.answers ranges, some)
 
 -- after the load of the number stands what answers all calls
 pub calls_target : (d : DecisionSet) (old mid new : List sock_filter) (steps : List Step) (t : Target) → AreCallSteps old d steps mid
@@ -143,6 +144,7 @@ written_program d p h sound = record {
       let end = program_ends p r w (4 + 2 * k + n) (written_returns d (give 0x80000000 ∷ []) p h r w n k rec
       (omega (arith, h.answers.few starts ranges)) decision takes) in
       record { steps = end.steps; few = end.few; ends = end.ends };
-  short = λ starts ranges. omega (arith, h.answers.few starts ranges, h.answers.some, (grown_long h.answers.grows).1,
-      (grown_long h.tests.grows).1, ap length h.whole);
+  short = λ starts ranges.
+      let one = (grown_long h.answers.grows).1 in
+      omega (arith, h.answers.few starts ranges, h.answers.some, one, (grown_long h.tests.grows).1, ap length h.whole);
 }

@@ -8,10 +8,10 @@ use Rattle.seccompiler.specs.declared.bpf.sock_filter.{sock_filter}
 use Rattle.seccomp_tree.specs.declared.steps.Target.{Target}
 use Rattle.seccomp_tree.specs.declared.steps.Step.{Step}
 use Rattle.seccomp_tree.specs.Steps.{found_from, found_in, AscendFrom, single, same, second_stands_out, row}
-use Rattle.seccomp_tree.specs.Code.{IsIn, AreIn, Grows, Starts, Leads, GoesOn, chosen, IsTested, IsTree, Returns, goes_on, IsPart}
+use Rattle.seccomp_tree.specs.Code.{IsIn, AreIn, Grows, GoesOn, chosen, IsTested, IsTree, Returns, goes_on, IsPart}
 use Rattle.seccomp_tree.proofs.Begun.{starts_rise, found_before}
 use Rattle.std.proofs.lemmas.Bool.{and_parts, cases_lt}
-use Rattle.seccomp_tree.specs.declared.steps.Target.TheVariants.{Give, At}
+use Rattle.seccomp_tree.specs.declared.steps.Target.TheVariants.{At}
 use Rattle.seccomp_tree.specs.declared.code.Test.{Test}
 use Rattle.seccomp_tree.specs.declared.code.Test.TheVariants.{Equal, AtLeast}
 use Rattle.seccomp_tree.proofs.Runs.{grows_not, grows_on, last_in, starts_more, starts_last, leads_by, leads_grown, grows_one, runs_last}

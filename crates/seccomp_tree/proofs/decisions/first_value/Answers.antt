@@ -1,7 +1,7 @@
-use Rattle.std.proofs.Common.{◌≡◌, ◌+◌, ◌∷◌, [], drop, sym, ap, ◌∙◌, subst, List}
+use Rattle.std.proofs.Common.{◌≡◌, ◌+◌, drop, sym, ap, ◌∙◌}
 use Rattle.std.proofs.lemmas.Bool.{false≢true}
-use Rattle.seccompiler.specs.Policy.{Condition, RuleHolds}
-use Rattle.seccomp_tree.specs.Decisions.{Ruling, First, here, behind, nothing}
+use Rattle.seccompiler.specs.Policy.{RuleHolds}
+use Rattle.seccomp_tree.specs.Decisions.{Ruling, here, behind, nothing}
 use Rattle.seccomp_tree.proofs.Deciding.{drop_at, first_here, first_behind, first_nothing}
 use Rattle.std.proofs.lemmas.List.{drop_all}
 use Rattle.seccomp_tree.proofs.decisions.first_value.Goals as goal
@@ -18,9 +18,10 @@ returns-then-all_hold c = λ w.
     let rest = drop (l.ruling-index + 1) c.args.rulings.now in
     let holds = rw (conditions_are c.before) at (c.all_hold.ensures.0 c.if-all_hold.true) in
     let cons = drop_at c.args.rulings.now l.ruling-index d c.loop-ruling-test.true c.ruling-item.is in
-    let value : d.value ≡ c.ruling.inside.value = sym (ap (λ (x : Ruling). x.value) c.ruling.view_is) in
-    (λ h. first_here d rest holds (rw cons at ((l.invariant w).1 h)) ∙ value,
-    λ e. (l.invariant w).0 (rw (cons, e, ← value) (here d rest holds)))
+    let value : d.value ≡ c.ruling.inside.value = sym (ap (λ (x : Ruling). x.value) c.ruling.view_is) in (
+      λ h. first_here d rest holds (rw cons at ((l.invariant w).1 h)) ∙ value,
+      λ e. (l.invariant w).0 (rw (cons, e, ← value) (here d rest holds)),
+    )
 
 pub loop-ruling-preserved : goal.loop-ruling-preserved
 loop-ruling-preserved c = λ w.

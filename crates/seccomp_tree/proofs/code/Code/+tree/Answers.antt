@@ -1,4 +1,4 @@
-use Rattle.std.proofs.Common.{◌/◌, ◌^◌, ◌<◌, length, take, refl, sym, ◌∙◌, arith, inl, inr}
+use Rattle.std.proofs.Common.{◌/◌, ◌^◌, length, refl, sym, ◌∙◌, arith, inl, inr}
 use Rattle.std.proofs.lemmas.Bool.{cases_lt, false≢true}
 use Rattle.seccomp_tree.specs.Steps.{row}
 use Rattle.std.proofs.lemmas.Result.{err_from_is_err_and, IfOk-weaker}
@@ -27,15 +27,24 @@ pub tree-requires-then-not-is_row : goal.tree-requires-then-not-is_row
 tree-requires-then-not-is_row t c =
     let steps = c.args.steps.now in
     let n = length steps / 2 in
-    let long = length-take-le n steps (omega arith) in
-    (omega (arith, long, c.requires.some, c.decreases), (omega (arith, long, c.requires.some),
-    (ascend_take (2 ^ 32) 0 n steps c.requires.ascend,
-    λ k d lt. is_in_grown _ c.in_ok-upper.ensures.ok.grows (in_take c.args.self.now n steps c.requires.inside k d lt))))
+    let long = length-take-le n steps (omega arith) in (
+      omega (arith, long, c.requires.some, c.decreases),
+      (
+        omega (arith, long, c.requires.some),
+        (
+          ascend_take (2 ^ 32) 0 n steps c.requires.ascend,
+          λ k d lt. is_in_grown _ c.in_ok-upper.ensures.ok.grows (in_take c.args.self.now n steps c.requires.inside k d lt),
+        ),
+      ),
+    )
 
 pub overflow_cast-steps : goal.overflow_cast-steps
 overflow_cast-steps t c =
-    omega (arith, (starts_rise (2 ^ 32) 0 c.args.steps.now (length c.args.steps.now / 2) (record { start = 0; target = Give 0 })
-    c.requires.ascend (omega (arith, c.requires.some))).1)
+    omega (
+      arith,
+      (starts_rise (2 ^ 32) 0 c.args.steps.now (length c.args.steps.now / 2) (record { start = 0; target = Give 0 })
+          c.requires.ascend (omega (arith, c.requires.some))).1,
+    )
 
 pub returns-then-not-is_row-clause-ok : goal.returns-then-not-is_row-clause-ok
 returns-then-not-is_row-clause-ok t c =

@@ -1,5 +1,5 @@
 use Rattle.std.proofs.Common.{length, refl, sym, arith}
-use Rattle.seccomp_tree.specs.Conditions.{numbers_of, IsConditionMet}
+use Rattle.seccomp_tree.specs.Conditions.{numbers_of}
 use Rattle.seccomp_tree.specs.Steps.{single}
 use Rattle.std.proofs.lemmas.Result.{IfErr-weaker, IfOk-weaker}
 use Rattle.seccomp_tree.proofs.Begun.{begun_few}

@@ -1,10 +1,8 @@
-use Rattle.std.proofs.Common.{◌≡◌, ◌∷◌, ◌-◌, ◌+◌, List, drop, length, ap, sym, ◌∙◌, subst, arith}
+use Rattle.std.proofs.Common.{◌≡◌, ◌∷◌, ◌-◌, drop, length, ap, ◌∙◌, arith}
 use Rattle.std.proofs.lemmas.List.{drop_all}
 use Rattle.std.proofs.lemmas.Result.{err_from_is_err_and}
-use Rattle.seccompiler.specs.Policy.{Condition}
 use Rattle.seccomp_tree.proofs.Deciding.{drop_at}
 use Rattle.seccomp_tree.proofs.Ruled.{ruling_none, ruling_one, ruling_room}
-use Rattle.seccomp_tree.specs.Rules.{IsRulingMet}
 use Rattle.seccomp_tree.proofs.code.Code.conditions.Goals as goal
 use Rattle.seccomp_tree.proofs.code.Code.conditions.Goals.{After-index-conditions-left}
 
@@ -15,8 +13,10 @@ from_here c = drop_at c.args.conditions.now (c.loop-left.left - 1) c.index-condi
     c.index-conditions-left.is ∙ ap (λ n. c.index-conditions-left.result ∷ drop n c.args.conditions.now) (omega arith)
 
 pub loop-left-init : goal.loop-left-init
-loop-left-init c = let q = c.args.conditions.now in (omega arith, ruling_none c.args.self.now c.args.value c.args.after (drop (length q) q)
-    (drop_all (length q) q (omega arith)) c.ranges.value.fits)
+loop-left-init c =
+    let q = c.args.conditions.now in
+    let none = drop_all (length q) q (omega arith) in
+    (omega arith, ruling_none c.args.self.now c.args.value c.args.after (drop (length q) q) none c.ranges.value.fits)
 
 pub returns-in_err-target-clause-err : goal.returns-in_err-target-clause-err
 returns-in_err-target-clause-err c =
@@ -30,9 +30,9 @@ returns-in_err-target-clause-err c =
 pub loop-left-preserved : goal.loop-left-preserved
 loop-left-preserved c =
     let l = c.loop-left in
-    (omega (arith, l.invariant.0), rw (from_here ((goal.at.loop-left-preserved c).After-index-conditions-left))
-    (ruling_one c.args.self.now l.self c.condition.new.self c.args.value c.args.after l.target c.in_ok-target.target _
-    (drop l.left c.args.conditions.now) l.invariant.1 c.in_ok-target.ensures.ok))
+    let one = ruling_one c.args.self.now l.self c.condition.new.self c.args.value c.args.after l.target c.in_ok-target.target _
+    (drop l.left c.args.conditions.now) l.invariant.1 c.in_ok-target.ensures.ok in
+    (omega (arith, l.invariant.0), rw (from_here ((goal.at.loop-left-preserved c).After-index-conditions-left)) one)
 
 pub returns-clause-ok : goal.returns-clause-ok
 returns-clause-ok c =

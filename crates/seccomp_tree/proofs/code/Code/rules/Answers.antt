@@ -1,9 +1,9 @@
-use Rattle.std.proofs.Common.{◌≡◌, ◌-◌, ◌+◌, ◌∷◌, List, drop, length, sym, ap, ◌∙◌, subst, arith}
+use Rattle.std.proofs.Common.{◌≡◌, ◌-◌, ◌∷◌, drop, length, ap, ◌∙◌, arith}
 use Rattle.std.proofs.lemmas.List.{drop_all}
 use Rattle.std.proofs.lemmas.Result.{err_from_is_err_and, IfOk-weaker}
-use Rattle.seccomp_tree.specs.Decisions.{Ruling, rules_length}
+use Rattle.seccomp_tree.specs.Decisions.{rules_length}
 use Rattle.seccomp_tree.proofs.Deciding.{drop_at}
-use Rattle.seccomp_tree.proofs.Ruled.{IsRest, rest_none, rest_room, rules_less, in_front, settled}
+use Rattle.seccomp_tree.proofs.Ruled.{rest_none, rest_room, rules_less, in_front, settled}
 use Rattle.seccomp_tree.proofs.code.Code.rules.Goals as goal
 use Rattle.seccomp_tree.proofs.code.Code.rules.Goals.{After-index-rulings-left}
 
@@ -15,23 +15,23 @@ from_here c = drop_at c.args.rulings.now (c.loop-left.left - 1) c.index-rulings-
 
 pub loop-left-init : goal.loop-left-init
 loop-left-init c =
-    (omega arith, rw (drop_all (length c.args.rulings.now) c.args.rulings.now (omega arith), c.in_ok-steps.ensures.ok)
-    (rest_none c.args.self.now c.args.default c.ranges.default.fits))
+    let none = drop_all (length c.args.rulings.now) c.args.rulings.now (omega arith) in
+    (omega arith, rw (none, c.in_ok-steps.ensures.ok) (rest_none c.args.self.now c.args.default c.ranges.default.fits))
 
 pub returns-in_err-rest-clause-err : goal.returns-in_err-rest-clause-err
 returns-in_err-rest-clause-err c =
     let p = err_from_is_err_and c.from_residual-in_err-rest.result c.from_residual-in_err-rest.ensures.1 in
     let l = c.loop-left in
-    rw (p.1, p.2) (λ is. omega (arith, c.in_err-rest.ensures.err is, rules_less (l.left - 1) c.args.rulings.now,
-    rest_room c.args.self.now l.self c.args.default (drop l.left c.args.rulings.now) l.rest.like l.rest.steps.items l.invariant.1,
-    ap rules_length (from_here ((goal.at.returns-in_err-rest-clause-err c).After-index-rulings-left))))
+    let room = rest_room c.args.self.now l.self _ (drop l.left c.args.rulings.now) l.rest.like l.rest.steps.items l.invariant.1 in
+    let all = ap rules_length (from_here ((goal.at.returns-in_err-rest-clause-err c).After-index-rulings-left)) in
+    rw (p.1, p.2) (λ is. omega (arith, c.in_err-rest.ensures.err is, rules_less (l.left - 1) c.args.rulings.now, room, all))
 
 pub loop-left-preserved : goal.loop-left-preserved
 loop-left-preserved c =
     let l = c.loop-left in
-    (omega (arith, l.invariant.0), rw (from_here ((goal.at.loop-left-preserved c).After-index-rulings-left))
-    (in_front c.args.self.now l.self c.ruling.new.self c.args.default c.index-rulings-left.result (drop l.left c.args.rulings.now)
-    l.rest.like _ l.rest.steps.items _ l.invariant.1 c.in_ok-rest.ensures.ok))
+    let one = in_front c.args.self.now l.self c.ruling.new.self c.args.default c.index-rulings-left.result _ l.rest.like _
+    l.rest.steps.items _ l.invariant.1 c.in_ok-rest.ensures.ok in
+    (omega (arith, l.invariant.0), rw (from_here ((goal.at.loop-left-preserved c).After-index-rulings-left)) one)
 
 pub returns-clause-ok : goal.returns-clause-ok
 returns-clause-ok c =

@@ -1,7 +1,3 @@
-use Rattle.std.proofs.Common.{[], ◌∷◌, sym, subst, List}
-use Rattle.seccompiler.specs.declared.bpf.sock_filter.{sock_filter}
-use Rattle.seccompiler.specs.Code.{give}
-use Rattle.seccomp_tree.specs.CallSteps.{IsWritten}
 use Rattle.seccomp_tree.proofs.Theorem.{written_program}
 use Rattle.seccomp_tree.proofs.decisions.Decisions.to_bpf.Goals as goal
 

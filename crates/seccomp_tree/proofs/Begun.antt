@@ -229,13 +229,12 @@ module _ (old others : List Step) (first last base : ℕ) (are : AreSteps (2 ^ 6
   pub part_begins : (new : List Step) → IsPushed old (first - base) (found_in others first) new
       → PartOn old others first last base (begun others (first + 1)) new
   part_begins new pushed =
-      let back : base + (first - base) ≡ first = omega arith in
       record {
         at = first - base;
         are = pushed.are;
         low = omega arith;
         high = omega arith;
-        done = let e = ap (λ n. begun others (n + 1)) back in omega (arith, e);
+        done = begun_more others (base + (first - base) + 1) (first + 1) (omega arith);
         found = λ a le few.
             let more = begun_more others (first + 1) (base + a + 1) (omega arith) in
             pushed.from a (omega arith) ∙ found_same (2 ^ 64) others first (base + a) are (omega arith) (omega (arith, more));
@@ -249,8 +248,7 @@ module _ (old others : List Step) (first last base : ℕ) (are : AreSteps (2 ^ 6
   part_room i d new lt h =
       let s = (get_or others i d).start in
       let within = begun_few others (last + 1) in
-      let counted = begun_counts (2 ^ 64) 0 others (base + h.at + 1) i d are.ascend (omega arith) in
-      let above : base + h.at < s = grind (arith, counted, h.done) in
+      let above : base + h.at < s = grind (arith, begun_counts (2 ^ 64) 0 others (base + h.at + 1) i d are.ascend (omega arith), h.done) in
       (omega arith, omega (arith, h.low), steps_more (h.at + 1) (s - base) new (omega arith) (omega arith) h.are)
 
   pub part_turn : (i : ℕ) (d : Step) (mid new : List Step) → i < begun others (last + 1) → PartOn old others first last base i mid
@@ -261,14 +259,13 @@ module _ (old others : List Step) (first last base : ℕ) (are : AreSteps (2 ^ 6
       let room = part_room i d mid lt h in
       let within = begun_few others (last + 1) in
       let inside = begun_below others (last + 1) i d lt in
-      let back : base + (s - base) ≡ s = omega (arith, room.0) in
       let here : begun others (s + 1) ≡ i + 1 = begun_at (2 ^ 64) 0 others i d are.ascend (omega arith) in
       record {
         at = s - base;
         are = pushed.are;
         low = omega (arith, room.0, room.1);
         high = omega (arith, inside);
-        done = let e = ap (λ n. begun others (n + 1)) back in omega (arith, e, here);
+        done = omega (arith, here, begun_more others (base + (s - base) + 1) (s + 1) (omega (arith, room.0)));
         found = λ a le few. elim (cases_lt (base + a) s) [
           | inl lower ↦
               let less : begun others (base + a + 1) ≤ i = grind (arith, begun_below others (base + a + 1) i d) in
@@ -283,10 +280,9 @@ module _ (old others : List Step) (first last base : ℕ) (are : AreSteps (2 ^ 6
         few = omega (arith, h.few, pushed.few);
       }
 
-  pub part_ends : (i : ℕ) (new : List Step) → begun others (last + 1) ≤ i → i ≤ begun others (last + 1)
-      → PartOn old others first last base i new
+  pub part_ends : (i : ℕ) (new : List Step) → begun others (last + 1) ≡ i → PartOn old others first last base i new
       → IsPartPushed old others first last base new
-  part_ends i new ge le h = record {
+  part_ends i new end h = record {
     are = steps_more (h.at + 1) (last + 1 - base) new (omega arith) (omega (arith, h.high)) h.are;
     inside = λ a from to. h.found a from (omega (arith, begun_more others (base + a + 1) (last + 1) (omega arith)));
     below = h.below;

@@ -45,7 +45,7 @@ members d code starts start t (x ∷ steps) ranges ascend tight each q h =
     at = grind (arith, nat_tests, ascend.0, found_before (2 ^ 32) (x.start + 1) x.target steps (x.start - 1 + 1) ascend.1.1)
 
     begins : (b : Bool) → is_member nat_eq starts (x.start - 1 + 1) ≡ b → is_member nat_eq starts x.start ≡ true
-    begins true e = let same : x.start - 1 + 1 ≡ x.start = omega (arith, ascend.0) in ap (is_member nat_eq starts) (sym same) ∙ e
+    begins true e = ap (is_member nat_eq starts) (omega (arith, ascend.0)) ∙ e
     begins false e =
         let alike = ranges.alike (x.start - 1) (omega (arith, ascend.0, ascend.1.0)) e in
         let low = (each (x.start - 1) (omega (arith, ascend.0)) (omega (arith, ascend.1.0))).one alike.0 alike.1 in
@@ -74,9 +74,8 @@ few_from : (d : DecisionSet) (code : List sock_filter) (starts : List ℕ) (step
 unfolding starts_of IsDistinct
 few_from d code starts [] ranges are each = absurd (are.first (omega arith))
 few_from d code starts (x ∷ steps) ranges are each =
-    let long = starts_long (x ∷ steps) in
     let few = length-le_from_is_member nat_eq_equiv (starts_of (x ∷ steps)) starts
-    (apart (x.start + 1) steps x.start (omega arith) are.ascend.1.1, distinct (x.start + 1) steps are.ascend.1.1)
+    (distinct 0 (x ∷ steps) are.ascend)
     (λ q h. ⊎_elim
     (λ (e : nat_eq q x.start ≡ true).
     let same : q ≡ 0 = grind (arith, nat_tests, are.first (omega arith)) in ap (is_member nat_eq starts) same ∙ ranges.zero)
@@ -84,7 +83,7 @@ few_from d code starts (x ∷ steps) ranges are each =
     members d code starts x.start x.target steps ranges are.ascend.1.1 are.tight (λ n le lt. each n lt) q
     (ap (λ b. b || is_member nat_eq (starts_of steps) q) (sym e) ∙ h))
     (cases_Bool (nat_eq q x.start))) in
-    omega (arith, long, few)
+    omega (arith, starts_long (x ∷ steps), few)
 
 pub fewest : (d : DecisionSet) (code : List sock_filter) (steps : List Step) (starts : List ℕ) → AreAnswers d (2 ^ 32) code steps
     → AreRanges d starts → length steps ≤ length starts

@@ -38,7 +38,7 @@ above z (y ∷ zs) call calls h = (
     one : (z y : ℤ) → IsCallNumber z → IsCallNumber y → int_cmp z y ≡ Less → nat_cmp (unsigned_abs z) (unsigned_abs y) ≡ Less
     one z y (n, is, small) (m, is', small') h =
         let lt : z <ℤ y = subst (λ o. MatchOrdering o (z <ℤ y) (z ≡ y) (y <ℤ z)) h (int_ranks z y) in
-        let lower : n < m = let le : pos n <ℤ pos m = subst (λ x. pos n <ℤ x) is' (subst (λ x. x <ℤ y) is lt) in omega (arith, ints) in
+        let lower : n < m = omega (arith, ints, is, is', lt) in
         rw (is, is') (grind arith)
 
 numbers_ascend : (zs : List ℤ) → All IsCallNumber zs → IsStrictlySortedBy int_cmp zs → IsStrictlySortedBy nat_cmp (map unsigned_abs zs)
@@ -61,9 +61,7 @@ numbers_are (e ∷ entries) = ap (λ ks. e.0 ∷ ks) (numbers_are entries)
 
 calls_ascend : (w : ℕ) (entries : List (ℤ × Vec Rule Global)) → AreCallNumbers (numbers_of (chains_of entries))
     → IsStrictlySortedBy int_cmp (keys_of entries) → IsStrictlySortedBy nat_cmp (keys_of (map (call_of w) (chains_of entries)))
-calls_ascend w entries calls h =
-    subst (IsStrictlySortedBy nat_cmp) (sym (keys_are w entries))
-    (numbers_ascend (keys_of entries) (subst (All IsCallNumber) (numbers_are entries) calls) h)
+calls_ascend w entries calls h = rw (keys_are w entries) (numbers_ascend (keys_of entries) (rw numbers_are at calls) h)
 
 -- ---- each goes after those so far
 
@@ -102,7 +100,7 @@ calls_next w n z chain q entries left back so_far calls ascends made next is sam
     let whole : calls_of so_far ++ (n, q.items) ∷ rest ≡ map (call_of w) (chains_of entries) =
     ap (λ es. calls_of so_far ++ es) head ∙ made in
     let in_order : IsStrictlySortedBy nat_cmp (keys_of (calls_of so_far ++ (n, q.items) ∷ rest)) =
-    subst (λ es. IsStrictlySortedBy nat_cmp (keys_of es)) (sym whole) (calls_ascend w entries calls ascends) in
+    rw whole (calls_ascend w entries calls ascends) in
     ap (λ es. es ++ rest) (insert_last so_far n q rest in_order) ∙ append_assoc (calls_of so_far) ((n, q.items) ∷ []) rest ∙ whole
 
 -- ---- the first of a chain's rulings
@@ -149,9 +147,8 @@ at_same : (n m : ℕ) → is_at (int_cmp (pos n)) (pos m) ≡ nat_eq n m
 at_same n m = go (int_cmp (pos n) (pos m)) (int_ranks (pos n) (pos m))
   where
     go : (o : Ordering) → MatchOrdering o (pos n <ℤ pos m) (pos n ≡ pos m) (pos m <ℤ pos n) → is_eq o ≡ nat_eq n m
-    go Less lt = let ne : n < m = omega (arith, ints) in grind (arith, nat_tests)
-    go Greater lt = let ne : m < n = omega (arith, ints) in grind (arith, nat_tests)
     go Equal e = let same : n ≡ m = cc in grind (arith, nat_tests)
+    go _ lt = grind (arith, nat_tests, ints)
 
 rulings_found : (w : ℕ) (chains : List (ℤ × Chain)) (n : ℕ) → AreCallNumbers (numbers_of chains)
     → rulings_for (map (call_of w) chains) n ≡ found_rulings w (chain_under chains n)
@@ -159,8 +156,7 @@ rulings_found w [] n numbers = refl
 rulings_found w (e ∷ chains) n numbers =
     let call = All-head IsCallNumber e.0 (numbers_of chains) numbers in
     let rest = rulings_found w chains n (All-tail IsCallNumber e.0 (numbers_of chains) numbers) in
-    let same : is_at (int_cmp (pos n)) e.0 ≡ nat_eq n (unsigned_abs e.0) =
-    subst (λ z. is_at (int_cmp (pos n)) z ≡ nat_eq n (unsigned_abs z)) (sym call.1) (at_same n call.0) in
+    let same : is_at (int_cmp (pos n)) e.0 ≡ nat_eq n (unsigned_abs e.0) = rw call.1 (at_same n call.0) in
     rw same (grind (arith, nat_tests, rest))
 
 -- ---- the decisions
@@ -179,8 +175,7 @@ module _ (f : Filter) (r : List ℕ) where
   given_decision None is own v nothing = policy_differs own (λ m. let e = m.there in cc) refl
   given_decision (Some chain) is own v first = elim (chain_is r (word_of f.mismatch_action) (word_of f.match_action) chain v first) [
     | inl h ↦ policy_matches own (record { chain = chain; there = is; matches = h.0 }) h.1
-    | inr h ↦ policy_differs own (λ m. let e : Some chain ≡ Some m.chain = sym is ∙ m.there in
-        let same : m.chain ≡ chain = cc in h.0 (subst (λ rules. ChainMatches rules r) same m.matches)) h.1
+    | inr h ↦ policy_differs own (λ m. let same : m.chain ≡ chain = cc m.there in h.0 (rw same at m.matches)) h.1
   ]
 
 default_only : (value n : ℕ) → default_for (record { start = 0; value = value } ∷ []) n ≡ value

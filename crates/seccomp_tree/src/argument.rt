@@ -19,10 +19,6 @@ const GREATEST_HALF: u64 = 0xffff_ffff;
 
 impl Code {
     /// Goes on as the steps say for the argument, whatever the accumulator holds.
-    ///
-    /// # Errors
-    ///
-    /// `TooLarge` if the code has no room for 13 instructions a step, and `OutOfMemory` if memory runs out.
     pub(crate) fn argument(
         &mut self,
         alloc: Global,

@@ -21,10 +21,6 @@ const HALVES: u64 = 0x1_0000_0000;
 
 impl Code {
     /// Goes on as the one target says if the condition holds, and else as the other, whatever the accumulator holds.
-    ///
-    /// # Errors
-    ///
-    /// `TooLarge` if the code has no room for the condition, and `OutOfMemory` if memory runs out.
     pub(crate) fn condition(
         &mut self,
         alloc: Global,
@@ -49,10 +45,6 @@ impl Code {
     }
 
     /// Goes on as the steps say for what is compared of the argument, whatever the accumulator holds.
-    ///
-    /// # Errors
-    ///
-    /// `TooLarge` if the code has no room for the steps, and `OutOfMemory` if memory runs out.
     pub(crate) fn part(
         &mut self,
         alloc: Global,

@@ -12,10 +12,6 @@ use seccompiler::{SeccompCmpArgLen, SeccompCmpOp, SeccompCondition};
 use std::alloc::Global;
 
 /// Steps that have the target if the condition's comparison holds, and else what others have.
-///
-/// # Errors
-///
-/// `OutOfMemory` if memory runs out.
 #[tactic(auto, using(crate::proofs::Choices::numbers_few))]
 pub(crate) fn laid(
     alloc: Global,

@@ -29,10 +29,6 @@ struct Rest {
 
 impl Code {
     /// Goes on as the first of the rulings that holds says, or returns the default; whatever the accumulator holds.
-    ///
-    /// # Errors
-    ///
-    /// `TooLarge` if the code has no room for the rulings, and `OutOfMemory` if memory runs out.
     pub(crate) fn rules(
         &mut self,
         alloc: Global,

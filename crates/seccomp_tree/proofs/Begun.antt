@@ -1,16 +1,8 @@
 -- How many steps start below a number, and what that says of their targets.
-use Rattle.std.proofs.Common.{◌≡◌, ℕ, zero, suc, ◌+◌, ◌-◌, ◌^◌, ◌<◌, ◌≤◌, ◌≢◌, List, [], ◌∷◌, ◌++◌, length, get_or, true, false, refl}
-use Rattle.std.proofs.Common.{sym, ap, ◌∙◌}
-use Rattle.std.proofs.Common.{subst, nat_le, if◌then◌else◌, leb, arith, inl, inr, length-append}
-use Rattle.std.proofs.lemmas.Bool.Decides.{nat_tests}
-use Rattle.std.proofs.lemmas.Bool.{cases_lt, leb-true, leb-false}
-use Rattle.std.specs.List.Sorted.{IsPartitionPoint}
-use Rattle.seccompiler.specs.declared.bpf.sock_filter.{sock_filter}
-use Rattle.seccomp_tree.specs.declared.steps.Target.{Target}
-use Rattle.seccomp_tree.specs.declared.steps.Step.{Step}
-use Rattle.seccomp_tree.specs.Steps.{StartsAtZero, found_from, found_in, AscendFrom, AreSteps, begun, TightFrom, AreTight, IsPushed}
-use Rattle.seccomp_tree.specs.Steps.{IsPartPushed}
-use Rattle.seccomp_tree.specs.Code.{IsIn, AreIn}
+use Rattle.seccomp_tree.proofs.Common.{◌≡◌, ℕ, zero, suc, ◌+◌, ◌-◌, ◌^◌, ◌<◌, ◌≤◌, ◌≢◌, List, [], ◌∷◌, ◌++◌, length, get_or, true, false}
+use Rattle.seccomp_tree.proofs.Common.{refl, sym, ap, ◌∙◌, subst, nat_le, if◌then◌else◌, leb, arith, inl, inr, length-append, nat_tests}
+use Rattle.seccomp_tree.proofs.Common.{cases_lt, leb-true, leb-false, IsPartitionPoint, sock_filter, Target, Step, StartsAtZero, found_from}
+use Rattle.seccomp_tree.proofs.Common.{found_in, AscendFrom, AreSteps, begun, TightFrom, AreTight, IsPushed, IsPartPushed, IsIn, AreIn}
 
 -- ---- ascending
 

@@ -1,26 +1,12 @@
 -- Steps over call numbers: the numbers up to the next that is answered otherwise.
-use Rattle.std.proofs.Common.{◌≡◌, ℕ, ◌+◌, ◌<◌, ◌≤◌, ◌^◌, List, [], ◌∷◌, length, Option, Some, None, Vec, sym, ◌∙◌, arith}
-use Rattle.std.proofs.Common.{if◌then◌else◌, refl, suc, get_or, ◌⊎◌, inl, inr}
-use Rattle.std.specs.Prelude.{nat_lt, IsSome}
-use Rattle.std.proofs.lemmas.Bool.Decides.{nat_tests}
-use Rattle.std.proofs.lemmas.Bool.{cases_lt}
-use Rattle.std.specs.BTreeMap.{is_at}
-use Rattle.std.specs.Map.{lookup}
-use Rattle.std.specs.Ordering.{nat_cmp}
-use Rattle.std.specs.declared.alloc.Global.{Global}
-use Rattle.seccompiler.specs.declared.bpf.sock_filter.{sock_filter}
-use Rattle.seccomp_tree.specs.declared.steps.Target.{Target}
-use Rattle.seccomp_tree.specs.declared.steps.Step.{Step}
-use Rattle.seccomp_tree.specs.Steps.{IsPushed}
-use Rattle.seccomp_tree.specs.Code.{Grows}
-use Rattle.seccomp_tree.specs.Decisions.{Ruling, rules_length}
-use Rattle.seccomp_tree.specs.Decided.{DecisionSet, default_for, rulings_for, calls_of, default_from}
-use Rattle.seccomp_tree.specs.TreeProgram.{calls_length}
+use Rattle.seccomp_tree.proofs.Common.{◌≡◌, ℕ, ◌+◌, ◌<◌, ◌≤◌, ◌^◌, List, [], ◌∷◌, length, Option, Some, None, Vec, sym, ◌∙◌, arith}
+use Rattle.seccomp_tree.proofs.Common.{if◌then◌else◌, refl, suc, get_or, ◌⊎◌, inl, inr, nat_lt, IsSome, nat_tests, cases_lt, is_at, lookup}
+use Rattle.seccomp_tree.proofs.Common.{nat_cmp, Global, sock_filter, Target, Step, IsPushed, Grows, Ruling, rules_length, DecisionSet}
+use Rattle.seccomp_tree.proofs.Common.{default_for, rulings_for, calls_of, default_from, calls_length, DefaultValue}
 use Rattle.seccomp_tree.specs.CallSteps.{IsAnswer, IsAnswered, AreAnswers, AreCallSteps, IsNextNumber, IsNextDefault}
 use Rattle.seccomp_tree.proofs.Runs.{grows_not, grows_on, is_in_grown, grown_long, leads_grown}
 use Rattle.seccomp_tree.proofs.Begun.{steps_more}
 use Rattle.seccomp_tree.proofs.Deciding.{items_of, rulings_under}
-use Rattle.seccomp_tree.specs.declared.decisions.DefaultValue.{DefaultValue}
 
 -- numbers that no start parts have one default
 same_from : (value : ℕ) (defaults : List DefaultValue) (m n : ℕ)

@@ -1,19 +1,9 @@
 -- Comparisons as steps, laid over others.
-use Rattle.std.proofs.Common.{◌≡◌, ℕ, ◌+◌, ◌^◌, ◌<◌, ◌≤◌, List, [], length, true, ap, ◌↔◌, Option, Some, ◌⊎◌, inl, inr, arith}
-use Rattle.std.proofs.Common.{refl}
-use Rattle.std.proofs.lemmas.Bool.{cases_lt, cases_eq}
-use Rattle.std.specs.Prelude.{bit_and}
-use Rattle.seccompiler.specs.declared.bpf.sock_filter.{sock_filter}
-use Rattle.seccompiler.specs.declared.backend.SeccompCmpArgLen.{SeccompCmpArgLen}
-use Rattle.seccompiler.specs.declared.backend.SeccompCmpArgLen.TheVariants.{Dword, Qword}
-use Rattle.seccompiler.specs.declared.backend.SeccompCmpOp.{SeccompCmpOp}
-use Rattle.seccompiler.specs.declared.backend.SeccompCmpOp.TheVariants.{Eq, Ge, Gt, Le, Lt, MaskedEq, Ne}
-use Rattle.seccompiler.specs.Policy.{Condition, Compares, part_of}
-use Rattle.seccomp_tree.specs.declared.steps.Target.{Target}
-use Rattle.seccomp_tree.specs.declared.steps.Step.{Step}
-use Rattle.seccomp_tree.specs.Steps.{found_in, AreSteps, begun, IsPushed}
-use Rattle.seccomp_tree.specs.Code.{IsIn, AreIn}
-use Rattle.seccomp_tree.specs.Conditions.{numbers_of, is_plain, IsChosen, IsSide, over, IsOverPushed, AreLaidTo, AreLaid}
+use Rattle.seccomp_tree.proofs.Common.{◌≡◌, ℕ, ◌+◌, ◌^◌, ◌<◌, ◌≤◌, List, [], length, true, ap, ◌↔◌, Option, Some, ◌⊎◌, inl, inr, arith}
+use Rattle.seccomp_tree.proofs.Common.{refl, cases_lt, cases_eq, bit_and, sock_filter, SeccompCmpArgLen, Dword, Qword, SeccompCmpOp, Eq, Ge}
+use Rattle.seccomp_tree.proofs.Common.{Gt, Le, Lt, MaskedEq, Ne, Condition, Compares, part_of, Target, Step, found_in, AreSteps, begun}
+use Rattle.seccomp_tree.proofs.Common.{IsPushed, IsIn, AreIn, is_plain, IsChosen, IsSide, over, IsOverPushed, AreLaidTo, AreLaid}
+use Rattle.seccomp_tree.specs.Conditions.{numbers_of}
 use Rattle.seccomp_tree.proofs.Begun.{steps_more, begun_more, begun_next, begun_some, are_in_below}
 
 -- ---- comparing

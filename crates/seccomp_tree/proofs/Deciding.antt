@@ -1,21 +1,9 @@
 -- What decisions decide: the first ruling that holds, the rulings of a number, the default.
-use Rattle.std.proofs.Common.{◌≡◌, ℕ, ◌+◌, ◌<◌, List, [], ◌∷◌, length, drop, get_or, refl, sym, ap}
-use Rattle.std.proofs.Common.{◌∙◌, subst}
-use Rattle.std.proofs.Common.{Option, Some, None, Vec, nat_eq, inl, inr, arith, All}
-use Rattle.std.proofs.lemmas.List.{drop_more}
-use Rattle.std.proofs.lemmas.List.Elements.{All-cons}
-use Rattle.std.proofs.lemmas.Bool.Decides.{nat_tests}
-use Rattle.std.specs.BTreeMap.{is_at}
-use Rattle.std.specs.Map.{lookup}
-use Rattle.std.specs.Ordering.{nat_cmp}
-use Rattle.std.specs.declared.alloc.Global.{Global}
-use Rattle.seccompiler.specs.Policy.{RuleHolds}
-use Rattle.seccomp_tree.specs.Decisions.{Ruling, First, here, behind, nothing}
-use Rattle.seccompiler.specs.Machine.{word_at}
-use Rattle.std.proofs.lemmas.Bool.{cases_eq}
+use Rattle.seccomp_tree.proofs.Common.{◌≡◌, ℕ, ◌+◌, ◌<◌, List, [], ◌∷◌, length, drop, get_or, refl, sym, ap, ◌∙◌, subst, Option, Some, None}
+use Rattle.seccomp_tree.proofs.Common.{Vec, nat_eq, inl, inr, arith, All, drop_more, All-cons, nat_tests, is_at, lookup, nat_cmp, Global}
+use Rattle.seccomp_tree.proofs.Common.{RuleHolds, Ruling, First, here, behind, nothing, word_at, cases_eq, audit_word, DecisionSet}
+use Rattle.seccomp_tree.proofs.Common.{default_for, calls_of, rulings_for, IsDecided, other_architecture, decided}
 use Rattle.seccomp_tree.proofs.Meeting.{rule_or_not}
-use Rattle.seccompiler.specs.Architecture.{audit_word}
-use Rattle.seccomp_tree.specs.Decided.{DecisionSet, default_for, calls_of, rulings_for, IsDecided, other_architecture, decided}
 
 -- ---- lists that a loop goes down
 

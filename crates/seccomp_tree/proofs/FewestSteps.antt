@@ -1,19 +1,9 @@
 -- Steps without alike neighbours are as few as can be: at most as many as any ranges of the decisions.
-use Rattle.std.proofs.Common.{◌≡◌, ℕ, suc, ◌+◌, ◌-◌, ◌<◌, ◌≤◌, ◌||◌, ◌^◌, List, [], ◌∷◌, length, Bool, true, false, refl, sym}
-use Rattle.std.proofs.Common.{ap, ◌∙◌, ⊎_elim, arith, map}
-use Rattle.std.proofs.Common.{nat_eq, nat_le}
-use Rattle.std.proofs.lemmas.Bool.Decides.{nat_tests}
-use Rattle.std.proofs.lemmas.Bool.{cases_Bool}
-use Rattle.std.proofs.lemmas.Map.Made.{length-le_from_is_member}
-use Rattle.std.specs.Cmp.{nat_eq_equiv}
+use Rattle.seccomp_tree.proofs.Common.{◌≡◌, ℕ, suc, ◌+◌, ◌-◌, ◌<◌, ◌≤◌, ◌||◌, ◌^◌, List, [], ◌∷◌, length, Bool, true, false, refl, sym, ap}
+use Rattle.seccomp_tree.proofs.Common.{◌∙◌, ⊎_elim, arith, map, nat_eq, nat_le, nat_tests, cases_Bool, length-le_from_is_member}
+use Rattle.seccomp_tree.proofs.Common.{nat_eq_equiv, is_member, sock_filter, Target, Step, found_from, found_in, AscendFrom, AreSteps}
+use Rattle.seccomp_tree.proofs.Common.{TightFrom, DecisionSet, default_for, rulings_for, AreRanges}
 use Rattle.std.specs.List.{IsDistinct, AllByRecursion}
-use Rattle.std.specs.Set.{is_member}
-use Rattle.seccompiler.specs.declared.bpf.sock_filter.{sock_filter}
-use Rattle.seccomp_tree.specs.declared.steps.Target.{Target}
-use Rattle.seccomp_tree.specs.declared.steps.Step.{Step}
-use Rattle.seccomp_tree.specs.Steps.{found_from, found_in, AscendFrom, AreSteps, TightFrom}
-use Rattle.seccomp_tree.specs.Decided.{DecisionSet, default_for, rulings_for}
-use Rattle.seccomp_tree.specs.TreeProgram.{AreRanges}
 use Rattle.seccomp_tree.specs.CallSteps.{IsAnswer, AreAnswers}
 use Rattle.seccomp_tree.proofs.Begun.{found_before}
 

@@ -1,27 +1,17 @@
 -- The decisions of a filter decide every record as it does; and the calls that a loop makes of its chains.
-use Rattle.std.proofs.Common.{◌≡◌, ℕ, ℤ, pos, List, [], ◌∷◌, ◌++◌, ◌<◌, ◌<ℤ◌, arith, map, Vec, Global, Less, Greater, refl, sym, ap, ◌∙◌}
-use Rattle.std.proofs.Common.{subst, append_assoc, zero, suc, nat_eq, Option, Some, None, ◌⊎◌, inl, inr, Any}
-use Rattle.std.proofs.Common.{Equal, Ordering}
-use Rattle.std.specs.Prelude.{All, unsigned_abs}
+use Rattle.seccomp_tree.proofs.Common.{◌≡◌, ℕ, ℤ, pos, List, [], ◌∷◌, ◌++◌, ◌<◌, ◌<ℤ◌, arith, map, Vec, Global, Less, Greater, refl, sym}
+use Rattle.seccomp_tree.proofs.Common.{ap, ◌∙◌, subst, append_assoc, zero, suc, nat_eq, Option, Some, None, ◌⊎◌, inl, inr, Any, Ordering}
+use Rattle.seccomp_tree.proofs.Common.{All, unsigned_abs, int_cmp, nat_cmp, ordering_reverse, MatchOrdering, is_eq, int_ranks, ints}
+use Rattle.seccomp_tree.proofs.Common.{keys_of, insert_entry, is_at, nat_cmp_total, All-head, All-tail, All-nil, sorted_head, sorted_tail}
+use Rattle.seccomp_tree.proofs.Common.{Rule, IsCallNumber, chains_of, Condition, Holds, Chain, Filter, RuleHolds, ChainMatches, chain_under}
+use Rattle.seccomp_tree.proofs.Common.{IsDecision, policy_matches, policy_differs, word_of, AreCallNumbers, Ruling, First, here, behind}
+use Rattle.seccomp_tree.proofs.Common.{nothing, calls_of, IsDecided, other_architecture, decided, rulings_for, default_for, call_of}
+use Rattle.seccomp_tree.proofs.Common.{rulings_of, decisions_of, DecideAs, nat_tests, audit_word, word_at}
+use Rattle.std.proofs.Common.{Equal}
 use Rattle.std.specs.List.{AllByRecursion}
 use Rattle.std.specs.List.Sorted.{IsStrictlySortedBy}
-use Rattle.std.specs.Ordering.{int_cmp, nat_cmp, ordering_reverse, MatchOrdering, is_eq}
-use Rattle.std.specs.Cmp.{int_ranks}
-use Rattle.std.proofs.lemmas.Int.{ints}
-use Rattle.std.specs.Map.{keys_of}
-use Rattle.std.specs.BTreeMap.{insert_entry, is_at}
-use Rattle.std.proofs.lemmas.Cmp.{nat_cmp_total}
-use Rattle.std.proofs.lemmas.List.Elements.{All-head, All-tail, All-nil}
-use Rattle.std.proofs.lemmas.Map.Keys.{sorted_head, sorted_tail}
-use Rattle.seccompiler.specs.Policy.{Rule, IsCallNumber, chains_of, Condition, Holds, Chain, Filter, RuleHolds, ChainMatches}
-use Rattle.seccompiler.specs.Policy.{chain_under, IsDecision, other_architecture as other, policy_matches, policy_differs, word_of}
-use Rattle.seccompiler.specs.Compiled.{AreCallNumbers, numbers_of}
-use Rattle.seccomp_tree.specs.Decisions.{Ruling, First, here, behind, nothing}
-use Rattle.seccomp_tree.specs.Decided.{calls_of, IsDecided, other_architecture, decided, rulings_for, default_for}
-use Rattle.seccomp_tree.specs.FilterDecisions.{call_of, rulings_of, decisions_of, DecideAs}
-use Rattle.std.proofs.lemmas.Bool.Decides.{nat_tests}
-use Rattle.seccompiler.specs.Architecture.{audit_word}
-use Rattle.seccompiler.specs.Machine.{word_at}
+use Rattle.seccompiler.specs.Policy.{other_architecture as other}
+use Rattle.seccompiler.specs.Compiled.{numbers_of}
 use Rattle.seccomp_tree.proofs.Deciding.{decided_some}
 
 -- ---- the numbers ascend

@@ -1,4 +1,5 @@
 -- Laws of the definitions, which the proofs of several functions cite.
+pub mod Common
 pub mod Runs
 pub mod Meeting
 pub mod Ruled

@@ -1,27 +1,14 @@
 -- Conditions as targets: what choices and masks make of them.
-use Rattle.std.proofs.Common.{◌≡◌, ℕ, suc, ◌+◌, ◌-◌, ◌*◌, ◌/◌, ◌%◌, ◌<◌, ◌≤◌, ◌^◌, List, [], ◌∷◌, length, true, refl, ap, subst}
-use Rattle.std.proofs.Common.{inl, inr, arith}
-use Rattle.std.specs.Prelude.{bit_and, ◌⊎◌, ◌↔◌, if◌then◌else◌}
-use Rattle.std.specs.Int.Bits.{and_lt, and_zero_r}
-use Rattle.std.proofs.lemmas.Bool.{cases_eq, eq-eqb, ne_eqb}
-use Rattle.seccompiler.specs.declared.bpf.sock_filter.{sock_filter}
-use Rattle.seccompiler.specs.declared.backend.SeccompCmpArgLen.{SeccompCmpArgLen}
-use Rattle.seccompiler.specs.declared.backend.SeccompCmpArgLen.TheVariants.{Dword, Qword}
-use Rattle.seccompiler.specs.declared.backend.SeccompCmpOp.{SeccompCmpOp}
-use Rattle.seccompiler.specs.declared.backend.SeccompCmpOp.TheVariants.{MaskedEq}
-use Rattle.seccompiler.specs.Machine.{IsRecord, word_at, argument_at, masks}
-use Rattle.std.proofs.lemmas.List.Elements.{All-nil, All-cons, All-head, All-tail}
-use Rattle.seccompiler.specs.Policy.{Condition, Compares, Holds, RuleHolds, part_of, operator_part}
-use Rattle.seccompiler.specs.Code.{load, mask}
-use Rattle.seccompiler.proofs.Words.{word_fits, number_halves, mask_halves}
+use Rattle.seccomp_tree.proofs.Common.{◌≡◌, ℕ, suc, ◌+◌, ◌-◌, ◌*◌, ◌/◌, ◌%◌, ◌<◌, ◌≤◌, ◌^◌, List, [], ◌∷◌, length, true, refl, ap, subst}
+use Rattle.seccomp_tree.proofs.Common.{inl, inr, arith, bit_and, ◌⊎◌, ◌↔◌, if◌then◌else◌, and_lt, and_zero_r, cases_eq, eq-eqb, ne_eqb}
+use Rattle.seccomp_tree.proofs.Common.{sock_filter, SeccompCmpArgLen, Dword, Qword, SeccompCmpOp, MaskedEq, IsRecord, word_at, argument_at}
+use Rattle.seccomp_tree.proofs.Common.{masks, All-nil, All-cons, All-head, All-tail, Condition, Compares, Holds, RuleHolds, part_of}
+use Rattle.seccomp_tree.proofs.Common.{operator_part, load, mask, word_fits, number_halves, mask_halves, Target, At, Step, found_in, single}
+use Rattle.seccomp_tree.proofs.Common.{is_plain, IsChosen, AreLaid, condition_length, condition_steps, IsMet, IsConditionMet, HasBits}
+use Rattle.seccomp_tree.proofs.Common.{Leads, LeadsAlways, IsIn, chosen, IsTested, part_length, part_steps, IsPart}
 use Rattle.seccomp_tree.specs.declared.code.Test.TheVariants.{Equal}
-use Rattle.seccomp_tree.specs.declared.steps.Target.{Target}
-use Rattle.seccomp_tree.specs.declared.steps.Target.TheVariants.{At}
-use Rattle.seccomp_tree.specs.declared.steps.Step.{Step}
-use Rattle.seccomp_tree.specs.Steps.{found_in, single}
-use Rattle.seccomp_tree.specs.Conditions.{numbers_of, is_plain, IsChosen, AreLaid, condition_length, condition_steps, IsMet}
-use Rattle.seccomp_tree.specs.Conditions.{IsConditionMet, HasBits}
-use Rattle.seccomp_tree.specs.Code.{Leads, LeadsAlways, goes_on, IsIn, chosen, IsTested, part_length, part_steps, IsPart}
+use Rattle.seccomp_tree.specs.Conditions.{numbers_of}
+use Rattle.seccomp_tree.specs.Code.{goes_on}
 use Rattle.seccomp_tree.proofs.Runs.{grows_not, grows_one, grows_on, starts_more, leads_by, leads_grown, starts_last}
 use Rattle.seccomp_tree.proofs.Trees.{load_run}
 use Rattle.seccomp_tree.proofs.Begun.{begun_few}

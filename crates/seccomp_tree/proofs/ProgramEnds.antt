@@ -1,14 +1,10 @@
 -- The two ends of the theorem: sound code is a checked program, and a run that returns a word ends with it there.
-use Rattle.std.proofs.Common.{◌≡◌, ℕ, zero, suc, ◌+◌, ◌-◌, ◌<◌, ◌≤◌, ◌^◌, List, [], ◌∷◌, ◌++◌, length, drop, Some}
-use Rattle.std.proofs.Common.{length-append, length-drop, refl, sym, ap, ◌∙◌, arith, add-one}
-use Rattle.std.specs.Prelude.{slice_get}
-use Rattle.std.proofs.lemmas.List.{drop-drop}
-use Rattle.seccompiler.specs.declared.bpf.sock_filter.{sock_filter}
-use Rattle.seccompiler.specs.Code.{give}
-use Rattle.seccompiler.specs.Machine.{Does, loads, masks, jumps, is_equal, is_not_equal, is_greater, is_not_greater, is_at_least, is_less}
-use Rattle.seccompiler.specs.Machine.{Goes, stays, then_step, Ends, IsFine, IsInRange, IsChecked}
-use Rattle.seccompiler.specs.Machine.{fine_load, fine_mask, fine_jump, fine_equal, fine_greater, fine_at_least, fine_return}
-use Rattle.seccomp_tree.specs.Code.{AreFine, IsSound, Returns, gives, goes_on}
+use Rattle.seccomp_tree.proofs.Common.{◌≡◌, ℕ, zero, suc, ◌+◌, ◌-◌, ◌<◌, ◌≤◌, ◌^◌, List, [], ◌∷◌, ◌++◌, length, drop, Some, length-append}
+use Rattle.seccomp_tree.proofs.Common.{length-drop, refl, sym, ap, ◌∙◌, arith, add-one, slice_get, drop-drop, sock_filter, give, Does}
+use Rattle.seccomp_tree.proofs.Common.{loads, masks, jumps, is_equal, is_not_equal, is_greater, is_not_greater, is_at_least, is_less, Goes}
+use Rattle.seccomp_tree.proofs.Common.{stays, then_step, Ends, IsFine, IsInRange, IsChecked, fine_load, fine_mask, fine_jump, fine_equal}
+use Rattle.seccomp_tree.proofs.Common.{fine_greater, fine_at_least, fine_return, AreFine, IsSound, Returns, gives}
+use Rattle.seccomp_tree.specs.Code.{goes_on}
 
 -- an instruction does the same further on
 does_there : (i : sock_filter) (r : List ℕ) (place a d a' : ℕ) → Does i r 0 a (1 + d) a' → Does i r place a (place + (1 + d)) a'

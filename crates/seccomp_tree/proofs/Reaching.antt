@@ -1,19 +1,12 @@
 -- For `does`, `reach` and `test`: the places that do what a target says, and what a test does whose targets are reached.
-use Rattle.std.proofs.Common.{◌≡◌, ℕ, zero, suc, ◌+◌, ◌<◌, ◌≤◌, ◌^◌, List, ◌∷◌, ◌-◌, length, reverse, get_or, refl, sym, ap, ◌∙◌}
-use Rattle.std.proofs.lemmas.List.{length-reverse}
-use Rattle.std.proofs.Common.{subst, arith, ◌⊎◌, inl, inr, ⊎_elim}
-use Rattle.std.proofs.lemmas.Bool.Decides.{nat_tests}
-use Rattle.std.proofs.lemmas.Bool.{cases_eq, cases_lt}
-use Rattle.seccompiler.specs.declared.bpf.sock_filter.{sock_filter}
-use Rattle.seccompiler.specs.Machine.{Does, jumps, is_equal, is_not_equal, is_at_least, is_less}
-use Rattle.seccomp_tree.specs.declared.steps.Target.{Target}
-use Rattle.seccomp_tree.specs.declared.steps.Target.TheVariants.{At}
-use Rattle.seccomp_tree.specs.declared.code.Test.{Test}
+use Rattle.seccomp_tree.proofs.Common.{◌≡◌, ℕ, zero, suc, ◌+◌, ◌<◌, ◌≤◌, ◌^◌, List, ◌∷◌, ◌-◌, length, reverse, get_or, refl, sym, ap, ◌∙◌}
+use Rattle.seccomp_tree.proofs.Common.{length-reverse, subst, arith, ◌⊎◌, inl, inr, ⊎_elim, nat_tests, cases_eq, cases_lt, sock_filter}
+use Rattle.seccomp_tree.proofs.Common.{Does, jumps, is_equal, is_not_equal, is_at_least, is_less, Target, At, Test, tail_at, Returns, gives}
+use Rattle.seccomp_tree.proofs.Common.{Starts, Leads, to_return, to_place, near, DoesAs, Says, IsFar, Grows, IsReached, chosen, IsTested}
 use Rattle.seccomp_tree.specs.declared.code.Test.TheVariants.{Equal, AtLeast}
-use Rattle.seccomp_tree.specs.Code.{tail_at, Returns, gives, goes_on, Starts, Leads, to_return, to_place, near, DoesAs, Says, IsFar, Grows}
-use Rattle.seccomp_tree.specs.Code.{IsReached, chosen, IsTested}
-use Rattle.seccomp_tree.proofs.Runs.{tail_whole, tail_written, jump_to, jump_from, grows_not, grows_one, grows_on, grown_long}
-use Rattle.seccomp_tree.proofs.Runs.{returns_more, returns_grown, starts_grown}
+use Rattle.seccomp_tree.specs.Code.{goes_on}
+use Rattle.seccomp_tree.proofs.Runs.{tail_whole, tail_written, jump_to, jump_from, grows_not, grows_one, grows_on, grown_long, returns_more}
+use Rattle.seccomp_tree.proofs.Runs.{returns_grown, starts_grown}
 
 -- what was written at a place, as the code has it
 pub written_does : (back code : List sock_filter) (place : ℕ) (t : Target) (i : sock_filter) → reverse back ≡ code → place < length code

@@ -1,23 +1,14 @@
 -- Rulings as a target, from the last to the first: each is put in front of what comes after it.
-use Rattle.std.proofs.Common.{◌≡◌, ℕ, zero, suc, ◌+◌, ◌*◌, ◌<◌, ◌≤◌, ◌^◌, List, [], ◌∷◌, length, drop, true, false, refl, sym, ap, ◌∙◌}
-use Rattle.std.proofs.Common.{subst, inl, inr, Option, Some, None, arith}
-use Rattle.std.proofs.lemmas.Bool.Decides.{nat_tests}
-use Rattle.std.proofs.lemmas.Bool.{false≢true, true≢false}
-use Rattle.std.proofs.lemmas.List.Elements.{All-nil, All-cons, All-head, All-tail}
-use Rattle.seccompiler.specs.declared.bpf.sock_filter.{sock_filter}
-use Rattle.seccompiler.specs.declared.backend.SeccompCmpArgLen.{SeccompCmpArgLen}
-use Rattle.seccompiler.specs.Machine.{IsRecord, argument_at}
-use Rattle.seccompiler.specs.Policy.{Condition, Holds, RuleHolds, part_of}
-use Rattle.seccomp_tree.specs.declared.steps.Target.{Target}
-use Rattle.seccomp_tree.specs.declared.steps.Target.TheVariants.{Give}
-use Rattle.seccomp_tree.specs.declared.steps.Step.{Step}
-use Rattle.seccomp_tree.specs.Steps.{found_in, AreSteps, single}
-use Rattle.seccomp_tree.specs.Conditions.{numbers_of, is_plain, AreLaid, condition_length, IsConditionMet}
-use Rattle.seccomp_tree.specs.Code.{LeadsAlways, to_return, AreIn, Grows, part_length, part_steps, IsPart}
-use Rattle.seccomp_tree.specs.Decisions.{Ruling, First, only, alike, same_length, joins, joined, conditions_length}
-use Rattle.seccomp_tree.specs.Decisions.{conditions_steps, rules_length, RunTakes, by_steps, by_conditions, Enters, goes_on, begins}
-use Rattle.seccomp_tree.specs.Decisions.{Takes, stops, passes, ends}
-use Rattle.seccomp_tree.specs.Rules.{IsRulingMet, AreRules, rest_length, IsSettled, IsInFront, along, afresh, alone}
+use Rattle.seccomp_tree.proofs.Common.{◌≡◌, ℕ, zero, suc, ◌+◌, ◌*◌, ◌<◌, ◌≤◌, ◌^◌, List, [], ◌∷◌, length, drop, true, false, refl, sym, ap}
+use Rattle.seccomp_tree.proofs.Common.{◌∙◌, subst, inl, inr, Option, Some, None, arith, nat_tests, false≢true, true≢false, All-nil}
+use Rattle.seccomp_tree.proofs.Common.{All-cons, All-head, All-tail, sock_filter, SeccompCmpArgLen, IsRecord, argument_at, Condition, Holds}
+use Rattle.seccomp_tree.proofs.Common.{RuleHolds, part_of, Target, Give, Step, found_in, AreSteps, single, is_plain, AreLaid}
+use Rattle.seccomp_tree.proofs.Common.{condition_length, IsConditionMet, LeadsAlways, to_return, AreIn, Grows, part_length, part_steps}
+use Rattle.seccomp_tree.proofs.Common.{IsPart, Ruling, First, only, alike, same_length, joins, joined, conditions_length, conditions_steps}
+use Rattle.seccomp_tree.proofs.Common.{rules_length, RunTakes, by_steps, by_conditions, Enters, begins, Takes, stops, passes, ends}
+use Rattle.seccomp_tree.proofs.Common.{IsRulingMet, AreRules, rest_length, IsSettled, IsInFront, along, afresh, alone}
+use Rattle.seccomp_tree.specs.Conditions.{numbers_of}
+use Rattle.seccomp_tree.specs.Decisions.{goes_on}
 use Rattle.seccomp_tree.proofs.Runs.{grows_not, grows_on, grown_long, leads_by, starts_more}
 use Rattle.seccomp_tree.proofs.Begun.{begun_few, found_in_code}
 use Rattle.seccomp_tree.proofs.Choices.{numbers_many, laid_in}

@@ -1,13 +1,9 @@
 -- Code that grows: what starts at a place stays what it was, how long code is, and that it stays sound; and runs that begin at a target.
-use Rattle.std.proofs.Common.{◌≡◌, ℕ, suc, ◌+◌, ◌-◌, ◌<◌, List, [], ◌∷◌, ◌++◌, length, drop, get_or, length-append, zero-add, sym, ap, ◌∙◌}
-use Rattle.std.proofs.Common.{arith, ◌≤◌, append_assoc, refl, subst, zero}
-use Rattle.std.specs.Prelude.{reverse}
-use Rattle.std.proofs.lemmas.List.{drop_more, drop-drop, get_or-reverse, length-reverse}
-use Rattle.seccompiler.specs.declared.bpf.sock_filter.{sock_filter}
-use Rattle.seccomp_tree.specs.Code.{tail_at, IsIn, Grows, Returns, gives, goes_on, Starts, Leads, to_return, to_place, near, IsSound}
-use Rattle.seccomp_tree.specs.declared.steps.Target.{Target}
-use Rattle.seccomp_tree.specs.declared.steps.Target.TheVariants.{Give, At}
-use Rattle.seccompiler.specs.Machine.{IsFine, IsInRange, greatest_length}
+use Rattle.seccomp_tree.proofs.Common.{◌≡◌, ℕ, suc, ◌+◌, ◌-◌, ◌<◌, List, [], ◌∷◌, ◌++◌, length, drop, get_or, length-append, zero-add, sym}
+use Rattle.seccomp_tree.proofs.Common.{ap, ◌∙◌, arith, ◌≤◌, append_assoc, refl, subst, zero, reverse, drop_more, drop-drop, get_or-reverse}
+use Rattle.seccomp_tree.proofs.Common.{length-reverse, sock_filter, tail_at, IsIn, Grows, Returns, gives, Starts, Leads, to_return}
+use Rattle.seccomp_tree.proofs.Common.{to_place, near, IsSound, Target, Give, At, IsFine, IsInRange, greatest_length}
+use Rattle.seccomp_tree.specs.Code.{goes_on}
 
 drop_behind : (front old : List sock_filter) (n : ℕ) → drop (length front + n) (front ++ old) ≡ drop n old
 drop_behind [] old n = ap (λ k. drop k old) (zero-add n)

@@ -1,33 +1,19 @@
 -- The theorem: what is written answers every record as is decided.
-use Rattle.std.proofs.Common.{◌≡◌, ℕ, ◌+◌, ◌-◌, ◌*◌, ◌≤◌, ◌^◌, List, [], ◌∷◌, length, Bool, true, false, Option, Some, None, refl, sym}
-use Rattle.std.proofs.Common.{ap, subst, inl, inr, arith, nat_eq, if◌then◌else◌, suc, zero}
-use Rattle.std.proofs.lemmas.Bool.Decides.{nat_tests}
-use Rattle.std.proofs.lemmas.List.Elements.{All-nil}
-use Rattle.seccompiler.specs.declared.bpf.sock_filter.{sock_filter}
-use Rattle.seccompiler.specs.Machine.{IsRecord, word_at}
-use Rattle.seccompiler.specs.Architecture.{audit_word}
-use Rattle.seccompiler.specs.Policy.{Condition, Holds, RuleHolds}
-use Rattle.seccomp_tree.specs.declared.steps.Target.{Target}
-use Rattle.seccomp_tree.specs.declared.steps.Target.TheVariants.{Give}
-use Rattle.seccomp_tree.specs.declared.steps.Step.{Step}
-use Rattle.seccomp_tree.specs.Steps.{found_in}
-use Rattle.seccomp_tree.specs.Code.{AreIn, IsFullBy, StartsAlways, to_return, LeadsAlways, IsPart, IsSound, Returns}
-use Rattle.seccomp_tree.specs.Code.{chosen, part_steps}
-use Rattle.seccompiler.specs.declared.backend.SeccompCmpArgLen.TheVariants.{Dword}
-use Rattle.seccomp_tree.specs.Decisions.{Ruling, First, nothing, Takes, stops, passes, ends, Enters, begins, RunTakes, by_steps}
-use Rattle.seccomp_tree.specs.Decisions.{by_conditions, only, joins, joined, conditions_steps, goes_on as runs_on}
-use Rattle.seccomp_tree.specs.Decided.{DecisionSet, default_for, rulings_for, IsDecided, other_architecture, decided}
-use Rattle.seccomp_tree.specs.TreeProgram.{one_value, value_for, calls_length, TakesOwn, other, one, own, EndsAsDecided, IsTreeProgram}
+use Rattle.seccomp_tree.proofs.Common.{◌≡◌, ℕ, ◌+◌, ◌-◌, ◌*◌, ◌≤◌, ◌^◌, List, [], ◌∷◌, length, Bool, true, false, Option, Some, None, refl}
+use Rattle.seccomp_tree.proofs.Common.{sym, ap, subst, inl, inr, arith, nat_eq, if◌then◌else◌, suc, zero, nat_tests, All-nil, sock_filter}
+use Rattle.seccomp_tree.proofs.Common.{IsRecord, word_at, audit_word, Condition, Holds, RuleHolds, Target, Give, Step, found_in, AreIn}
+use Rattle.seccomp_tree.proofs.Common.{IsFullBy, StartsAlways, to_return, LeadsAlways, IsPart, IsSound, Returns, chosen, part_steps, Dword}
+use Rattle.seccomp_tree.proofs.Common.{Ruling, First, nothing, Takes, stops, passes, ends, Enters, begins, RunTakes, by_steps}
+use Rattle.seccomp_tree.proofs.Common.{by_conditions, only, joins, joined, conditions_steps, DecisionSet, default_for, rulings_for}
+use Rattle.seccomp_tree.proofs.Common.{IsDecided, other_architecture, decided, one_value, value_for, calls_length, TakesOwn, other, one}
+use Rattle.seccomp_tree.proofs.Common.{own, EndsAsDecided, IsTreeProgram, TreeError, word_fits, pow-succ', one-le-pow, give}
+use Rattle.seccomp_tree.specs.Decisions.{goes_on as runs_on}
 use Rattle.seccomp_tree.specs.CallSteps.{IsAnswer, AreCallSteps, IsCallsTarget, IsTooFull, IsWritten}
-use Rattle.seccomp_tree.specs.declared.error.TreeError.{TreeError}
 use Rattle.seccomp_tree.proofs.Deciding.{first_here, decided_some}
 use Rattle.seccomp_tree.proofs.Begun.{are_in_below, not_none}
 use Rattle.seccomp_tree.proofs.Runs.{grows_on, grown_long, starts_more, returns_more}
 use Rattle.seccomp_tree.proofs.Trees.{load_run}
-use Rattle.seccompiler.proofs.Words.{word_fits}
 use Rattle.seccomp_tree.proofs.FewestSteps.{fewest}
-use Rattle.std.proofs.Math.Nat.{pow-succ', one-le-pow}
-use Rattle.seccompiler.specs.Code.{give}
 use Rattle.seccomp_tree.specs.declared.code.Test.TheVariants.{Equal}
 use Rattle.seccomp_tree.proofs.Meeting.{rule_or_not}
 use Rattle.seccomp_tree.proofs.ProgramEnds.{program_ends, sound_checked}

@@ -1,24 +1,14 @@
 -- For `tree` and `word`: parts of steps, rows of tests, and the code of steps, put together of the code of fewer and a test.
-use Rattle.std.proofs.Common.{◌≡◌, ℕ, zero, suc, ◌+◌, ◌-◌, ◌*◌, ◌/◌, ◌^◌, ◌<◌, ◌≤◌, List, [], ◌∷◌, length, take, drop, get_or, true}
-use Rattle.std.proofs.Common.{false, refl, sym, ap, ◌∙◌, subst, nat_le, if◌then◌else◌, arith, length-drop, Bool, nat_eq, ◌⊎◌, inl, inr}
-use Rattle.std.proofs.lemmas.List.{get_or-drop, get_or-take, length-take, length-take-le, take_all}
-use Rattle.std.proofs.lemmas.Bool.Decides.{nat_tests}
-use Rattle.std.proofs.Math.Nat.{pow-succ'}
-use Rattle.seccompiler.specs.declared.bpf.sock_filter.{sock_filter}
-use Rattle.seccomp_tree.specs.declared.steps.Target.{Target}
-use Rattle.seccomp_tree.specs.declared.steps.Step.{Step}
-use Rattle.seccomp_tree.specs.Steps.{found_from, found_in, AscendFrom, single, same, second_stands_out, row}
-use Rattle.seccomp_tree.specs.Code.{IsIn, AreIn, Grows, GoesOn, chosen, IsTested, IsTree, Returns, goes_on, IsPart}
+use Rattle.seccomp_tree.proofs.Common.{◌≡◌, ℕ, zero, suc, ◌+◌, ◌-◌, ◌*◌, ◌/◌, ◌^◌, ◌<◌, ◌≤◌, List, [], ◌∷◌, length, take, drop, get_or}
+use Rattle.seccomp_tree.proofs.Common.{true, false, refl, sym, ap, ◌∙◌, subst, nat_le, if◌then◌else◌, arith, length-drop, Bool, nat_eq, ◌⊎◌}
+use Rattle.seccomp_tree.proofs.Common.{inl, inr, get_or-drop, get_or-take, length-take, length-take-le, take_all, nat_tests, pow-succ'}
+use Rattle.seccomp_tree.proofs.Common.{sock_filter, Target, Step, found_from, found_in, AscendFrom, single, same, second_stands_out, row}
+use Rattle.seccomp_tree.proofs.Common.{IsIn, AreIn, Grows, GoesOn, chosen, IsTested, IsTree, Returns, IsPart, and_parts, cases_lt, At, Test}
+use Rattle.seccomp_tree.proofs.Common.{Dword, IsRecord, word_at, loads, load, word_fits}
+use Rattle.seccomp_tree.specs.Code.{goes_on}
 use Rattle.seccomp_tree.proofs.Begun.{starts_rise, found_before}
-use Rattle.std.proofs.lemmas.Bool.{and_parts, cases_lt}
-use Rattle.seccomp_tree.specs.declared.steps.Target.TheVariants.{At}
-use Rattle.seccomp_tree.specs.declared.code.Test.{Test}
 use Rattle.seccomp_tree.specs.declared.code.Test.TheVariants.{Equal, AtLeast}
 use Rattle.seccomp_tree.proofs.Runs.{grows_not, grows_on, last_in, starts_more, starts_last, leads_by, leads_grown, grows_one, runs_last}
-use Rattle.seccompiler.specs.declared.backend.SeccompCmpArgLen.TheVariants.{Dword}
-use Rattle.seccompiler.specs.Machine.{IsRecord, word_at, loads}
-use Rattle.seccompiler.specs.Code.{load}
-use Rattle.seccompiler.proofs.Words.{word_fits}
 
 -- ---- the first ones
 

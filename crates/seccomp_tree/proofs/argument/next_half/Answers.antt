@@ -1,4 +1,4 @@
-use Rattle.std.proofs.Common.{◌^◌, arith}
+use Rattle.seccomp_tree.proofs.Common.{◌^◌, arith}
 use Rattle.seccomp_tree.proofs.Begun.{begun_few}
 use Rattle.seccomp_tree.proofs.Halves.{next_is, next_some}
 use Rattle.seccomp_tree.proofs.argument.next_half.Goals as goal

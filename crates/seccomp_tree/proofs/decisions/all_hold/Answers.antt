@@ -1,5 +1,4 @@
-use Rattle.std.proofs.Common.{refl}
-use Rattle.seccompiler.specs.Policy.{Condition, Holds}
+use Rattle.seccomp_tree.proofs.Common.{refl, Condition, Holds}
 use Rattle.seccomp_tree.proofs.Deciding.{all_at}
 use Rattle.seccomp_tree.proofs.decisions.all_hold.Goals as goal
 

@@ -1,11 +1,7 @@
-use Rattle.std.proofs.Common.{◌≡◌, ◌+◌, drop, sym, ap, ◌∙◌}
-use Rattle.std.proofs.lemmas.Bool.{false≢true}
-use Rattle.seccompiler.specs.Policy.{RuleHolds}
-use Rattle.seccomp_tree.specs.Decisions.{Ruling, here, behind, nothing}
+use Rattle.seccomp_tree.proofs.Common.{◌≡◌, ◌+◌, drop, sym, ap, ◌∙◌, false≢true, RuleHolds, Ruling, here, behind, nothing, drop_all}
 use Rattle.seccomp_tree.proofs.Deciding.{drop_at, first_here, first_behind, first_nothing}
-use Rattle.std.proofs.lemmas.List.{drop_all}
-use Rattle.seccomp_tree.proofs.decisions.first_value.Goals as goal
 use Rattle.seccomp_tree.proofs.decisions.first_value.Goals.{After-all_hold}
+use Rattle.seccomp_tree.proofs.decisions.first_value.Goals as goal
 
 -- the conditions that were tried are the ruling's
 conditions_are : (c : After-all_hold) → c.deref.result.now ≡ c.ruling-item.result.conditions

@@ -1,8 +1,5 @@
-use Rattle.std.proofs.Common.{ap, ◌∙◌, map}
-use Rattle.std.proofs.lemmas.List.Elements.{All-head, All-tail}
-use Rattle.seccompiler.specs.Policy.{IsCallNumber, chains_of}
+use Rattle.seccomp_tree.proofs.Common.{ap, ◌∙◌, map, All-head, All-tail, IsCallNumber, chains_of, call_of, rulings_of}
 use Rattle.seccompiler.specs.Compiled.{numbers_of}
-use Rattle.seccomp_tree.specs.FilterDecisions.{call_of, rulings_of}
 use Rattle.seccomp_tree.proofs.FilterDecided.{calls_next}
 use Rattle.seccomp_tree.proofs.filter.calls_of.Goals as goal
 

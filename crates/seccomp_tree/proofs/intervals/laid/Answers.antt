@@ -1,4 +1,4 @@
-use Rattle.std.proofs.Common.{◌∙◌}
+use Rattle.seccomp_tree.proofs.Common.{◌∙◌}
 use Rattle.seccomp_tree.proofs.Choices.{laid_whole}
 use Rattle.seccomp_tree.proofs.intervals.laid.Goals as goal
 

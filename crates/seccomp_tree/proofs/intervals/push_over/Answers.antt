@@ -1,5 +1,4 @@
-use Rattle.std.proofs.lemmas.Result.{IfOk-weaker}
-use Rattle.std.proofs.Common.{sym, arith}
+use Rattle.seccomp_tree.proofs.Common.{IfOk-weaker, sym, arith}
 use Rattle.seccomp_tree.proofs.Choices.{over_none, over_step}
 use Rattle.seccomp_tree.proofs.intervals.push_over.Goals as goal
 

@@ -1,5 +1,4 @@
-use Rattle.std.proofs.Common.{ap, ◌∙◌, sym, arith}
-use Rattle.std.proofs.lemmas.Bool.Decides.{nat_tests}
+use Rattle.seccomp_tree.proofs.Common.{ap, ◌∙◌, sym, arith, nat_tests}
 use Rattle.seccomp_tree.proofs.Deciding.{items_of, rulings_under}
 use Rattle.seccomp_tree.proofs.CallsPushed.{none_before}
 use Rattle.seccomp_tree.proofs.program.next_call.Goals as goal

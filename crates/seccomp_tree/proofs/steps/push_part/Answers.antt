@@ -1,4 +1,4 @@
-use Rattle.std.proofs.Common.{◌+◌, arith}
+use Rattle.seccomp_tree.proofs.Common.{◌+◌, arith}
 use Rattle.seccomp_tree.proofs.Begun.{part_begins, part_room, part_turn, part_ends, begun_more}
 use Rattle.seccomp_tree.proofs.steps.push_part.Goals as goal
 

@@ -1,13 +1,9 @@
-use Rattle.std.proofs.Common.{◌/◌, ◌^◌, length, refl, sym, ◌∙◌, arith, inl, inr}
-use Rattle.std.proofs.lemmas.Bool.{cases_lt, false≢true}
-use Rattle.seccomp_tree.specs.Steps.{row}
-use Rattle.std.proofs.lemmas.Result.{err_from_is_err_and, IfOk-weaker}
+use Rattle.seccomp_tree.proofs.Common.{◌/◌, ◌^◌, length, refl, sym, ◌∙◌, arith, inl, inr, cases_lt, false≢true, row, err_from_is_err_and}
+use Rattle.seccomp_tree.proofs.Common.{IfOk-weaker, length-take-le, Give}
 use Rattle.seccomp_tree.proofs.Runs.{is_in_grown}
 use Rattle.seccomp_tree.proofs.Begun.{starts_rise}
-use Rattle.std.proofs.lemmas.List.{length-take-le}
 use Rattle.seccomp_tree.proofs.Trees.{ascend_take, in_take, all_behind, rest_of, rest_long, out_long, tree_single, tree_out, tree_first}
 use Rattle.seccomp_tree.proofs.Trees.{tree_halves}
-use Rattle.seccomp_tree.specs.declared.steps.Target.TheVariants.{Give}
 use Rattle.seccomp_tree.proofs.code.Code.+tree.Goals as goal
 
 pub returns-then-steps-eq1-clause-ok : goal.returns-then-steps-eq1-clause-ok

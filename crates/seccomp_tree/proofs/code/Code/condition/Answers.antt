@@ -1,7 +1,5 @@
-use Rattle.std.proofs.Common.{length, refl, sym, arith}
+use Rattle.seccomp_tree.proofs.Common.{length, refl, sym, arith, single, IfErr-weaker, IfOk-weaker}
 use Rattle.seccomp_tree.specs.Conditions.{numbers_of}
-use Rattle.seccomp_tree.specs.Steps.{single}
-use Rattle.std.proofs.lemmas.Result.{IfErr-weaker, IfOk-weaker}
 use Rattle.seccomp_tree.proofs.Begun.{begun_few}
 use Rattle.seccomp_tree.proofs.Choices.{laid_in}
 use Rattle.seccomp_tree.proofs.Meeting.{met_now, met_by_steps, plain_cost, shorter_part}

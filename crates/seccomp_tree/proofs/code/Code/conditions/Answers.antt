@@ -1,10 +1,8 @@
-use Rattle.std.proofs.Common.{◌≡◌, ◌∷◌, ◌-◌, drop, length, ap, ◌∙◌, arith}
-use Rattle.std.proofs.lemmas.List.{drop_all}
-use Rattle.std.proofs.lemmas.Result.{err_from_is_err_and}
+use Rattle.seccomp_tree.proofs.Common.{◌≡◌, ◌∷◌, ◌-◌, drop, length, ap, ◌∙◌, arith, drop_all, err_from_is_err_and}
 use Rattle.seccomp_tree.proofs.Deciding.{drop_at}
 use Rattle.seccomp_tree.proofs.Ruled.{ruling_none, ruling_one, ruling_room}
-use Rattle.seccomp_tree.proofs.code.Code.conditions.Goals as goal
 use Rattle.seccomp_tree.proofs.code.Code.conditions.Goals.{After-index-conditions-left}
+use Rattle.seccomp_tree.proofs.code.Code.conditions.Goals as goal
 
 -- the conditions from this one on
 from_here : (c : After-index-conditions-left) → drop (c.loop-left.left - 1) c.args.conditions.now

@@ -1,5 +1,4 @@
-use Rattle.std.proofs.Common.{◌≤◌, length, drop}
-use Rattle.seccomp_tree.specs.Rules.{IsRulingMet}
+use Rattle.seccomp_tree.proofs.Common.{◌≤◌, length, drop, IsRulingMet}
 use Rattle.seccomp_tree.proofs.code.Code.conditions.Given as goal
 
 abbrev pub invariant-loop-left : goal.invariant-loop-left

@@ -1,4 +1,4 @@
-use Rattle.std.proofs.lemmas.Result.{err_from_is_err_and}
+use Rattle.seccomp_tree.proofs.Common.{err_from_is_err_and}
 use Rattle.seccomp_tree.proofs.Halves.{highs_one, full_half}
 use Rattle.seccomp_tree.proofs.code.Code.high_halves.Goals as goal
 

@@ -1,4 +1,4 @@
-use Rattle.std.proofs.lemmas.Result.{IfOk-weaker}
+use Rattle.seccomp_tree.proofs.Common.{IfOk-weaker}
 use Rattle.seccomp_tree.proofs.Meeting.{part_of_word}
 use Rattle.seccomp_tree.proofs.code.Code.part.Goals as goal
 

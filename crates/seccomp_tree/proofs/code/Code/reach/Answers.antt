@@ -1,4 +1,4 @@
-use Rattle.std.proofs.Common.{arith}
+use Rattle.seccomp_tree.proofs.Common.{arith}
 use Rattle.seccomp_tree.proofs.Reaching.{reached_itself}
 use Rattle.seccomp_tree.proofs.code.Code.reach.Goals as goal
 

@@ -1,11 +1,9 @@
-use Rattle.std.proofs.Common.{◌≡◌, ◌-◌, ◌∷◌, drop, length, ap, ◌∙◌, arith}
-use Rattle.std.proofs.lemmas.List.{drop_all}
-use Rattle.std.proofs.lemmas.Result.{err_from_is_err_and, IfOk-weaker}
-use Rattle.seccomp_tree.specs.Decisions.{rules_length}
+use Rattle.seccomp_tree.proofs.Common.{◌≡◌, ◌-◌, ◌∷◌, drop, length, ap, ◌∙◌, arith, drop_all, err_from_is_err_and, IfOk-weaker}
+use Rattle.seccomp_tree.proofs.Common.{rules_length}
 use Rattle.seccomp_tree.proofs.Deciding.{drop_at}
 use Rattle.seccomp_tree.proofs.Ruled.{rest_none, rest_room, rules_less, in_front, settled}
-use Rattle.seccomp_tree.proofs.code.Code.rules.Goals as goal
 use Rattle.seccomp_tree.proofs.code.Code.rules.Goals.{After-index-rulings-left}
+use Rattle.seccomp_tree.proofs.code.Code.rules.Goals as goal
 
 -- the rulings from this one on
 from_here : (c : After-index-rulings-left) → drop (c.loop-left.left - 1) c.args.rulings.now

@@ -1,9 +1,6 @@
-use Rattle.std.proofs.Common.{◌≡◌, ◌<◌, ◌^◌, refl, sym, ap, ◌∙◌}
-use Rattle.std.proofs.lemmas.Result.{IfOk-weaker}
-use Rattle.seccomp_tree.specs.Decisions.{Ruling, only}
-use Rattle.seccomp_tree.specs.Rules.{along, afresh, alone}
-use Rattle.seccomp_tree.proofs.code.Code.ruling.Goals as goal
+use Rattle.seccomp_tree.proofs.Common.{◌≡◌, ◌<◌, ◌^◌, refl, sym, ap, ◌∙◌, IfOk-weaker, Ruling, only, along, afresh, alone}
 use Rattle.seccomp_tree.proofs.code.Code.ruling.Goals.{After-only}
+use Rattle.seccomp_tree.proofs.code.Code.ruling.Goals as goal
 
 -- what there is of the conditions alone, and the value
 only_of : (c : After-only) → only c.args.ruling.now.conditions ≡ c.only.result

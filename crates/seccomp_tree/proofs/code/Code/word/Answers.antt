@@ -1,6 +1,4 @@
-use Rattle.std.proofs.Common.{◌-◌, ◌∷◌, ◌^◌, ap, ◌∙◌, arith}
-use Rattle.seccompiler.specs.Code.{load}
-use Rattle.seccomp_tree.specs.declared.steps.Target.TheVariants.{At}
+use Rattle.seccomp_tree.proofs.Common.{◌-◌, ◌∷◌, ◌^◌, ap, ◌∙◌, arith, load, At}
 use Rattle.seccomp_tree.proofs.Begun.{not_none}
 use Rattle.seccomp_tree.proofs.Trees.{word_one, word_more}
 use Rattle.seccomp_tree.proofs.code.Code.word.Goals as goal

@@ -1,5 +1,4 @@
-use Rattle.std.proofs.Common.{arith}
-use Rattle.std.proofs.lemmas.Result.{err_from_is_err_and}
+use Rattle.seccomp_tree.proofs.Common.{arith, err_from_is_err_and}
 use Rattle.seccomp_tree.proofs.CallsPushed.{calls_on, calls_room, calls_end}
 use Rattle.seccomp_tree.proofs.decisions.Decisions.call_steps.Goals as goal
 

@@ -1,4 +1,4 @@
-use Rattle.std.proofs.Common.{◌-◌, ◌^◌}
+use Rattle.seccomp_tree.proofs.Common.{◌-◌, ◌^◌}
 use Rattle.seccomp_tree.proofs.CallsPushed.{CallsOn}
 use Rattle.seccomp_tree.proofs.decisions.Decisions.call_steps.Given as goal
 

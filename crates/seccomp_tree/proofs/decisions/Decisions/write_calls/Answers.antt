@@ -1,7 +1,4 @@
-use Rattle.std.proofs.Common.{sym, subst, List}
-use Rattle.seccomp_tree.specs.declared.steps.Step.{Step}
-use Rattle.seccomp_tree.specs.Code.{AreIn}
-use Rattle.std.proofs.lemmas.Result.{IfErr-weaker, IfOk-weaker}
+use Rattle.seccomp_tree.proofs.Common.{sym, subst, List, Step, AreIn, IfErr-weaker, IfOk-weaker}
 use Rattle.seccomp_tree.proofs.Theorem.{calls_target, calls_room, calls_full}
 use Rattle.seccomp_tree.proofs.decisions.Decisions.write_calls.Goals as goal
 

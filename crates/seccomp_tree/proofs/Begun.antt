@@ -131,16 +131,15 @@ found_same m (x ∷ steps) a b h some same =
 pub are_in_below : (code : List sock_filter) (m : ℕ) (steps : List Step) → 0 < m → AreSteps m steps
     → ((a : ℕ) → a < m → IsIn code (found_in steps a)) → AreIn code steps
 are_in_below code m steps some are h k d lt =
-    let at = begun_at m 0 steps k d are.ascend lt in
-    let same : begun steps ((get_or steps k d).start + 1) - 1 ≡ k = omega (arith, at) in
-    let here = found_begun m steps ((get_or steps k d).start) d are some ∙ ap (λ n. (get_or steps n d).target) same in
-    subst (IsIn code) here (h ((get_or steps k d).start) (starts_rise m 0 steps k d are.ascend lt).1)
+    let same : begun steps ((get_or steps k d).start + 1) - 1 ≡ k = omega (arith, begun_at m 0 steps k d are.ascend lt) in
+    rw (found_begun m steps ((get_or steps k d).start) d are some, same) at
+        (h ((get_or steps k d).start) (starts_rise m 0 steps k d are.ascend lt).1)
 
 pub found_in_code : (code : List sock_filter) (m : ℕ) (steps : List Step) (d : Step) (a : ℕ) → 0 < m → AreSteps m steps → AreIn code steps
     → IsIn code (found_in steps a)
 found_in_code code m steps d a some are h =
     let one = begun_some m steps a are some in
-    subst (IsIn code) (sym (found_begun m steps a d are some)) (h (begun steps (a + 1) - 1) d (omega (arith, one, begun_few steps (a + 1))))
+    rw (found_begun m steps a d are some) (h (begun steps (a + 1) - 1) d (omega (arith, one, begun_few steps (a + 1))))
 
 -- ---- one step more
 
@@ -164,35 +163,26 @@ tight_from t from [] x h not tight = (not, tt)
 tight_from t from (y ∷ steps) x h not tight =
     (tight.0, tight_from y.target (y.start + 1) steps x h.1.1 (λ e. not (grind (arith, nat_tests, h.1.0, e))) tight.1)
 
-tight_pushed : (old : List Step) (x : Step) → AreSteps x.start old → (1 ≤ length old → found_in old x.start ≢ x.target) → AreTight old
-    → AreTight (old ++ x ∷ [])
-tight_pushed [] x h not tight = tt
-tight_pushed (y ∷ old) x h not tight = tight_from y.target (y.start + 1) old x h.ascend.1.1 (not (omega arith)) tight
-
 pub pushed_more : (old : List Step) (x : Step) → AreSteps x.start old → (1 ≤ length old → found_in old x.start ≢ x.target)
     → IsPushed old x.start x.target (old ++ x ∷ [])
-pushed_more old x h not = record {
+pushed_more [] x h not =
+    let none = elim (cases_lt 0 x.start) as (λ _. x.start ≡ 0) [ inl some ↦ absurd (h.first some) | inr none ↦ omega arith ] in
+    record {
+      are = record { first = λ _. none; ascend = (omega arith, (omega arith, tt)); tight = tt };
+      from = λ a le. refl;
+      below = λ a lt. absurd (h.first (omega arith));
+      few = omega arith;
+    }
+pushed_more (y ∷ old) x h not = record {
   are = record {
-    first = λ _. zero_first old h;
-    ascend = ascend_push 0 old x (omega arith) h.ascend;
-    tight = tight_pushed old x h not h.tight;
+    first = λ _. h.first (omega (arith, h.ascend.1.0));
+    ascend = ascend_push 0 (y ∷ old) x (omega arith) h.ascend;
+    tight = tight_from y.target (y.start + 1) old x h.ascend.1.1 (not (omega arith)) h.tight;
   };
-  from = λ a le. from old a h.ascend le;
-  below = λ a lt. below old a h lt;
+  from = λ a le. from_push y.target (y.start + 1) old x a h.ascend.1.1 le;
+  below = λ a lt. below_push y.target old x a lt;
   few = omega (arith, length-append old (x ∷ []));
 }
-  where
-    zero_first : (old : List Step) → AreSteps x.start old → StartsAtZero (old ++ x ∷ [])
-    zero_first [] h = elim (cases_lt 0 x.start) [ inl some ↦ absurd (h.first some) | inr none ↦ omega arith ]
-    zero_first (y ∷ old) h = h.first (omega (arith, h.ascend.1.0))
-
-    from : (old : List Step) (a : ℕ) → AscendFrom x.start 0 old → x.start ≤ a → found_in (old ++ x ∷ []) a ≡ x.target
-    from [] a h le = refl
-    from (y ∷ old) a h le = from_push y.target (y.start + 1) old x a h.1.1 le
-
-    below : (old : List Step) (a : ℕ) → AreSteps x.start old → a < x.start → found_in (old ++ x ∷ []) a ≡ found_in old a
-    below [] a h lt = absurd (h.first (omega arith))
-    below (y ∷ old) a h lt = below_push y.target old x a lt
 
 -- steps that end in the target need no step more
 pub pushed_same : (old : List Step) (start : ℕ) (target : Target) → AreSteps start old → 1 ≤ length old → found_in old start ≡ target

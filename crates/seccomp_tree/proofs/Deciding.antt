@@ -13,7 +13,7 @@ drop_at l i x lt is = drop_more l i x lt ∙ ap (λ y. y ∷ drop (i + 1) l) (sy
 
 pub all_at : {A : Type 0} (P : A → Type 0) (l : List A) (i : ℕ) (x : A) → i < length l → x ≡ get_or l i x → P x → All P (drop (i + 1) l)
     → All P (drop i l)
-all_at P l i x lt is h rest = subst (All P) (sym (drop_at l i x lt is)) (All-cons P x (drop (i + 1) l) h rest)
+all_at P l i x lt is h rest = rw (drop_at l i x lt is) (All-cons P x (drop (i + 1) l) h rest)
 
 -- ---- the first ruling that holds
 

@@ -93,11 +93,11 @@ highs_one old mid new index steps highs more high next t h small half on pushed 
       leads = λ x lt. elim (cases_lt x high) [
         | inl below ↦
             let was = h.leads x below in
-            subst (Both x) (sym (pushed.below x below)) (
+            rw (pushed.below x below) (
               is_in_grown (found_in highs x) half.grows was.0,
               λ r rec w n k few lead a fits. leads_grown half.grows (was.1 r rec w n k few lead a fits),
             )
-        | inr le ↦ subst (Both x) (sym (pushed.from x le)) (
+        | inr le ↦ rw (pushed.from x le) (
           half.inside,
           λ r rec w n k few lead a fits.
               let here = rw (on.same x (word_at r (16 + 8 * index)) le lt (word_fits r (16 + 8 * index) rec)) at lead in
@@ -106,10 +106,6 @@ highs_one old mid new index steps highs more high next t h small half on pushed 
         )
       ];
     }
-  where
-    Both : ℕ → Target → Type 0
-    Both x u = IsIn new u × ((r : List ℕ) → IsRecord r → (w n k : ℕ) → length steps ≤ 2 ^ k
-        → LeadsAlways old r (found_in steps (x * 2 ^ 32 + word_at r (16 + 8 * index))) w n → LeadsAlways new r u w (n + 2 + 2 * k))
 
 -- ---- both halves
 

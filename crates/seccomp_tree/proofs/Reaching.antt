@@ -19,12 +19,10 @@ written_does back code place t i view inside here says =
 does_run : {code : List sock_filter} {r : List ℕ} {t : Target} {place a w n : ℕ} → DoesAs code t place → a < 2 ^ 32
     → Leads code r t a w n → Returns r (tail_at code place) a w n
 does_run {code} {r} h small (to_return w a zero some) = absurd (omega arith)
-does_run {code} {r} h small (to_return w a (suc n) some) =
-    subst (λ l. Returns r l a w (suc n)) (sym h.here) (gives h.instruction h.rest a w n h.says.0 h.says.1)
+does_run h small (to_return w a (suc n) some) = rw h.here (gives h.instruction h.rest a w n h.says.0 h.says.1)
 does_run {code} {r} {t} {place} h small (to_place m w a n inside run) =
-    subst (λ l. Returns r l a w (suc n)) (sym h.here)
-    (goes_on h.instruction h.rest a a w n h.instruction.k (jumps h.says.0 (omega arith) refl) small
-    (subst (λ l. Returns r l a w n) (sym (jump_from code place h.instruction.k m h.instruction h.rest h.inside h.here h.says.1)) run))
+    let at = jump_from code place h.instruction.k m h.instruction h.rest h.inside h.here h.says.1 in
+    rw h.here (goes_on h.instruction h.rest a a w n h.instruction.k (jumps h.says.0 (omega arith) refl) small (rw at run))
 does_run h small (near m w a n inside close run) = absurd (omega arith)
 
 -- a place by itself
@@ -97,5 +95,4 @@ tested old mid code test i met other y n new t is over_yes over_no h k written l
   where
     jumps_on : (r : List ℕ) (a w m : ℕ) → a < 2 ^ 32 → (d place : ℕ) → d + place + 1 ≡ length code → Does i r 0 a (1 + d) a
         → Returns r (tail_at code place) a w m → Returns r (i ∷ code) a w (suc m)
-    jumps_on r a w m small d place over does h =
-        goes_on i code a a w m d does small (subst (λ l. Returns r l a w m) (sym (jump_to code d place over)) h)
+    jumps_on r a w m small d place over does h = goes_on i code a a w m d does small (rw (jump_to code d place over) h)

@@ -67,7 +67,7 @@ is_in_grown (At m) g h = omega (arith, (grown_long g).0)
 
 -- the place that was written last is inside
 pub last_in : (code : List sock_filter) (t : Target) → t ≡ At (length code - 1) → 1 ≤ length code → IsIn code t
-last_in code t is some = subst (IsIn code) (sym is) (omega arith)
+last_in code t is some = rw is (omega arith)
 
 -- a run of at most n steps is one of at most m, if that is more
 pub returns_more : {r : List ℕ} {code : List sock_filter} {a w n : ℕ} (m : ℕ) → n ≤ m → Returns r code a w n → Returns r code a w m
@@ -113,8 +113,8 @@ leads_grown g h = starts_grown g (λ m is inside le. absurd (omega arith)) h
 pub starts_last : {code : List sock_filter} {r : List ℕ} {t : Target} {a w n : ℕ} → t ≡ At (length code - 1) → 1 ≤ length code
     → Returns r code a w n → Starts 1 code r t a w n
 starts_last {code} {r} {t} {a} {w} {n} is some h =
-    subst (λ u. Starts 1 code r u a w n) (sym is) (near (length code - 1) w a n (omega arith) (omega arith)
-    (subst (λ l. Returns r l a w n) (sym (tail_whole code (length code - 1) (omega arith))) h))
+    let at = tail_whole code (length code - 1) (omega arith) in
+    rw is (near (length code - 1) w a n (omega arith) (omega arith) (rw at h))
 
 pub runs_last : {code : List sock_filter} {r : List ℕ} {t : Target} {a w n : ℕ} → t ≡ At (length code - 1) → 1 ≤ length code
     → Starts 1 code r t a w n → Returns r code a w n

@@ -18,8 +18,7 @@ ascend_take m from _ steps h = tt
 
 pub in_take : (code : List sock_filter) (n : ℕ) (steps : List Step) → AreIn code steps → AreIn code (take n steps)
 in_take code n steps h k d lt =
-    let long = length-take n steps in
-    subst (λ (x : Step). IsIn code x.target) (sym (get_or-take n steps k d (omega (arith, long)))) (h k d (omega (arith, long)))
+    let long = length-take n steps in rw (get_or-take n steps k d (omega (arith, long))) (h k d (omega (arith, long)))
 
 -- a number below the start of the next step has the target that the first ones have
 from_take : (t : Target) (steps : List Step) (n a : ℕ) (d : Step) → n < length steps → a < (get_or steps n d).start
@@ -44,8 +43,7 @@ ascend_drop m from zero (x ∷ steps) h = (omega arith, h.1)
 ascend_drop m from (suc n) (x ∷ steps) h = ascend_drop m (x.start + 1) n steps h.1.1
 
 pub in_drop : (code : List sock_filter) (n : ℕ) (steps : List Step) → AreIn code steps → AreIn code (drop n steps)
-in_drop code n steps h k d lt =
-    subst (λ (x : Step). IsIn code x.target) (sym (get_or-drop n steps k d)) (h (n + k) d (omega (arith, length-drop n steps)))
+in_drop code n steps h k d lt = rw (get_or-drop n steps k d) (h (n + k) d (omega (arith, length-drop n steps)))
 
 -- a number from the start of the next step on has the target that the others have
 from_drop : (m from : ℕ) (t : Target) (steps : List Step) (n a : ℕ) (d : Step) → AscendFrom m from steps → n < length steps
@@ -74,11 +72,8 @@ pub rest_of : (code : List sock_filter) (m n t : ℕ) (steps : List Step) → 1 
     → (length (take (length steps - n) (drop n steps)) < t) × ((1 ≤ length (take (length steps - n) (drop n steps)))
     × (AscendFrom m 0 (take (length steps - n) (drop n steps)) × AreIn code (take (length steps - n) (drop n steps))))
 rest_of code m n t steps some lt all_in up inside =
-    let all = all_behind steps n in
-    rw all (
-      omega (arith, length-drop n steps),
-      (omega (arith, length-drop n steps), (ascend_drop m 0 n steps up, in_drop code n steps inside)),
-    )
+    let long = length-drop n steps in
+    rw (all_behind steps n) (omega (arith, long), (omega (arith, long), (ascend_drop m 0 n steps up, in_drop code n steps inside)))
 
 pub rest_long : (n : ℕ) (steps : List Step) → length (take (length steps - n) (drop n steps)) ≡ length steps - n
 rest_long n steps = ap length (all_behind steps n) ∙ length-drop n steps

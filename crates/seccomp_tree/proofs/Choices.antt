@@ -1,8 +1,8 @@
 -- Comparisons as steps, laid over others.
-use Rattle.seccomp_tree.proofs.Common.{◌≡◌, ℕ, ◌+◌, ◌^◌, ◌<◌, ◌≤◌, List, [], length, true, ap, ◌↔◌, Option, Some, ◌⊎◌, inl, inr, arith}
+use Rattle.seccomp_tree.proofs.Common.{◌≡◌, ℕ, ◌+◌, ◌^◌, ◌<◌, ◌≤◌, List, [], length, true, ap, ◌↔◌, Option, Some, None, ◌⊎◌, inl, inr, arith}
 use Rattle.seccomp_tree.proofs.Common.{refl, cases_lt, cases_eq, bit_and, sock_filter, SeccompCmpArgLen, Dword, Qword, SeccompCmpOp, Eq, Ge}
 use Rattle.seccomp_tree.proofs.Common.{Gt, Le, Lt, MaskedEq, Ne, Condition, Compares, part_of, Target, Step, found_in, AreSteps, begun}
-use Rattle.seccomp_tree.proofs.Common.{IsPushed, IsIn, AreIn, is_plain, IsChosen, IsSide, over, IsOverPushed, AreLaidTo, AreLaid}
+use Rattle.seccomp_tree.proofs.Common.{IsPushed, IsIn, AreIn, is_plain, IsChosen, over, IsOverPushed, AreLaidTo, AreLaid}
 use Rattle.seccomp_tree.specs.Conditions.{numbers_of}
 use Rattle.seccomp_tree.proofs.Begun.{steps_more, begun_more, begun_next, begun_some, are_in_below}
 
@@ -34,7 +34,7 @@ numbers_few Qword steps h = h
 
 -- one part more: numbers that compare alike
 pub laid_on : (c : Condition) (target : Target) (others old new : List Step) (first end n more : ℕ) (side : Option Target)
-    → is_plain c.operator ≡ true → IsSide (Compares c.operator n (part_of c.arg_len c.value)) target side
+    → is_plain c.operator ≡ true → IsChosen (Compares c.operator n (part_of c.arg_len c.value)) (Some target) None side
     → ((a : ℕ) → first ≤ a → a < end
     → Compares c.operator a (part_of c.arg_len c.value) ↔ Compares c.operator n (part_of c.arg_len c.value))
     → ((a : ℕ) → a < first → IsChosen (Compares c.operator a (part_of c.arg_len c.value)) target (found_in others a) (found_in old a))
@@ -56,9 +56,9 @@ laid_on c target others old new first end n more side plain at alike under few h
 -- the numbers below the value, it, and those above it
 pub laid_whole : (c : Condition) (target : Target) (others low mid new : List Step) (value : ℕ) (one two three : Option Target)
     → value ≡ part_of c.arg_len c.value → is_plain c.operator ≡ true → AreSteps (numbers_of c.arg_len) others
-    → IsSide (Compares c.operator 0 (part_of c.arg_len c.value)) target one → IsOverPushed [] others 0 value one low
-    → IsSide (Compares c.operator value (part_of c.arg_len c.value)) target two → IsOverPushed low others value (value + 1) two mid
-    → IsSide (Compares c.operator (value + 1) (part_of c.arg_len c.value)) target three
+    → IsChosen (Compares c.operator 0 (part_of c.arg_len c.value)) (Some target) None one → IsOverPushed [] others 0 value one low
+    → IsChosen (Compares c.operator value (part_of c.arg_len c.value)) (Some target) None two → IsOverPushed low others value (value + 1) two mid
+    → IsChosen (Compares c.operator (value + 1) (part_of c.arg_len c.value)) (Some target) None three
     → IsOverPushed mid others (value + 1) (numbers_of c.arg_len) three new → AreLaid c target others new
 laid_whole c target others low mid new value one two three part plain are first lower at own third upper =
     laid_on c target others mid new (value + 1) (numbers_of c.arg_len) (value + 1) 2 three plain third

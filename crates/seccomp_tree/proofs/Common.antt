@@ -3,7 +3,7 @@ pub use Rattle.seccomp_tree.specs.Arguments.{AreHighs, IsHalf, IsNext, half_leng
 pub use Rattle.seccomp_tree.specs.Code.{AreFine, AreIn, DoesAs, GoesOn, Grows, IsFar, IsFullBy, IsIn, IsPart, IsReached, IsSound, IsTested}
 pub use Rattle.seccomp_tree.specs.Code.{IsTree, Leads, LeadsAlways, Returns, Says, Starts, StartsAlways, chosen, gives, near, part_length}
 pub use Rattle.seccomp_tree.specs.Code.{part_steps, tail_at, to_place, to_return}
-pub use Rattle.seccomp_tree.specs.Conditions.{AreLaid, AreLaidTo, HasBits, IsChosen, IsConditionMet, IsMet, IsOverPushed, IsSide}
+pub use Rattle.seccomp_tree.specs.Conditions.{AreLaid, AreLaidTo, HasBits, IsChosen, IsConditionMet, IsMet, IsOverPushed}
 pub use Rattle.seccomp_tree.specs.Conditions.{condition_length, condition_steps, is_plain, over}
 pub use Rattle.seccomp_tree.specs.Decided.{DecisionSet, IsDecided, StartAbove, calls_of, decided, default_for, default_from}
 pub use Rattle.seccomp_tree.specs.Decided.{other_architecture, rulings_for}

@@ -22,15 +22,10 @@ abbrev pub is_plain : SeccompCmpOp → Bool
 is_plain (MaskedEq m) = false
 is_plain _ = true
 
--- Of two targets the first if something is so, and else the second.
-pub record IsChosen (Is : Type 0) (yes no t : Target) : Type 0 where
+-- Of two things the first if something is so, and else the second.
+pub record IsChosen {A : Type 0} (Is : Type 0) (yes no t : A) : Type 0 where
   pub met : Is → t ≡ yes
   pub unmet : (Is → ⊥) → t ≡ no
-
--- The target if something is so, or none.
-pub record IsSide (Is : Type 0) (target : Target) (o : Option Target) : Type 0 where
-  pub met : Is → o ≡ Some target
-  pub unmet : (Is → ⊥) → o ≡ None
 
 -- A target over another.
 abbrev pub over : Option Target → Target → Target

@@ -1,9 +1,9 @@
 // Comparisons as steps: for each number what is so where a condition holds on it, and what is so elsewhere.
 
-ghost use Rattle.std.specs.Prelude.{◌≡◌, ◌≤◌, ◌<◌, ◌^◌, ◌↔◌, IsTrue, IfOk, IsOkUnless, true};
+ghost use Rattle.std.specs.Prelude.{◌≡◌, ◌≤◌, ◌<◌, ◌^◌, ◌↔◌, IsTrue, IfOk, IsOkUnless, None, Some, true};
 ghost use Rattle.seccompiler.specs.Policy.{Compares, part_of};
 ghost use Rattle.seccomp_tree.specs.Steps.{AreSteps};
-ghost use Rattle.seccomp_tree.specs.Conditions.{AreLaid, IsOverPushed, IsSide, is_plain, numbers_of};
+ghost use Rattle.seccomp_tree.specs.Conditions.{AreLaid, IsChosen, IsOverPushed, is_plain, numbers_of};
 ghost use Rattle.seccomp_tree.specs.declared.error.TreeError.TheVariants.{OutOfMemory};
 
 use crate::error::TreeError;
@@ -42,7 +42,7 @@ pub(crate) fn laid(
 
 // The target, if the condition's comparison holds on the number.
 fn side(condition: &SeccompCondition, number: u128, target: Target) -> Option<Target>
-    ensures { IsSide (Compares condition.now.operator number (part_of condition.now.arg_len condition.now.value)) target result }
+    ensures { IsChosen (Compares condition.now.operator number (part_of condition.now.arg_len condition.now.value)) (Some target) None result }
 {
     if compares(
         condition.operator(),

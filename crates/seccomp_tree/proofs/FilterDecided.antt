@@ -200,6 +200,4 @@ decide_as f numbers r w = (to w, from)
         (subst (λ d. First d r (called f r) v) (default_only (word_of f.mismatch_action) (word_at r 0)) first))
 
     from : IsDecision f r w → IsDecided (decisions_of f) r w
-    from h =
-        let x = decided_some (decisions_of f) r in
-        subst (IsDecided (decisions_of f) r) (one_decision f r x.0 w (to x.0 x.1) h) x.1
+    from h = let x = decided_some (decisions_of f) r in rw (one_decision f r x.0 w (to x.0 x.1) h) at x.1

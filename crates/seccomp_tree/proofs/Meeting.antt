@@ -110,12 +110,9 @@ pub met_now : {Is : List ℕ → Type 0} {most steps : ℕ} {old : List sock_fil
 met_now {Is} {most} {steps} {old} fit unfit t inside met unmet = record {
   grows = grows_not old most;
   inside = inside;
-  met = λ r rec is w n lead a small. now r w n a fit (met r is) (lead a small);
-  unmet = λ r rec not w n lead a small. now r w n a unfit (unmet r not) (lead a small);
+  met = λ r rec is w n lead a small. starts_more (n + steps) (omega arith) (rw (met r is) at (lead a small));
+  unmet = λ r rec not w n lead a small. starts_more (n + steps) (omega arith) (rw (unmet r not) at (lead a small));
 }
-  where
-    now : (r : List ℕ) (w n a : ℕ) (u : Target) → u ≡ t → Leads old r u a w n → Leads old r t a w (n + steps)
-    now r w n a u is lead = starts_more (n + steps) (omega arith) (subst (λ v. Leads old r v a w n) is lead)
 
 -- the second of two, which is written first, and the first: what takes both, and as much
 pub met_both : {First Second Both : List ℕ → Type 0} {m n s k : ℕ} {old mid new : List sock_filter} {fit unfit t u : Target}

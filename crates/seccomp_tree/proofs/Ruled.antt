@@ -185,7 +185,7 @@ module _ (old code : List sock_filter) (default : ℕ) (c : Condition) (d : Ruli
   pub pending_afresh : (t : Target) (rest : List Ruling) (laid : List Step) → joins d.conditions (head rest) ≡ false
       → AreRules old rest default t code → AreLaid c (Give d.value) (single t) laid → ArePending old default c d rest laid code
   pending_afresh t rest laid apart x h =
-      let count = alone_joined rest apart in
+      let count : joined d.conditions rest ≡ 0 = grind (arith, apart) in
       record {
         own = own;
         before = rules_length rest;
@@ -199,9 +199,6 @@ module _ (old code : List sock_filter) (default : ℕ) (c : Condition) (d : Ruli
             (λ not. x.leads r rec w n (first_behind d rest not first)
             (takes_fresh r d.conditions rest n apart (takes_behind r front d rest n on not takes)));
       }
-    where
-      alone_joined : (l : List Ruling) → joins d.conditions (head l) ≡ false → joined d.conditions l ≡ 0
-      alone_joined l e = grind (arith, e)
 
 -- ---- a ruling by its conditions
 
@@ -217,9 +214,6 @@ rules_alone old mid new default d rest t u none x h = record {
     by_itself m (by_steps c k e le) = absurd (cc)
     by_itself m (by_conditions e) = refl
 
-    apart : joins d.conditions (head rest) ≡ false
-    apart = ap (λ o. alike o (only (head rest))) none
-
     leads : (r : List ℕ) → IsRecord r → (w n : ℕ) → First default r (d ∷ rest) w → Takes r [] (d ∷ rest) n → LeadsAlways new r u w (n + 1)
     leads r rec w n first (stops q e l m holds enters) a small =
         let value = first_here d rest holds first in
@@ -230,7 +224,7 @@ rules_alone old mid new default d rest t u none x h = record {
         let run = by_itself m (enters_first [] d rest m refl enters) in
         starts_more (n + 1) (omega (arith, run))
         (h.unmet r rec not w (k + 1) (x.leads r rec w k (first_behind d rest not first)
-        (takes_fresh r d.conditions rest k apart takes)) a small)
+        (takes_fresh r d.conditions rest k (rw none refl) takes)) a small)
 
 -- ---- what comes after, as a target
 
@@ -245,25 +239,24 @@ rules_settled old code new default c d rest steps t x part = record {
   leads = leads;
 }
   where
-    on : joins d.conditions d.conditions ≡ true
-    on = joins_itself d.conditions c x.own
-
     -- the run is entered, and what is left goes on in it
     enters : (r : List ℕ) → IsRecord r → (w m k : ℕ) → First default r (d ∷ rest) w → RunTakes d.conditions (1 + joined d.conditions rest) m
         → Takes r d.conditions (d ∷ rest) k → LeadsAlways new r t w (m + k + 1)
     enters r rec w m k first (by_conditions e) takes a small = absurd (cc x.own)
     enters r rec w m k first (by_steps y j e le) takes a small =
         let same : y ≡ c = cc x.own in
+        let next = x.leads r rec w k d.conditions (joins_itself d.conditions c x.own) first takes in
         starts_more (m + k + 1) (omega (arith, ap (λ (z : Condition). part_steps z.arg_len j) same))
-        (leads_by (part.leads r rec w (k + 1) j (omega (arith, x.few, le)) (x.leads r rec w k d.conditions on first takes) a small))
+        (leads_by (part.leads r rec w (k + 1) j (omega (arith, x.few, le)) next a small))
 
     leads : (r : List ℕ) → IsRecord r → (w n : ℕ) → First default r (d ∷ rest) w → Takes r [] (d ∷ rest) n → LeadsAlways new r t w (n + 1)
     leads r rec w n first (stops q e l m holds enter) a small =
         starts_more (n + 1) (omega arith)
-        (enters r rec w m 0 first (enters_first [] d rest m refl enter) (stops d.conditions d rest 0 holds (goes_on on)) a small)
+        (enters r rec w m 0 first (enters_first [] d rest m refl enter)
+        (stops d.conditions d rest 0 holds (goes_on (joins_itself d.conditions c x.own))) a small)
     leads r rec w n first (passes q e l m k not enter takes) a small =
         starts_more (n + 1) (omega arith) (enters r rec w m (0 + k) first (enters_first [] d rest m refl enter)
-        (passes d.conditions d rest 0 k not (goes_on on) takes) a small)
+        (passes d.conditions d rest 0 k not (goes_on (joins_itself d.conditions c x.own)) takes) a small)
 
 pub settled : (old code new : List sock_filter) (default : ℕ) (rulings : List Ruling) (like : Option Condition) (steps : List Step)
     (t : Target) → IsRest old default rulings like steps code → IsSettled code like steps t new → AreRules old rulings default t new

@@ -93,8 +93,7 @@ leads_by (near p w a n inside close h) = to_place p w a n inside h
 -- what starts at a place returns what it did
 pub returns_grown : {r : List ℕ} {a w n most : ℕ} {old new : List sock_filter} (m : ℕ) → Grows old most new → m < length old
     → Returns r (tail_at old m) a w n → Returns r (tail_at new m) a w n
-returns_grown {r} {a} {w} {n} {most} {old} m g inside h =
-    subst (λ l. Returns r l a w n) (sym (ap (λ l. tail_at l m) g.whole ∙ tail_grown g.front old m inside)) h
+returns_grown {old = old} m g inside h = rw (g.whole, tail_grown g.front old m inside) h
 
 -- so for targets, if what was near is near
 pub starts_grown : {d e most : ℕ} {old new : List sock_filter} {r : List ℕ} {t : Target} {a w n : ℕ} → Grows old most new

@@ -25,7 +25,7 @@ one_first default v w (d ∷ rulings) r is h = go d.conditions refl is
   where
     go : (q : List Condition) → d.conditions ≡ q → (if nat_eq (length q) 0 then Some d.value else None) ≡ Some v → w ≡ v
     go [] e some =
-        let value = first_here d rulings (subst (λ (q : List Condition). RuleHolds q r) (sym e) (All-nil (λ (c : Condition). Holds c r))) h in
+        let value = first_here d rulings (rw e (All-nil (λ (c : Condition). Holds c r))) h in
         cc
     go (c ∷ q) e some = grind (arith, nat_tests, some)
 

@@ -4,8 +4,7 @@ use Rattle.seccomp_tree.proofs.code.Code.argument.Goals as goal
 
 pub word-requires-clause-inside : goal.word-requires-clause-inside
 word-requires-clause-inside c =
-    subst (AreIn c.high_halves.new.self) (sym c.deref.ensures.value)
-    (highs_in c.args.self.now c.high_halves.new.self c.args.index c.args.steps.now c.in_ok-highs.highs.items c.in_ok-highs.ensures.ok)
+    rw c.deref.ensures.value (highs_in c.args.self.now _ c.args.index c.args.steps.now c.in_ok-highs.highs.items c.in_ok-highs.ensures.ok)
 
 pub returns-clause-ok : goal.returns-clause-ok
 returns-clause-ok c =

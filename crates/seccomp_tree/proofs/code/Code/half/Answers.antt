@@ -5,8 +5,7 @@ use Rattle.seccomp_tree.proofs.code.Code.half.Goals as goal
 pub word-requires-clause-inside : goal.word-requires-clause-inside
 word-requires-clause-inside c =
     let part = rw c.new-lows.ensures.items at c.in_ok-push_part.ensures.part in
-    subst (AreIn c.args.self.now) (sym c.deref.ensures.value)
-    (half_in c.args.self.now c.args.steps.now c.push_part.new.steps.items c.args.high c.requires.are c.requires.inside part)
+    rw c.deref.ensures.value (half_in c.args.self.now c.args.steps.now _ c.args.high c.requires.are c.requires.inside part)
 
 pub returns-clause-ok : goal.returns-clause-ok
 returns-clause-ok c =

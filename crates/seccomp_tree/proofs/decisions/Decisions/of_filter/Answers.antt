@@ -4,8 +4,7 @@ use Rattle.seccomp_tree.proofs.FilterDecided.{decide_as}
 use Rattle.seccomp_tree.proofs.decisions.Decisions.of_filter.Goals as goal
 
 pub calls_of-requires : goal.calls_of-requires
-calls_of-requires c =
-    record { numbers = subst (λ chains. AreCallNumbers (numbers_of chains)) (sym c.rules.ensures) c.in_ok-check_numbers.ensures.fit }
+calls_of-requires c = record { numbers = rw c.rules.ensures c.in_ok-check_numbers.ensures.fit }
 
 same : (c : goal.In-Some) → c.in-Some.decisions ≡ decisions_of c.args.filter.now
 same c = search rules

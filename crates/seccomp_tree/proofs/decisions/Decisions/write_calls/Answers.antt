@@ -4,7 +4,7 @@ use Rattle.seccomp_tree.proofs.decisions.Decisions.write_calls.Goals as goal
 
 pub word-requires-clause-inside : goal.word-requires-clause-inside
 word-requires-clause-inside c =
-    subst (λ (l : List Step). AreIn c.call_steps.new.code l) (sym c.deref.ensures.value)
+    rw c.deref.ensures.value
     (calls_room c.args.self.now c.args.code.now c.call_steps.new.code c.in_ok-steps.steps.items c.in_ok-steps.ensures.ok)
 
 pub returns-clause-ok : goal.returns-clause-ok

@@ -80,16 +80,11 @@ impl Code {
     {
         let index = condition.arg_index();
         let (high_value, low_value) = condition.split_value();
-        let yes = self.masked(16 + 8 * index, (mask % HALVES) as u32, low_value, yes, no)?;
+        let (high, low) = ((mask / HALVES) as u32, (mask % HALVES) as u32);
+        let yes = self.masked(16 + 8 * index, low, low_value, yes, no)?;
         match condition.arg_len() {
             SeccompCmpArgLen::Dword => Ok(yes),
-            SeccompCmpArgLen::Qword => self.masked(
-                20 + 8 * index,
-                (mask / HALVES) as u32,
-                high_value,
-                yes,
-                no,
-            ),
+            SeccompCmpArgLen::Qword => self.masked(20 + 8 * index, high, high_value, yes, no),
         }
     }
 

@@ -28,13 +28,8 @@ pub(crate) fn laid(
     let mut steps = Vec::new(alloc);
     push_over(&mut steps, others, 0, value, side(condition, 0, target))?;
     let next = value + 1;
-    push_over(
-        &mut steps,
-        others,
-        value,
-        next,
-        side(condition, value, target),
-    )?;
+    let at = side(condition, value, target);
+    push_over(&mut steps, others, value, next, at)?;
     let end = numbers(condition.arg_len());
     push_over(&mut steps, others, next, end, side(condition, next, target))?;
     Ok(steps)
@@ -44,11 +39,8 @@ pub(crate) fn laid(
 fn side(condition: &SeccompCondition, number: u128, target: Target) -> Option<Target>
     ensures { IsChosen (Compares condition.now.operator number (part_of condition.now.arg_len condition.now.value)) (Some target) None result }
 {
-    if compares(
-        condition.operator(),
-        number,
-        u128::from(value_part(condition)),
-    ) {
+    let value = u128::from(value_part(condition));
+    if compares(condition.operator(), number, value) {
         Some(target)
     } else {
         None

@@ -80,12 +80,8 @@ impl Code {
     {
         match rest.like {
             Some(condition) => {
-                self.part(
-                    alloc,
-                    condition.arg_len(),
-                    condition.arg_index(),
-                    &rest.steps,
-                )
+                let (size, index) = (condition.arg_len(), condition.arg_index());
+                self.part(alloc, size, index, &rest.steps)
             }
             None => Ok(rest.steps[0].target),
         }
@@ -132,10 +128,8 @@ fn laid_rest(
     if steps.len() > BPF_MAX_LEN {
         return Err(TreeError::TooLarge);
     }
-    Ok(Rest {
-        like: Some(condition),
-        steps,
-    })
+    let like = Some(condition);
+    Ok(Rest { like, steps })
 }
 
 // Whether the condition compares what the other does.

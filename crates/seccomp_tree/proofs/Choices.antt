@@ -11,11 +11,8 @@ use Rattle.seccomp_tree.proofs.Begun.{steps_more, begun_more, begun_next, begun_
 pub compares_or_not : (o : SeccompCmpOp) (a v : ℕ) → Compares o a v ⊎ (Compares o a v → ⊥)
 compares_or_not Eq a v = cases_eq a v
 compares_or_not Ne a v = elim (cases_eq a v) [ inl e ↦ inr (λ not. not e) | inr not ↦ inl not ]
-compares_or_not Ge a v = elim (cases_lt a v) [ inl lt ↦ inr (λ h. absurd (omega arith)) | inr le ↦ inl le ]
-compares_or_not Gt a v = elim (cases_lt v a) [ inl lt ↦ inl lt | inr le ↦ inr (λ h. absurd (omega arith)) ]
-compares_or_not Le a v = elim (cases_lt v a) [ inl lt ↦ inr (λ h. absurd (omega arith)) | inr le ↦ inl le ]
-compares_or_not Lt a v = elim (cases_lt a v) [ inl lt ↦ inl lt | inr le ↦ inr (λ h. absurd (omega arith)) ]
 compares_or_not (MaskedEq m) a v = cases_eq (bit_and a m) (bit_and v m)
+compares_or_not _ a v = grind arith
 
 -- numbers on one side of a value compare alike
 side_alike : (o : SeccompCmpOp) (a b v : ℕ) → is_plain o ≡ true → ((a < v) × (b < v)) ⊎ ((v < a) × (v < b)) → Compares o a v

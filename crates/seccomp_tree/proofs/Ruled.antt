@@ -74,7 +74,7 @@ head (d ∷ rest) = d.conditions
 enters_joined : (first : List Condition) (d : Ruling) (rest : List Ruling) (n : ℕ) → joins first d.conditions ≡ true → Enters first d rest
     n → n ≡ 0
 enters_joined first d rest n on (goes_on e) = refl
-enters_joined first d rest n on (begins m apart takes) = absurd (true≢false (sym on ∙ apart))
+enters_joined first d rest n on (begins m apart takes) = absurd (cc)
 
 enters_first : (first : List Condition) (d : Ruling) (rest : List Ruling) (n : ℕ) → joins first d.conditions ≡ false → Enters first d rest n
     → RunTakes d.conditions (1 + joined d.conditions rest) n
@@ -266,9 +266,8 @@ settled old code new default rulings (Some c) steps t h s = rw h.2 (rules_settle
 
 -- ---- a ruling in front
 
-rest_head : (old : List sock_filter) (default : ℕ) (rulings : List Ruling) (like : Option Condition) (steps : List Step) (code : List
-    sock_filter)
-    → IsRest old default rulings like steps code → only (head rulings) ≡ like
+rest_head : (old : List sock_filter) (default : ℕ) (rulings : List Ruling) (like : Option Condition) (steps : List Step)
+    (code : List sock_filter) → IsRest old default rulings like steps code → only (head rulings) ≡ like
 rest_head old default rulings None steps code h = h.2
 rest_head old default rulings (Some c) steps code h = ap (λ (l : List Ruling). only (head l)) h.2 ∙ h.3.own
 

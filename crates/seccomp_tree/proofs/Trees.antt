@@ -50,12 +50,8 @@ from_drop : (m from : ℕ) (t : Target) (steps : List Step) (n a : ℕ) (d : Ste
     → (get_or steps n d).start ≤ a → found_from t steps a ≡ found_in (drop n steps) a
 from_drop m from t [] n a d h lt above = absurd (omega arith)
 from_drop m from t (x ∷ steps) zero a d h lt above = grind (arith, nat_tests)
-from_drop m from t (x ∷ steps) (suc n) a d h lt above = grind (
-  arith,
-  nat_tests,
-  (starts_rise m (x.start + 1) steps n d h.1.1 (omega arith)).0,
-  from_drop m (x.start + 1) x.target steps n a d h.1.1 (omega arith) above,
-)
+from_drop m from t (x ∷ steps) (suc n) a d h lt above =
+    grind (arith, nat_tests, starts_rise m (x.start + 1) steps n d h.1.1, from_drop m (x.start + 1) x.target steps n a d h.1.1)
 
 pub found_drop : (m : ℕ) (steps : List Step) (n a : ℕ) (d : Step) → AscendFrom m 0 steps → n < length steps → (get_or steps n d).start ≤ a
     → found_in steps a ≡ found_in (drop n steps) a
@@ -208,10 +204,7 @@ tree_halves old mid both new steps n d u v t half up some long upper lower h = r
     low = length-take-le n steps (omega arith)
 
     halved : (a : ℕ) → found_in steps a ≡ chosen AtLeast (get_or steps n d).start (found_in (drop n steps) a) (found_in (take n steps) a) a
-    halved a = elim (cases_lt a (get_or steps n d).start) [
-      | inl lt ↦ grind (arith, nat_tests, found_take steps n a d (omega arith) (omega arith) lt)
-      | inr le ↦ grind (arith, nat_tests, found_drop (2 ^ 32) steps n a d up (omega arith) le)
-    ]
+    halved a = grind (arith, nat_tests, found_take steps n a d (omega arith) (omega arith), found_drop (2 ^ 32) steps n a d up (omega arith))
 
 -- ---- after the load of a word
 

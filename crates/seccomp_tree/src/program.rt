@@ -138,10 +138,8 @@ fn next_call(calls: &BTreeMap<u32, Vec<Decision>>, number: u32) -> u64
     ensures within { result ≤ 2 ^ 32 }
     ensures none { (n : ℕ) → number < n → n < result → rulings_for (calls_of calls.now.entries) n ≡ [] }
 {
-    match calls
-        .range((Bound::Excluded(number), Bound::Unbounded))
-        .next()
-    {
+    let mut after = calls.range((Bound::Excluded(number), Bound::Unbounded));
+    match after.next() {
         Some((next, _)) => u64::from(*next),
         None => NUMBERS,
     }

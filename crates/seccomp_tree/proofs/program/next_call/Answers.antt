@@ -6,7 +6,7 @@ use Rattle.seccomp_tree.proofs.program.next_call.Goals as goal
 pub returns-in-Some-clause-none : goal.returns-in-Some-clause-none
 returns-in-Some-clause-none c = λ n above below.
     none_before c.args.calls.now.entries n c.from.result
-    (λ some. let h = (c.range.ensures.in_range tt).2 n (grind (arith, nat_tests), tt) some in
+    (λ some. let h = (c.range-after.ensures.in_range tt).2 n (grind (arith, nat_tests), tt) some in
     let e = c.in-Some.ensures.steps in
     let least = rw e at h in
     grind (arith, nat_tests, least)) below
@@ -14,4 +14,4 @@ returns-in-Some-clause-none c = λ n above below.
 pub returns-in-None-clause-none : goal.returns-in-None-clause-none
 returns-in-None-clause-none c = λ n above below.
     sym (rulings_under c.args.calls.now.entries n)
-    ∙ ap items_of ((c.range.ensures.in_range tt).5 c.in-None.ensures.steps.0 n (grind (arith, nat_tests), tt))
+    ∙ ap items_of ((c.range-after.ensures.in_range tt).5 c.in-None.ensures.steps.0 n (grind (arith, nat_tests), tt))

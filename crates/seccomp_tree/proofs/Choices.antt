@@ -9,8 +9,6 @@ use Rattle.seccomp_tree.proofs.Begun.{steps_more, begun_more, begun_next, begun_
 -- ---- comparing
 
 pub compares_or_not : (o : SeccompCmpOp) (a v : ℕ) → Compares o a v ⊎ (Compares o a v → ⊥)
-compares_or_not Eq a v = cases_eq a v
-compares_or_not Ne a v = elim (cases_eq a v) [ inl e ↦ inr (λ not. not e) | inr not ↦ inl not ]
 compares_or_not (MaskedEq m) a v = cases_eq (bit_and a m) (bit_and v m)
 compares_or_not _ a v = grind arith
 

@@ -50,11 +50,7 @@ next_is steps high start next are small within none some is = record {
   same = λ h a le lt fits. elim (cases_eq h high) [
     | inl here ↦ ap (λ x. found_in steps (x * 2 ^ 32 + a)) here
     | inr further ↦
-        let one = begun_more steps (high * 2 ^ 32 + 1) (h * 2 ^ 32 + a + 1) (omega arith) in
-        let two = begun_more steps (h * 2 ^ 32 + a + 1) start (omega arith) in
-        let three = begun_more steps (high * 2 ^ 32 + 1) (high * 2 ^ 32 + a + 1) (omega arith) in
-        let four = begun_more steps (high * 2 ^ 32 + a + 1) start (omega arith) in
-        found_same (2 ^ 64) steps (h * 2 ^ 32 + a) (high * 2 ^ 32 + a) are (omega arith) (omega (arith, one, two, three, four))
+        found_same (2 ^ 64) steps (h * 2 ^ 32 + a) (high * 2 ^ 32 + a) are (omega arith) (grind (arith, begun_more steps, none, is))
   ];
   more = λ less.
       let up = begun_more steps ((high + 1) * 2 ^ 32) (next * 2 ^ 32) (omega (arith, is)) in

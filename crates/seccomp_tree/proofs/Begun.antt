@@ -1,8 +1,8 @@
 -- How many steps start below a number, and what that says of their targets.
 use Rattle.seccomp_tree.proofs.Common.{◌≡◌, ℕ, zero, suc, ◌+◌, ◌-◌, ◌^◌, ◌<◌, ◌≤◌, ◌≢◌, List, [], ◌∷◌, ◌++◌, length, get_or, true, false}
-use Rattle.seccomp_tree.proofs.Common.{refl, sym, ap, ◌∙◌, subst, nat_le, if◌then◌else◌, leb, arith, inl, inr, length-append, nat_tests}
-use Rattle.seccomp_tree.proofs.Common.{cases_lt, leb-true, leb-false, IsPartitionPoint, sock_filter, Target, Step, StartsAtZero, found_from}
-use Rattle.seccomp_tree.proofs.Common.{found_in, AscendFrom, AreSteps, begun, TightFrom, AreTight, IsPushed, IsPartPushed, IsIn, AreIn}
+use Rattle.seccomp_tree.proofs.Common.{refl, sym, ap, ◌∙◌, nat_le, if◌then◌else◌, leb, arith, inl, inr, length-append, nat_tests}
+use Rattle.seccomp_tree.proofs.Common.{cases_lt, leb-true, leb-false, IsPartitionPoint, sock_filter, Target, Step, found_from}
+use Rattle.seccomp_tree.proofs.Common.{found_in, AscendFrom, AreSteps, begun, TightFrom, IsPushed, IsPartPushed, IsIn, AreIn}
 
 -- ---- ascending
 
@@ -133,7 +133,7 @@ pub are_in_below : (code : List sock_filter) (m : ℕ) (steps : List Step) → 0
 are_in_below code m steps some are h k d lt =
     let same : begun steps ((get_or steps k d).start + 1) - 1 ≡ k = omega (arith, begun_at m 0 steps k d are.ascend lt) in
     rw (found_begun m steps ((get_or steps k d).start) d are some, same) at
-        (h ((get_or steps k d).start) (starts_rise m 0 steps k d are.ascend lt).1)
+    (h ((get_or steps k d).start) (starts_rise m 0 steps k d are.ascend lt).1)
 
 pub found_in_code : (code : List sock_filter) (m : ℕ) (steps : List Step) (d : Step) (a : ℕ) → 0 < m → AreSteps m steps → AreIn code steps
     → IsIn code (found_in steps a)

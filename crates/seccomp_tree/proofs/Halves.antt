@@ -1,6 +1,6 @@
 -- Arguments of 64 bits: steps by their high and their low halves.
 use Rattle.seccomp_tree.proofs.Common.{◌≡◌, ℕ, suc, ◌+◌, ◌-◌, ◌*◌, ◌/◌, ◌^◌, ◌<◌, ◌≤◌, List, [], length, get_or, sym, ap, subst, arith, inl}
-use Rattle.seccomp_tree.proofs.Common.{inr, max, cases_lt, cases_eq, pow-succ', sock_filter, IsRecord, word_at, argument_at}
+use Rattle.seccomp_tree.proofs.Common.{inr, max, cases_lt, cases_eq, pow-succ', sock_filter, word_at, argument_at}
 use Rattle.seccomp_tree.proofs.Common.{greatest_length, word_fits, number_halves, Target, Give, Step, found_in, AreSteps, begun, IsPushed}
 use Rattle.seccomp_tree.proofs.Common.{IsPartPushed, Dword, Qword, AreIn, IsIn, LeadsAlways, IsPart, half_length, IsHalf, IsNext, AreHighs}
 use Rattle.seccomp_tree.proofs.Runs.{grows_on, grown_long, is_in_grown, leads_by, leads_grown, starts_more}

@@ -1,7 +1,7 @@
 -- The theorem: what is written answers every record as is decided.
 use Rattle.seccomp_tree.proofs.Common.{◌≡◌, ℕ, ◌+◌, ◌-◌, ◌*◌, ◌≤◌, ◌^◌, List, [], ◌∷◌, length, Bool, true, false, Option, Some, None, refl}
-use Rattle.seccomp_tree.proofs.Common.{sym, ap, subst, inl, inr, arith, nat_eq, if◌then◌else◌, suc, zero, nat_tests, All-nil, sock_filter}
-use Rattle.seccomp_tree.proofs.Common.{IsRecord, word_at, audit_word, Condition, Holds, RuleHolds, Target, Give, Step, found_in, AreIn}
+use Rattle.seccomp_tree.proofs.Common.{ap, inl, inr, arith, nat_eq, if◌then◌else◌, suc, zero, nat_tests, All-nil, sock_filter}
+use Rattle.seccomp_tree.proofs.Common.{IsRecord, word_at, audit_word, Condition, Holds, Target, Give, Step, found_in, AreIn}
 use Rattle.seccomp_tree.proofs.Common.{IsFullBy, StartsAlways, to_return, LeadsAlways, IsPart, IsSound, Returns, chosen, part_steps, Dword}
 use Rattle.seccomp_tree.proofs.Common.{Ruling, First, nothing, Takes, stops, passes, ends, Enters, begins, RunTakes, by_steps}
 use Rattle.seccomp_tree.proofs.Common.{by_conditions, only, joins, joined, conditions_steps, DecisionSet, default_for, rulings_for}

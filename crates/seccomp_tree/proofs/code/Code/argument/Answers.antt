@@ -1,4 +1,4 @@
-use Rattle.seccomp_tree.proofs.Common.{sym, subst, arith, IfErr-weaker, IfOk-weaker, AreIn}
+use Rattle.seccomp_tree.proofs.Common.{arith, IfErr-weaker, IfOk-weaker}
 use Rattle.seccomp_tree.proofs.Halves.{highs_in, is_argument, full_highs}
 use Rattle.seccomp_tree.proofs.code.Code.argument.Goals as goal
 

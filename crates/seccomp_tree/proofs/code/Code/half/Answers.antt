@@ -1,4 +1,4 @@
-use Rattle.seccomp_tree.proofs.Common.{sym, subst, arith, IfErr-weaker, IfOk-weaker, AreIn}
+use Rattle.seccomp_tree.proofs.Common.{arith, IfErr-weaker, IfOk-weaker}
 use Rattle.seccomp_tree.proofs.Halves.{half_in, half_of_word, half_room}
 use Rattle.seccomp_tree.proofs.code.Code.half.Goals as goal
 

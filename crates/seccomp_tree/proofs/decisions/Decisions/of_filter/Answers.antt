@@ -1,5 +1,4 @@
-use Rattle.seccomp_tree.proofs.Common.{rules, ◌≡◌, sym, subst, AreCallNumbers, decisions_of}
-use Rattle.seccompiler.specs.Compiled.{numbers_of}
+use Rattle.seccomp_tree.proofs.Common.{rules, ◌≡◌, decisions_of}
 use Rattle.seccomp_tree.proofs.FilterDecided.{decide_as}
 use Rattle.seccomp_tree.proofs.decisions.Decisions.of_filter.Goals as goal
 

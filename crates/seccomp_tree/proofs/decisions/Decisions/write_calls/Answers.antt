@@ -1,4 +1,4 @@
-use Rattle.seccomp_tree.proofs.Common.{sym, subst, List, Step, AreIn, IfErr-weaker, IfOk-weaker}
+use Rattle.seccomp_tree.proofs.Common.{IfErr-weaker, IfOk-weaker}
 use Rattle.seccomp_tree.proofs.Theorem.{calls_target, calls_room, calls_full}
 use Rattle.seccomp_tree.proofs.decisions.Decisions.write_calls.Goals as goal
 

@@ -1,8 +1,8 @@
 -- How many steps start below a number, and what that says of their targets.
 use Rattle.seccomp_tree.proofs.Common.{◌≡◌, ℕ, zero, suc, ◌+◌, ◌-◌, ◌^◌, ◌<◌, ◌≤◌, ◌≢◌, List, [], ◌∷◌, ◌++◌, length, get_or, true, false}
-use Rattle.seccomp_tree.proofs.Common.{refl, sym, ap, ◌∙◌, nat_le, if◌then◌else◌, leb, arith, inl, inr, length-append, nat_tests}
-use Rattle.seccomp_tree.proofs.Common.{cases_lt, leb-true, leb-false, IsPartitionPoint, sock_filter, Target, Step, found_from}
-use Rattle.seccomp_tree.proofs.Common.{found_in, AscendFrom, AreSteps, begun, TightFrom, IsPushed, IsPartPushed, IsIn, AreIn}
+use Rattle.seccomp_tree.proofs.Common.{refl, sym, ap, ◌∙◌, nat_le, if◌then◌else◌, leb, arith, inl, inr, length-append, nat_tests, cases_lt}
+use Rattle.seccomp_tree.proofs.Common.{leb-true, leb-false, IsPartitionPoint, sock_filter, Target, Step, found_from, found_in, AscendFrom}
+use Rattle.seccomp_tree.proofs.Common.{AreSteps, begun, TightFrom, IsPushed, IsPartPushed, IsIn, AreIn}
 
 -- ---- ascending
 

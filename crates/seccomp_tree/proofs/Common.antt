@@ -3,8 +3,8 @@ pub use Rattle.seccomp_tree.specs.Arguments.{AreHighs, IsHalf, IsNext, half_leng
 pub use Rattle.seccomp_tree.specs.Code.{AreFine, AreIn, DoesAs, GoesOn, Grows, IsFar, IsFullBy, IsIn, IsPart, IsReached, IsSound, IsTested}
 pub use Rattle.seccomp_tree.specs.Code.{IsTree, Leads, LeadsAlways, Returns, Says, Starts, StartsAlways, chosen, gives, near, part_length}
 pub use Rattle.seccomp_tree.specs.Code.{part_steps, tail_at, to_place, to_return}
-pub use Rattle.seccomp_tree.specs.Conditions.{AreLaid, AreLaidTo, HasBits, IsChosen, IsConditionMet, IsMet, IsOverPushed}
-pub use Rattle.seccomp_tree.specs.Conditions.{condition_length, condition_steps, is_plain, over}
+pub use Rattle.seccomp_tree.specs.Conditions.{AreLaid, AreLaidTo, HasBits, IsChosen, IsConditionMet, IsMet, IsOverPushed, condition_length}
+pub use Rattle.seccomp_tree.specs.Conditions.{condition_steps, is_plain, over}
 pub use Rattle.seccomp_tree.specs.Decided.{DecisionSet, IsDecided, StartAbove, calls_of, decided, default_for, default_from}
 pub use Rattle.seccomp_tree.specs.Decided.{other_architecture, rulings_for}
 pub use Rattle.seccomp_tree.specs.Decisions.{Enters, First, Ruling, RunTakes, Takes, alike, begins, behind, by_conditions, by_steps}
@@ -13,8 +13,8 @@ pub use Rattle.seccomp_tree.specs.Decisions.{rules_length, same_length, stops}
 pub use Rattle.seccomp_tree.specs.FilterDecisions.{DecideAs, call_of, decisions_of, rulings_of}
 pub use Rattle.seccomp_tree.specs.Layouts.{AgreesInAll, IsCompiledIn}
 pub use Rattle.seccomp_tree.specs.Rules.{AreRules, IsInFront, IsRulingMet, IsSettled, afresh, alone, along, rest_length}
-pub use Rattle.seccomp_tree.specs.Steps.{AreSteps, AreTight, AscendFrom, IsPartPushed, IsPushed, StartsAtZero, TightFrom, begun, found_from}
-pub use Rattle.seccomp_tree.specs.Steps.{found_in, row, same, second_stands_out, single}
+pub use Rattle.seccomp_tree.specs.Steps.{AreSteps, AscendFrom, IsPartPushed, IsPushed, TightFrom, begun, found_from, found_in, row, same}
+pub use Rattle.seccomp_tree.specs.Steps.{second_stands_out, single}
 pub use Rattle.seccomp_tree.specs.TreeProgram.{AreRanges, EndsAsDecided, IsTreeProgram, TakesOwn, calls_length, one, one_value, other, own}
 pub use Rattle.seccomp_tree.specs.TreeProgram.{value_for}
 pub use Rattle.seccomp_tree.specs.declared.code.Test.{Test}
@@ -38,7 +38,7 @@ pub use Rattle.seccompiler.specs.Policy.{chain_under, chains_of, operator_part, 
 pub use Rattle.seccompiler.specs.declared.backend.SeccompCmpArgLen.{SeccompCmpArgLen}
 pub use Rattle.seccompiler.specs.declared.backend.SeccompCmpArgLen.TheVariants.{Dword, Qword}
 pub use Rattle.seccompiler.specs.declared.backend.SeccompCmpOp.{SeccompCmpOp}
-pub use Rattle.seccompiler.specs.declared.backend.SeccompCmpOp.TheVariants.{Eq, Ge, Gt, Le, Lt, MaskedEq, Ne}
+pub use Rattle.seccompiler.specs.declared.backend.SeccompCmpOp.TheVariants.{MaskedEq}
 pub use Rattle.seccompiler.specs.declared.bpf.sock_filter.{sock_filter}
 pub use Rattle.std.proofs.Common.{All, Any, Bool, Err, Global, Greater, Less, List, None, Ok, Option, Ordering, Result, Some, Vec, []}
 pub use Rattle.std.proofs.Common.{add-one, ap, append_assoc, arith, drop, false, get_or, if◌then◌else◌, inl, inr, leb, length}

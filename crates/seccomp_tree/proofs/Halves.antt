@@ -1,8 +1,8 @@
 -- Arguments of 64 bits: steps by their high and their low halves.
 use Rattle.seccomp_tree.proofs.Common.{◌≡◌, ℕ, suc, ◌+◌, ◌-◌, ◌*◌, ◌/◌, ◌^◌, ◌<◌, ◌≤◌, List, [], length, get_or, sym, ap, subst, arith, inl}
-use Rattle.seccomp_tree.proofs.Common.{inr, max, cases_lt, cases_eq, pow-succ', sock_filter, word_at, argument_at}
-use Rattle.seccomp_tree.proofs.Common.{greatest_length, word_fits, number_halves, Target, Give, Step, found_in, AreSteps, begun, IsPushed}
-use Rattle.seccomp_tree.proofs.Common.{IsPartPushed, Dword, Qword, AreIn, IsIn, LeadsAlways, IsPart, half_length, IsHalf, IsNext, AreHighs}
+use Rattle.seccomp_tree.proofs.Common.{inr, max, cases_lt, cases_eq, pow-succ', sock_filter, word_at, argument_at, greatest_length}
+use Rattle.seccomp_tree.proofs.Common.{word_fits, number_halves, Target, Give, Step, found_in, AreSteps, begun, IsPushed, IsPartPushed}
+use Rattle.seccomp_tree.proofs.Common.{Dword, Qword, AreIn, IsIn, LeadsAlways, IsPart, half_length, IsHalf, IsNext, AreHighs}
 use Rattle.seccomp_tree.proofs.Runs.{grows_on, grown_long, is_in_grown, leads_by, leads_grown, starts_more}
 use Rattle.seccomp_tree.proofs.Begun.{begun_few, begun_more, begun_below, begun_counts, starts_rise, found_same, are_in_below, not_none}
 use Rattle.seccomp_tree.proofs.Begun.{steps_more, begun_some, found_in_code}

@@ -1,11 +1,11 @@
 -- Conditions as targets: what choices and masks make of them.
-use Rattle.seccomp_tree.proofs.Common.{◌≡◌, ℕ, suc, ◌+◌, ◌-◌, ◌*◌, ◌/◌, ◌%◌, ◌<◌, ◌≤◌, ◌^◌, List, [], ◌∷◌, length, true, refl, ap}
-use Rattle.seccomp_tree.proofs.Common.{inl, inr, arith, bit_and, ◌⊎◌, ◌↔◌, if◌then◌else◌, and_lt, and_zero_r, cases_eq, eq-eqb, ne_eqb}
-use Rattle.seccomp_tree.proofs.Common.{sock_filter, SeccompCmpArgLen, Dword, Qword, SeccompCmpOp, MaskedEq, IsRecord, word_at, argument_at}
-use Rattle.seccomp_tree.proofs.Common.{masks, All-nil, All-cons, All-head, All-tail, Condition, Compares, Holds, RuleHolds, part_of}
-use Rattle.seccomp_tree.proofs.Common.{operator_part, load, mask, word_fits, number_halves, mask_halves, Target, At, Step, found_in, single}
-use Rattle.seccomp_tree.proofs.Common.{is_plain, IsChosen, AreLaid, condition_length, condition_steps, IsMet, IsConditionMet, HasBits}
-use Rattle.seccomp_tree.proofs.Common.{LeadsAlways, IsIn, chosen, IsTested, part_length, part_steps, IsPart}
+use Rattle.seccomp_tree.proofs.Common.{◌≡◌, ℕ, suc, ◌+◌, ◌-◌, ◌*◌, ◌/◌, ◌%◌, ◌<◌, ◌≤◌, ◌^◌, List, [], ◌∷◌, length, true, refl, ap, inl, inr}
+use Rattle.seccomp_tree.proofs.Common.{arith, bit_and, ◌⊎◌, ◌↔◌, if◌then◌else◌, and_lt, and_zero_r, cases_eq, eq-eqb, ne_eqb, sock_filter}
+use Rattle.seccomp_tree.proofs.Common.{SeccompCmpArgLen, Dword, Qword, SeccompCmpOp, MaskedEq, IsRecord, word_at, argument_at, masks}
+use Rattle.seccomp_tree.proofs.Common.{All-nil, All-cons, All-head, All-tail, Condition, Compares, Holds, RuleHolds, part_of, operator_part}
+use Rattle.seccomp_tree.proofs.Common.{load, mask, word_fits, number_halves, mask_halves, Target, At, Step, found_in, single, is_plain}
+use Rattle.seccomp_tree.proofs.Common.{IsChosen, AreLaid, condition_length, condition_steps, IsMet, IsConditionMet, HasBits, LeadsAlways}
+use Rattle.seccomp_tree.proofs.Common.{IsIn, chosen, IsTested, part_length, part_steps, IsPart}
 use Rattle.seccomp_tree.specs.declared.code.Test.TheVariants.{Equal}
 use Rattle.seccomp_tree.specs.Conditions.{numbers_of}
 use Rattle.seccomp_tree.specs.Code.{goes_on}

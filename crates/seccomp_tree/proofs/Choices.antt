@@ -22,8 +22,7 @@ pub numbers_many : (l : SeccompCmpArgLen) → 2 ^ 32 ≤ numbers_of l
 numbers_many l = grind arith
 
 pub numbers_few : (l : SeccompCmpArgLen) (steps : List Step) → AreSteps (numbers_of l) steps → AreSteps (2 ^ 64) steps
-numbers_few Dword steps h = steps_more (2 ^ 32) (2 ^ 64) steps (omega arith) (omega arith) h
-numbers_few Qword steps h = h
+numbers_few l steps h = steps_more (numbers_of l) (2 ^ 64) steps (grind arith) (grind arith) h
 
 -- ---- laying
 

@@ -30,9 +30,8 @@ ruling_one old mid new value after t u c rest h one = met_both _ _ (holds_or_not
 )) (omega arith) (omega arith) h one
 
 conditions_less : (n : ℕ) (q : List Condition) → conditions_length (drop n q) ≤ conditions_length q
-conditions_less zero q = omega arith
-conditions_less (suc n) [] = omega arith
 conditions_less (suc n) (c ∷ q) = omega (arith, conditions_less n q)
+conditions_less _ q = omega arith
 
 -- how much room a condition takes at most, of what all take
 pub ruling_room : (old mid : List sock_filter) (value : ℕ) (after t : Target) (q : List Condition) (k : ℕ) (c : Condition) (rest : List
@@ -293,6 +292,5 @@ rest_room old code default rulings (Some c) steps h =
     omega (arith, (grown_long h.3.grows).1, h.3.room, ap rules_length h.2, room)
 
 pub rules_less : (n : ℕ) (rulings : List Ruling) → rules_length (drop n rulings) ≤ rules_length rulings
-rules_less zero rulings = omega arith
-rules_less (suc n) [] = omega arith
 rules_less (suc n) (d ∷ rulings) = omega (arith, rules_less n rulings)
+rules_less _ rulings = omega arith

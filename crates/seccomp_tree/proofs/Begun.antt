@@ -78,7 +78,8 @@ begun_none m from (x ∷ steps) a h le = grind (arith, nat_tests, h.0)
 -- at most one starts at a number
 pub begun_next : (m from : ℕ) (steps : List Step) (a : ℕ) → AscendFrom m from steps → begun steps (a + 1) ≤ begun steps a + 1
 begun_next m from [] a h = omega arith
-begun_next m from (x ∷ steps) a h = grind (arith, nat_tests, begun_next m (x.start + 1) steps a h.1.1, begun_none m (x.start + 1) steps (a + 1) h.1.1)
+begun_next m from (x ∷ steps) a h =
+    grind (arith, nat_tests, begun_next m (x.start + 1) steps a h.1.1, begun_none m (x.start + 1) steps (a + 1) h.1.1)
 
 -- a step is the last of those that start up to its start
 pub begun_at : (m from : ℕ) (steps : List Step) (k : ℕ) (d : Step) → AscendFrom m from steps → k < length steps

@@ -51,7 +51,8 @@ laid_on c target others old new first end n more side plain at alike under few h
 pub laid_whole : (c : Condition) (target : Target) (others low mid new : List Step) (value : ℕ) (one two three : Option Target)
     → value ≡ part_of c.arg_len c.value → is_plain c.operator ≡ true → AreSteps (numbers_of c.arg_len) others
     → IsChosen (Compares c.operator 0 (part_of c.arg_len c.value)) (Some target) None one → IsOverPushed [] others 0 value one low
-    → IsChosen (Compares c.operator value (part_of c.arg_len c.value)) (Some target) None two → IsOverPushed low others value (value + 1) two mid
+    → IsChosen (Compares c.operator value (part_of c.arg_len c.value)) (Some target) None two
+    → IsOverPushed low others value (value + 1) two mid
     → IsChosen (Compares c.operator (value + 1) (part_of c.arg_len c.value)) (Some target) None three
     → IsOverPushed mid others (value + 1) (numbers_of c.arg_len) three new → AreLaid c target others new
 laid_whole c target others low mid new value one two three part plain are first lower at own third upper =

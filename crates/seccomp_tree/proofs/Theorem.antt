@@ -112,7 +112,8 @@ written_returns : (d : DecisionSet) (old p : List sock_filter) (h : IsWritten ol
 written_returns d old p h r w n k rec few (other_architecture not is) takes = returns_more (4 + 2 * k + n) (omega arith)
     (chosen_runs d old p h r (Give w) w 1 rec (grind (arith, nat_tests, not, is)) (λ a small. to_return w a 1 (omega arith)))
 written_returns d old p h r w n k rec few (decided arch first) takes = returns_more (4 + 2 * k + n) (omega arith)
-    (chosen_runs d old p h r h.calls w (n + 2 + 2 * k) rec (grind (arith, nat_tests, arch)) (h.answers.enters r rec w n k few arch first takes))
+    (chosen_runs d old p h r h.calls w (n + 2 + 2 * k) rec (grind (arith, nat_tests, arch))
+    (h.answers.enters r rec w n k few arch first takes))
 
 written_decides : (d : DecisionSet) (old p : List sock_filter) → IsWritten old d p → (r : List ℕ) → IsRecord r → EndsAsDecided d p r
 written_decides d old p h r rec =

@@ -204,7 +204,8 @@ tree_halves old mid both new steps n d u v t half up some long upper lower h = r
     low = length-take-le n steps (omega arith)
 
     halved : (a : ℕ) → found_in steps a ≡ chosen AtLeast (get_or steps n d).start (found_in (drop n steps) a) (found_in (take n steps) a) a
-    halved a = grind (arith, nat_tests, found_take steps n a d (omega arith) (omega arith), found_drop (2 ^ 32) steps n a d up (omega arith))
+    halved a =
+        grind (arith, nat_tests, found_take steps n a d (omega arith) (omega arith), found_drop (2 ^ 32) steps n a d up (omega arith))
 
 -- ---- after the load of a word
 

@@ -1,17 +1,8 @@
 -- How many steps start below a number, and what that says of their targets.
-use Rattle.std.proofs.Common.{◌≡◌, ℕ, zero, suc, ◌+◌, ◌-◌, ◌^◌, ◌<◌, ◌≤◌, ◌≢◌, List, [], ◌∷◌, ◌++◌, length, get_or, true, false, refl}
-use Rattle.std.proofs.Common.{sym, ap, ◌∙◌}
-use Rattle.std.proofs.Common.{subst, nat_le, if◌then◌else◌, leb, arith, inl, inr, length-append}
-use Rattle.std.specs.Prelude.{nat_lt}
-use Rattle.std.proofs.lemmas.Bool.Decides.{nat_tests}
-use Rattle.std.proofs.lemmas.Bool.{cases_lt, leb-true, leb-false}
-use Rattle.std.specs.List.Sorted.{IsPartitionPoint}
-use Rattle.seccompiler.specs.declared.bpf.sock_filter.{sock_filter}
-use Rattle.seccomp_tree.specs.declared.steps.Target.{Target}
-use Rattle.seccomp_tree.specs.declared.steps.Step.{Step}
-use Rattle.seccomp_tree.specs.Steps.{StartsAtZero, found_from, found_in, AscendFrom, AreSteps, begun, TightFrom, AreTight, IsPushed}
-use Rattle.seccomp_tree.specs.Steps.{IsPartPushed}
-use Rattle.seccomp_tree.specs.Code.{IsIn, AreIn}
+use Rattle.seccomp_tree.proofs.Common.{◌≡◌, ℕ, zero, suc, ◌+◌, ◌-◌, ◌^◌, ◌<◌, ◌≤◌, ◌≢◌, List, [], ◌∷◌, ◌++◌, length, get_or, true, false}
+use Rattle.seccomp_tree.proofs.Common.{refl, sym, ap, ◌∙◌, nat_le, if◌then◌else◌, leb, arith, inl, inr, length-append, nat_tests, cases_lt}
+use Rattle.seccomp_tree.proofs.Common.{leb-true, leb-false, IsPartitionPoint, sock_filter, Target, Step, found_from, found_in, AscendFrom}
+use Rattle.seccomp_tree.proofs.Common.{AreSteps, begun, TightFrom, IsPushed, IsPartPushed, IsIn, AreIn}
 
 -- ---- ascending
 
@@ -38,95 +29,65 @@ pub starts_rise : (m from : ℕ) (steps : List Step) (k : ℕ) (d : Step) → As
     → (from + k ≤ (get_or steps k d).start) × ((get_or steps k d).start < m)
 starts_rise m from [] k d h lt = absurd (omega arith)
 starts_rise m from (x ∷ steps) zero d h lt = (omega (arith, h.0), h.1.0)
-starts_rise m from (x ∷ steps) (suc k) d h lt =
-    let up = starts_rise m (x.start + 1) steps k d h.1.1 (omega arith) in (omega (arith, up.0, h.0), up.1)
+starts_rise m from (x ∷ steps) (suc k) d h lt = grind (arith, starts_rise m (x.start + 1) steps k d h.1.1, h.0, lt)
 
 pub starts_sorted : (m from : ℕ) (steps : List Step) → AscendFrom m from steps → (i j : ℕ) (d : Step) → i ≤ j → j < length steps
     → (get_or steps i d).start ≤ (get_or steps j d).start
-starts_sorted m from [] h i j d le lt = absurd (omega arith)
-starts_sorted m from (x ∷ steps) h zero zero d le lt = omega arith
 starts_sorted m from (x ∷ steps) h zero (suc j) d le lt = omega (arith, (starts_rise m (x.start + 1) steps j d h.1.1 (omega arith)).0)
-starts_sorted m from (x ∷ steps) h (suc i) zero d le lt = absurd (omega arith)
 starts_sorted m from (x ∷ steps) h (suc i) (suc j) d le lt =
     starts_sorted m (x.start + 1) steps h.1.1 i j d (omega arith) (omega arith)
+starts_sorted m from _ h i j d le lt = grind (arith, le, lt)
 
 -- ---- counting
 
 pub begun_few : (steps : List Step) (a : ℕ) → begun steps a ≤ length steps
 begun_few [] a = omega arith
-begun_few (x ∷ steps) a = elim (cases_lt x.start a) [
-  | inl lt ↦ let yes : nat_lt x.start a ≡ true = grind (arith, nat_tests) in rw yes (omega (arith, begun_few steps a))
-  | inr le ↦ let no : nat_lt x.start a ≡ false = grind (arith, nat_tests) in rw no (omega arith)
-]
+begun_few (x ∷ steps) a = grind (arith, nat_tests, begun_few steps a)
 
 -- what is counted starts below the number
 pub begun_below : (steps : List Step) (a k : ℕ) (d : Step) → k < begun steps a → (get_or steps k d).start < a
 begun_below [] a k d lt = absurd (omega arith)
-begun_below (x ∷ steps) a zero d lt = elim (cases_lt x.start a) [
-  | inl below ↦ below
-  | inr le ↦
-      let no : nat_lt x.start a ≡ false = grind (arith, nat_tests) in
-      let none : 0 < 0 = rw no at lt in
-      absurd (omega arith)
-]
-begun_below (x ∷ steps) a (suc k) d lt = elim (cases_lt x.start a) [
-  | inl below ↦
-      let yes : nat_lt x.start a ≡ true = grind (arith, nat_tests) in
-      let more : suc k < 1 + begun steps a = rw yes at lt in
-      begun_below steps a k d (omega arith)
-  | inr le ↦
-      let no : nat_lt x.start a ≡ false = grind (arith, nat_tests) in
-      let none : suc k < 0 = rw no at lt in
-      absurd (omega arith)
-]
+begun_below (x ∷ steps) a zero d lt = grind (arith, nat_tests)
+begun_below (x ∷ steps) a (suc k) d lt = grind (arith, nat_tests, begun_below steps a k d)
 
 -- and what starts below the number is counted
 pub begun_counts : (m from : ℕ) (steps : List Step) (a k : ℕ) (d : Step) → AscendFrom m from steps → k < length steps
     → (get_or steps k d).start < a → k < begun steps a
 begun_counts m from [] a k d h lt below = absurd (omega arith)
-begun_counts m from (x ∷ steps) a zero d h lt below = let yes : nat_lt x.start a ≡ true = grind (arith, nat_tests) in rw yes (omega arith)
+begun_counts m from (x ∷ steps) a zero d h lt below = grind (arith, nat_tests)
 begun_counts m from (x ∷ steps) a (suc k) d h lt below =
-    let up = starts_rise m (x.start + 1) steps k d h.1.1 (omega arith) in
-    let yes : nat_lt x.start a ≡ true = grind (arith, nat_tests, up.0) in
-    rw yes (omega (arith, begun_counts m (x.start + 1) steps a k d h.1.1 (omega arith) below))
+    grind (arith, nat_tests, starts_rise m (x.start + 1) steps k d h.1.1, begun_counts m (x.start + 1) steps a k d h.1.1)
 
 pub begun_more : (steps : List Step) (a b : ℕ) → a ≤ b → begun steps a ≤ begun steps b
 begun_more [] a b le = omega arith
-begun_more (x ∷ steps) a b le = elim (cases_lt x.start a) [
-  | inl lt ↦
-      let yes : nat_lt x.start a ≡ true = grind (arith, nat_tests) in
-      let too : nat_lt x.start b ≡ true = grind (arith, nat_tests) in
-      rw (yes, too) (omega (arith, begun_more steps a b le))
-  | inr ge ↦ let no : nat_lt x.start a ≡ false = grind (arith, nat_tests) in rw no (omega arith)
-]
+begun_more (x ∷ steps) a b le = grind (arith, nat_tests, begun_more steps a b le)
 
 -- all of them start below the size
 pub begun_all : (m from : ℕ) (steps : List Step) (a : ℕ) → AscendFrom m from steps → m ≤ a → begun steps a ≡ length steps
 begun_all m from [] a h le = refl
-begun_all m from (x ∷ steps) a h le =
-    let yes : nat_lt x.start a ≡ true = grind (arith, nat_tests, h.1.0) in
-    rw yes (omega (arith, begun_all m (x.start + 1) steps a h.1.1 le))
+begun_all m from (x ∷ steps) a h le = grind (arith, nat_tests, h.1.0, begun_all m (x.start + 1) steps a h.1.1 le)
 
 pub begun_some : (m : ℕ) (steps : List Step) (a : ℕ) → AreSteps m steps → 0 < m → 1 ≤ begun steps (a + 1)
 begun_some m [] a h some = absurd (h.first some)
-begun_some m (x ∷ steps) a h some =
-    let yes : nat_lt x.start (a + 1) ≡ true = grind (arith, nat_tests, h.first some) in rw yes (omega arith)
+begun_some m (x ∷ steps) a h some = grind (arith, nat_tests, h.first some)
+
+begun_none : (m from : ℕ) (steps : List Step) (a : ℕ) → AscendFrom m from steps → a ≤ from → begun steps a ≡ 0
+begun_none m from [] a h le = refl
+begun_none m from (x ∷ steps) a h le = grind (arith, nat_tests, h.0)
+
+-- at most one starts at a number
+pub begun_next : (m from : ℕ) (steps : List Step) (a : ℕ) → AscendFrom m from steps → begun steps (a + 1) ≤ begun steps a + 1
+begun_next m from [] a h = omega arith
+begun_next m from (x ∷ steps) a h =
+    grind (arith, nat_tests, begun_next m (x.start + 1) steps a h.1.1, begun_none m (x.start + 1) steps (a + 1) h.1.1)
 
 -- a step is the last of those that start up to its start
 pub begun_at : (m from : ℕ) (steps : List Step) (k : ℕ) (d : Step) → AscendFrom m from steps → k < length steps
     → begun steps ((get_or steps k d).start + 1) ≡ k + 1
 begun_at m from [] k d h lt = absurd (omega arith)
-begun_at m from (x ∷ steps) zero d h lt =
-    let yes : nat_lt x.start (x.start + 1) ≡ true = grind (arith, nat_tests) in
-    rw yes (omega (arith, none steps h.1.1))
-  where
-    none : (l : List Step) → AscendFrom m (x.start + 1) l → begun l (x.start + 1) ≡ 0
-    none [] h = refl
-    none (y ∷ l) h = let no : nat_lt y.start (x.start + 1) ≡ false = grind (arith, nat_tests, h.0) in rw no refl
+begun_at m from (x ∷ steps) zero d h lt = grind (arith, nat_tests, begun_none m (x.start + 1) steps (x.start + 1) h.1.1 (omega arith))
 begun_at m from (x ∷ steps) (suc k) d h lt =
-    let up = starts_rise m (x.start + 1) steps k d h.1.1 (omega arith) in
-    let yes : nat_lt x.start ((get_or steps k d).start + 1) ≡ true = grind (arith, nat_tests, up.0) in
-    rw yes (omega (arith, begun_at m (x.start + 1) steps k d h.1.1 (omega arith)))
+    grind (arith, nat_tests, starts_rise m (x.start + 1) steps k d h.1.1, begun_at m (x.start + 1) steps k d h.1.1)
 
 -- where the tests of a search part the steps
 pub begun_point : (steps : List Step) (number n : ℕ) → n ≤ length steps
@@ -134,18 +95,13 @@ pub begun_point : (steps : List Step) (number n : ℕ) → n ≤ length steps
     → n ≡ begun steps (number + 1)
 begun_point [] number n le point = omega arith
 begun_point (x ∷ steps) number zero le point =
-    let above = leb-false x.start number (point.1 0 x (omega arith) (omega arith)) in
-    let no : nat_lt x.start (number + 1) ≡ false = grind (arith, nat_tests, above) in rw no refl
+    grind (arith, nat_tests, leb-false x.start number (point.1 0 x (omega arith) (omega arith)))
 begun_point (x ∷ steps) number (suc n) le point =
-    let low = leb-true x.start number (point.0 0 x (omega arith) (omega arith)) in
-    let yes : nat_lt x.start (number + 1) ≡ true = grind (arith, nat_tests, low) in
-    rw yes (omega (
-      arith,
-      begun_point steps number n (omega arith) (
-        (λ k d lt lt'. point.0 (suc k) d (omega arith) (omega arith)),
-        (λ k d lt lt'. point.1 (suc k) d (omega arith) (omega arith)),
-      ),
-    ))
+    let rest = begun_point steps number n (omega arith) (
+      λ k d lt lt'. point.0 (suc k) d (omega arith) (omega arith),
+      λ k d lt lt'. point.1 (suc k) d (omega arith) (omega arith),
+    ) in
+    grind (arith, nat_tests, leb-true x.start number (point.0 0 x (omega arith) (omega arith)), rest)
 
 -- ---- targets
 
@@ -153,30 +109,17 @@ begun_point (x ∷ steps) number (suc n) le point =
 from_begun : (t : Target) (steps : List Step) (a : ℕ) (y d : Step) → y.target ≡ t
     → found_from t steps a ≡ (get_or (y ∷ steps) (begun steps (a + 1)) d).target
 from_begun t [] a y d is = sym is
-from_begun t (x ∷ steps) a y d is = elim (cases_lt a x.start) [
-  | inl lt ↦
-      let no : nat_le x.start a ≡ false = grind (arith, nat_tests) in
-      let none : nat_lt x.start (a + 1) ≡ false = grind (arith, nat_tests) in
-      rw (no, none) (sym is)
-  | inr le ↦
-      let yes : nat_le x.start a ≡ true = grind (arith, nat_tests) in
-      let too : nat_lt x.start (a + 1) ≡ true = grind (arith, nat_tests) in
-      let at : 1 + begun steps (a + 1) ≡ suc (begun steps (a + 1)) = omega arith in
-      rw (yes, too, at) (from_begun x.target steps a x d refl)
-]
+from_begun t (x ∷ steps) a y d is = grind (arith, nat_tests, from_begun x.target steps a x d refl, is)
 
 pub found_begun : (m : ℕ) (steps : List Step) (a : ℕ) (d : Step) → AreSteps m steps → 0 < m
     → found_in steps a ≡ (get_or steps (begun steps (a + 1) - 1) d).target
 found_begun m [] a d h some = absurd (h.first some)
-found_begun m (x ∷ steps) a d h some =
-    let yes : nat_lt x.start (a + 1) ≡ true = grind (arith, nat_tests, h.first some) in
-    let at : 1 + begun steps (a + 1) - 1 ≡ begun steps (a + 1) = omega arith in
-    rw (yes, at) (from_begun x.target steps a x d refl)
+found_begun m (x ∷ steps) a d h some = grind (arith, nat_tests, h.first some, from_begun x.target steps a x d refl)
 
 -- a number in front of all starts has what there is
 pub found_before : (m from : ℕ) (t : Target) (steps : List Step) (a : ℕ) → AscendFrom m from steps → a < from → found_from t steps a ≡ t
 found_before m from t [] a h lt = refl
-found_before m from t (x ∷ steps) a h lt = let no : nat_le x.start a ≡ false = grind (arith, nat_tests, h.0) in rw no refl
+found_before m from t (x ∷ steps) a h lt = grind (arith, nat_tests, h.0)
 
 -- what doesn't start between two numbers doesn't part them
 pub found_same : (m : ℕ) (steps : List Step) (a b : ℕ) → AreSteps m steps → 0 < m → begun steps (a + 1) ≡ begun steps (b + 1)
@@ -189,16 +132,15 @@ found_same m (x ∷ steps) a b h some same =
 pub are_in_below : (code : List sock_filter) (m : ℕ) (steps : List Step) → 0 < m → AreSteps m steps
     → ((a : ℕ) → a < m → IsIn code (found_in steps a)) → AreIn code steps
 are_in_below code m steps some are h k d lt =
-    let at = begun_at m 0 steps k d are.ascend lt in
-    let same : begun steps ((get_or steps k d).start + 1) - 1 ≡ k = omega (arith, at) in
-    let here = found_begun m steps ((get_or steps k d).start) d are some ∙ ap (λ n. (get_or steps n d).target) same in
-    subst (IsIn code) here (h ((get_or steps k d).start) (starts_rise m 0 steps k d are.ascend lt).1)
+    let same : begun steps ((get_or steps k d).start + 1) - 1 ≡ k = omega (arith, begun_at m 0 steps k d are.ascend lt) in
+    rw (found_begun m steps ((get_or steps k d).start) d are some, same) at
+    (h ((get_or steps k d).start) (starts_rise m 0 steps k d are.ascend lt).1)
 
 pub found_in_code : (code : List sock_filter) (m : ℕ) (steps : List Step) (d : Step) (a : ℕ) → 0 < m → AreSteps m steps → AreIn code steps
     → IsIn code (found_in steps a)
 found_in_code code m steps d a some are h =
     let one = begun_some m steps a are some in
-    subst (IsIn code) (sym (found_begun m steps a d are some)) (h (begun steps (a + 1) - 1) d (omega (arith, one, begun_few steps (a + 1))))
+    rw (found_begun m steps a d are some) (h (begun steps (a + 1) - 1) d (omega (arith, one, begun_few steps (a + 1))))
 
 -- ---- one step more
 
@@ -208,67 +150,51 @@ ascend_push from [] x le h = (le, (omega arith, tt))
 ascend_push from (y ∷ steps) x le h = (h.0, (omega (arith, h.1.0), ascend_push (y.start + 1) steps x (omega (arith, h.1.0)) h.1.1))
 
 below_push : (t : Target) (steps : List Step) (x : Step) (a : ℕ) → a < x.start → found_from t (steps ++ x ∷ []) a ≡ found_from t steps a
-below_push t [] x a below = let no : nat_le x.start a ≡ false = grind (arith, nat_tests) in rw no refl
+below_push t [] x a below = grind (arith, nat_tests)
 below_push t (y ∷ steps) x a below = ap (λ v. if nat_le y.start a then v else t) (below_push y.target steps x a below)
 
 from_push : (t : Target) (from : ℕ) (steps : List Step) (x : Step) (a : ℕ) → AscendFrom x.start from steps → x.start ≤ a
     → found_from t (steps ++ x ∷ []) a ≡ x.target
-from_push t from [] x a h le = let yes : nat_le x.start a ≡ true = grind (arith, nat_tests) in rw yes refl
-from_push t from (y ∷ steps) x a h le =
-    let yes : nat_le y.start a ≡ true = grind (arith, nat_tests, h.1.0) in
-    rw yes (from_push y.target (y.start + 1) steps x a h.1.1 le)
+from_push t from [] x a h le = grind (arith, nat_tests)
+from_push t from (y ∷ steps) x a h le = grind (arith, nat_tests, h.1.0, from_push y.target (y.start + 1) steps x a h.1.1 le)
 
 tight_from : (t : Target) (from : ℕ) (steps : List Step) (x : Step) → AscendFrom x.start from steps
-    → (found_from t steps x.start ≢ x.target)
-    → TightFrom t steps → TightFrom t (steps ++ x ∷ [])
+    → (found_from t steps x.start ≢ x.target) → TightFrom t steps → TightFrom t (steps ++ x ∷ [])
 tight_from t from [] x h not tight = (not, tt)
 tight_from t from (y ∷ steps) x h not tight =
-    let yes : nat_le y.start x.start ≡ true = grind (arith, nat_tests, h.1.0) in
-    (tight.0, tight_from y.target (y.start + 1) steps x h.1.1 (rw yes at not) tight.1)
-
-tight_pushed : (old : List Step) (x : Step) → AreSteps x.start old → (1 ≤ length old → found_in old x.start ≢ x.target) → AreTight old
-    → AreTight (old ++ x ∷ [])
-tight_pushed [] x h not tight = tt
-tight_pushed (y ∷ old) x h not tight = tight_from y.target (y.start + 1) old x h.ascend.1.1 (not (omega arith)) tight
+    (tight.0, tight_from y.target (y.start + 1) steps x h.1.1 (λ e. not (grind (arith, nat_tests, h.1.0, e))) tight.1)
 
 pub pushed_more : (old : List Step) (x : Step) → AreSteps x.start old → (1 ≤ length old → found_in old x.start ≢ x.target)
     → IsPushed old x.start x.target (old ++ x ∷ [])
-pushed_more old x h not = record {
+pushed_more [] x h not =
+    let none = elim (cases_lt 0 x.start) as (λ _. x.start ≡ 0) [ inl some ↦ absurd (h.first some) | inr none ↦ omega arith ] in
+    record {
+      are = record { first = λ _. none; ascend = (omega arith, (omega arith, tt)); tight = tt };
+      from = λ a le. refl;
+      below = λ a lt. absurd (h.first (omega arith));
+      few = omega arith;
+    }
+pushed_more (y ∷ old) x h not = record {
   are = record {
-    first = λ _. zero_first old h;
-    ascend = ascend_push 0 old x (omega arith) h.ascend;
-    tight = tight_pushed old x h not h.tight;
+    first = λ _. h.first (omega (arith, h.ascend.1.0));
+    ascend = ascend_push 0 (y ∷ old) x (omega arith) h.ascend;
+    tight = tight_from y.target (y.start + 1) old x h.ascend.1.1 (not (omega arith)) h.tight;
   };
-  from = λ a le. from old a h.ascend le;
-  below = λ a lt. below old a h lt;
+  from = λ a le. from_push y.target (y.start + 1) old x a h.ascend.1.1 le;
+  below = λ a lt. below_push y.target old x a lt;
   few = omega (arith, length-append old (x ∷ []));
 }
-  where
-    zero_first : (old : List Step) → AreSteps x.start old → StartsAtZero (old ++ x ∷ [])
-    zero_first [] h = elim (cases_lt 0 x.start) [ inl some ↦ absurd (h.first some) | inr none ↦ omega arith ]
-    zero_first (y ∷ old) h = h.first (omega (arith, h.ascend.1.0))
-
-    from : (old : List Step) (a : ℕ) → AscendFrom x.start 0 old → x.start ≤ a → found_in (old ++ x ∷ []) a ≡ x.target
-    from [] a h le = refl
-    from (y ∷ old) a h le = from_push y.target (y.start + 1) old x a h.1.1 le
-
-    below : (old : List Step) (a : ℕ) → AreSteps x.start old → a < x.start → found_in (old ++ x ∷ []) a ≡ found_in old a
-    below [] a h lt = absurd (h.first (omega arith))
-    below (y ∷ old) a h lt = below_push y.target old x a lt
 
 -- steps that end in the target need no step more
 pub pushed_same : (old : List Step) (start : ℕ) (target : Target) → AreSteps start old → 1 ≤ length old → found_in old start ≡ target
     → IsPushed old start target old
-pushed_same old start target h some same =
-    let above = above_none start 0 old h.ascend some in
-    record {
-      are = steps_more start (start + 1) old above (omega arith) h;
-      from = λ a le.
-          found_same start old a start h above
-          (begun_all start 0 old (a + 1) h.ascend (omega arith) ∙ sym (begun_all start 0 old (start + 1) h.ascend (omega arith))) ∙ same;
-      below = λ a lt. refl;
-      few = omega arith;
-    }
+pushed_same old start target h some same = record {
+  are = steps_more start (start + 1) old (above_none start 0 old h.ascend some) (omega arith) h;
+  from = λ a le. found_same start old a start h (above_none start 0 old h.ascend some)
+      (grind (arith, begun_all start 0 old (a + 1), begun_all start 0 old (start + 1), h.ascend)) ∙ same;
+  below = λ a lt. refl;
+  few = omega arith;
+}
 
 -- ---- the loop of `push_part`
 
@@ -286,13 +212,12 @@ module _ (old others : List Step) (first last base : ℕ) (are : AreSteps (2 ^ 6
   pub part_begins : (new : List Step) → IsPushed old (first - base) (found_in others first) new
       → PartOn old others first last base (begun others (first + 1)) new
   part_begins new pushed =
-      let back : base + (first - base) ≡ first = omega arith in
       record {
         at = first - base;
         are = pushed.are;
         low = omega arith;
         high = omega arith;
-        done = let e = ap (λ n. begun others (n + 1)) back in omega (arith, e);
+        done = begun_more others (base + (first - base) + 1) (first + 1) (omega arith);
         found = λ a le few.
             let more = begun_more others (first + 1) (base + a + 1) (omega arith) in
             pushed.from a (omega arith) ∙ found_same (2 ^ 64) others first (base + a) are (omega arith) (omega (arith, more));
@@ -306,10 +231,7 @@ module _ (old others : List Step) (first last base : ℕ) (are : AreSteps (2 ^ 6
   part_room i d new lt h =
       let s = (get_or others i d).start in
       let within = begun_few others (last + 1) in
-      let above : base + h.at < s = elim (cases_lt s (base + h.at + 1)) [
-        | inl low ↦ absurd (omega (arith, begun_counts (2 ^ 64) 0 others (base + h.at + 1) i d are.ascend (omega arith) low, h.done))
-        | inr up ↦ omega arith
-      ] in
+      let above : base + h.at < s = grind (arith, begun_counts (2 ^ 64) 0 others (base + h.at + 1) i d are.ascend (omega arith), h.done) in
       (omega arith, omega (arith, h.low), steps_more (h.at + 1) (s - base) new (omega arith) (omega arith) h.are)
 
   pub part_turn : (i : ℕ) (d : Step) (mid new : List Step) → i < begun others (last + 1) → PartOn old others first last base i mid
@@ -320,20 +242,16 @@ module _ (old others : List Step) (first last base : ℕ) (are : AreSteps (2 ^ 6
       let room = part_room i d mid lt h in
       let within = begun_few others (last + 1) in
       let inside = begun_below others (last + 1) i d lt in
-      let back : base + (s - base) ≡ s = omega (arith, room.0) in
       let here : begun others (s + 1) ≡ i + 1 = begun_at (2 ^ 64) 0 others i d are.ascend (omega arith) in
       record {
         at = s - base;
         are = pushed.are;
         low = omega (arith, room.0, room.1);
         high = omega (arith, inside);
-        done = let e = ap (λ n. begun others (n + 1)) back in omega (arith, e, here);
+        done = omega (arith, here, begun_more others (base + (s - base) + 1) (s + 1) (omega (arith, room.0)));
         found = λ a le few. elim (cases_lt (base + a) s) [
           | inl lower ↦
-              let less : begun others (base + a + 1) ≤ i = elim (cases_lt i (begun others (base + a + 1))) [
-                | inl more ↦ absurd (omega (arith, begun_below others (base + a + 1) i d more))
-                | inr le ↦ le
-              ] in
+              let less : begun others (base + a + 1) ≤ i = grind (arith, begun_below others (base + a + 1) i d) in
               pushed.below a (omega arith) ∙ h.found a le less
           | inr upper ↦
               let more = begun_more others (s + 1) (base + a + 1) (omega arith) in
@@ -345,10 +263,9 @@ module _ (old others : List Step) (first last base : ℕ) (are : AreSteps (2 ^ 6
         few = omega (arith, h.few, pushed.few);
       }
 
-  pub part_ends : (i : ℕ) (new : List Step) → begun others (last + 1) ≤ i → i ≤ begun others (last + 1)
-      → PartOn old others first last base i new
+  pub part_ends : (i : ℕ) (new : List Step) → begun others (last + 1) ≡ i → PartOn old others first last base i new
       → IsPartPushed old others first last base new
-  part_ends i new ge le h = record {
+  part_ends i new end h = record {
     are = steps_more (h.at + 1) (last + 1 - base) new (omega arith) (omega (arith, h.high)) h.are;
     inside = λ a from to. h.found a from (omega (arith, begun_more others (base + a + 1) (last + 1) (omega arith)));
     below = h.below;

@@ -1,22 +1,9 @@
 -- What decisions decide: the first ruling that holds, the rulings of a number, the default.
-use Rattle.std.proofs.Common.{◌≡◌, ℕ, ◌+◌, ◌<◌, List, [], ◌∷◌, length, drop, get_or, Bool, true, false, cond, refl, sym, ap}
-use Rattle.std.proofs.Common.{◌∙◌, subst}
-use Rattle.std.proofs.Common.{Option, Some, None, Vec, nat_eq, if◌then◌else◌, inl, inr, arith, All}
-use Rattle.std.proofs.lemmas.List.{drop_more}
-use Rattle.std.proofs.lemmas.List.Elements.{All-cons}
-use Rattle.std.proofs.lemmas.Bool.Decides.{nat_tests}
-use Rattle.std.specs.Prelude.{◌↔◌}
-use Rattle.std.specs.BTreeMap.{is_at}
-use Rattle.std.specs.Map.{lookup}
-use Rattle.std.specs.Ordering.{nat_cmp}
-use Rattle.std.specs.declared.alloc.Global.{Global}
-use Rattle.seccompiler.specs.Policy.{RuleHolds}
-use Rattle.seccomp_tree.specs.Decisions.{Ruling, First, here, behind, nothing}
-use Rattle.seccompiler.specs.Machine.{word_at}
-use Rattle.std.proofs.lemmas.Bool.{cases_eq}
+use Rattle.seccomp_tree.proofs.Common.{◌≡◌, ℕ, ◌+◌, ◌<◌, List, [], ◌∷◌, length, drop, get_or, refl, sym, ap, ◌∙◌, Option, Some, None, Vec}
+use Rattle.seccomp_tree.proofs.Common.{nat_eq, inl, inr, arith, All, drop_more, All-cons, nat_tests, is_at, lookup, nat_cmp, Global}
+use Rattle.seccomp_tree.proofs.Common.{RuleHolds, Ruling, First, here, behind, nothing, word_at, cases_eq, audit_word, DecisionSet}
+use Rattle.seccomp_tree.proofs.Common.{default_for, calls_of, rulings_for, IsDecided, other_architecture, decided}
 use Rattle.seccomp_tree.proofs.Meeting.{rule_or_not}
-use Rattle.seccompiler.specs.Architecture.{audit_word}
-use Rattle.seccomp_tree.specs.Decided.{DecisionSet, default_for, calls_of, rulings_for, IsDecided, other_architecture, decided}
 
 -- ---- lists that a loop goes down
 
@@ -26,7 +13,7 @@ drop_at l i x lt is = drop_more l i x lt ∙ ap (λ y. y ∷ drop (i + 1) l) (sy
 
 pub all_at : {A : Type 0} (P : A → Type 0) (l : List A) (i : ℕ) (x : A) → i < length l → x ≡ get_or l i x → P x → All P (drop (i + 1) l)
     → All P (drop i l)
-all_at P l i x lt is h rest = subst (All P) (sym (drop_at l i x lt is)) (All-cons P x (drop (i + 1) l) h rest)
+all_at P l i x lt is h rest = rw (drop_at l i x lt is) (All-cons P x (drop (i + 1) l) h rest)
 
 -- ---- the first ruling that holds
 
@@ -56,36 +43,9 @@ items_of (Some v) = v.items
 pub rulings_under : (entries : List (ℕ × Vec Ruling Global)) (n : ℕ)
     → items_of (lookup (is_at (nat_cmp n)) entries) ≡ rulings_for (calls_of entries) n
 rulings_under [] n = refl
-rulings_under (e ∷ entries) n =
-    subst (λ b. items_of (cond b (Some e.1) (lookup (is_at (nat_cmp n)) entries)) ≡ rulings_for (calls_of (e ∷ entries)) n)
-    (sym (at_same n e.0)) (go (nat_eq n e.0) (rulings_under entries n))
-  where
-    go : (b : Bool) → items_of (lookup (is_at (nat_cmp n)) entries) ≡ rulings_for (calls_of entries) n
-        → items_of (cond b (Some e.1) (lookup (is_at (nat_cmp n)) entries)) ≡ (if b then e.1.items else rulings_for (calls_of entries) n)
-    go true rest = refl
-    go false rest = rest
+rulings_under (e ∷ entries) n = grind (arith, nat_tests, rulings_under entries n)
 
 -- ---- what is decided
-
--- the word that the first of the number's rulings names, and no other
-pub record IsOnly (d : DecisionSet) (r : List ℕ) (w : ℕ) : Type 0 where
-  pub decision : IsDecided d r w
-  pub only : (v : ℕ) → IsDecided d r v → v ≡ w
-
-pub decided_by : (d : DecisionSet) (r : List ℕ) (n default w : ℕ) (rulings : List Ruling) → word_at r 4 ≡ audit_word d.target_arch
-    → n ≡ word_at r 0 → default ≡ default_for d.defaults n → rulings ≡ rulings_for d.calls n
-    → ((v : ℕ) → First default r rulings v ↔ (v ≡ w)) → IsOnly d r w
-decided_by d r n default w rulings own number value found first =
-    record { decision = decided own ((there w).1 refl); only = λ v h. go v h }
-  where
-    there : (v : ℕ) → First (default_for d.defaults (word_at r 0)) r (rulings_for d.calls (word_at r 0)) v ↔ (v ≡ w)
-    there v =
-        subst (λ x. First x r (rulings_for d.calls (word_at r 0)) v ↔ (v ≡ w)) (value ∙ ap (default_for d.defaults) number)
-        (subst (λ (q : List Ruling). First default r q v ↔ (v ≡ w)) (found ∙ ap (rulings_for d.calls) number) (first v))
-
-    go : (v : ℕ) → IsDecided d r v → v ≡ w
-    go v (other_architecture not is) = absurd (not own)
-    go v (decided same h) = (there v).0 h
 
 first_some : (default : ℕ) (r : List ℕ) (rulings : List Ruling) → (w : ℕ) × First default r rulings w
 first_some default r [] = (default, nothing)

@@ -1,19 +1,9 @@
 -- Steps without alike neighbours are as few as can be: at most as many as any ranges of the decisions.
-use Rattle.std.proofs.Common.{◌≡◌, ℕ, suc, ◌+◌, ◌-◌, ◌<◌, ◌≤◌, ◌||◌, ◌^◌, List, [], ◌∷◌, length, Bool, true, false, refl, sym}
-use Rattle.std.proofs.Common.{ap, ◌∙◌, subst, ⊎_elim, arith, map}
-use Rattle.std.proofs.Common.{nat_eq, nat_le, if◌then◌else◌}
-use Rattle.std.proofs.lemmas.Bool.Decides.{nat_tests}
-use Rattle.std.proofs.lemmas.Bool.{cases_Bool}
-use Rattle.std.proofs.lemmas.Map.Made.{length-le_from_is_member}
-use Rattle.std.specs.Cmp.{nat_eq_equiv}
+use Rattle.seccomp_tree.proofs.Common.{◌≡◌, ℕ, suc, ◌+◌, ◌-◌, ◌<◌, ◌≤◌, ◌||◌, ◌^◌, List, [], ◌∷◌, length, Bool, true, false, refl, sym, ap}
+use Rattle.seccomp_tree.proofs.Common.{◌∙◌, ⊎_elim, arith, map, nat_eq, nat_le, nat_tests, cases_Bool, length-le_from_is_member}
+use Rattle.seccomp_tree.proofs.Common.{nat_eq_equiv, is_member, sock_filter, Target, Step, found_from, found_in, AscendFrom, AreSteps}
+use Rattle.seccomp_tree.proofs.Common.{TightFrom, DecisionSet, default_for, rulings_for, AreRanges}
 use Rattle.std.specs.List.{IsDistinct, AllByRecursion}
-use Rattle.std.specs.Set.{is_member}
-use Rattle.seccompiler.specs.declared.bpf.sock_filter.{sock_filter}
-use Rattle.seccomp_tree.specs.declared.steps.Target.{Target}
-use Rattle.seccomp_tree.specs.declared.steps.Step.{Step}
-use Rattle.seccomp_tree.specs.Steps.{found_from, found_in, AscendFrom, AreSteps, TightFrom}
-use Rattle.seccomp_tree.specs.Decided.{DecisionSet, default_for, rulings_for}
-use Rattle.seccomp_tree.specs.TreeProgram.{AreRanges}
 use Rattle.seccomp_tree.specs.CallSteps.{IsAnswer, AreAnswers}
 use Rattle.seccomp_tree.proofs.Begun.{found_before}
 
@@ -34,23 +24,18 @@ members d code starts start t (x ∷ steps) ranges ascend tight each q h =
     (λ (e : nat_eq q s ≡ true). let same : q ≡ s = grind (arith, nat_tests) in rw same here)
     (λ (e : nat_eq q s ≡ false).
     members d code starts s x.target steps ranges ascend.1.1 tight.1
-    (λ n le lt.
-    let yes : nat_le s n ≡ true = grind (arith, nat_tests) in
-    subst (λ b. IsAnswer code (default_for d.defaults n) (rulings_for d.calls n) (if b then found_from x.target steps n else t)) yes
-    (each n (omega (arith, ascend.0)) lt))
+    (λ n le lt. let yes : nat_le s n ≡ true = grind (arith, nat_tests) in rw yes at (each n (omega (arith, ascend.0)) lt))
     q (ap (λ b. b || is_member nat_eq (starts_of steps) q) (sym e) ∙ h))
     (cases_Bool (nat_eq q s))
   where
     below : found_from t (x ∷ steps) (x.start - 1) ≡ t
-    below = let no : nat_le x.start (x.start - 1) ≡ false = grind (arith, nat_tests, ascend.0) in rw no refl
+    below = grind (arith, nat_tests, ascend.0)
 
     at : found_from t (x ∷ steps) (x.start - 1 + 1) ≡ x.target
-    at =
-        let yes : nat_le x.start (x.start - 1 + 1) ≡ true = grind (arith, nat_tests, ascend.0) in
-        rw yes (found_before (2 ^ 32) (x.start + 1) x.target steps (x.start - 1 + 1) ascend.1.1 (omega (arith, ascend.0)))
+    at = grind (arith, nat_tests, ascend.0, found_before (2 ^ 32) (x.start + 1) x.target steps (x.start - 1 + 1) ascend.1.1)
 
     begins : (b : Bool) → is_member nat_eq starts (x.start - 1 + 1) ≡ b → is_member nat_eq starts x.start ≡ true
-    begins true e = let same : x.start - 1 + 1 ≡ x.start = omega (arith, ascend.0) in ap (is_member nat_eq starts) (sym same) ∙ e
+    begins true e = ap (is_member nat_eq starts) (omega (arith, ascend.0)) ∙ e
     begins false e =
         let alike = ranges.alike (x.start - 1) (omega (arith, ascend.0, ascend.1.0)) e in
         let low = (each (x.start - 1) (omega (arith, ascend.0)) (omega (arith, ascend.1.0))).one alike.0 alike.1 in
@@ -79,9 +64,8 @@ few_from : (d : DecisionSet) (code : List sock_filter) (starts : List ℕ) (step
 unfolding starts_of IsDistinct
 few_from d code starts [] ranges are each = absurd (are.first (omega arith))
 few_from d code starts (x ∷ steps) ranges are each =
-    let long = starts_long (x ∷ steps) in
     let few = length-le_from_is_member nat_eq_equiv (starts_of (x ∷ steps)) starts
-    (apart (x.start + 1) steps x.start (omega arith) are.ascend.1.1, distinct (x.start + 1) steps are.ascend.1.1)
+    (distinct 0 (x ∷ steps) are.ascend)
     (λ q h. ⊎_elim
     (λ (e : nat_eq q x.start ≡ true).
     let same : q ≡ 0 = grind (arith, nat_tests, are.first (omega arith)) in ap (is_member nat_eq starts) same ∙ ranges.zero)
@@ -89,7 +73,7 @@ few_from d code starts (x ∷ steps) ranges are each =
     members d code starts x.start x.target steps ranges are.ascend.1.1 are.tight (λ n le lt. each n lt) q
     (ap (λ b. b || is_member nat_eq (starts_of steps) q) (sym e) ∙ h))
     (cases_Bool (nat_eq q x.start))) in
-    omega (arith, long, few)
+    omega (arith, starts_long (x ∷ steps), few)
 
 pub fewest : (d : DecisionSet) (code : List sock_filter) (steps : List Step) (starts : List ℕ) → AreAnswers d (2 ^ 32) code steps
     → AreRanges d starts → length steps ≤ length starts

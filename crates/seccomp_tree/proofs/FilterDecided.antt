@@ -1,27 +1,17 @@
 -- The decisions of a filter decide every record as it does; and the calls that a loop makes of its chains.
-use Rattle.std.proofs.Common.{◌≡◌, ℕ, ℤ, pos, List, [], ◌∷◌, ◌++◌, ◌<◌, ◌<ℤ◌, arith, map, Vec, Global, Less, Greater, refl, sym, ap, ◌∙◌}
-use Rattle.std.proofs.Common.{subst, append_assoc, zero, suc, Bool, true, false, cond, nat_eq, Option, Some, None, ◌⊎◌, inl, inr, Any}
-use Rattle.std.proofs.Common.{if◌then◌else◌, Equal, Ordering}
-use Rattle.std.specs.Prelude.{All, unsigned_abs}
+use Rattle.seccomp_tree.proofs.Common.{◌≡◌, ℕ, ℤ, pos, List, [], ◌∷◌, ◌++◌, ◌<◌, ◌<ℤ◌, arith, map, Vec, Global, Less, Greater, refl, sym}
+use Rattle.seccomp_tree.proofs.Common.{ap, ◌∙◌, subst, append_assoc, zero, suc, nat_eq, Option, Some, None, ◌⊎◌, inl, inr, Any, Ordering}
+use Rattle.seccomp_tree.proofs.Common.{All, unsigned_abs, int_cmp, nat_cmp, ordering_reverse, MatchOrdering, is_eq, int_ranks, ints}
+use Rattle.seccomp_tree.proofs.Common.{keys_of, insert_entry, is_at, nat_cmp_total, All-head, All-tail, All-nil, sorted_head, sorted_tail}
+use Rattle.seccomp_tree.proofs.Common.{Rule, IsCallNumber, chains_of, Condition, Holds, Chain, Filter, RuleHolds, ChainMatches, chain_under}
+use Rattle.seccomp_tree.proofs.Common.{IsDecision, policy_matches, policy_differs, word_of, AreCallNumbers, Ruling, First, here, behind}
+use Rattle.seccomp_tree.proofs.Common.{nothing, calls_of, IsDecided, other_architecture, decided, rulings_for, default_for, call_of}
+use Rattle.seccomp_tree.proofs.Common.{rulings_of, decisions_of, DecideAs, nat_tests, audit_word, word_at}
+use Rattle.std.proofs.Common.{Equal}
 use Rattle.std.specs.List.{AllByRecursion}
 use Rattle.std.specs.List.Sorted.{IsStrictlySortedBy}
-use Rattle.std.specs.Ordering.{int_cmp, nat_cmp, ordering_reverse, MatchOrdering, is_eq}
-use Rattle.std.specs.Cmp.{int_ranks}
-use Rattle.std.proofs.lemmas.Int.{ints}
-use Rattle.std.specs.Map.{keys_of, lookup}
-use Rattle.std.specs.BTreeMap.{insert_entry, is_at}
-use Rattle.std.proofs.lemmas.Cmp.{nat_cmp_total}
-use Rattle.std.proofs.lemmas.List.Elements.{All-head, All-tail, All-nil}
-use Rattle.std.proofs.lemmas.Map.Keys.{sorted_head, sorted_tail}
-use Rattle.seccompiler.specs.Policy.{Rule, IsCallNumber, chains_of, Condition, Holds, Chain, Filter, RuleHolds, ChainMatches}
-use Rattle.seccompiler.specs.Policy.{chain_under, IsDecision, other_architecture as other, policy_matches, policy_differs, word_of}
-use Rattle.seccompiler.specs.Compiled.{AreCallNumbers, numbers_of}
-use Rattle.seccomp_tree.specs.Decisions.{Ruling, First, here, behind, nothing}
-use Rattle.seccomp_tree.specs.Decided.{calls_of, IsDecided, other_architecture, decided, rulings_for, default_for}
-use Rattle.seccomp_tree.specs.FilterDecisions.{call_of, rulings_of, decisions_of, DecideAs}
-use Rattle.std.proofs.lemmas.Bool.Decides.{nat_tests}
-use Rattle.seccompiler.specs.Architecture.{audit_word}
-use Rattle.seccompiler.specs.Machine.{word_at}
+use Rattle.seccompiler.specs.Policy.{other_architecture as other}
+use Rattle.seccompiler.specs.Compiled.{numbers_of}
 use Rattle.seccomp_tree.proofs.Deciding.{decided_some}
 
 -- ---- the numbers ascend
@@ -38,7 +28,7 @@ above z (y ∷ zs) call calls h = (
     one : (z y : ℤ) → IsCallNumber z → IsCallNumber y → int_cmp z y ≡ Less → nat_cmp (unsigned_abs z) (unsigned_abs y) ≡ Less
     one z y (n, is, small) (m, is', small') h =
         let lt : z <ℤ y = subst (λ o. MatchOrdering o (z <ℤ y) (z ≡ y) (y <ℤ z)) h (int_ranks z y) in
-        let lower : n < m = let le : pos n <ℤ pos m = subst (λ x. pos n <ℤ x) is' (subst (λ x. x <ℤ y) is lt) in omega (arith, ints) in
+        let lower : n < m = omega (arith, ints, is, is', lt) in
         rw (is, is') (grind arith)
 
 numbers_ascend : (zs : List ℤ) → All IsCallNumber zs → IsStrictlySortedBy int_cmp zs → IsStrictlySortedBy nat_cmp (map unsigned_abs zs)
@@ -61,9 +51,7 @@ numbers_are (e ∷ entries) = ap (λ ks. e.0 ∷ ks) (numbers_are entries)
 
 calls_ascend : (w : ℕ) (entries : List (ℤ × Vec Rule Global)) → AreCallNumbers (numbers_of (chains_of entries))
     → IsStrictlySortedBy int_cmp (keys_of entries) → IsStrictlySortedBy nat_cmp (keys_of (map (call_of w) (chains_of entries)))
-calls_ascend w entries calls h =
-    subst (IsStrictlySortedBy nat_cmp) (sym (keys_are w entries))
-    (numbers_ascend (keys_of entries) (subst (All IsCallNumber) (numbers_are entries) calls) h)
+calls_ascend w entries calls h = rw (keys_are w entries) (numbers_ascend (keys_of entries) (rw numbers_are at calls) h)
 
 -- ---- each goes after those so far
 
@@ -102,7 +90,7 @@ calls_next w n z chain q entries left back so_far calls ascends made next is sam
     let whole : calls_of so_far ++ (n, q.items) ∷ rest ≡ map (call_of w) (chains_of entries) =
     ap (λ es. calls_of so_far ++ es) head ∙ made in
     let in_order : IsStrictlySortedBy nat_cmp (keys_of (calls_of so_far ++ (n, q.items) ∷ rest)) =
-    subst (λ es. IsStrictlySortedBy nat_cmp (keys_of es)) (sym whole) (calls_ascend w entries calls ascends) in
+    rw whole (calls_ascend w entries calls ascends) in
     ap (λ es. es ++ rest) (insert_last so_far n q rest in_order) ∙ append_assoc (calls_of so_far) ((n, q.items) ∷ []) rest ∙ whole
 
 -- ---- the first of a chain's rulings
@@ -118,21 +106,15 @@ module _ (r : List ℕ) (default w : ℕ) where
   hold_cases q chain (zero, y, within, is, has) = inl (subst (λ (x : Rule). RuleHolds x r) (sym is) has)
   hold_cases q chain (suc k, y, within, is, has) = inr (k, y, omega arith, is, has)
 
-  hold_none : Hold [] → ⊥
-  hold_none (k, y, within, is, has) = omega arith
-
   -- the word if a rule holds, or else the default
   first_is : (chain : Chain) (v : ℕ) → First default r (rulings chain) v
       → (Hold chain × (v ≡ w)) ⊎ ((Hold chain → ⊥) × (v ≡ default))
-  first_is [] v nothing = inr (hold_none, refl)
+  first_is [] v nothing = inr (λ some. absurd (omega (arith, some.2)), refl)
   first_is (q ∷ chain) v (here d rest holds) = inl ((0, q, omega arith, refl, holds), refl)
   first_is (q ∷ chain) v (behind d rest u not first) = elim (first_is chain v first) [
-    | inl h ↦ inl (behind_held h.0, h.1)
+    | inl h ↦ inl ((suc h.0.0, h.0.1, omega (arith, h.0.2), h.0.3, h.0.4), h.1)
     | inr h ↦ inr (λ some. elim (hold_cases q chain some) [ inl holds ↦ not holds | inr rest ↦ h.0 rest ], h.1)
   ]
-    where
-      behind_held : Hold chain → Hold (q ∷ chain)
-      behind_held (k, y, within, is, has) = (suc k, y, omega arith, is, has)
 
   -- so for a chain, which matches if it has no rules
   chain_is : (chain : Chain) (v : ℕ) → First default r (rulings_of w chain) v
@@ -155,9 +137,8 @@ at_same : (n m : ℕ) → is_at (int_cmp (pos n)) (pos m) ≡ nat_eq n m
 at_same n m = go (int_cmp (pos n) (pos m)) (int_ranks (pos n) (pos m))
   where
     go : (o : Ordering) → MatchOrdering o (pos n <ℤ pos m) (pos n ≡ pos m) (pos m <ℤ pos n) → is_eq o ≡ nat_eq n m
-    go Less lt = let ne : n < m = omega (arith, ints) in grind (arith, nat_tests)
-    go Greater lt = let ne : m < n = omega (arith, ints) in grind (arith, nat_tests)
     go Equal e = let same : n ≡ m = cc in grind (arith, nat_tests)
+    go _ lt = grind (arith, nat_tests, ints)
 
 rulings_found : (w : ℕ) (chains : List (ℤ × Chain)) (n : ℕ) → AreCallNumbers (numbers_of chains)
     → rulings_for (map (call_of w) chains) n ≡ found_rulings w (chain_under chains n)
@@ -165,16 +146,8 @@ rulings_found w [] n numbers = refl
 rulings_found w (e ∷ chains) n numbers =
     let call = All-head IsCallNumber e.0 (numbers_of chains) numbers in
     let rest = rulings_found w chains n (All-tail IsCallNumber e.0 (numbers_of chains) numbers) in
-    let same : is_at (int_cmp (pos n)) e.0 ≡ nat_eq n (unsigned_abs e.0) =
-    subst (λ z. is_at (int_cmp (pos n)) z ≡ nat_eq n (unsigned_abs z)) (sym call.1) (at_same n call.0) in
-    go (nat_eq n (unsigned_abs e.0)) rest
-    ∙ ap (λ b. found_rulings w (cond b (Some e.1) (lookup (is_at (int_cmp (pos n))) chains))) (sym same)
-  where
-    go : (b : Bool) → rulings_for (map (call_of w) chains) n ≡ found_rulings w (chain_under chains n)
-        → (if b then rulings_of w e.1 else rulings_for (map (call_of w) chains) n)
-        ≡ found_rulings w (cond b (Some e.1) (lookup (is_at (int_cmp (pos n))) chains))
-    go true rest = refl
-    go false rest = rest
+    let same : is_at (int_cmp (pos n)) e.0 ≡ nat_eq n (unsigned_abs e.0) = rw call.1 (at_same n call.0) in
+    rw same (grind (arith, nat_tests, rest))
 
 -- ---- the decisions
 
@@ -189,12 +162,10 @@ module _ (f : Filter) (r : List ℕ) where
 
   given_decision : (found : Option Chain) → own_chain ≡ found → word_at r 4 ≡ audit_word f.target_arch → (v : ℕ) → Gives found v
       → IsDecision f r v
-  given_decision None is own v nothing =
-      policy_differs own (λ m. let e : None ≡ Some m.chain = sym is ∙ m.there in cc) refl
+  given_decision None is own v nothing = policy_differs own (λ m. let e = m.there in cc) refl
   given_decision (Some chain) is own v first = elim (chain_is r (word_of f.mismatch_action) (word_of f.match_action) chain v first) [
     | inl h ↦ policy_matches own (record { chain = chain; there = is; matches = h.0 }) h.1
-    | inr h ↦ policy_differs own (λ m. let e : Some chain ≡ Some m.chain = sym is ∙ m.there in
-        let same : m.chain ≡ chain = cc in h.0 (subst (λ rules. ChainMatches rules r) same m.matches)) h.1
+    | inr h ↦ policy_differs own (λ m. let same : m.chain ≡ chain = cc m.there in h.0 (rw same at m.matches)) h.1
   ]
 
 default_only : (value n : ℕ) → default_for (record { start = 0; value = value } ∷ []) n ≡ value
@@ -229,6 +200,4 @@ decide_as f numbers r w = (to w, from)
         (subst (λ d. First d r (called f r) v) (default_only (word_of f.mismatch_action) (word_at r 0)) first))
 
     from : IsDecision f r w → IsDecided (decisions_of f) r w
-    from h =
-        let x = decided_some (decisions_of f) r in
-        subst (IsDecided (decisions_of f) r) (one_decision f r x.0 w (to x.0 x.1) h) x.1
+    from h = let x = decided_some (decisions_of f) r in rw (one_decision f r x.0 w (to x.0 x.1) h) at x.1

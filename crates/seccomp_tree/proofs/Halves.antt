@@ -1,18 +1,9 @@
 -- Arguments of 64 bits: steps by their high and their low halves.
-use Rattle.std.proofs.Common.{◌≡◌, ℕ, suc, ◌+◌, ◌-◌, ◌*◌, ◌/◌, ◌^◌, ◌<◌, ◌≤◌, List, [], length, get_or, sym, ap, subst, arith, inl, inr}
-use Rattle.std.proofs.lemmas.Bool.{cases_lt}
-use Rattle.std.proofs.Math.Nat.{pow-succ'}
-use Rattle.seccompiler.specs.declared.bpf.sock_filter.{sock_filter}
-use Rattle.seccompiler.specs.Machine.{IsRecord, word_at, argument_at, greatest_length}
-use Rattle.seccompiler.proofs.Words.{word_fits, number_halves}
-use Rattle.seccomp_tree.specs.declared.steps.Target.{Target}
-use Rattle.seccomp_tree.specs.declared.steps.Target.TheVariants.{Give}
-use Rattle.seccomp_tree.specs.declared.steps.Step.{Step}
-use Rattle.seccomp_tree.specs.Steps.{found_in, AreSteps, begun, IsPushed, IsPartPushed}
-use Rattle.seccompiler.specs.declared.backend.SeccompCmpArgLen.TheVariants.{Dword, Qword}
-use Rattle.seccomp_tree.specs.Code.{AreIn, IsIn, LeadsAlways, IsPart}
-use Rattle.seccomp_tree.specs.Arguments.{half_length, IsHalf, IsNext, AreHighs}
-use Rattle.seccomp_tree.proofs.Runs.{grows_not, grows_on, grown_long, is_in_grown, leads_by, leads_grown, starts_more}
+use Rattle.seccomp_tree.proofs.Common.{◌≡◌, ℕ, suc, ◌+◌, ◌-◌, ◌*◌, ◌/◌, ◌^◌, ◌<◌, ◌≤◌, List, [], length, get_or, sym, ap, subst, arith, inl}
+use Rattle.seccomp_tree.proofs.Common.{inr, max, cases_lt, cases_eq, pow-succ', sock_filter, word_at, argument_at, greatest_length}
+use Rattle.seccomp_tree.proofs.Common.{word_fits, number_halves, Target, Give, Step, found_in, AreSteps, begun, IsPushed, IsPartPushed}
+use Rattle.seccomp_tree.proofs.Common.{Dword, Qword, AreIn, IsIn, LeadsAlways, IsPart, half_length, IsHalf, IsNext, AreHighs}
+use Rattle.seccomp_tree.proofs.Runs.{grows_on, grown_long, is_in_grown, leads_by, leads_grown, starts_more}
 use Rattle.seccomp_tree.proofs.Begun.{begun_few, begun_more, begun_below, begun_counts, starts_rise, found_same, are_in_below, not_none}
 use Rattle.seccomp_tree.proofs.Begun.{steps_more, begun_some, found_in_code}
 
@@ -20,23 +11,18 @@ use Rattle.seccomp_tree.proofs.Begun.{steps_more, begun_some, found_in_code}
 
 -- if numbers have their low halves alone
 pub half_in : (code : List sock_filter) (steps lows : List Step) (high : ℕ) → AreSteps (2 ^ 64) steps → AreIn code steps
-    → IsPartPushed [] steps (high * 2 ^ 32) (high * 2 ^ 32 + 0xffffffff) (high * 2 ^ 32) lows → AreSteps (2 ^ 32) lows × AreIn code lows
+    → IsPartPushed [] steps (high * 2 ^ 32) (high * 2 ^ 32 + 0xffffffff) (high * 2 ^ 32) lows → AreIn code lows
 half_in code steps lows high whole inside h =
-    let size : high * 2 ^ 32 + 0xffffffff + 1 - high * 2 ^ 32 ≡ 2 ^ 32 = omega arith in
-    let are = subst (λ n. AreSteps n lows) size h.are in (
-      are,
-      are_in_below code (2 ^ 32) lows (omega arith) are (λ a lt.
-          subst (IsIn code) (sym (h.inside a (omega arith) (omega arith)))
-          (found_in_code code (2 ^ 64) steps (record { start = 0; target = Give 0 }) (high * 2 ^ 32 + a) (omega arith) whole inside)),
-    )
+    are_in_below code (high * 2 ^ 32 + 0xffffffff + 1 - high * 2 ^ 32) lows (omega arith) h.are (λ a lt.
+    subst (IsIn code) (sym (h.inside a (omega arith) (omega arith)))
+    (found_in_code code (2 ^ 64) steps (record { start = 0; target = Give 0 }) (high * 2 ^ 32 + a) (omega arith) whole inside))
 
 pub half_room : (steps lows : List Step) (high : ℕ)
     → IsPartPushed [] steps (high * 2 ^ 32) (high * 2 ^ 32 + 0xffffffff) (high * 2 ^ 32) lows
     → 3 * length lows - 2 ≤ half_length steps high
 half_room steps lows high h =
-    let end : high * 2 ^ 32 + 0xffffffff + 1 ≡ (high + 1) * 2 ^ 32 = omega arith in
-    let e = ap (λ n. begun steps n) end in
-    omega (arith, h.few, e, begun_more steps (high * 2 ^ 32) (high * 2 ^ 32 + 1) (omega arith))
+    let up = begun_more steps (high * 2 ^ 32 + 0xffffffff + 1) ((high + 1) * 2 ^ 32) (omega arith) in
+    omega (arith, h.few, up, begun_more steps (high * 2 ^ 32) (high * 2 ^ 32 + 1) (omega arith))
 
 pub half_of_word : (old new : List sock_filter) (index : ℕ) (steps lows : List Step) (high : ℕ) (t : Target) → AreSteps (2 ^ 64) steps
     → IsPartPushed [] steps (high * 2 ^ 32) (high * 2 ^ 32 + 0xffffffff) (high * 2 ^ 32) lows
@@ -46,134 +32,76 @@ half_of_word old new index steps lows high t are h word = record {
   grows = record { front = word.grows.front; whole = word.grows.whole; few = omega (arith, word.grows.few, half_room steps lows high h) };
   inside = word.inside;
   leads = λ r rec w n k few lead.
-      let fits = word_fits r (16 + 8 * index) rec in
-      let same = h.inside (word_at r (16 + 8 * index)) (omega arith) (omega (arith, fits)) in
+      let same = h.inside (word_at r (16 + 8 * index)) (omega arith) (omega (arith, word_fits r (16 + 8 * index) rec)) in
       let one = begun_some (2 ^ 64) steps (high * 2 ^ 32) are (omega arith) in
-      word.leads r rec w n k (omega (arith, h.few, one, begun_few steps (high * 2 ^ 32 + 0xffffffff + 1)))
-      (subst (λ u. LeadsAlways old r u w n) (sym same) lead);
+      word.leads r rec w n k (omega (arith, h.few, one, begun_few steps (high * 2 ^ 32 + 0xffffffff + 1))) (rw same lead);
 }
 
 -- ---- the next high half
 
-module _ (steps : List Step) (high : ℕ) (are : AreSteps (2 ^ 64) steps) where
-  -- a step starts inside this one
-  pub next_behind : high < 2 ^ 32 → begun steps (high * 2 ^ 32 + 1) < begun steps (high * 2 ^ 32 + 0xffffffff + 1)
-      → IsNext steps high (high + 1)
-  next_behind small more = record {
-    above = omega arith;
-    within = omega arith;
-    same = λ h a le lt fits. let is : h ≡ high = omega arith in ap (λ x. found_in steps (x * 2 ^ 32 + a)) is;
-    more = λ _.
-        let end : high * 2 ^ 32 + 0xffffffff + 1 ≡ (high + 1) * 2 ^ 32 = omega arith in
-        let e = ap (λ n. begun steps n) end in
-        let low = begun_more steps (high * 2 ^ 32) (high * 2 ^ 32 + 1) (omega arith) in
-        let up = begun_more steps ((high + 1) * 2 ^ 32) ((high + 1 + 1) * 2 ^ 32) (omega arith) in
-        omega (arith, e, low, up, more);
-  }
+-- that of the number at which a further step starts, if it is none of this half; or none does, and it is past all
+pub next_is : (steps : List Step) (high start next : ℕ) → AreSteps (2 ^ 64) steps → high < 2 ^ 32 → start ≤ 2 ^ 64
+    → begun steps start ≤ begun steps (high * 2 ^ 32 + 1)
+    → (start < 2 ^ 64 → begun steps (high * 2 ^ 32 + 1) < begun steps (start + 1)) → next ≡ max (start / 2 ^ 32) (high + 1)
+    → IsNext steps high next
+next_is steps high start next are small within none some is = record {
+  above = omega (arith, is);
+  within = omega (arith, is);
+  same = λ h a le lt fits. elim (cases_eq h high) [
+    | inl here ↦ ap (λ x. found_in steps (x * 2 ^ 32 + a)) here
+    | inr further ↦
+        found_same (2 ^ 64) steps (h * 2 ^ 32 + a) (high * 2 ^ 32 + a) are (omega arith) (grind (arith, begun_more steps, none, is))
+  ];
+  more = λ less.
+      let up = begun_more steps ((high + 1) * 2 ^ 32) (next * 2 ^ 32) (omega (arith, is)) in
+      let far = begun_more steps (start + 1) ((next + 1) * 2 ^ 32) (omega (arith, is)) in
+      omega (arith, begun_more steps (high * 2 ^ 32) (high * 2 ^ 32 + 1) (omega arith), up, far, some (omega (arith, is)));
+}
 
-  -- none does: there is the same up to the next step, or to the end
-  between : (next h a : ℕ) → begun steps (high * 2 ^ 32 + 0xffffffff + 1) ≤ begun steps (high * 2 ^ 32 + 1)
-      → begun steps (next * 2 ^ 32) ≤ begun steps (high * 2 ^ 32 + 1) → high ≤ h → h < next → a < 2 ^ 32
-      → found_in steps (h * 2 ^ 32 + a) ≡ found_in steps (high * 2 ^ 32 + a)
-  between next h a none far le lt fits =
-      let one = begun_more steps (high * 2 ^ 32 + 1) (h * 2 ^ 32 + a + 1) (omega arith) in
-      let two = begun_more steps (h * 2 ^ 32 + a + 1) (next * 2 ^ 32) (omega arith) in
-      let three = begun_more steps (high * 2 ^ 32 + 1) (high * 2 ^ 32 + a + 1) (omega arith) in
-      let four = begun_more steps (high * 2 ^ 32 + a + 1) (high * 2 ^ 32 + 0xffffffff + 1) (omega arith) in
-      found_same (2 ^ 64) steps (h * 2 ^ 32 + a) (high * 2 ^ 32 + a) are (omega arith) (omega (arith, one, two, three, four))
-
-  pub next_none : high < 2 ^ 32 → begun steps (high * 2 ^ 32 + 0xffffffff + 1) ≤ begun steps (high * 2 ^ 32 + 1)
-      → begun steps (high * 2 ^ 32 + 0xffffffff + 1) ≡ length steps → IsNext steps high (2 ^ 32)
-  next_none small none all = record {
-    above = small;
-    within = omega arith;
-    same = λ h a le lt fits. between (2 ^ 32) h a none (omega (arith, begun_few steps (2 ^ 32 * 2 ^ 32))) le lt fits;
-    more = λ less. absurd (omega arith);
-  }
-
-  pub next_some : (n next : ℕ) (d : Step) → n ≡ begun steps (high * 2 ^ 32 + 0xffffffff + 1)
-      → n ≤ begun steps (high * 2 ^ 32 + 1) → n < length steps → next ≡ (get_or steps n d).start / 2 ^ 32 → IsNext steps high next
-  next_some n next d count none lt is =
-      let s = (get_or steps n d).start in
-      let rise = starts_rise (2 ^ 64) 0 steps n d are.ascend lt in
-      let end : high * 2 ^ 32 + 0xffffffff + 1 ≡ (high + 1) * 2 ^ 32 = omega arith in
-      let e = ap (λ m. begun steps m) end in
-      let above : (high + 1) * 2 ^ 32 ≤ s = elim (cases_lt s ((high + 1) * 2 ^ 32)) [
-        | inl low ↦ absurd (omega (arith, begun_counts (2 ^ 64) 0 steps ((high + 1) * 2 ^ 32) n d are.ascend lt low, e, count))
-        | inr up ↦ up
-      ] in
-      let near : begun steps (next * 2 ^ 32) ≤ n = elim (cases_lt n (begun steps (next * 2 ^ 32))) [
-        | inl more ↦ absurd (omega (arith, begun_below steps (next * 2 ^ 32) n d more))
-        | inr le ↦ le
-      ] in
-      record {
-        above = omega (arith, above);
-        within = omega (arith, rise.1);
-        same = λ h a le less fits. between next h a (omega (arith, count, none)) (omega (arith, near, none)) le less fits;
-        more = λ _.
-            let low = begun_more steps (high * 2 ^ 32) ((high + 1) * 2 ^ 32) (omega arith) in
-            let up = begun_more steps ((high + 1) * 2 ^ 32) (next * 2 ^ 32) (omega (arith, above)) in
-            let there = begun_counts (2 ^ 64) 0 steps ((next + 1) * 2 ^ 32) n d are.ascend lt (omega arith) in
-            omega (arith, low, up, there, count, e);
-      }
+pub next_some : (steps : List Step) (high n next : ℕ) (d : Step) → AreSteps (2 ^ 64) steps → high < 2 ^ 32
+    → n ≡ begun steps (high * 2 ^ 32 + 1) → n < length steps → next ≡ max ((get_or steps n d).start / 2 ^ 32) (high + 1)
+    → IsNext steps high next
+next_some steps high n next d are small count lt is =
+    let s = (get_or steps n d).start in
+    let near : begun steps s ≤ n = grind (arith, begun_below steps s n d) in
+    let rise = starts_rise (2 ^ 64) 0 steps n d are.ascend lt in
+    let there = begun_counts (2 ^ 64) 0 steps (s + 1) n d are.ascend lt (omega arith) in
+    next_is steps high s next are small (omega (arith, rise.1)) (omega (arith, near, count)) (λ _. omega (arith, there, count)) is
 
 -- ---- the loop of `high_halves`
-
-pub highs_none : (code : List sock_filter) (index : ℕ) (steps : List Step) → AreSteps (2 ^ 64) steps → AreHighs code index steps 0 [] code
-highs_none code index steps are = record {
-  within = omega arith;
-  turns = 0;
-  soon = λ _. omega (arith, begun_some (2 ^ 64) steps (1 * 2 ^ 32 - 1) are (omega arith));
-  end = omega arith;
-  are = record { first = λ lt. absurd (omega arith); ascend = tt; tight = tt };
-  few = omega arith;
-  grows = grows_not code _;
-  leads = λ h lt. absurd (omega arith);
-}
 
 pub highs_one : (old mid new : List sock_filter) (index : ℕ) (steps highs more : List Step) (high next : ℕ) (t : Target)
     → AreHighs old index steps high highs mid → high < 2 ^ 32
     → IsHalf mid index steps high t new
     → IsNext steps high next → IsPushed highs high t more → AreHighs old index steps next more new
 highs_one old mid new index steps highs more high next t h small half on pushed =
-    let few = begun_few steps (high * 2 ^ 32) in
-    let few' = begun_few steps ((high + 1) * 2 ^ 32) in
     let up = begun_more steps (high * 2 ^ 32) ((high + 1) * 2 ^ 32) (omega arith) in
-    let far = begun_more steps ((high + 1) * 2 ^ 32) (next * 2 ^ 32) (omega (arith, on.above)) in
     let turn = h.soon small in
     record {
       within = on.within;
       turns = h.turns + 1;
       soon = λ lt. omega (arith, turn, on.more lt);
-      end = omega (arith, turn, few, few');
-      are = widened;
+      end = omega (arith, turn, begun_few steps (high * 2 ^ 32), begun_few steps ((high + 1) * 2 ^ 32));
+      are = steps_more (high + 1) next more (omega arith) (omega (arith, on.above)) pushed.are;
       few = omega (arith, h.few, pushed.few);
-      grows = grows_on _ h.grows half.grows (omega (arith, up, far));
+      grows = grows_on _ h.grows half.grows
+          (omega (arith, up, begun_more steps ((high + 1) * 2 ^ 32) (next * 2 ^ 32) (omega (arith, on.above))));
       leads = λ x lt. elim (cases_lt x high) [
         | inl below ↦
             let was = h.leads x below in
-            subst (Both x) (sym (pushed.below x below)) (
+            rw (pushed.below x below) (
               is_in_grown (found_in highs x) half.grows was.0,
               λ r rec w n k few lead a fits. leads_grown half.grows (was.1 r rec w n k few lead a fits),
             )
-        | inr le ↦ subst (Both x) (sym (pushed.from x le)) (
+        | inr le ↦ rw (pushed.from x le) (
           half.inside,
           λ r rec w n k few lead a fits.
-              let low = word_at r (16 + 8 * index) in
-              let here : LeadsAlways old r (found_in steps (high * 2 ^ 32 + low)) w n =
-              subst (λ u. LeadsAlways old r u w n) (on.same x low le lt (word_fits r (16 + 8 * index) rec)) lead in
+              let here = rw (on.same x (word_at r (16 + 8 * index)) le lt (word_fits r (16 + 8 * index) rec)) at lead in
               starts_more (n + 2 + 2 * k) (omega arith)
               (leads_by (half.leads r rec w n k few (λ b fits'. leads_grown h.grows (here b fits')) a fits)),
         )
       ];
     }
-  where
-    Both : ℕ → Target → Type 0
-    Both x u = IsIn new u × ((r : List ℕ) → IsRecord r → (w n k : ℕ) → length steps ≤ 2 ^ k
-        → LeadsAlways old r (found_in steps (x * 2 ^ 32 + word_at r (16 + 8 * index))) w n → LeadsAlways new r u w (n + 2 + 2 * k))
-
-    widened : AreSteps next more
-    widened = steps_more (high + 1) next more (omega arith) (omega (arith, on.above)) pushed.are
 
 -- ---- both halves
 
@@ -187,22 +115,18 @@ pub is_argument : (old mid new : List sock_filter) (index : ℕ) (steps highs : 
     → IsPart old Qword (13 * length steps - 2) (λ r. argument_at r index) steps t new
 is_argument old mid new index steps highs t are h word =
     let some = not_none (2 ^ 64) steps are (omega arith) in
-    let done = begun_few steps (2 ^ 32 * 2 ^ 32) in
     record {
-      grows = grows_on _ h.grows word.grows (omega (arith, h.few, h.end, done));
+      grows = grows_on _ h.grows word.grows (omega (arith, h.few, h.end, begun_few steps (2 ^ 32 * 2 ^ 32)));
       inside = word.inside;
       leads = λ r rec w n k few lead.
-          let two : 2 ^ suc k ≡ 2 * 2 ^ k = pow-succ' 2 k in
-          let at : 16 + 8 * index + 4 ≡ 20 + 8 * index = omega arith in
           let high = word_at r (20 + 8 * index) in
-          let low = word_at r (16 + 8 * index) in
-          let high_same : word_at r (16 + 8 * index + 4) ≡ high = ap (λ i. word_at r i) at in
-          let whole : argument_at r index ≡ high * 2 ^ 32 + low = omega (arith, number_halves r (16 + 8 * index), high_same) in
-          let there : LeadsAlways old r (found_in steps (high * 2 ^ 32 + low)) w n = subst (λ u. LeadsAlways old r (found_in steps u) w n)
-          whole lead in
-          let behind = (h.leads high (word_fits r (20 + 8 * index) rec)).1 r rec w n k few there in
+          let at : word_at r (16 + 8 * index + 4) ≡ high = ap (λ i. word_at r i) (omega arith) in
+          let whole : argument_at r index ≡ high * 2 ^ 32 + word_at r (16 + 8 * index) = omega (arith, number_halves r (16 + 8 * index), at)
+          in
+          let behind = (h.leads high (word_fits r (20 + 8 * index) rec)).1 r rec w n k few
+          (subst (λ u. LeadsAlways old r (found_in steps u) w n) whole lead) in
           λ a fits. starts_more (n + (5 + 4 * k)) (omega arith)
-          (word.leads r rec w (n + 2 + 2 * k) (suc k) (omega (arith, h.few, h.end)) behind a fits);
+          (word.leads r rec w (n + 2 + 2 * k) (suc k) (omega (arith, h.few, h.end, pow-succ' 2 k)) behind a fits);
     }
 
 -- what a half has no room for, all steps have none for; and what the high halves have none for
@@ -210,14 +134,12 @@ pub full_half : (old mid : List sock_filter) (index : ℕ) (steps highs : List S
     → high < 2 ^ 32 → greatest_length < length mid + (half_length steps high)
     → greatest_length < length old + 5 * length steps
 full_half old mid index steps highs high h small full =
-    let few = begun_few steps (high * 2 ^ 32) in
-    let few' = begun_few steps ((high + 1) * 2 ^ 32) in
     let up = begun_more steps (high * 2 ^ 32) ((high + 1) * 2 ^ 32) (omega arith) in
-    omega (arith, full, h.soon small, (grown_long h.grows).1, up)
+    omega (arith, full, h.soon small, (grown_long h.grows).1, begun_few steps ((high + 1) * 2 ^ 32), up)
 
 pub full_highs : (old mid : List sock_filter) (index : ℕ) (steps highs : List Step) → AreSteps (2 ^ 64) steps
     → AreHighs old index steps (2 ^ 32) highs mid → greatest_length < length mid + (3 * length highs - 2)
     → greatest_length < length old + (13 * length steps - 2)
 full_highs old mid index steps highs are h full =
     let some = not_none (2 ^ 64) steps are (omega arith) in
-    omega (arith, full, (grown_long h.grows).1, h.few, h.end, begun_few steps (2 ^ 32 * 2 ^ 32))
+    omega (arith, full, (grown_long h.grows).1, h.few, h.end, some, begun_few steps (2 ^ 32 * 2 ^ 32))

@@ -1,13 +1,12 @@
 -- Laws of the definitions, which the proofs of several functions cite.
+pub mod Common
 pub mod Runs
 pub mod Meeting
 pub mod Ruled
 pub mod Reaching
 pub mod Trees
-pub mod Words
 pub mod ProgramEnds
 pub mod Deciding
-pub mod Defaults
 pub mod CallsPushed
 pub mod FewestSteps
 pub mod Theorem

@@ -1,52 +1,33 @@
 -- Conditions as targets: what choices and masks make of them.
-use Rattle.std.proofs.Common.{◌≡◌, ℕ, suc, ◌+◌, ◌-◌, ◌*◌, ◌/◌, ◌%◌, ◌<◌, ◌≤◌, ◌^◌, List, [], ◌∷◌, length, true, refl, sym, ap, ◌∙◌, subst}
-use Rattle.std.proofs.Common.{inl, inr, arith}
-use Rattle.std.specs.Prelude.{bit_and, ◌⊎◌, ◌↔◌, if◌then◌else◌}
-use Rattle.std.specs.Int.Bits.{and_lt, and_zero_r}
-use Rattle.std.proofs.lemmas.Bool.{cases_eq, eq-eqb, ne_eqb}
-use Rattle.seccompiler.specs.declared.bpf.sock_filter.{sock_filter}
-use Rattle.seccompiler.specs.declared.backend.SeccompCmpArgLen.{SeccompCmpArgLen}
-use Rattle.seccompiler.specs.declared.backend.SeccompCmpArgLen.TheVariants.{Dword, Qword}
-use Rattle.seccompiler.specs.declared.backend.SeccompCmpOp.{SeccompCmpOp}
-use Rattle.seccompiler.specs.declared.backend.SeccompCmpOp.TheVariants.{Eq, Ge, Gt, Le, Lt, MaskedEq, Ne}
-use Rattle.seccompiler.specs.Machine.{IsRecord, word_at, argument_at, masks}
-use Rattle.std.proofs.lemmas.List.Elements.{All-nil, All-cons, All-head, All-tail}
-use Rattle.seccompiler.specs.Policy.{Condition, Compares, Holds, RuleHolds, part_of, operator_part}
-use Rattle.seccompiler.specs.Code.{load, mask}
-use Rattle.seccompiler.proofs.Words.{word_fits, number_halves, mask_halves}
+use Rattle.seccomp_tree.proofs.Common.{◌≡◌, ℕ, suc, ◌+◌, ◌-◌, ◌*◌, ◌/◌, ◌%◌, ◌<◌, ◌≤◌, ◌^◌, List, [], ◌∷◌, length, true, refl, ap, inl, inr}
+use Rattle.seccomp_tree.proofs.Common.{arith, bit_and, ◌⊎◌, ◌↔◌, if◌then◌else◌, and_lt, and_zero_r, cases_eq, eq-eqb, ne_eqb, sock_filter}
+use Rattle.seccomp_tree.proofs.Common.{SeccompCmpArgLen, Dword, Qword, SeccompCmpOp, MaskedEq, IsRecord, word_at, argument_at, masks}
+use Rattle.seccomp_tree.proofs.Common.{All-nil, All-cons, All-head, All-tail, Condition, Compares, Holds, RuleHolds, part_of, operator_part}
+use Rattle.seccomp_tree.proofs.Common.{load, mask, word_fits, number_halves, mask_halves, Target, At, Step, found_in, single, is_plain}
+use Rattle.seccomp_tree.proofs.Common.{IsChosen, AreLaid, condition_length, condition_steps, IsMet, IsConditionMet, HasBits, LeadsAlways}
+use Rattle.seccomp_tree.proofs.Common.{IsIn, chosen, IsTested, part_length, part_steps, IsPart}
 use Rattle.seccomp_tree.specs.declared.code.Test.TheVariants.{Equal}
-use Rattle.seccomp_tree.specs.declared.steps.Target.{Target}
-use Rattle.seccomp_tree.specs.declared.steps.Target.TheVariants.{At}
-use Rattle.seccomp_tree.specs.declared.steps.Step.{Step}
-use Rattle.seccomp_tree.specs.Steps.{found_in, single}
-use Rattle.seccomp_tree.specs.Intervals.{numbers_of, is_plain, IsChosen, AreLaid}
-use Rattle.seccomp_tree.specs.Code.{Starts, Leads, LeadsAlways, Returns, goes_on, IsIn, chosen, IsTested, part_length, part_steps, IsPart}
-use Rattle.seccomp_tree.specs.Conditions.{condition_length, condition_steps, IsMet, IsConditionMet, HasBits}
+use Rattle.seccomp_tree.specs.Conditions.{numbers_of}
+use Rattle.seccomp_tree.specs.Code.{goes_on}
 use Rattle.seccomp_tree.proofs.Runs.{grows_not, grows_one, grows_on, starts_more, leads_by, leads_grown, starts_last}
-use Rattle.seccomp_tree.proofs.Words.{load_run}
+use Rattle.seccomp_tree.proofs.Trees.{load_run}
 use Rattle.seccomp_tree.proofs.Begun.{begun_few}
 use Rattle.seccomp_tree.proofs.Choices.{compares_or_not}
 
 -- ---- numbers of an argument
 
 pub low_word : (r : List ℕ) (index : ℕ) → IsRecord r → argument_at r index % 2 ^ 32 ≡ word_at r (16 + 8 * index)
-low_word r index rec =
-    let low = word_fits r (16 + 8 * index) rec in
-    omega (arith, number_halves r (16 + 8 * index))
+low_word r index rec = omega (arith, number_halves r (16 + 8 * index), word_fits r (16 + 8 * index) rec)
 
 pub high_word : (r : List ℕ) (index : ℕ) → IsRecord r → argument_at r index / 2 ^ 32 ≡ word_at r (20 + 8 * index)
 high_word r index rec =
-    let low = word_fits r (16 + 8 * index) rec in
-    let at : 16 + 8 * index + 4 ≡ 20 + 8 * index = omega arith in
-    let same : word_at r (16 + 8 * index + 4) ≡ word_at r (20 + 8 * index) = ap (λ i. word_at r i) at in
-    omega (arith, number_halves r (16 + 8 * index), same)
+    let same : word_at r (16 + 8 * index + 4) ≡ word_at r (20 + 8 * index) = ap (λ i. word_at r i) (omega arith) in
+    omega (arith, number_halves r (16 + 8 * index), same, word_fits r (16 + 8 * index) rec)
 
 pub part_fits : (l : SeccompCmpArgLen) (r : List ℕ) (index : ℕ) → IsRecord r → part_of l (argument_at r index) < numbers_of l
 part_fits Dword r index rec = omega arith
 part_fits Qword r index rec =
-    let low = word_fits r (16 + 8 * index) rec in
-    let high = word_fits r (16 + 8 * index + 4) rec in
-    omega (arith, number_halves r (16 + 8 * index))
+    omega (arith, number_halves r (16 + 8 * index), word_fits r (16 + 8 * index) rec, word_fits r (16 + 8 * index + 4) rec)
 
 -- each condition holds or doesn't
 pub holds_or_not : (c : Condition) (r : List ℕ) → Holds c r ⊎ (Holds c r → ⊥)
@@ -71,46 +52,37 @@ pub part_of_word : (old new : List sock_filter) (index : ℕ) (steps : List Step
 part_of_word old new index steps t word = record {
   grows = word.grows;
   inside = word.inside;
-  leads = λ r rec w n k few lead.
-      word.leads r rec w n k few (subst (λ a. LeadsAlways old r (found_in steps a) w n) (low_word r index rec) lead);
+  leads = λ r rec w n k few lead. word.leads r rec w n k few (rw (← low_word r index rec) lead);
 }
 
 -- ---- conditions without a mask
 
 plain_operator : (l : SeccompCmpArgLen) (o : SeccompCmpOp) → is_plain o ≡ true → operator_part l o ≡ o
-plain_operator l Eq plain = refl
-plain_operator l Ne plain = refl
-plain_operator l Ge plain = refl
-plain_operator l Gt plain = refl
-plain_operator l Le plain = refl
-plain_operator l Lt plain = refl
 plain_operator l (MaskedEq m) plain = absurd (cc)
+plain_operator l _ plain = refl
 
 pub plain_cost : (l : SeccompCmpArgLen) (o : SeccompCmpOp) → is_plain o ≡ true
     → (condition_steps l o ≡ part_steps l 2) × (condition_length l o ≡ part_length l 3)
 plain_cost l o plain = rw plain (refl, refl)
 
 pub shorter_part : (l : SeccompCmpArgLen) (n m : ℕ) → n ≤ m → part_length l n ≤ part_length l m
-shorter_part Dword n m le = omega arith
-shorter_part Qword n m le = omega arith
+shorter_part l n m le = grind (arith, le)
 
 -- whether a condition without a mask holds is what its comparison says of the argument's part
 pub chosen_plain : (c : Condition) (r : List ℕ) (fit unfit t : Target) → is_plain c.operator ≡ true
     → IsChosen (Compares c.operator (part_of c.arg_len (argument_at r c.arg_index)) (part_of c.arg_len c.value)) fit unfit t
     → IsChosen (Holds c r) fit unfit t
-chosen_plain c r fit unfit t plain h =
-    subst (λ o. IsChosen (Compares o (part_of c.arg_len (argument_at r c.arg_index)) (part_of c.arg_len c.value)) fit unfit t)
-    (sym (plain_operator c.arg_len c.operator plain)) h
+chosen_plain c r fit unfit t plain h = rw (plain_operator c.arg_len c.operator plain) h
 
 pub met_by_steps : (old new : List sock_filter) (c : Condition) (fit unfit t : Target) (steps : List Step)
     → AreLaid c fit (single unfit) steps
     → IsPart old c.arg_len (part_length c.arg_len (length steps)) (λ r. part_of c.arg_len (argument_at r c.arg_index)) steps t new
     → IsConditionMet old c fit unfit t new
 met_by_steps old new c fit unfit t steps h part = record {
-  grows = record { front = part.grows.front; whole = part.grows.whole; few = omega (arith, part.grows.few, cost.1, less) };
+  grows = grows_on _ part.grows (grows_not new 0) (omega (arith, cost.1, shorter_part c.arg_len (length steps) 3 few));
   inside = part.inside;
-  met = λ r rec is w n lead. goes r rec w n (subst (λ u. LeadsAlways old r u w n) (sym ((own r rec).met is)) lead);
-  unmet = λ r rec not w n lead. goes r rec w n (subst (λ u. LeadsAlways old r u w n) (sym ((own r rec).unmet not)) lead);
+  met = λ r rec is w n lead. goes r rec w n (rw ((own r rec).met is) lead);
+  unmet = λ r rec not w n lead. goes r rec w n (rw ((own r rec).unmet not) lead);
 }
   where
     cost : (condition_steps c.arg_len c.operator ≡ part_steps c.arg_len 2)
@@ -120,11 +92,7 @@ met_by_steps old new c fit unfit t steps h part = record {
     few : length steps ≤ 3
     few = omega (arith, h.few, begun_few (single unfit) (numbers_of c.arg_len))
 
-    less : part_length c.arg_len (length steps) ≤ part_length c.arg_len 3
-    less = shorter_part c.arg_len (length steps) 3 few
-
-    own : (r : List ℕ) → IsRecord r
-        → IsChosen (Holds c r) fit unfit (found_in steps (part_of c.arg_len (argument_at r c.arg_index)))
+    own : (r : List ℕ) → IsRecord r → IsChosen (Holds c r) fit unfit (found_in steps (part_of c.arg_len (argument_at r c.arg_index)))
     own r rec = chosen_plain c r fit unfit _ h.plain
         (h.each (part_of c.arg_len (argument_at r c.arg_index)) (part_fits c.arg_len r c.arg_index rec))
 
@@ -142,12 +110,9 @@ pub met_now : {Is : List ℕ → Type 0} {most steps : ℕ} {old : List sock_fil
 met_now {Is} {most} {steps} {old} fit unfit t inside met unmet = record {
   grows = grows_not old most;
   inside = inside;
-  met = λ r rec is w n lead a small. now r w n a fit (met r is) (lead a small);
-  unmet = λ r rec not w n lead a small. now r w n a unfit (unmet r not) (lead a small);
+  met = λ r rec is w n lead a small. starts_more (n + steps) (omega arith) (rw (met r is) at (lead a small));
+  unmet = λ r rec not w n lead a small. starts_more (n + steps) (omega arith) (rw (unmet r not) at (lead a small));
 }
-  where
-    now : (r : List ℕ) (w n a : ℕ) (u : Target) → u ≡ t → Leads old r u a w n → Leads old r t a w (n + steps)
-    now r w n a u is lead = starts_more (n + steps) (omega arith) (subst (λ v. Leads old r v a w n) is lead)
 
 -- the second of two, which is written first, and the first: what takes both, and as much
 pub met_both : {First Second Both : List ℕ → Type 0} {m n s k : ℕ} {old mid new : List sock_filter} {fit unfit t u : Target}
@@ -172,11 +137,8 @@ met_both {s = s} most steps which both room time h g = record {
 -- a mask of nothing is met by each word
 pub masked_none : (old : List sock_filter) (byte m value : ℕ) (fit unfit : Target) → m ≡ 0 → IsIn old fit
     → IsMet (HasBits byte m value) 5 4 old fit unfit fit old
-masked_none old byte m value fit unfit z inside = met_now fit unfit fit inside (λ r is. refl) (λ r not. absurd (not (both r)))
-  where
-    both : (r : List ℕ) → HasBits byte m value r
-    both r =
-        ap (λ k. bit_and (word_at r byte) k) z ∙ and_zero_r (word_at r byte) ∙ sym (and_zero_r value) ∙ sym (ap (λ k. bit_and value k) z)
+masked_none old byte m value fit unfit z inside = met_now fit unfit fit inside (λ r is. refl)
+    (λ r not. absurd (not (rw (z, and_zero_r (word_at r byte), and_zero_r value) refl)))
 
 pub masked_some : (old mid new : List sock_filter) (byte m value : ℕ) (fit unfit t : Target) → byte ≤ 60 → m < 2 ^ 32
     → IsTested old Equal (bit_and value m) fit unfit t mid → new ≡ load byte ∷ mask m ∷ mid
@@ -184,10 +146,8 @@ pub masked_some : (old mid new : List sock_filter) (byte m value : ℕ) (fit unf
 masked_some old mid new byte m value fit unfit t low small tested is = rw is record {
   grows = grows_on 5 tested.grows (grows_on 2 (grows_one mid (mask m)) (grows_one (mask m ∷ mid) (load byte)) (omega arith)) (omega arith);
   inside = omega arith;
-  met = λ r rec same. goes r rec fit
-      (let e = eq-eqb (bit_and (word_at r byte) m) (bit_and value m) same in ap (λ v. if v then fit else unfit) e);
-  unmet = λ r rec not. goes r rec unfit
-      (let e = ne_eqb (bit_and (word_at r byte) m) (bit_and value m) not in ap (λ v. if v then fit else unfit) e);
+  met = λ r rec same. goes r rec fit (ap (λ v. if v then fit else unfit) (eq-eqb (bit_and (word_at r byte) m) (bit_and value m) same));
+  unmet = λ r rec not. goes r rec unfit (ap (λ v. if v then fit else unfit) (ne_eqb (bit_and (word_at r byte) m) (bit_and value m) not));
 }
   where
     goes : (r : List ℕ) → IsRecord r → (u : Target) → chosen Equal (bit_and value m) fit unfit (bit_and (word_at r byte) m) ≡ u → (w n : ℕ)
@@ -196,58 +156,42 @@ masked_some old mid new byte m value fit unfit t low small tested is = rw is rec
     goes r rec u which w n lead a fits =
         let x = bit_and (word_at r byte) m in
         let x_small : x < 2 ^ 32 = and_lt 32 (word_at r byte) m (word_fits r byte rec) small in
-        let run = tested.leads r x w n x_small
-        (subst (λ v. Starts 1 old r v x w n) (sym which) (leads_grown (grows_not old 0) (lead x x_small))) in
-        let masked : Returns r (mask m ∷ mid) (word_at r byte) w (suc (suc n)) =
-        goes_on (mask m) mid (word_at r byte) x w (suc n) 0 (masks refl refl refl) x_small run in
+        let run = tested.leads r x w n x_small (rw which (leads_grown (grows_not old 0) (lead x x_small))) in
         starts_more (n + 4) (omega arith)
-        (leads_by (starts_last refl (omega arith) (load_run r (mask m ∷ mid) byte a w (suc (suc n)) rec low masked)))
+        (leads_by (starts_last refl (omega arith) (load_run r (mask m ∷ mid) byte a w (suc (suc n)) rec low
+        (goes_on (mask m) mid (word_at r byte) x w (suc n) 0 (masks refl refl refl) x_small run))))
 
 -- a condition with a mask holds if the halves of the argument have the value's bits
 pub mask_dword : (c : Condition) (m : ℕ) → c.arg_len ≡ Dword → c.operator ≡ MaskedEq m → (r : List ℕ) → IsRecord r
     → Holds c r ↔ HasBits (16 + 8 * c.arg_index) (m % 2 ^ 32) (c.value % 2 ^ 32) r
-mask_dword c m short is r rec = low c.arg_len c.operator (argument_at r c.arg_index) c.value (word_at r (16 + 8 * c.arg_index)) short is
-    (low_word r c.arg_index rec)
-  where
-    low : (l : SeccompCmpArgLen) (o : SeccompCmpOp) (x v y : ℕ) → l ≡ Dword → o ≡ MaskedEq m → x % 2 ^ 32 ≡ y
-        → Compares (operator_part l o) (part_of l x) (part_of l v) ↔ (bit_and y (m % 2 ^ 32) ≡ bit_and (v % 2 ^ 32) (m % 2 ^ 32))
-    low l o x v y short is same = rw (short, is, ← same) (λ h. h, λ h. h)
+mask_dword c m short is r rec = rw (short, is, ← low_word r c.arg_index rec) (λ h. h, λ h. h)
 
 -- numbers agree under a mask if their halves do
 mask_parts : (x v m : ℕ) → (bit_and x m ≡ bit_and v m)
     ↔ ((bit_and (x / 2 ^ 32) (m / 2 ^ 32) ≡ bit_and (v / 2 ^ 32) (m / 2 ^ 32))
     × (bit_and (x % 2 ^ 32) (m % 2 ^ 32) ≡ bit_and (v % 2 ^ 32) (m % 2 ^ 32)))
 mask_parts x v m =
+    let small = λ (n : ℕ). and_lt 32 (n % 2 ^ 32) (m % 2 ^ 32) (omega arith) (omega arith) in
     let a = mask_halves x m in
     let b = mask_halves v m in
-    let la : bit_and (x % 2 ^ 32) (m % 2 ^ 32) < 2 ^ 32 = and_lt 32 (x % 2 ^ 32) (m % 2 ^ 32) (omega arith) (omega arith) in
-    let lb : bit_and (v % 2 ^ 32) (m % 2 ^ 32) < 2 ^ 32 = and_lt 32 (v % 2 ^ 32) (m % 2 ^ 32) (omega arith) (omega arith) in
-    (λ e. (omega arith, omega arith), λ e. omega (arith, e.0, e.1))
+    (λ e. (omega (arith, small x, small v), omega (arith, small x, small v)), λ e. omega (arith, e.0, e.1))
 
 pub mask_qword : (c : Condition) (m : ℕ) → c.arg_len ≡ Qword → c.operator ≡ MaskedEq m → (r : List ℕ) → IsRecord r
     → Holds c r
     ↔ (HasBits (20 + 8 * c.arg_index) (m / 2 ^ 32) (c.value / 2 ^ 32) r × HasBits (16 + 8 * c.arg_index) (m % 2 ^ 32) (c.value % 2 ^ 32) r)
 mask_qword c m long is r rec =
-    both c.arg_len c.operator (argument_at r c.arg_index) c.value (word_at r (20 + 8 * c.arg_index)) (word_at r (16 + 8 * c.arg_index))
-    long is
-    (high_word r c.arg_index rec) (low_word r c.arg_index rec)
-  where
-    both : (l : SeccompCmpArgLen) (o : SeccompCmpOp) (x v y z : ℕ) → l ≡ Qword → o ≡ MaskedEq m → x / 2 ^ 32 ≡ y → x % 2 ^ 32 ≡ z
-        → Compares (operator_part l o) (part_of l x) (part_of l v)
-        ↔ ((bit_and y (m / 2 ^ 32) ≡ bit_and (v / 2 ^ 32) (m / 2 ^ 32)) × (bit_and z (m % 2 ^ 32) ≡ bit_and (v % 2 ^ 32) (m % 2 ^ 32)))
-    both l o x v y z long is up down = rw (long, is, ← up, ← down) (mask_parts x v m)
+    rw (long, is, ← high_word r c.arg_index rec, ← low_word r c.arg_index rec) (mask_parts (argument_at r c.arg_index) c.value m)
 
 pub masked_dword : (old new : List sock_filter) (c : Condition) (m : ℕ) (fit unfit t : Target) → c.arg_len ≡ Dword → c.operator ≡ MaskedEq m
     → IsMet (HasBits (16 + 8 * c.arg_index) (m % 2 ^ 32) (c.value % 2 ^ 32)) 5 4 old fit unfit t new → IsConditionMet old c fit unfit t new
-masked_dword old new c m fit unfit t short is h = rw (cost.0, cost.1) record {
-  grows = h.grows;
-  inside = h.inside;
-  met = λ r rec holds. h.met r rec ((mask_dword c m short is r rec).0 holds);
-  unmet = λ r rec not. h.unmet r rec (λ has. not ((mask_dword c m short is r rec).1 has));
-}
-  where
-    cost : (condition_length c.arg_len c.operator ≡ 5) × (condition_steps c.arg_len c.operator ≡ 3)
-    cost = rw (short, is) (refl, refl)
+masked_dword old new c m fit unfit t short is h =
+    let cost : (condition_length c.arg_len c.operator ≡ 5) × (condition_steps c.arg_len c.operator ≡ 3) = rw (short, is) (refl, refl) in
+    rw (cost.0, cost.1) record {
+      grows = h.grows;
+      inside = h.inside;
+      met = λ r rec holds. h.met r rec ((mask_dword c m short is r rec).0 holds);
+      unmet = λ r rec not. h.unmet r rec (λ has. not ((mask_dword c m short is r rec).1 has));
+    }
 
 pub masked_qword : (old mid new : List sock_filter) (c : Condition) (m : ℕ) (fit unfit one t : Target) → c.arg_len ≡ Qword → c.operator ≡
     MaskedEq m
@@ -255,7 +199,4 @@ pub masked_qword : (old mid new : List sock_filter) (c : Condition) (m : ℕ) (f
     → IsMet (HasBits (20 + 8 * c.arg_index) (m / 2 ^ 32) (c.value / 2 ^ 32)) 5 4 mid one unfit t new → IsConditionMet old c fit unfit t new
 masked_qword old mid new c m fit unfit one t long is low high =
     met_both _ _ (λ r. cases_eq (bit_and (word_at r (20 + 8 * c.arg_index)) (m / 2 ^ 32)) (bit_and (c.value / 2 ^ 32) (m / 2 ^ 32)))
-    (mask_qword c m long is) (omega (arith, cost.0)) (omega (arith, cost.1)) low high
-  where
-    cost : (condition_length c.arg_len c.operator ≡ 10) × (condition_steps c.arg_len c.operator ≡ 7)
-    cost = rw (long, is) (refl, refl)
+    (mask_qword c m long is) (rw (long, is) (omega arith)) (rw (long, is) (omega arith)) low high

@@ -1,14 +1,10 @@
 -- The two ends of the theorem: sound code is a checked program, and a run that returns a word ends with it there.
-use Rattle.std.proofs.Common.{◌≡◌, ℕ, zero, suc, ◌+◌, ◌-◌, ◌<◌, ◌≤◌, ◌^◌, List, [], ◌∷◌, ◌++◌, length, drop, Some}
-use Rattle.std.proofs.Common.{length-append, length-drop, refl, sym, ap, ◌∙◌, subst, arith}
-use Rattle.std.specs.Prelude.{slice_get}
-use Rattle.std.proofs.lemmas.List.{drop-drop}
-use Rattle.seccompiler.specs.declared.bpf.sock_filter.{sock_filter}
-use Rattle.seccompiler.specs.Code.{give}
-use Rattle.seccompiler.specs.Machine.{Does, loads, masks, jumps, is_equal, is_not_equal, is_greater, is_not_greater, is_at_least, is_less}
-use Rattle.seccompiler.specs.Machine.{Goes, stays, then_step, Ends, IsFine, IsInRange, IsChecked}
-use Rattle.seccompiler.specs.Machine.{fine_load, fine_mask, fine_jump, fine_equal, fine_greater, fine_at_least, fine_return}
-use Rattle.seccomp_tree.specs.Code.{AreFine, IsSound, Returns, gives, goes_on}
+use Rattle.seccomp_tree.proofs.Common.{◌≡◌, ℕ, zero, suc, ◌+◌, ◌-◌, ◌<◌, ◌≤◌, ◌^◌, List, [], ◌∷◌, ◌++◌, length, drop, Some, length-append}
+use Rattle.seccomp_tree.proofs.Common.{length-drop, refl, sym, ap, ◌∙◌, arith, add-one, slice_get, drop-drop, sock_filter, give, Does}
+use Rattle.seccomp_tree.proofs.Common.{loads, masks, jumps, is_equal, is_not_equal, is_greater, is_not_greater, is_at_least, is_less, Goes}
+use Rattle.seccomp_tree.proofs.Common.{stays, then_step, Ends, IsFine, IsInRange, IsChecked, fine_load, fine_mask, fine_jump, fine_equal}
+use Rattle.seccomp_tree.proofs.Common.{fine_greater, fine_at_least, fine_return, AreFine, IsSound, Returns, gives}
+use Rattle.seccomp_tree.specs.Code.{goes_on}
 
 -- an instruction does the same further on
 does_there : (i : sock_filter) (r : List ℕ) (place a d a' : ℕ) → Does i r 0 a (1 + d) a' → Does i r place a (place + (1 + d)) a'
@@ -89,9 +85,8 @@ each_fine : (p : List sock_filter) (place : ℕ) (i : sock_filter) → AreFine p
     → IsFine i place (length p) × IsInRange i
 each_fine [] place i h here = absurd (cc)
 each_fine (x ∷ p) zero i h here =
-    let same : x ≡ i = cc in
-    let long : length p + 1 ≡ suc (length p) = omega arith in
-    (subst (λ j. IsFine j 0 (suc (length p))) same (subst (λ n. IsFine x 0 n) long h.0), subst IsInRange same h.1.0)
+    let same : i ≡ x = cc in
+    rw (same, ← add-one) (h.0, h.1.0)
 each_fine (x ∷ p) (suc place) i h here =
     let both = each_fine p place i h.1.1 here in
     (fine_behind i place (length p) both.0, both.1)
@@ -112,7 +107,6 @@ sound_checked p h =
       each = λ place i here. (each_fine p place i h.fine here).0;
       last = λ i here.
           let at : length p - 1 ≡ length h.front = omega (arith, long) in
-          let end : slice_get p (length p - 1) ≡ Some kill =
-          ap (λ l. slice_get l (length p - 1)) h.ends ∙ ap (λ n. slice_get (h.front ++ kill ∷ []) n) at ∙ last_get h.front kill in
-          let same : i ≡ kill = cc in ap (λ (j : sock_filter). j.code) same;
+          let end = rw (at, h.ends) at here in
+          let same : i ≡ kill = cc (last_get h.front kill) in ap (λ (j : sock_filter). j.code) same;
     }

@@ -1,18 +1,12 @@
 -- For `does`, `reach` and `test`: the places that do what a target says, and what a test does whose targets are reached.
-use Rattle.std.proofs.Common.{◌≡◌, ℕ, zero, suc, ◌+◌, ◌<◌, ◌≤◌, ◌^◌, List, ◌∷◌, ◌-◌, length, reverse, get_or, refl, sym, ap, ◌∙◌}
-use Rattle.std.proofs.lemmas.List.{length-reverse}
-use Rattle.std.proofs.Common.{subst, arith, Bool, true, false, ◌⊎◌, inl, inr, ⊎_elim, nat_eq, nat_le, if◌then◌else◌}
-use Rattle.std.proofs.lemmas.Bool.Decides.{nat_tests}
-use Rattle.seccompiler.specs.declared.bpf.sock_filter.{sock_filter}
-use Rattle.seccompiler.specs.Machine.{Does, jumps, is_equal, is_not_equal, is_at_least, is_less}
-use Rattle.seccomp_tree.specs.declared.steps.Target.{Target}
-use Rattle.seccomp_tree.specs.declared.steps.Target.TheVariants.{At}
-use Rattle.seccomp_tree.specs.declared.code.Test.{Test}
+use Rattle.seccomp_tree.proofs.Common.{◌≡◌, ℕ, zero, suc, ◌+◌, ◌<◌, ◌≤◌, ◌^◌, List, ◌∷◌, ◌-◌, length, reverse, get_or, refl, sym, ap, ◌∙◌}
+use Rattle.seccomp_tree.proofs.Common.{length-reverse, subst, arith, ◌⊎◌, inl, inr, ⊎_elim, nat_tests, cases_eq, cases_lt, sock_filter}
+use Rattle.seccomp_tree.proofs.Common.{Does, jumps, is_equal, is_not_equal, is_at_least, is_less, Target, At, Test, tail_at, Returns, gives}
+use Rattle.seccomp_tree.proofs.Common.{Starts, Leads, to_return, to_place, near, DoesAs, Says, IsFar, Grows, IsReached, chosen, IsTested}
 use Rattle.seccomp_tree.specs.declared.code.Test.TheVariants.{Equal, AtLeast}
-use Rattle.seccomp_tree.specs.Code.{tail_at, Returns, gives, goes_on, Starts, Leads, to_return, to_place, near, DoesAs, Says, IsFar, Grows}
-use Rattle.seccomp_tree.specs.Code.{IsReached, chosen, IsTested}
-use Rattle.seccomp_tree.proofs.Runs.{tail_whole, tail_written, jump_to, jump_from, grows_not, grows_one, grows_on, grown_long}
-use Rattle.seccomp_tree.proofs.Runs.{returns_more, returns_grown, starts_grown}
+use Rattle.seccomp_tree.specs.Code.{goes_on}
+use Rattle.seccomp_tree.proofs.Runs.{tail_whole, tail_written, jump_to, jump_from, grows_not, grows_one, grows_on, grown_long, returns_more}
+use Rattle.seccomp_tree.proofs.Runs.{returns_grown, starts_grown}
 
 -- what was written at a place, as the code has it
 pub written_does : (back code : List sock_filter) (place : ℕ) (t : Target) (i : sock_filter) → reverse back ≡ code → place < length code
@@ -25,12 +19,10 @@ written_does back code place t i view inside here says =
 does_run : {code : List sock_filter} {r : List ℕ} {t : Target} {place a w n : ℕ} → DoesAs code t place → a < 2 ^ 32
     → Leads code r t a w n → Returns r (tail_at code place) a w n
 does_run {code} {r} h small (to_return w a zero some) = absurd (omega arith)
-does_run {code} {r} h small (to_return w a (suc n) some) =
-    subst (λ l. Returns r l a w (suc n)) (sym h.here) (gives h.instruction h.rest a w n h.says.0 h.says.1)
+does_run h small (to_return w a (suc n) some) = rw h.here (gives h.instruction h.rest a w n h.says.0 h.says.1)
 does_run {code} {r} {t} {place} h small (to_place m w a n inside run) =
-    subst (λ l. Returns r l a w (suc n)) (sym h.here)
-    (goes_on h.instruction h.rest a a w n h.instruction.k (jumps h.says.0 (omega arith) refl) small
-    (subst (λ l. Returns r l a w n) (sym (jump_from code place h.instruction.k m h.instruction h.rest h.inside h.here h.says.1)) run))
+    let at = jump_from code place h.instruction.k m h.instruction h.rest h.inside h.here h.says.1 in
+    rw h.here (goes_on h.instruction h.rest a a w n h.instruction.k (jumps h.says.0 (omega arith) refl) small (rw at run))
 does_run h small (near m w a n inside close run) = absurd (omega arith)
 
 -- a place by itself
@@ -56,13 +48,13 @@ reached_by code t place new g far does close = record {
 pub reached_new : (code : List sock_filter) (t : Target) (i : sock_filter) (new : List sock_filter) (place : ℕ) → IsFar code t
     → new ≡ i ∷ code → place + 1 ≡ length new → Says t i (length code) → IsReached code t place new
 reached_new code t i new place far written last says =
-    let at : length code ≡ place = omega (arith, ap length written) in
-    subst (λ l. IsReached code t place l) (sym written) (reached_by code t place (i ∷ code) (grows_one code i) far (record {
+    let at : place ≡ length code = omega (arith, ap length written) in
+    rw (written, at) (reached_by code t (length code) (i ∷ code) (grows_one code i) far (record {
       inside = omega arith;
       instruction = i;
       rest = code;
-      here = tail_whole (i ∷ code) place (omega arith);
-      says = subst (Says t i) at says;
+      here = tail_whole (i ∷ code) (length code) (omega arith);
+      says = says;
     }) (omega arith))
 
 -- The code of a test.
@@ -76,23 +68,21 @@ Chooses test i r a met other =
     ((chosen test i.k met other a ≡ met) × Does i r 0 a (1 + i.jt) a) ⊎ ((chosen test i.k met other a ≡ other) × Does i r 0 a (1 + i.jf) a)
 
 chooses : (test : Test) (i : sock_filter) (r : List ℕ) (a : ℕ) (met other : Target) → i.code ≡ code_of test → Chooses test i r a met other
-chooses Equal i r a met other is = go (nat_eq a i.k) refl
-  where
-    go : (b : Bool) → nat_eq a i.k ≡ b → Chooses Equal i r a met other
-    go true e = inl (ap (λ b. if b then met else other) e, is_equal is (grind (arith, nat_tests)) (omega arith) refl)
-    go false e = inr (ap (λ b. if b then met else other) e, is_not_equal is (grind (arith, nat_tests)) (omega arith) refl)
-chooses AtLeast i r a met other is = go (nat_le i.k a) refl
-  where
-    go : (b : Bool) → nat_le i.k a ≡ b → Chooses AtLeast i r a met other
-    go true e = inl (ap (λ b. if b then met else other) e, is_at_least is (grind (arith, nat_tests)) (omega arith) refl)
-    go false e = inr (ap (λ b. if b then met else other) e, is_less is (grind (arith, nat_tests)) (omega arith) refl)
+chooses Equal i r a met other is = elim (cases_eq a i.k) [
+  | inl e ↦ inl (grind (arith, nat_tests), is_equal is e (omega arith) refl)
+  | inr e ↦ inr (grind (arith, nat_tests), is_not_equal is e (omega arith) refl)
+]
+chooses AtLeast i r a met other is = elim (cases_lt a i.k) [
+  | inl e ↦ inr (grind (arith, nat_tests), is_less is e (omega arith) refl)
+  | inr e ↦ inl (grind (arith, nat_tests), is_at_least is e (omega arith) refl)
+]
 
 -- a test whose targets are reached, the one first
 pub tested : (old mid code : List sock_filter) (test : Test) (i : sock_filter) (met other : Target) (y n : ℕ) (new : List sock_filter)
     (t : Target) → i.code ≡ code_of test → i.jt + y + 1 ≡ length code → i.jf + n + 1 ≡ length code → IsReached old met y mid
     → IsReached mid other n code → new ≡ i ∷ code → t ≡ At (length new - 1) → IsTested old test i.k met other t new
 tested old mid code test i met other y n new t is over_yes over_no h k written last = record {
-  grows = subst (Grows old 3) (sym written) (grows_on 3 (grows_on 2 h.grows k.grows (omega arith)) (grows_one code i) (omega arith));
+  grows = rw written (grows_on 3 (grows_on 2 h.grows k.grows (omega arith)) (grows_one code i) (omega arith));
   last = last;
   some = omega (arith, ap length written);
   leads = λ r a w m small lead. subst (λ l. Returns r l a w (suc m)) (sym written) (⊎_elim
@@ -105,5 +95,4 @@ tested old mid code test i met other y n new t is over_yes over_no h k written l
   where
     jumps_on : (r : List ℕ) (a w m : ℕ) → a < 2 ^ 32 → (d place : ℕ) → d + place + 1 ≡ length code → Does i r 0 a (1 + d) a
         → Returns r (tail_at code place) a w m → Returns r (i ∷ code) a w (suc m)
-    jumps_on r a w m small d place over does h =
-        goes_on i code a a w m d does small (subst (λ l. Returns r l a w m) (sym (jump_to code d place over)) h)
+    jumps_on r a w m small d place over does h = goes_on i code a a w m d does small (rw (jump_to code d place over) h)

@@ -1,29 +1,18 @@
 -- Rulings as a target, from the last to the first: each is put in front of what comes after it.
-use Rattle.std.proofs.Common.{◌≡◌, ℕ, zero, suc, ◌+◌, ◌*◌, ◌<◌, ◌≤◌, ◌^◌, List, [], ◌∷◌, length, drop, true, false, refl, sym, ap, ◌∙◌}
-use Rattle.std.proofs.Common.{subst, inl, inr, Option, Some, None, arith}
-use Rattle.std.specs.Prelude.{Bool, nat_eq, if◌then◌else◌}
-use Rattle.std.proofs.lemmas.Bool.{eqb-true, and_parts, false≢true, true≢false}
-use Rattle.std.proofs.lemmas.List.Elements.{All-nil, All-cons, All-head, All-tail}
-use Rattle.seccompiler.specs.declared.bpf.sock_filter.{sock_filter}
-use Rattle.seccompiler.specs.declared.backend.SeccompCmpArgLen.{SeccompCmpArgLen}
-use Rattle.seccompiler.specs.declared.backend.SeccompCmpArgLen.TheVariants.{Dword, Qword}
-use Rattle.seccompiler.specs.Machine.{IsRecord, argument_at}
-use Rattle.seccompiler.specs.Policy.{Condition, Holds, RuleHolds, part_of}
-use Rattle.seccomp_tree.specs.declared.steps.Target.{Target}
-use Rattle.seccomp_tree.specs.declared.steps.Target.TheVariants.{Give}
-use Rattle.seccomp_tree.specs.declared.steps.Step.{Step}
-use Rattle.seccomp_tree.specs.Steps.{found_in, AreSteps, single}
-use Rattle.seccomp_tree.specs.Intervals.{numbers_of, is_plain, AreLaid}
-use Rattle.seccomp_tree.specs.Code.{Leads, LeadsAlways, to_return, AreIn, Grows, part_length, part_steps, IsPart}
-use Rattle.seccomp_tree.specs.Conditions.{condition_length, IsConditionMet}
-use Rattle.seccomp_tree.specs.Decisions.{Ruling, First, nothing, only, alike, same_length, joins, joined, conditions_length}
-use Rattle.seccomp_tree.specs.Decisions.{conditions_steps, rules_length, RunTakes, by_steps, by_conditions, Enters, goes_on, begins, Takes}
-use Rattle.seccomp_tree.specs.Decisions.{stops, passes, ends}
-use Rattle.seccomp_tree.specs.Rules.{IsRulingMet, AreRules, AreFit, rest_length, IsSettled, IsInFront, along, afresh, alone}
+use Rattle.seccomp_tree.proofs.Common.{◌≡◌, ℕ, zero, suc, ◌+◌, ◌*◌, ◌<◌, ◌≤◌, ◌^◌, List, [], ◌∷◌, length, drop, true, false, refl, sym, ap}
+use Rattle.seccomp_tree.proofs.Common.{◌∙◌, subst, inl, inr, Option, Some, None, arith, nat_tests, false≢true, true≢false, All-nil}
+use Rattle.seccomp_tree.proofs.Common.{All-cons, All-head, All-tail, sock_filter, SeccompCmpArgLen, IsRecord, argument_at, Condition, Holds}
+use Rattle.seccomp_tree.proofs.Common.{RuleHolds, part_of, Target, Give, Step, found_in, AreSteps, single, is_plain, AreLaid}
+use Rattle.seccomp_tree.proofs.Common.{condition_length, IsConditionMet, LeadsAlways, to_return, AreIn, Grows, part_length, part_steps}
+use Rattle.seccomp_tree.proofs.Common.{IsPart, Ruling, First, only, alike, same_length, joins, joined, conditions_length, conditions_steps}
+use Rattle.seccomp_tree.proofs.Common.{rules_length, RunTakes, by_steps, by_conditions, Enters, begins, Takes, stops, passes, ends}
+use Rattle.seccomp_tree.proofs.Common.{IsRulingMet, AreRules, rest_length, IsSettled, IsInFront, along, afresh, alone}
+use Rattle.seccomp_tree.specs.Conditions.{numbers_of}
+use Rattle.seccomp_tree.specs.Decisions.{goes_on}
 use Rattle.seccomp_tree.proofs.Runs.{grows_not, grows_on, grown_long, leads_by, starts_more}
 use Rattle.seccomp_tree.proofs.Begun.{begun_few, found_in_code}
 use Rattle.seccomp_tree.proofs.Choices.{numbers_many, laid_in}
-use Rattle.seccomp_tree.proofs.Deciding.{first_here, first_behind}
+use Rattle.seccomp_tree.proofs.Deciding.{first_here, first_behind, first_nothing}
 use Rattle.seccomp_tree.proofs.Meeting.{holds_or_not, chosen_plain, part_fits, plain_cost, met_now, met_both}
 
 -- ---- one ruling
@@ -41,9 +30,8 @@ ruling_one old mid new value after t u c rest h one = met_both _ _ (holds_or_not
 )) (omega arith) (omega arith) h one
 
 conditions_less : (n : ℕ) (q : List Condition) → conditions_length (drop n q) ≤ conditions_length q
-conditions_less zero q = omega arith
-conditions_less (suc n) [] = omega arith
-conditions_less (suc n) (c ∷ q) = let h = conditions_less n q in omega arith
+conditions_less (suc n) (c ∷ q) = omega (arith, conditions_less n q)
+conditions_less _ q = omega arith
 
 -- how much room a condition takes at most, of what all take
 pub ruling_room : (old mid : List sock_filter) (value : ℕ) (after t : Target) (q : List Condition) (k : ℕ) (c : Condition) (rest : List
@@ -51,47 +39,30 @@ pub ruling_room : (old mid : List sock_filter) (value : ℕ) (after t : Target) 
     → drop k q ≡ c ∷ rest → IsRulingMet old rest value after t mid → length mid + condition_length c.arg_len c.operator ≤ length old +
     conditions_length q
 ruling_room old mid value after t q k c rest cons h =
-    let less = conditions_less k q in
-    let same : conditions_length (drop k q) ≡ condition_length c.arg_len c.operator + conditions_length rest = ap conditions_length cons in
-    omega (arith, (grown_long h.grows).1)
+    omega (arith, (grown_long h.grows).1, conditions_less k q, ap conditions_length cons)
 
 -- ---- what a condition alone is
 
 pub only_is : (q : List Condition) (c : Condition) → only q ≡ Some c → (q ≡ c ∷ []) × (is_plain c.operator ≡ true)
 only_is [] c e = absurd (cc)
-only_is (x ∷ []) c e = plain (is_plain x.operator) refl
-  where
-    plain : (b : Bool) → is_plain x.operator ≡ b → (x ∷ [] ≡ c ∷ []) × (is_plain c.operator ≡ true)
-    plain true is =
-        let same : Some x ≡ Some c = subst (λ b. (if b then Some x else None) ≡ Some c) is e in
-        let x_is : x ≡ c = cc in
-        (ap (λ (y : Condition). y ∷ []) x_is, subst (λ (y : Condition). is_plain y.operator ≡ true) x_is is)
-    plain false is = let other : None ≡ Some c = subst (λ b. (if b then Some x else None) ≡ Some c) is e in absurd (cc)
+only_is (x ∷ []) c e = grind (arith, e)
 only_is (x ∷ y ∷ q) c e = absurd (cc)
 
 same_length_is : (l m : SeccompCmpArgLen) → same_length l m ≡ true → l ≡ m
-same_length_is Dword Dword e = refl
-same_length_is Qword Qword e = refl
-same_length_is Dword Qword e = absurd (false≢true e)
-same_length_is Qword Dword e = absurd (false≢true e)
+same_length_is l m e = grind (arith, e)
 
 pub alike_is : (c d : Condition) → alike (Some c) (Some d) ≡ true → (c.arg_index ≡ d.arg_index) × (c.arg_len ≡ d.arg_len)
-alike_is c d e =
-    let both = and_parts (nat_eq c.arg_index d.arg_index) (same_length c.arg_len d.arg_len) e in
-    (eqb-true c.arg_index d.arg_index both.0, same_length_is c.arg_len d.arg_len both.1)
+alike_is c d e = grind (arith, nat_tests, e, same_length_is c.arg_len d.arg_len)
 
 only_length : (q : List Condition) (c : Condition) → only q ≡ Some c → conditions_length q ≡ part_length c.arg_len 3
 only_length q c is =
-    let own = only_is q c is in
-    ap conditions_length own.0 ∙ (let cost = plain_cost c.arg_len c.operator own.1 in omega (arith, cost.1))
+    let own = only_is q c is in omega (arith, ap conditions_length own.0, (plain_cost c.arg_len c.operator own.1).1)
 
 only_holds : (q : List Condition) (c : Condition) (r : List ℕ) → only q ≡ Some c → (Holds c r → RuleHolds q r) × (RuleHolds q r → Holds c r)
 only_holds q c r is =
-    let own = only_is q c is in (
-      λ h. subst (λ (l : List Condition). RuleHolds l r) (sym own.0) (All-cons (λ (x : Condition). Holds x r) c [] h (All-nil (λ (x :
-          Condition). Holds x r))),
-      λ h. All-head (λ (x : Condition). Holds x r) c [] (subst (λ (l : List Condition). RuleHolds l r) own.0 h),
-    )
+    let own = only_is q c is in
+    let P = λ (x : Condition). Holds x r in
+    rw own.0 (λ h. All-cons P c [] h (All-nil P), λ h. All-head P c [] h)
 
 -- ---- how many steps rulings take
 
@@ -99,44 +70,18 @@ abbrev pub head : List Ruling → List Condition
 head [] = []
 head (d ∷ rest) = d.conditions
 
--- The steps of rulings whose run was entered.
-pub data Left (r : List ℕ) (d : Ruling) (rest : List Ruling) : ℕ → Type 0 where
-  stops_here : RuleHolds d.conditions r → Left r d rest 0
-  goes_further : (n : ℕ) → (RuleHolds d.conditions r → ⊥) → Takes r d.conditions rest n → Left r d rest n
-
 enters_joined : (first : List Condition) (d : Ruling) (rest : List Ruling) (n : ℕ) → joins first d.conditions ≡ true → Enters first d rest
     n → n ≡ 0
 enters_joined first d rest n on (goes_on e) = refl
-enters_joined first d rest n on (begins m apart takes) = absurd (true≢false (sym on ∙ apart))
+enters_joined first d rest n on (begins m apart takes) = absurd (cc)
 
 enters_first : (first : List Condition) (d : Ruling) (rest : List Ruling) (n : ℕ) → joins first d.conditions ≡ false → Enters first d rest n
     → RunTakes d.conditions (1 + joined d.conditions rest) n
 enters_first first d rest n apart (goes_on on) = absurd (true≢false (sym on ∙ apart))
 enters_first first d rest n apart (begins m e takes) = takes
 
-takes_joined : (r : List ℕ) (first : List Condition) (d : Ruling) (rest : List Ruling) (n : ℕ) → joins first d.conditions ≡ true
-    → Takes r first (d ∷ rest) n → Left r d rest n
-takes_joined r first d rest n on (stops q e l m holds enters) =
-    let none = enters_joined first d rest m on enters in
-    subst (Left r d rest) (sym none) (stops_here holds)
-takes_joined r first d rest n on (passes q e l m k not enters takes) =
-    let none = enters_joined first d rest m on enters in
-    let count : k ≡ m + k = omega (arith, none) in
-    subst (Left r d rest) count (goes_further k not takes)
-
-record IsBegun (r : List ℕ) (d : Ruling) (rest : List Ruling) (n : ℕ) : Type 0 where
-  run : ℕ
-  left : ℕ
-  takes : RunTakes d.conditions (1 + joined d.conditions rest) run
-  further : Left r d rest left
-  sum : run + left ≡ n
-
-takes_begun : (r : List ℕ) (first : List Condition) (d : Ruling) (rest : List Ruling) (n : ℕ) → joins first d.conditions ≡ false
-    → Takes r first (d ∷ rest) n → IsBegun r d rest n
-takes_begun r first d rest n apart (stops q e l m holds enters) =
-    record { run = m; left = 0; takes = enters_first first d rest m apart enters; further = stops_here holds; sum = omega arith }
-takes_begun r first d rest n apart (passes q e l m k not enters takes) =
-    record { run = m; left = k; takes = enters_first first d rest m apart enters; further = goes_further k not takes; sum = refl }
+joins_itself : (q : List Condition) (c : Condition) → only q ≡ Some c → joins q q ≡ true
+joins_itself q c own = rw own (grind (arith, nat_tests))
 
 takes_fresh : (r : List ℕ) (p : List Condition) (rest : List Ruling) (n : ℕ) → joins p (head rest) ≡ false → Takes r p rest n
     → Takes r [] rest n
@@ -146,9 +91,16 @@ takes_fresh r p (d ∷ rest) n apart (stops q e l m holds enters) = stops [] d r
 takes_fresh r p (d ∷ rest) n apart (passes q e l m k not enters takes) =
     passes [] d rest m k not (begins m refl (enters_first p d rest m apart enters)) takes
 
+-- what those behind a ruling take that doesn't hold, in whose run they are
+takes_behind : (r : List ℕ) (first : List Condition) (d : Ruling) (rest : List Ruling) (n : ℕ) → joins first d.conditions ≡ true
+    → (RuleHolds d.conditions r → ⊥) → Takes r first (d ∷ rest) n → Takes r d.conditions rest n
+takes_behind r first d rest n on not (stops q e l m holds enters) = absurd (not holds)
+takes_behind r first d rest n on not (passes q e l m k other enters takes) =
+    subst (Takes r d.conditions rest) (omega (arith, enters_joined first d rest m on enters)) takes
+
 -- ---- what comes after
 
--- Steps over what a condition compares, the only one of the first of the rulings, whose run is still to be entered.
+-- Steps over what a condition compares, the only one of the first of the rulings, whose run was entered in front of it.
 pub record ArePending (old : List sock_filter) (default : ℕ) (c : Condition) (d : Ruling) (rest : List Ruling) (steps : List Step)
     (code : List sock_filter) : Type 0 where
   pub own : only d.conditions ≡ Some c
@@ -158,7 +110,8 @@ pub record ArePending (old : List sock_filter) (default : ℕ) (c : Condition) (
   pub few : length steps ≤ 2 * (1 + joined d.conditions rest) + 1
   pub are : AreSteps (numbers_of c.arg_len) steps
   pub inside : AreIn code steps
-  pub leads : (r : List ℕ) → IsRecord r → (w n : ℕ) → First default r (d ∷ rest) w → Left r d rest n
+  pub leads : (r : List ℕ) → IsRecord r → (w n : ℕ) (first : List Condition) → joins first d.conditions ≡ true
+      → First default r (d ∷ rest) w → Takes r first (d ∷ rest) n
       → LeadsAlways code r (found_in steps (part_of c.arg_len (argument_at r c.arg_index))) w (n + 1)
 
 abbrev pub IsRest : List sock_filter → ℕ → List Ruling → Option Condition → List Step → List sock_filter → Type 0
@@ -168,31 +121,21 @@ IsRest old default rulings (Some c) steps code =
     (d : Ruling) × (rest : List Ruling) × (rulings ≡ d ∷ rest) × ArePending old default c d rest steps code
 
 pub rest_none : (old : List sock_filter) (default : ℕ) → default < 2 ^ 32 → IsRest old default [] None (single (Give default)) old
-rest_none old default fits = (
-  Give default,
-  refl,
-  refl,
-  record { grows = grows_not old 0; inside = fits; leads = λ r rec w n is takes a small. given r w a n is },
-)
-  where
-    given : (r : List ℕ) (w a n : ℕ) → First default r [] w → Leads old r (Give default) a w (n + 1)
-    given r w a n nothing = to_return default a (n + 1) (omega arith)
-
-pub rest_fit : (old : List sock_filter) (default : ℕ) (rulings : List Ruling) (like : Option Condition) (steps : List Step) (code : List
-    sock_filter)
-    → IsRest old default rulings like steps code → AreFit code like steps
-rest_fit old default rulings None steps code h = (h.0, h.1, h.3.inside)
-rest_fit old default rulings (Some c) steps code h = (h.3.are, h.3.inside)
+rest_none old default fits =
+    let own : AreRules old [] default (Give default) old = record {
+      grows = grows_not old 0;
+      inside = fits;
+      leads = λ r rec w n is takes a small. rw (first_nothing is) (to_return default a (n + 1) (omega arith));
+    } in
+    (Give default, refl, refl, own)
 
 -- ---- a ruling laid over steps
 
 run_more : (l : SeccompCmpArgLen) (j : ℕ) → (1 + suc j) * part_length l 3 ≡ part_length l 3 + (1 + j) * part_length l 3
-run_more Dword j = omega arith
-run_more Qword j = omega arith
+run_more l j = grind arith
 
 run_room : (l : SeccompCmpArgLen) (n j : ℕ) → n ≤ 2 * (1 + j) + 1 → part_length l n ≤ (1 + j) * part_length l 3
-run_room Dword n j le = omega arith
-run_room Qword n j le = omega arith
+run_room l n j le = grind (arith, le)
 
 module _ (old code : List sock_filter) (default : ℕ) (c : Condition) (d : Ruling) (own : only d.conditions ≡ Some c)
     (fits : d.value < 2 ^ 32) where
@@ -208,10 +151,8 @@ module _ (old code : List sock_filter) (default : ℕ) (c : Condition) (d : Ruli
       let own_choice = chosen_plain c r (Give d.value) (found_in others x) (found_in laid x) plain
       (h.each x (part_fits c.arg_len r c.arg_index rec)) in
       elim (holds_or_not c r) [
-        | inl is ↦
-            let value : Give w ≡ found_in laid x = ap Give (met (both.0 is)) ∙ sym (own_choice.met is) in
-            subst (λ u. Leads code r u a w (n + 1)) value (to_return w a (n + 1) (omega arith))
-        | inr not ↦ subst (λ u. Leads code r u a w (n + 1)) (sym (own_choice.unmet not)) (unmet (λ holds. not (both.1 holds)) a small)
+        | inl is ↦ rw (own_choice.met is, met (both.0 is)) (to_return d.value a (n + 1) (omega arith))
+        | inr not ↦ rw (own_choice.unmet not) (unmet (λ holds. not (both.1 holds)) a small)
       ]
 
   pub pending_along : (like : Condition) (e : Ruling) (rest : List Ruling) (steps laid : List Step) → alike (Some c) (Some like) ≡ true
@@ -220,62 +161,43 @@ module _ (old code : List sock_filter) (default : ℕ) (c : Condition) (d : Ruli
   pending_along like e rest steps laid same x h =
       let is = alike_is c like same in
       let joins_on : joins d.conditions e.conditions ≡ true = rw (own, x.own) same in
-      let count : joined d.conditions (e ∷ rest) ≡ suc (joined e.conditions rest) =
-      ap (λ b. if b then suc (joined e.conditions rest) else 0) joins_on in
-      let few = begun_few steps (numbers_of c.arg_len) in
+      let count : joined d.conditions (e ∷ rest) ≡ suc (joined e.conditions rest) = grind (arith, joins_on) in
       record {
         own = own;
         before = x.before;
         grows = x.grows;
         room =
-            let more = run_more c.arg_len (joined e.conditions rest) in
-            let cost = only_length d.conditions c own in
             let long = ap (λ l. (1 + joined e.conditions rest) * part_length l 3) is.1 in
-            rw count (omega (arith, more, cost, long, x.room));
-        few = omega (arith, h.few, few, x.few, count);
+            rw count (omega (arith, run_more c.arg_len (joined e.conditions rest), only_length d.conditions c own, long, x.room));
+        few = omega (arith, h.few, begun_few steps (numbers_of c.arg_len), x.few, count);
         are = h.are;
         inside = laid_in code c (Give d.value) steps laid h fits
             (λ a. found_in_code code (numbers_of like.arg_len) steps (record { start = 0; target = Give 0 }) a
             (omega (arith, numbers_many like.arg_len)) x.are x.inside);
-        leads = λ r rec w n first left.
+        leads = λ r rec w n front on first takes.
             laid_leads steps laid r w n rec h (λ holds. first_here d (e ∷ rest) holds first)
             (λ not.
-            let place : part_of like.arg_len (argument_at r like.arg_index) ≡ part_of c.arg_len (argument_at r c.arg_index)
-            = ap (λ l. part_of l (argument_at r like.arg_index)) (sym is.1) ∙ ap (λ i. part_of c.arg_len (argument_at r i)) (sym is.0) in
-            subst (λ p. LeadsAlways code r (found_in steps p) w (n + 1)) place
-            (x.leads r rec w n (first_behind d (e ∷ rest) not first) (further r n joins_on not left)));
+            rw (is.0, is.1) (x.leads r rec w n d.conditions joins_on (first_behind d (e ∷ rest) not first)
+            (takes_behind r front d (e ∷ rest) n on not takes)));
       }
-    where
-      further : (r : List ℕ) (n : ℕ) → joins d.conditions e.conditions ≡ true → (RuleHolds d.conditions r → ⊥) → Left r d (e ∷ rest) n
-          → Left r e rest n
-      further r n on not (stops_here holds) = absurd (not holds)
-      further r n on not (goes_further m other takes) = takes_joined r d.conditions e rest m on takes
 
   pub pending_afresh : (t : Target) (rest : List Ruling) (laid : List Step) → joins d.conditions (head rest) ≡ false
       → AreRules old rest default t code → AreLaid c (Give d.value) (single t) laid → ArePending old default c d rest laid code
   pending_afresh t rest laid apart x h =
-      let count = alone_joined rest apart in
-      let few = begun_few (single t) (numbers_of c.arg_len) in
+      let count : joined d.conditions rest ≡ 0 = grind (arith, apart) in
       record {
         own = own;
         before = rules_length rest;
         grows = x.grows;
-        room = let cost = only_length d.conditions c own in rw count (omega (arith, cost));
-        few = omega (arith, h.few, few);
+        room = rw count (omega (arith, only_length d.conditions c own));
+        few = omega (arith, h.few, begun_few (single t) (numbers_of c.arg_len));
         are = h.are;
         inside = laid_in code c (Give d.value) (single t) laid h fits (λ a. x.inside);
-        leads = λ r rec w n first left.
+        leads = λ r rec w n front on first takes.
             laid_leads (single t) laid r w n rec h (λ holds. first_here d rest holds first)
-            (λ not. x.leads r rec w n (first_behind d rest not first) (further r n not left));
+            (λ not. x.leads r rec w n (first_behind d rest not first)
+            (takes_fresh r d.conditions rest n apart (takes_behind r front d rest n on not takes)));
       }
-    where
-      alone_joined : (l : List Ruling) → joins d.conditions (head l) ≡ false → joined d.conditions l ≡ 0
-      alone_joined [] e = refl
-      alone_joined (x ∷ l) e = ap (λ b. if b then suc (joined x.conditions l) else 0) e
-
-      further : (r : List ℕ) (n : ℕ) → (RuleHolds d.conditions r → ⊥) → Left r d rest n → Takes r [] rest n
-      further r n not (stops_here holds) = absurd (not holds)
-      further r n not (goes_further m other takes) = takes_fresh r d.conditions rest m apart takes
 
 -- ---- a ruling by its conditions
 
@@ -284,28 +206,24 @@ rules_alone : (old mid new : List sock_filter) (default : ℕ) (d : Ruling) (res
 rules_alone old mid new default d rest t u none x h = record {
   grows = grows_on (rules_length (d ∷ rest)) x.grows h.grows (omega arith);
   inside = h.inside;
-  leads = λ r rec w n first takes.
-      let b = takes_begun r [] d rest n refl takes in
-      leads r rec w n first b (by_itself b.run b.takes) b.further;
+  leads = leads;
 }
   where
     by_itself : (m : ℕ) → RunTakes d.conditions (1 + joined d.conditions rest) m → m ≡ conditions_steps d.conditions
     by_itself m (by_steps c k e le) = absurd (cc)
     by_itself m (by_conditions e) = refl
 
-    apart : joins d.conditions (head rest) ≡ false
-    apart = ap (λ o. alike o (only (head rest))) none
-
-    leads : (r : List ℕ) → IsRecord r → (w n : ℕ) → First default r (d ∷ rest) w → (b : IsBegun r d rest n)
-        → b.run ≡ conditions_steps d.conditions → Left r d rest b.left → LeadsAlways new r u w (n + 1)
-    leads r rec w n first b run (stops_here holds) a small =
+    leads : (r : List ℕ) → IsRecord r → (w n : ℕ) → First default r (d ∷ rest) w → Takes r [] (d ∷ rest) n → LeadsAlways new r u w (n + 1)
+    leads r rec w n first (stops q e l m holds enters) a small =
         let value = first_here d rest holds first in
-        starts_more (n + 1) (omega (arith, b.sum, run))
-        (h.met r rec holds w 1 (subst (λ v. LeadsAlways mid r (Give v) w 1) value (λ b' fits. to_return w b' 1 (omega arith))) a small)
-    leads r rec w n first b run (goes_further m not takes) a small =
-        starts_more (n + 1) (omega (arith, b.sum, run))
-        (h.unmet r rec not w (m + 1) (x.leads r rec w m (first_behind d rest not first)
-        (takes_fresh r d.conditions rest m apart takes)) a small)
+        let run = by_itself m (enters_first [] d rest m refl enters) in
+        starts_more (n + 1) (omega (arith, run))
+        (h.met r rec holds w 1 (rw (← value) (λ b fits. to_return w b 1 (omega arith))) a small)
+    leads r rec w n first (passes q e l m k not enters takes) a small =
+        let run = by_itself m (enters_first [] d rest m refl enters) in
+        starts_more (n + 1) (omega (arith, run))
+        (h.unmet r rec not w (k + 1) (x.leads r rec w k (first_behind d rest not first)
+        (takes_fresh r d.conditions rest k (rw none refl) takes)) a small)
 
 -- ---- what comes after, as a target
 
@@ -317,31 +235,38 @@ rules_settled old code new default c d rest steps t x part = record {
   grows = grows_on (rules_length (d ∷ rest)) x.grows part.grows
       (omega (arith, x.room, run_room c.arg_len (length steps) (joined d.conditions rest) x.few));
   inside = part.inside;
-  leads = λ r rec w n first takes. let b = takes_begun r [] d rest n refl takes in leads r rec w n first b b.run b.takes refl;
+  leads = leads;
 }
   where
-    leads : (r : List ℕ) → IsRecord r → (w n : ℕ) → First default r (d ∷ rest) w → (b : IsBegun r d rest n) → (m : ℕ)
-        → RunTakes d.conditions (1 + joined d.conditions rest) m → m ≡ b.run → LeadsAlways new r t w (n + 1)
-    leads r rec w n first b m (by_conditions e) is a small = absurd (cc)
-    leads r rec w n first b m (by_steps y k e le) is a small =
-        let same : y ≡ c = cc in
-        let cost : part_steps y.arg_len k ≡ part_steps c.arg_len k = ap (λ (z : Condition). part_steps z.arg_len k) same in
-        starts_more (n + 1) (omega (arith, b.sum, is, cost))
-        (leads_by (part.leads r rec w (b.left + 1) k (omega (arith, x.few, le)) (x.leads r rec w b.left first b.further) a small))
+    -- the run is entered, and what is left goes on in it
+    enters : (r : List ℕ) → IsRecord r → (w m k : ℕ) → First default r (d ∷ rest) w → RunTakes d.conditions (1 + joined d.conditions rest) m
+        → Takes r d.conditions (d ∷ rest) k → LeadsAlways new r t w (m + k + 1)
+    enters r rec w m k first (by_conditions e) takes a small = absurd (cc x.own)
+    enters r rec w m k first (by_steps y j e le) takes a small =
+        let same : y ≡ c = cc x.own in
+        let next = x.leads r rec w k d.conditions (joins_itself d.conditions c x.own) first takes in
+        starts_more (m + k + 1) (omega (arith, ap (λ (z : Condition). part_steps z.arg_len j) same))
+        (leads_by (part.leads r rec w (k + 1) j (omega (arith, x.few, le)) next a small))
+
+    leads : (r : List ℕ) → IsRecord r → (w n : ℕ) → First default r (d ∷ rest) w → Takes r [] (d ∷ rest) n → LeadsAlways new r t w (n + 1)
+    leads r rec w n first (stops q e l m holds enter) a small =
+        starts_more (n + 1) (omega arith)
+        (enters r rec w m 0 first (enters_first [] d rest m refl enter)
+        (stops d.conditions d rest 0 holds (goes_on (joins_itself d.conditions c x.own))) a small)
+    leads r rec w n first (passes q e l m k not enter takes) a small =
+        starts_more (n + 1) (omega arith) (enters r rec w m (0 + k) first (enters_first [] d rest m refl enter)
+        (passes d.conditions d rest 0 k not (goes_on (joins_itself d.conditions c x.own)) takes) a small)
 
 pub settled : (old code new : List sock_filter) (default : ℕ) (rulings : List Ruling) (like : Option Condition) (steps : List Step)
     (t : Target) → IsRest old default rulings like steps code → IsSettled code like steps t new → AreRules old rulings default t new
 settled old code new default rulings None steps t h s =
-    let same : h.0 ≡ t = ap (λ l. found_in l 0) (sym h.1 ∙ s.0) in
-    subst (λ u. AreRules old rulings default u new) same (subst (AreRules old rulings default h.0) (sym s.1) h.3)
-settled old code new default rulings (Some c) steps t h s =
-    subst (λ (l : List Ruling). AreRules old l default t new) (sym h.2) (rules_settled old code new default c h.0 h.1 steps t h.3 s)
+    let same : t ≡ h.0 = ap (λ l. found_in l 0) (sym s.0 ∙ h.1) in rw (same, s.1) h.3
+settled old code new default rulings (Some c) steps t h s = rw h.2 (rules_settled old code new default c h.0 h.1 steps t h.3 s)
 
 -- ---- a ruling in front
 
-rest_head : (old : List sock_filter) (default : ℕ) (rulings : List Ruling) (like : Option Condition) (steps : List Step) (code : List
-    sock_filter)
-    → IsRest old default rulings like steps code → only (head rulings) ≡ like
+rest_head : (old : List sock_filter) (default : ℕ) (rulings : List Ruling) (like : Option Condition) (steps : List Step)
+    (code : List sock_filter) → IsRest old default rulings like steps code → only (head rulings) ≡ like
 rest_head old default rulings None steps code h = h.2
 rest_head old default rulings (Some c) steps code h = ap (λ (l : List Ruling). only (head l)) h.2 ∙ h.3.own
 
@@ -352,34 +277,20 @@ in_front old code new default d rulings None new_like steps laid h (along c own 
 in_front old code new default d rulings (Some x) new_like steps laid h (along c own same fits over is old_is) =
     rw (is, old_is, h.2) (d, h.0 ∷ h.1, refl, pending_along old code default c d own fits x h.0 h.1 steps laid same h.3 over)
 in_front old code new default d rulings like new_like steps laid h (afresh c t own apart fits s over is) =
-    let other : joins d.conditions (head rulings) ≡ false =
-    ap (λ o. alike o (only (head rulings))) own ∙ ap (λ o. alike (Some c) o) (rest_head old default rulings like steps code h) ∙ apart in
-    rw is (
-      d,
-      rulings,
-      refl,
-      pending_afresh old new default c d own fits t rulings laid other
-          (settled old code new default rulings like steps t h s) over,
-    )
+    let x = settled old code new default rulings like steps t h s in
+    let other : joins d.conditions (head rulings) ≡ false = rw (own, rest_head old default rulings like steps code h) apart in
+    rw is (d, rulings, refl, pending_afresh old new default c d own fits t rulings laid other x over)
 in_front old code new default d rulings like new_like steps laid h (alone t u mid none s met is_one is) =
-    rw is (
-      u,
-      is_one,
-      none,
-      rules_alone old mid new default d rulings t u none
-          (settled old code mid default rulings like steps t h s) met,
-    )
+    rw is (u, is_one, none, rules_alone old mid new default d rulings t u none (settled old code mid default rulings like steps t h s) met)
 
 -- how much room there is
 pub rest_room : (old code : List sock_filter) (default : ℕ) (rulings : List Ruling) (like : Option Condition) (steps : List Step)
     → IsRest old default rulings like steps code → length code + rest_length like (length steps) ≤ length old + rules_length rulings
 rest_room old code default rulings None steps h = omega (arith, (grown_long h.3.grows).1)
 rest_room old code default rulings (Some c) steps h =
-    let all = ap rules_length h.2 in
     let room = run_room c.arg_len (length steps) (joined h.0.conditions h.1) h.3.few in
-    omega (arith, (grown_long h.3.grows).1, h.3.room, room, all)
+    omega (arith, (grown_long h.3.grows).1, h.3.room, ap rules_length h.2, room)
 
 pub rules_less : (n : ℕ) (rulings : List Ruling) → rules_length (drop n rulings) ≤ rules_length rulings
-rules_less zero rulings = omega arith
-rules_less (suc n) [] = omega arith
-rules_less (suc n) (d ∷ rulings) = let h = rules_less n rulings in omega arith
+rules_less (suc n) (d ∷ rulings) = omega (arith, rules_less n rulings)
+rules_less _ rulings = omega arith

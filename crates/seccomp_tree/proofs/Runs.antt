@@ -1,13 +1,9 @@
 -- Code that grows: what starts at a place stays what it was, how long code is, and that it stays sound; and runs that begin at a target.
-use Rattle.std.proofs.Common.{◌≡◌, ℕ, suc, ◌+◌, ◌-◌, ◌<◌, List, [], ◌∷◌, ◌++◌, length, drop, get_or, length-append, zero-add, sym, ap, ◌∙◌}
-use Rattle.std.proofs.Common.{arith, ◌≤◌, append_assoc, refl, subst, zero}
-use Rattle.std.specs.Prelude.{reverse}
-use Rattle.std.proofs.lemmas.List.{drop_more, drop-drop, get_or-reverse, length-reverse}
-use Rattle.seccompiler.specs.declared.bpf.sock_filter.{sock_filter}
-use Rattle.seccomp_tree.specs.Code.{tail_at, IsIn, Grows, Returns, gives, goes_on, Starts, Leads, to_return, to_place, near, IsSound}
-use Rattle.seccomp_tree.specs.declared.steps.Target.{Target}
-use Rattle.seccomp_tree.specs.declared.steps.Target.TheVariants.{Give, At}
-use Rattle.seccompiler.specs.Machine.{IsFine, IsInRange, greatest_length}
+use Rattle.seccomp_tree.proofs.Common.{◌≡◌, ℕ, suc, ◌+◌, ◌-◌, ◌<◌, List, [], ◌∷◌, ◌++◌, length, drop, get_or, length-append, zero-add, sym}
+use Rattle.seccomp_tree.proofs.Common.{ap, ◌∙◌, arith, ◌≤◌, append_assoc, refl, subst, zero, reverse, drop_more, drop-drop, get_or-reverse}
+use Rattle.seccomp_tree.proofs.Common.{length-reverse, sock_filter, tail_at, IsIn, Grows, Returns, gives, Starts, Leads, to_return}
+use Rattle.seccomp_tree.proofs.Common.{to_place, near, IsSound, Target, Give, At, IsFine, IsInRange, greatest_length}
+use Rattle.seccomp_tree.specs.Code.{goes_on}
 
 drop_behind : (front old : List sock_filter) (n : ℕ) → drop (length front + n) (front ++ old) ≡ drop n old
 drop_behind [] old n = ap (λ k. drop k old) (zero-add n)
@@ -43,10 +39,8 @@ tail_written back place i inside here =
     let long = length-reverse back in
     let k = length (reverse back) - (place + 1) in
     let at : length back - 1 - k ≡ place = omega (arith, long) in
-    let small : k < length back = omega (arith, long) in
-    let more = drop_more (reverse back) k i (omega (arith, long)) in
-    let item = get_or-reverse back k i small ∙ ap (λ n. get_or back n i) at ∙ sym here in
-    (drop (k + 1) (reverse back), more ∙ ap (λ x. x ∷ drop (k + 1) (reverse back)) item)
+    let item = get_or-reverse back k i (omega (arith, long)) ∙ ap (λ n. get_or back n i) at ∙ sym here in
+    (drop (k + 1) (reverse back), drop_more (reverse back) k i (omega (arith, long)) ∙ ap (λ x. x ∷ drop (k + 1) (reverse back)) item)
 
 pub grows_not : (code : List sock_filter) (most : ℕ) → Grows code most code
 grows_not code most = record { front = []; whole = refl; few = omega arith }
@@ -65,8 +59,7 @@ grows_on {a} most g h few = record {
 -- how long the code is then
 pub grown_long : {old new : List sock_filter} {most : ℕ} → Grows old most new → (length old ≤ length new) × (length new ≤ length old + most)
 grown_long {old} g =
-    let long = ap length g.whole ∙ length-append g.front old in
-    (omega (arith, long), omega (arith, long, g.few))
+    let long = ap length g.whole ∙ length-append g.front old in (omega (arith, long), omega (arith, long, g.few))
 
 pub is_in_grown : {old new : List sock_filter} {most : ℕ} (t : Target) → Grows old most new → IsIn old t → IsIn new t
 is_in_grown (Give w) g h = h
@@ -74,14 +67,14 @@ is_in_grown (At m) g h = omega (arith, (grown_long g).0)
 
 -- the place that was written last is inside
 pub last_in : (code : List sock_filter) (t : Target) → t ≡ At (length code - 1) → 1 ≤ length code → IsIn code t
-last_in code t is some = subst (IsIn code) (sym is) (omega arith)
+last_in code t is some = rw is (omega arith)
 
 -- a run of at most n steps is one of at most m, if that is more
 pub returns_more : {r : List ℕ} {code : List sock_filter} {a w n : ℕ} (m : ℕ) → n ≤ m → Returns r code a w n → Returns r code a w m
-returns_more zero le (gives i rest a w n c k) = absurd (omega arith)
 returns_more (suc m) le (gives i rest a w n c k) = gives i rest a w m c k
-returns_more zero le (goes_on i rest a a' w n d does small h) = absurd (omega arith)
 returns_more (suc m) le (goes_on i rest a a' w n d does small h) = goes_on i rest a a' w m d does small (returns_more m (omega arith) h)
+returns_more zero le (gives i rest a w n c k) = absurd (omega arith)
+returns_more zero le _ = absurd (omega arith)
 
 pub starts_more : {reach : ℕ} {code : List sock_filter} {r : List ℕ} {t : Target} {a w n : ℕ} (m : ℕ) → n ≤ m → Starts reach code r t a w n
     → Starts reach code r t a w m
@@ -100,8 +93,7 @@ leads_by (near p w a n inside close h) = to_place p w a n inside h
 -- what starts at a place returns what it did
 pub returns_grown : {r : List ℕ} {a w n most : ℕ} {old new : List sock_filter} (m : ℕ) → Grows old most new → m < length old
     → Returns r (tail_at old m) a w n → Returns r (tail_at new m) a w n
-returns_grown {r} {a} {w} {n} {most} {old} m g inside h =
-    subst (λ l. Returns r l a w n) (sym (ap (λ l. tail_at l m) g.whole ∙ tail_grown g.front old m inside)) h
+returns_grown {old = old} m g inside h = rw (g.whole, tail_grown g.front old m inside) h
 
 -- so for targets, if what was near is near
 pub starts_grown : {d e most : ℕ} {old new : List sock_filter} {r : List ℕ} {t : Target} {a w n : ℕ} → Grows old most new
@@ -120,15 +112,14 @@ leads_grown g h = starts_grown g (λ m is inside le. absurd (omega arith)) h
 pub starts_last : {code : List sock_filter} {r : List ℕ} {t : Target} {a w n : ℕ} → t ≡ At (length code - 1) → 1 ≤ length code
     → Returns r code a w n → Starts 1 code r t a w n
 starts_last {code} {r} {t} {a} {w} {n} is some h =
-    subst (λ u. Starts 1 code r u a w n) (sym is) (near (length code - 1) w a n (omega arith) (omega arith)
-    (subst (λ l. Returns r l a w n) (sym (tail_whole code (length code - 1) (omega arith))) h))
+    let at = tail_whole code (length code - 1) (omega arith) in
+    rw is (near (length code - 1) w a n (omega arith) (omega arith) (rw at h))
 
 pub runs_last : {code : List sock_filter} {r : List ℕ} {t : Target} {a w n : ℕ} → t ≡ At (length code - 1) → 1 ≤ length code
     → Starts 1 code r t a w n → Returns r code a w n
 runs_last is some (to_return w a n _) = absurd (cc)
 runs_last {code} {r} is some (to_place m w a n inside h) =
-    let at : m + 1 ≡ length code = let e : m ≡ length code - 1 = cc in omega arith in
-    returns_more (suc n) (omega arith) (subst (λ l. Returns r l a w n) (tail_whole code m at) h)
+    returns_more (suc n) (omega arith) (subst (λ l. Returns r l a w n) (tail_whole code m (grind (arith, is, some))) h)
 runs_last {code} {r} is some (near m w a n inside close h) = subst (λ l. Returns r l a w n) (tail_whole code m (omega arith)) h
 
 pub sound_push : (code : List sock_filter) (i : sock_filter) → IsSound code → IsFine i 0 (length code + 1) → IsInRange i

@@ -1,34 +1,20 @@
 -- The theorem: what is written answers every record as is decided.
-use Rattle.std.proofs.Common.{◌≡◌, ℕ, ◌+◌, ◌-◌, ◌*◌, ◌≤◌, ◌^◌, List, [], ◌∷◌, length, Bool, true, false, Option, Some, None, refl, sym}
-use Rattle.std.proofs.Common.{ap, ◌∙◌, subst, inl, inr, arith, nat_eq, if◌then◌else◌, suc, zero}
-use Rattle.std.proofs.lemmas.Bool.Decides.{nat_tests}
-use Rattle.std.proofs.lemmas.List.Elements.{All-nil}
-use Rattle.seccompiler.specs.declared.bpf.sock_filter.{sock_filter}
-use Rattle.seccompiler.specs.Machine.{IsRecord, word_at}
-use Rattle.seccompiler.specs.Architecture.{audit_word}
-use Rattle.seccompiler.specs.Policy.{Condition, Holds, RuleHolds}
-use Rattle.seccomp_tree.specs.declared.steps.Target.{Target}
-use Rattle.seccomp_tree.specs.declared.steps.Target.TheVariants.{Give}
-use Rattle.seccomp_tree.specs.declared.steps.Step.{Step}
-use Rattle.seccomp_tree.specs.Steps.{found_in, AreSteps}
-use Rattle.seccomp_tree.specs.Code.{AreIn, IsFullBy, Starts, StartsAlways, Leads, to_return, LeadsAlways, IsPart, IsSound, Returns, chosen}
-use Rattle.seccompiler.specs.declared.backend.SeccompCmpArgLen.TheVariants.{Dword}
-use Rattle.seccomp_tree.specs.Decisions.{Ruling, First, nothing, Takes, stops, passes, ends, Enters, begins, RunTakes}
-use Rattle.seccomp_tree.specs.Decisions.{by_steps, by_conditions, only, joins, joined, conditions_steps, goes_on as runs_on}
-use Rattle.seccomp_tree.specs.Decided.{DecisionSet, default_for, rulings_for, IsDecided, other_architecture, decided}
-use Rattle.seccomp_tree.specs.TreeProgram.{one_value, value_for, calls_length, TakesOwn, other, one, own, EndsAsDecided, IsTreeProgram}
+use Rattle.seccomp_tree.proofs.Common.{◌≡◌, ℕ, ◌+◌, ◌-◌, ◌*◌, ◌≤◌, ◌^◌, List, [], ◌∷◌, length, Bool, true, false, Option, Some, None, refl}
+use Rattle.seccomp_tree.proofs.Common.{ap, inl, inr, arith, nat_eq, if◌then◌else◌, suc, zero, nat_tests, All-nil, sock_filter, IsRecord}
+use Rattle.seccomp_tree.proofs.Common.{word_at, audit_word, Condition, Holds, Target, Give, Step, found_in, AreIn, IsFullBy, StartsAlways}
+use Rattle.seccomp_tree.proofs.Common.{to_return, LeadsAlways, IsPart, IsSound, Returns, chosen, part_steps, Dword, Ruling, First, nothing}
+use Rattle.seccomp_tree.proofs.Common.{Takes, stops, passes, ends, Enters, begins, RunTakes, by_steps, by_conditions, only, joins, joined}
+use Rattle.seccomp_tree.proofs.Common.{conditions_steps, DecisionSet, default_for, rulings_for, IsDecided, other_architecture, decided}
+use Rattle.seccomp_tree.proofs.Common.{one_value, value_for, calls_length, TakesOwn, other, one, own, EndsAsDecided, IsTreeProgram}
+use Rattle.seccomp_tree.proofs.Common.{TreeError, word_fits, pow-succ', one-le-pow, give}
+use Rattle.seccomp_tree.specs.Decisions.{goes_on as runs_on}
 use Rattle.seccomp_tree.specs.CallSteps.{IsAnswer, AreCallSteps, IsCallsTarget, IsTooFull, IsWritten}
-use Rattle.seccomp_tree.specs.declared.error.TreeError.{TreeError}
 use Rattle.seccomp_tree.proofs.Deciding.{first_here, decided_some}
 use Rattle.seccomp_tree.proofs.Begun.{are_in_below, not_none}
 use Rattle.seccomp_tree.proofs.Runs.{grows_on, grown_long, starts_more, returns_more}
-use Rattle.seccomp_tree.proofs.Words.{load_run}
-use Rattle.seccompiler.proofs.Words.{word_fits}
+use Rattle.seccomp_tree.proofs.Trees.{load_run}
 use Rattle.seccomp_tree.proofs.FewestSteps.{fewest}
-use Rattle.std.proofs.Math.Nat.{pow-succ', one-le-pow}
-use Rattle.seccompiler.specs.Code.{give}
 use Rattle.seccomp_tree.specs.declared.code.Test.TheVariants.{Equal}
-use Rattle.seccomp_tree.specs.Code.{part_steps}
 use Rattle.seccomp_tree.proofs.Meeting.{rule_or_not}
 use Rattle.seccomp_tree.proofs.ProgramEnds.{program_ends, sound_checked}
 
@@ -39,13 +25,9 @@ one_first default v w (d ∷ rulings) r is h = go d.conditions refl is
   where
     go : (q : List Condition) → d.conditions ≡ q → (if nat_eq (length q) 0 then Some d.value else None) ≡ Some v → w ≡ v
     go [] e some =
-        let holds = subst (λ (q : List Condition). RuleHolds q r) (sym e) (All-nil (λ (c : Condition). Holds c r)) in
-        let value = first_here d rulings holds h in
+        let value = first_here d rulings (rw e (All-nil (λ (c : Condition). Holds c r))) h in
         cc
-    go (c ∷ q) e some =
-        let no : nat_eq (length (c ∷ q)) 0 ≡ false = grind (arith, nat_tests) in
-        let none : None ≡ Some v = subst (λ b. (if b then Some d.value else None) ≡ Some v) no some in
-        absurd (cc)
+    go (c ∷ q) e some = grind (arith, nat_tests, some)
 
 -- what answers a number leads to what is decided, within its own steps and one
 answer_leads : (d : DecisionSet) (code : List sock_filter) (t : Target) (r : List ℕ) (w n : ℕ) → IsRecord r
@@ -55,28 +37,22 @@ answer_leads : (d : DecisionSet) (code : List sock_filter) (t : Target) (r : Lis
 answer_leads d code t r w n rec h arch first takes = go (value_for d (word_at r 0)) refl n takes
   where
     go : (o : Option ℕ) → value_for d (word_at r 0) ≡ o → (m : ℕ) → TakesOwn d r m → LeadsAlways code r t w (m + 1)
-    go (Some v) is m takes =
-        let value = one_first (default_for d.defaults (word_at r 0)) v w (rulings_for d.calls (word_at r 0)) r is first in
-        let gives : Give w ≡ t = ap Give value ∙ sym (h.one v is) in
-        λ a small. subst (λ u. Leads code r u a w (m + 1)) gives (to_return w a (m + 1) (omega arith))
+    go (Some v) is m takes = λ a small.
+        rw (h.one v is, one_first _ v w (rulings_for d.calls (word_at r 0)) r is first) (to_return v a (m + 1) (omega arith))
     go None is m (other not) = absurd (not arch)
-    go None is m (one v some) = let e : None ≡ Some v = sym is ∙ some in absurd (cc)
+    go None is m (one v some) = absurd (cc)
     go None is m (own k takes) = h.own is r rec w k first takes
 
 -- what `word` needs
-pub calls_room : (d : DecisionSet) (old mid : List sock_filter) (steps : List Step) → AreCallSteps old d steps mid
-    → AreSteps (2 ^ 32) steps × AreIn mid steps
+pub calls_room : (d : DecisionSet) (old mid : List sock_filter) (steps : List Step) → AreCallSteps old d steps mid → AreIn mid steps
 calls_room d old mid steps h =
-    (h.answers.are, are_in_below mid (2 ^ 32) steps (omega arith) h.answers.are (λ a lt. (h.answers.each a lt).inside))
+    are_in_below mid (2 ^ 32) steps (omega arith) h.answers.are (λ a lt. (h.answers.each a lt).inside)
 
 pub calls_full : (d : DecisionSet) (old mid : List sock_filter) (steps : List Step) (e : TreeError) → AreCallSteps old d steps mid
     → IsFullBy mid (3 * length steps - 2) e → IsTooFull d old 0 e
 calls_full d old mid steps e h full = λ is starts ranges.
-    let long = grown_long h.grows in
-    let few = fewest d mid steps starts h.answers ranges in
     let some = not_none (2 ^ 32) steps h.answers.are (omega arith) in
-    let more = full is in
-    omega (arith, long.1, few, some, more)
+    omega (arith, (grown_long h.grows).1, full is, fewest d mid steps starts h.answers ranges, some)
 
 -- after the load of the number stands what answers all calls
 pub calls_target : (d : DecisionSet) (old mid new : List sock_filter) (steps : List Step) (t : Target) → AreCallSteps old d steps mid
@@ -114,12 +90,10 @@ enters_some first d rest = go (joins first d.conditions) refl
 
 takes_some : (r : List ℕ) (first : List Condition) (rulings : List Ruling) → (n : ℕ) × Takes r first rulings n
 takes_some r first [] = (0, ends first)
-takes_some r first (d ∷ rest) =
-    let e = enters_some first d rest in
-    elim (rule_or_not d.conditions r) [
-      | inl h ↦ (e.0, stops first d rest e.0 h e.1)
-      | inr not ↦ let x = takes_some r d.conditions rest in (e.0 + x.0, passes first d rest e.0 x.0 not e.1 x.1)
-    ]
+takes_some r first (d ∷ rest) = let e = enters_some first d rest in elim (rule_or_not d.conditions r) [
+  | inl h ↦ (e.0, stops first d rest e.0 h e.1)
+  | inr not ↦ let x = takes_some r d.conditions rest in (e.0 + x.0, passes first d rest e.0 x.0 not e.1 x.1)
+]
 
 -- ---- the whole
 
@@ -128,22 +102,18 @@ chosen_runs : (d : DecisionSet) (old p : List sock_filter) (h : IsWritten old d 
     → chosen Equal (audit_word d.target_arch) h.calls (Give 0x80000000) (word_at r 4) ≡ u → StartsAlways h.behind r u w m
     → Returns r p 0 w (suc (suc m))
 chosen_runs d old p h r u w m rec is enters =
-    let a = word_at r 4 in
     let small = word_fits r 4 rec in
-    subst (λ l. Returns r l 0 w (suc (suc m))) (sym h.whole) (load_run r h.tested 4 0 w (suc m) rec (omega arith)
-    (h.tests.leads r a w m small (subst (λ v. Starts 1 h.behind r v a w m) (sym is) (enters a small))))
+    rw h.whole (load_run r h.tested 4 0 w (suc m) rec (omega arith)
+    (h.tests.leads r (word_at r 4) w m small (rw is (enters (word_at r 4) small))))
 
 -- a program that is written returns what is decided
 written_returns : (d : DecisionSet) (old p : List sock_filter) (h : IsWritten old d p) (r : List ℕ) (w n k : ℕ) → IsRecord r
     → h.answers.ranges ≤ 2 ^ k → IsDecided d r w → TakesOwn d r n → Returns r p 0 w (4 + 2 * k + n)
-written_returns d old p h r w n k rec few (other_architecture not is) takes =
-    let no : nat_eq (word_at r 4) (audit_word d.target_arch) ≡ false = grind (arith, nat_tests, not) in
-    returns_more (4 + 2 * k + n) (omega arith) (chosen_runs d old p h r (Give w) w 1 rec
-    (ap (λ b. if b then h.calls else Give 0x80000000) no ∙ ap Give (sym is)) (λ a small. to_return w a 1 (omega arith)))
-written_returns d old p h r w n k rec few (decided arch first) takes =
-    let yes : nat_eq (word_at r 4) (audit_word d.target_arch) ≡ true = grind (arith, nat_tests, arch) in
-    returns_more (4 + 2 * k + n) (omega arith) (chosen_runs d old p h r h.calls w (n + 2 + 2 * k) rec
-    (ap (λ b. if b then h.calls else Give 0x80000000) yes) (h.answers.enters r rec w n k few arch first takes))
+written_returns d old p h r w n k rec few (other_architecture not is) takes = returns_more (4 + 2 * k + n) (omega arith)
+    (chosen_runs d old p h r (Give w) w 1 rec (grind (arith, nat_tests, not, is)) (λ a small. to_return w a 1 (omega arith)))
+written_returns d old p h r w n k rec few (decided arch first) takes = returns_more (4 + 2 * k + n) (omega arith)
+    (chosen_runs d old p h r h.calls w (n + 2 + 2 * k) rec (grind (arith, nat_tests, arch))
+    (h.answers.enters r rec w n k few arch first takes))
 
 written_decides : (d : DecisionSet) (old p : List sock_filter) → IsWritten old d p → (r : List ℕ) → IsRecord r → EndsAsDecided d p r
 written_decides d old p h r rec =
@@ -158,15 +128,10 @@ written_program d p h sound = record {
   checked = sound_checked p sound;
   decides = λ r rec. written_decides d (give 0x80000000 ∷ []) p h r rec;
   soon = λ r rec w n k decision takes starts ranges few.
-      let all = h.answers.few starts ranges in
-      let end = program_ends p r w (4 + 2 * k + n) (written_returns d (give 0x80000000 ∷ []) p h r w n k rec (omega arith) decision takes)
-      in
+      let end = program_ends p r w (4 + 2 * k + n) (written_returns d (give 0x80000000 ∷ []) p h r w n k rec
+      (omega (arith, h.answers.few starts ranges)) decision takes) in
       record { steps = end.steps; few = end.few; ends = end.ends };
   short = λ starts ranges.
-      let all = h.answers.few starts ranges in
-      let some = h.answers.some in
-      let one = grown_long h.answers.grows in
-      let two = grown_long h.tests.grows in
-      let three = ap length h.whole in
-      omega (arith, all, some, one.1, two.1, three);
+      let one = (grown_long h.answers.grows).1 in
+      omega (arith, h.answers.few starts ranges, h.answers.some, one, (grown_long h.tests.grows).1, ap length h.whole);
 }

@@ -33,33 +33,25 @@ pub record IsAnswered (old : List sock_filter) (default : ℕ) (rulings : List R
 -- A number after this one, up to which the default is the same.
 pub record IsNextDefault (defaults : List DefaultValue) (number next : ℕ) : Type 0 where
   pub above : number < next
+  pub within : next ≤ 2 ^ 32
   pub same : (n : ℕ) → number ≤ n → n < next → default_for defaults n ≡ default_for defaults number
 
--- From the start up to the end the steps have the default values, which are words, and below what they had.
-pub record AreDefaultsPushed (old : List Step) (defaults : List DefaultValue) (start end : ℕ) (new : List Step) : Type 0 where
-  pub are : AreSteps end new
-  pub inside : (n : ℕ) → start ≤ n → n < end → (found_in new n ≡ Give (default_for defaults n)) × (default_for defaults n < 2 ^ 32)
-  pub below : (n : ℕ) → n < start → found_in new n ≡ found_in old n
+-- A number after this one, up to which calls are answered as those of this one.
+pub record IsNextNumber (d : DecisionSet) (number next : ℕ) : Type 0 where
+  pub above : number < next
+  pub within : next ≤ 2 ^ 32
+  pub default : (n : ℕ) → number ≤ n → n < next → default_for d.defaults n ≡ default_for d.defaults number
+  pub rulings : (n : ℕ) → number ≤ n → n < next → rulings_for d.calls n ≡ rulings_for d.calls number
 
 -- The steps over the numbers below one answer each of them.
 pub record AreAnswers (d : DecisionSet) (next : ℕ) (code : List sock_filter) (steps : List Step) : Type 0 where
   pub are : AreSteps next steps
   pub each : (n : ℕ) → n < next → IsAnswer code (default_for d.defaults n) (rulings_for d.calls n) (found_in steps n)
 
--- The numbers from one up to another have no rulings.
-abbrev pub HaveNone : DecisionSet → ℕ → ℕ → Type 0
-HaveNone d start end = (n : ℕ) → start ≤ n → n < end → rulings_for d.calls n ≡ []
-
 -- Code was put in front, and the steps answer all numbers.
 pub record AreCallSteps (old : List sock_filter) (d : DecisionSet) (steps : List Step) (new : List sock_filter) : Type 0 where
   pub grows : Grows old (calls_length d.calls) new
   pub answers : AreAnswers d (2 ^ 32) new steps
-
--- Code was put in front, and the steps answer one number more.
-pub record IsCallPushed (old : List sock_filter) (d : DecisionSet) (number : ℕ) (rulings : List Ruling) (steps : List Step)
-    (new : List sock_filter) : Type 0 where
-  pub grows : Grows old (rules_length rulings) new
-  pub answers : AreAnswers d (number + 1) new steps
 
 -- The target answers all calls of the architecture.
 pub record IsCallsTarget (old : List sock_filter) (d : DecisionSet) (t : Target) (new : List sock_filter) : Type 0 where

@@ -1,7 +1,6 @@
 -- Code that is written from its end to its front: what a run from a place of it returns, and what stays so.
 use Rattle.std.specs.Prelude.{◌≡◌, ℕ, suc, ◌+◌, ◌-◌, ◌*◌, ◌<◌, ◌≤◌, ◌^◌, List, [], ◌∷◌, ◌++◌, length, drop, ⊤, nat_eq, nat_le}
-use Rattle.std.specs.Prelude.{slice_index_or}
-use Rattle.std.specs.Prelude.{if◌then◌else◌}
+use Rattle.std.specs.Prelude.{slice_index_or, if◌then◌else◌}
 use Rattle.seccompiler.specs.declared.bpf.sock_filter.{sock_filter}
 use Rattle.seccompiler.specs.Machine.{IsRecord, Does, IsFine, IsInRange, greatest_length}
 use Rattle.seccompiler.specs.declared.backend.SeccompCmpArgLen.{SeccompCmpArgLen}
@@ -14,8 +13,7 @@ use Rattle.seccomp_tree.specs.declared.steps.Target.TheVariants.{Give, At}
 use Rattle.seccomp_tree.specs.declared.steps.Step.{Step}
 use Rattle.seccomp_tree.specs.declared.code.Test.{Test}
 use Rattle.seccomp_tree.specs.declared.code.Test.TheVariants.{Equal, AtLeast}
-use Rattle.seccomp_tree.specs.Steps.{found_in}
-use Rattle.seccomp_tree.specs.Rows.{row}
+use Rattle.seccomp_tree.specs.Steps.{found_in, row}
 
 -- Each instruction is one of the seven, within its fields' ranges, and its jumps lead to instructions after it.
 abbrev pub AreFine : List sock_filter → Type 0

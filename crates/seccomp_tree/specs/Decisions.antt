@@ -1,12 +1,11 @@
 -- Decisions on one call: rulings in order, of which the first that holds names the word.
-use Rattle.std.specs.Prelude.{◌≡◌, ℕ, suc, ◌+◌, ◌*◌, ◌≤◌, ◌^◌, List, [], ◌∷◌, Bool, true, false, ◌&&◌, nat_eq, if◌then◌else◌}
-use Rattle.std.specs.Prelude.{Option, Some, None}
+use Rattle.std.specs.Prelude.{◌≡◌, ℕ, suc, ◌+◌, ◌*◌, ◌≤◌, ◌^◌, List, [], ◌∷◌, Bool, true, false, ◌&&◌, nat_eq, if◌then◌else◌, Option}
+use Rattle.std.specs.Prelude.{Some, None}
 use Rattle.seccompiler.specs.declared.backend.SeccompCmpArgLen.{SeccompCmpArgLen}
 use Rattle.seccompiler.specs.declared.backend.SeccompCmpArgLen.TheVariants.{Dword, Qword}
 use Rattle.seccompiler.specs.Policy.{Condition, RuleHolds}
-use Rattle.seccomp_tree.specs.Intervals.{is_plain}
+use Rattle.seccomp_tree.specs.Conditions.{is_plain, condition_length, condition_steps}
 use Rattle.seccomp_tree.specs.Code.{part_steps}
-use Rattle.seccomp_tree.specs.Conditions.{condition_length, condition_steps}
 
 -- Conditions, and the word that is returned if they all hold.
 pub record Ruling : Type 0 where

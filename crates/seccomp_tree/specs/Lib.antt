@@ -2,9 +2,7 @@
 
 -- Between layers: what private functions promise each other. No promise rests on how these are worded.
 pub mod Steps
-pub mod Rows
 pub mod Code
-pub mod Intervals
 pub mod Arguments
 pub mod Conditions
 pub mod Decisions

@@ -7,9 +7,8 @@ use Rattle.seccomp_tree.specs.declared.steps.Target.{Target}
 use Rattle.seccomp_tree.specs.declared.steps.Target.TheVariants.{Give}
 use Rattle.seccomp_tree.specs.declared.steps.Step.{Step}
 use Rattle.seccomp_tree.specs.Steps.{AreSteps, single}
-use Rattle.seccomp_tree.specs.Intervals.{numbers_of, AreLaid}
+use Rattle.seccomp_tree.specs.Conditions.{numbers_of, AreLaid, IsMet}
 use Rattle.seccomp_tree.specs.Code.{IsIn, AreIn, Grows, LeadsAlways, part_length, IsPart}
-use Rattle.seccomp_tree.specs.Conditions.{IsMet}
 use Rattle.seccomp_tree.specs.Decisions.{Ruling, First, Takes, alike, only, rules_length, conditions_length, conditions_steps}
 
 -- The target returns the value if all the conditions hold, and else goes on as what comes after.

@@ -19,10 +19,6 @@ const GREATEST_HALF: u64 = 0xffff_ffff;
 
 impl Code {
     /// Goes on as the steps say for the argument, whatever the accumulator holds.
-    ///
-    /// # Errors
-    ///
-    /// `TooLarge` if the code has no room for 13 instructions a step, and `OutOfMemory` if memory runs out.
     pub(crate) fn argument(
         &mut self,
         alloc: Global,
@@ -91,13 +87,9 @@ fn next_half(steps: &[Step], high: u64) -> u64
     requires are { AreSteps (2 ^ 64) steps.now }
     ensures { IsNext steps.now high result }
 {
-    let first = high * HALVES;
-    let end = until(steps, first + GREATEST_HALF);
-    if until(steps, first) < end {
-        return high + 1;
-    }
+    let end = until(steps, high * HALVES);
     if end == steps.len() {
         return HALVES;
     }
-    steps[end].start / HALVES
+    (steps[end].start / HALVES).max(high + 1)
 }

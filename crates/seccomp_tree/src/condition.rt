@@ -5,9 +5,8 @@ ghost use Rattle.seccompiler.specs.Machine.{argument_at};
 ghost use Rattle.seccompiler.specs.Policy.{part_of};
 ghost use Rattle.seccompiler.specs.declared.backend.SeccompCmpOp.TheVariants.{MaskedEq};
 ghost use Rattle.seccomp_tree.specs.Steps.{AreSteps};
-ghost use Rattle.seccomp_tree.specs.Intervals.{numbers_of};
 ghost use Rattle.seccomp_tree.specs.Code.{AreIn, IsIn, IsFullBy, IsPart, part_length};
-ghost use Rattle.seccomp_tree.specs.Conditions.{HasBits, IsConditionMet, IsMet, condition_length};
+ghost use Rattle.seccomp_tree.specs.Conditions.{HasBits, IsConditionMet, IsMet, condition_length, numbers_of};
 
 use crate::code::{Code, Test};
 use crate::error::TreeError;
@@ -22,10 +21,6 @@ const HALVES: u64 = 0x1_0000_0000;
 
 impl Code {
     /// Goes on as the one target says if the condition holds, and else as the other, whatever the accumulator holds.
-    ///
-    /// # Errors
-    ///
-    /// `TooLarge` if the code has no room for the condition, and `OutOfMemory` if memory runs out.
     pub(crate) fn condition(
         &mut self,
         alloc: Global,
@@ -50,10 +45,6 @@ impl Code {
     }
 
     /// Goes on as the steps say for what is compared of the argument, whatever the accumulator holds.
-    ///
-    /// # Errors
-    ///
-    /// `TooLarge` if the code has no room for the steps, and `OutOfMemory` if memory runs out.
     pub(crate) fn part(
         &mut self,
         alloc: Global,
@@ -89,16 +80,11 @@ impl Code {
     {
         let index = condition.arg_index();
         let (high_value, low_value) = condition.split_value();
-        let yes = self.masked(16 + 8 * index, (mask % HALVES) as u32, low_value, yes, no)?;
+        let (high, low) = ((mask / HALVES) as u32, (mask % HALVES) as u32);
+        let yes = self.masked(16 + 8 * index, low, low_value, yes, no)?;
         match condition.arg_len() {
             SeccompCmpArgLen::Dword => Ok(yes),
-            SeccompCmpArgLen::Qword => self.masked(
-                20 + 8 * index,
-                (mask / HALVES) as u32,
-                high_value,
-                yes,
-                no,
-            ),
+            SeccompCmpArgLen::Qword => self.masked(20 + 8 * index, high, high_value, yes, no),
         }
     }
 

@@ -95,18 +95,24 @@ impl Decisions {
             return KILL_PROCESS;
         }
         let number = word_at(call, 0);
-        let default = default_for(&self.defaults, number);
-        first_value(rulings_for(&self.calls, number), default, call)
+        first_value(self.rulings_for(number), self.default_for(number), call)
     }
-}
 
-// The rulings of a number, or none.
-fn rulings_for(calls: &BTreeMap<u32, Vec<Decision>>, number: u32) -> &[Decision]
-    ensures { result.now ≡ rulings_for (calls_of calls.now.entries) number }
-{
-    match calls.get(&number) {
-        Some(rulings) => rulings,
-        None => &[],
+    /// The default value of a number.
+    pub(crate) fn default_for(&self, number: u32) -> u32
+        ensures { result ≡ default_for self.now.defaults number }
+    {
+        default_for(&self.defaults, number)
+    }
+
+    /// The rulings of a number, or none.
+    pub(crate) fn rulings_for(&self, number: u32) -> &[Decision]
+        ensures { result.now ≡ rulings_for self.now.calls number }
+    {
+        match self.calls.get(&number) {
+            Some(rulings) => rulings,
+            None => &[],
+        }
     }
 }
 
@@ -127,8 +133,8 @@ fn ascend_from_zero(defaults: &[DefaultValue]) -> bool
     true
 }
 
-/// The value of the last default that starts at or below the number.
-pub(crate) fn default_for(defaults: &[DefaultValue], number: u32) -> u32
+// The value of the last default that starts at or below the number.
+fn default_for(defaults: &[DefaultValue], number: u32) -> u32
     ensures { result ≡ default_for defaults.now number }
 {
     let mut value = 0;

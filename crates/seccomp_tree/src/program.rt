@@ -1,30 +1,28 @@
 // The program of decisions.
 
-ghost use Rattle.std.specs.Prelude.{◌≡◌, ℕ, ◌≤◌, ◌<◌, ◌+◌, ◌*◌, ◌-◌, ◌^◌, IfOk, IfErr, IsOkUnless, length};
-ghost use Rattle.seccomp_tree.specs.Steps.{AreSteps};
+ghost use Rattle.std.specs.Prelude.{◌≡◌, ℕ, ◌≤◌, ◌<◌, ◌^◌, [], IfOk, IfErr};
 ghost use Rattle.seccomp_tree.specs.Code.{IsFullBy};
 ghost use Rattle.seccomp_tree.specs.Decisions.{rules_length};
-ghost use Rattle.seccomp_tree.specs.Decided.{AscendFromZero};
+ghost use Rattle.seccomp_tree.specs.Decided.{calls_of, rulings_for};
 ghost use Rattle.seccomp_tree.specs.TreeProgram.{one_value};
 ghost use Rattle.seccomp_tree.specs.CallSteps.{IsAnswered, IsNextDefault};
-ghost use Rattle.seccomp_tree.specs.declared.error.TreeError.TheVariants.{OutOfMemory};
 
 use crate::code::{Code, Test};
-use crate::decisions::{Decision, Decisions, DefaultValue, KILL_PROCESS, default_for};
+use crate::decisions::{Decision, Decisions, DefaultValue, KILL_PROCESS};
 use crate::error::TreeError;
 use crate::steps::{Step, Target, push_step};
 use seccompiler::BpfProgram;
 use seccompiler::bpf::{LOAD, SECCOMP_DATA_ARCH_OFFSET, SECCOMP_DATA_NR_OFFSET, bpf_stmt};
 use std::alloc::Global;
+use std::collections::BTreeMap;
+use std::ops::Bound;
 
 // How many call numbers there are.
 const NUMBERS: u64 = 0x1_0000_0000;
 
 impl Decisions {
-    ghost use Rattle.std.specs.Prelude.{[], List};
-    ghost use Rattle.seccomp_tree.specs.Decided.{default_for, rulings_for};
     ghost use Rattle.seccomp_tree.specs.TreeProgram.{IsTreeProgram, IsTooLargeFor, calls_length};
-    ghost use Rattle.seccomp_tree.specs.CallSteps.{AreAnswers, AreCallSteps, AreDefaultsPushed, HaveNone, IsCallPushed, IsCallsTarget, IsTooFull, IsWritten};
+    ghost use Rattle.seccomp_tree.specs.CallSteps.{AreCallSteps, IsCallsTarget, IsNextNumber, IsTooFull, IsWritten};
 
     /// The program of these decisions: one tree of tests over call numbers, and after it the tests of their arguments.
     ///
@@ -67,55 +65,24 @@ impl Decisions {
     {
         let mut steps = Vec::new(alloc);
         let mut next: u64 = 0;
-        for (number, rulings) in &self.calls {
-            let number = *number;
-            self.push_call(alloc, code, &mut steps, next, number, rulings)?;
-            next = u64::from(number) + 1;
+        while next < NUMBERS {
+            let number = next as u32;
+            let rulings = self.rulings_for(number);
+            let target = code.answer(alloc, rulings, self.default_for(number))?;
+            push_step(&mut steps, next, target)?;
+            next = self.next_number(number);
         }
-        self.push_defaults(&mut steps, next, NUMBERS)?;
         Ok(steps)
     }
 
-    // Puts one more call number after the steps, and in front of it the defaults of those that have no rulings.
-    fn push_call(
-        &self,
-        alloc: Global,
-        code: &mut Code,
-        steps: &mut Vec<Step>,
-        next: u64,
-        number: u32,
-        rulings: &[Decision],
-    ) -> Result<(), TreeError>
-        requires answers { AreAnswers self.now next code.old steps.old.items }
-        requires order { next ≤ number }
-        requires none { HaveNone self.now next number }
-        requires here { rulings_for self.now.calls number ≡ rulings.now }
-        ensures ok { IfOk result (λ _. IsCallPushed code.old self.now number rulings.now steps.new.items code.new) }
-        ensures err { IfErr result (IsFullBy code.old (rules_length rulings.now)) }
+    // The next number that may be answered otherwise than this one, or 2^32.
+    fn next_number(&self, number: u32) -> u64
+        ensures { IsNextNumber self.now number result }
     {
-        let start = u64::from(number);
-        self.push_defaults(steps, next, start)?;
-        let default = default_for(&self.defaults, number);
-        let target = code.answer(alloc, rulings, default)?;
-        push_step(steps, start, target)
-    }
-
-    // Gives the numbers from `start` up to `end` their default values.
-    fn push_defaults(&self, steps: &mut Vec<Step>, start: u64, end: u64) -> Result<(), TreeError>
-        requires below { AreSteps start steps.old.items }
-        requires order { start ≤ end }
-        requires within { end ≤ 2 ^ 32 }
-        ensures pushed { IfOk result (λ _. AreDefaultsPushed steps.old.items self.now.defaults start end steps.new.items) }
-        ensures memory { IsOkUnless result OutOfMemory }
-    {
-        let mut next = start;
-        while next < end {
-            let number = next as u32;
-            let value = default_for(&self.defaults, number);
-            push_step(steps, next, Target::Give(value))?;
-            next = end.min(next_default(&self.defaults, number));
+        if !self.rulings_for(number).is_empty() {
+            return u64::from(number) + 1;
         }
-        Ok(())
+        next_default(&self.defaults, number).min(next_call(&self.calls, number))
     }
 }
 
@@ -153,13 +120,27 @@ fn one_value(rulings: &[Decision], default: u32) -> Option<u32>
 
 // The number of the next default after this number, or 2^32.
 fn next_default(defaults: &[DefaultValue], number: u32) -> u64
-    requires { AscendFromZero defaults.now }
     ensures { IsNextDefault defaults.now number result }
 {
+    let mut next = NUMBERS;
     for default in defaults {
-        if default.start > number {
-            return u64::from(default.start);
+        let start = u64::from(default.start);
+        if u64::from(number) < start && start < next {
+            next = start;
         }
     }
-    NUMBERS
+    next
+}
+
+// The next number after this one that has rulings, or 2^32.
+fn next_call(calls: &BTreeMap<u32, Vec<Decision>>, number: u32) -> u64
+    ensures above { number < result }
+    ensures within { result ≤ 2 ^ 32 }
+    ensures none { (n : ℕ) → number < n → n < result → rulings_for (calls_of calls.now.entries) n ≡ [] }
+{
+    let mut after = calls.range((Bound::Excluded(number), Bound::Unbounded));
+    match after.next() {
+        Some((next, _)) => u64::from(*next),
+        None => NUMBERS,
+    }
 }

@@ -4,7 +4,7 @@ ghost use Rattle.std.specs.Prelude.{◌≡◌, ◌<◌, ◌+◌, IfOk, IfErr, So
 ghost use Rattle.seccompiler.specs.Machine.{greatest_length};
 ghost use Rattle.seccomp_tree.specs.Steps.{AreSteps};
 ghost use Rattle.seccomp_tree.specs.Code.{IsFullBy, IsIn};
-ghost use Rattle.seccomp_tree.specs.Intervals.{AreLaid, is_plain, numbers_of};
+ghost use Rattle.seccomp_tree.specs.Conditions.{AreLaid, is_plain, numbers_of};
 ghost use Rattle.seccomp_tree.specs.Decisions.{alike, only, rules_length, conditions_length, same_length};
 ghost use Rattle.seccomp_tree.specs.Rules.{AreFit, AreRules, IsInFront, IsRulingMet, IsSettled, rest_length};
 ghost use Rattle.seccomp_tree.specs.declared.steps.Target.TheVariants.{Give};
@@ -29,10 +29,6 @@ struct Rest {
 
 impl Code {
     /// Goes on as the first of the rulings that holds says, or returns the default; whatever the accumulator holds.
-    ///
-    /// # Errors
-    ///
-    /// `TooLarge` if the code has no room for the rulings, and `OutOfMemory` if memory runs out.
     pub(crate) fn rules(
         &mut self,
         alloc: Global,
@@ -69,7 +65,7 @@ impl Code {
             }
             None => {
                 let behind = self.settle(alloc, &rest)?;
-                let target = self.conditions(alloc, ruling, behind)?;
+                let target = self.conditions(alloc, &ruling.conditions, ruling.value, behind)?;
                 let steps = one(alloc, target)?;
                 Ok(Rest { like: None, steps })
             }
@@ -84,34 +80,31 @@ impl Code {
     {
         match rest.like {
             Some(condition) => {
-                self.part(
-                    alloc,
-                    condition.arg_len(),
-                    condition.arg_index(),
-                    &rest.steps,
-                )
+                let (size, index) = (condition.arg_len(), condition.arg_index());
+                self.part(alloc, size, index, &rest.steps)
             }
             None => Ok(rest.steps[0].target),
         }
     }
 
-    // Goes on as the ruling says if all its conditions hold: the last of them first, since code is written from its
+    // Returns the value if all conditions hold, and else goes on: the last of them first, since code is written from its
     // end.
     fn conditions(
         &mut self,
         alloc: Global,
-        ruling: &Decision,
+        conditions: &[SeccompCondition],
+        value: u32,
         after: Target,
     ) -> Result<Target, TreeError>
         requires after { IsIn self.old after }
-        ensures ok { IfOk result (λ t. IsRulingMet self.old ruling.now.conditions ruling.now.value after t self.new) }
-        ensures err { IfErr result (IsFullBy self.old (conditions_length ruling.now.conditions)) }
+        ensures ok { IfOk result (λ t. IsRulingMet self.old conditions.now value after t self.new) }
+        ensures err { IfErr result (IsFullBy self.old (conditions_length conditions.now)) }
     {
-        let mut target = Target::Give(ruling.value);
-        let mut left = ruling.conditions.len();
+        let mut target = Target::Give(value);
+        let mut left = conditions.len();
         while left > 0 {
             left -= 1;
-            target = self.condition(alloc, &ruling.conditions[left], target, after)?;
+            target = self.condition(alloc, &conditions[left], target, after)?;
         }
         Ok(target)
     }
@@ -119,6 +112,7 @@ impl Code {
 
 // The condition laid over steps, which return its value if it holds. (A program has fewer tests than so many steps
 // need.)
+#[tactic(auto, using(crate::proofs::Begun::begun_few))]
 fn laid_rest(
     alloc: Global,
     condition: SeccompCondition,
@@ -134,10 +128,8 @@ fn laid_rest(
     if steps.len() > BPF_MAX_LEN {
         return Err(TreeError::TooLarge);
     }
-    Ok(Rest {
-        like: Some(condition),
-        steps,
-    })
+    let like = Some(condition);
+    Ok(Rest { like, steps })
 }
 
 // Whether the condition compares what the other does.

@@ -37,10 +37,6 @@ pub(crate) struct Step {
 }
 
 /// One target for all numbers.
-///
-/// # Errors
-///
-/// `OutOfMemory` if memory runs out.
 pub(crate) fn one(alloc: Global, target: Target) -> Result<Vec<Step>, TreeError>
     ensures ok { IfOk result (λ steps. steps.items ≡ single target) }
     ensures memory { IsOkUnless result OutOfMemory }
@@ -49,10 +45,6 @@ pub(crate) fn one(alloc: Global, target: Target) -> Result<Vec<Step>, TreeError>
 }
 
 /// Gives the numbers from `start` on this target. The steps are over the numbers below `start`.
-///
-/// # Errors
-///
-/// `OutOfMemory` if memory runs out.
 pub(crate) fn push_step(steps: &mut Vec<Step>, start: u64, target: Target) -> Result<(), TreeError>
     requires below { AreSteps start steps.old.items }
     ensures pushed { IfOk result (λ _. IsPushed steps.old.items start target steps.new.items) }
@@ -67,10 +59,6 @@ pub(crate) fn push_step(steps: &mut Vec<Step>, start: u64, target: Target) -> Re
 }
 
 /// Gives the numbers from `first` to `last` what others have for them, less `base` each.
-///
-/// # Errors
-///
-/// `OutOfMemory` if memory runs out.
 pub(crate) fn push_part(
     steps: &mut Vec<Step>,
     others: &[Step],

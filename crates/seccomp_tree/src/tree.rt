@@ -1,8 +1,7 @@
 // The tree of tests of steps.
 
 ghost use Rattle.std.specs.Prelude.{◌≡◌, ◌≤◌, ◌-◌, ◌*◌, ◌%◌, ◌^◌, ◌↔◌, IsTrue, IfOk, IfErr, length};
-ghost use Rattle.seccomp_tree.specs.Steps.{AreSteps, AscendFrom};
-ghost use Rattle.seccomp_tree.specs.Rows.{row, second_stands_out, settled};
+ghost use Rattle.seccomp_tree.specs.Steps.{AreSteps, AscendFrom, row, second_stands_out, settled};
 ghost use Rattle.seccompiler.specs.Machine.{word_at};
 ghost use Rattle.seccompiler.specs.declared.backend.SeccompCmpArgLen.TheVariants.{Dword};
 ghost use Rattle.seccomp_tree.specs.Code.{AreIn, IsFullBy, IsPart, IsTree};

@@ -1,18 +1,15 @@
-use Rattle.std.proofs.Common.{refl, arith}
-use Rattle.seccomp_tree.proofs.Halves.{next_behind, next_none, next_some}
+use Rattle.seccomp_tree.proofs.Common.{◌^◌, arith}
+use Rattle.seccomp_tree.proofs.Begun.{begun_few}
+use Rattle.seccomp_tree.proofs.Halves.{next_is, next_some}
 use Rattle.seccomp_tree.proofs.argument.next_half.Goals as goal
-
-pub returns-then-until-end : goal.returns-then-until-end
-returns-then-until-end c =
-    next_behind c.args.steps.now c.args.high c.requires.are c.requires.high
-    (omega (arith, c.until.ensures.count, c.until-end.ensures.count))
 
 pub returns-then-end-steps : goal.returns-then-end-steps
 returns-then-end-steps c =
-    next_none c.args.steps.now c.args.high c.requires.are c.requires.high (omega (arith, c.until.ensures.count, c.until-end.ensures.count))
-    (omega (arith, c.until-end.ensures.count))
+    next_is c.args.steps.now c.args.high (2 ^ 64) (2 ^ 32) c.requires.are c.requires.high (omega arith)
+    (omega (arith, begun_few c.args.steps.now (2 ^ 64), c.until-end.ensures.count, c.if-end-steps.true)) (λ lt. absurd (omega arith))
+    (omega (arith, c.requires.high))
 
 pub returns : goal.returns
 returns c =
-    next_some c.args.steps.now c.args.high c.requires.are c.until-end.result _ _ c.until-end.ensures.count
-    (omega (arith, c.until.ensures.count)) (omega (arith, c.until-end.ensures.few)) refl
+    next_some c.args.steps.now c.args.high c.until-end.result _ _ c.requires.are c.requires.high c.until-end.ensures.count
+    (omega (arith, c.until-end.ensures.few)) c.max.ensures

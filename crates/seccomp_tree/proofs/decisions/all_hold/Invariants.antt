@@ -1,5 +1,4 @@
-use Rattle.std.proofs.Common.{drop}
-use Rattle.seccompiler.specs.Policy.{RuleHolds}
+use Rattle.seccomp_tree.proofs.Common.{drop, RuleHolds}
 use Rattle.seccomp_tree.proofs.decisions.all_hold.Given as goal
 
 -- all hold if those that are left do

@@ -1,5 +1,4 @@
-use Rattle.std.proofs.Common.{◌↔◌, drop}
-use Rattle.seccomp_tree.specs.Decided.{StartAbove}
+use Rattle.seccomp_tree.proofs.Common.{◌↔◌, drop, StartAbove}
 use Rattle.seccomp_tree.proofs.decisions.ascend_from_zero.Given as goal
 
 -- all defaults are above the first exactly if those that are left are above the last one

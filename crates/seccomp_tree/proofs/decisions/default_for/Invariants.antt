@@ -1,5 +1,4 @@
-use Rattle.std.proofs.Common.{◌≡◌, drop}
-use Rattle.seccomp_tree.specs.Decided.{default_from, default_for}
+use Rattle.seccomp_tree.proofs.Common.{◌≡◌, drop, default_from, default_for}
 use Rattle.seccomp_tree.proofs.decisions.default_for.Given as goal
 
 abbrev pub invariant-loop-default : goal.invariant-loop-default

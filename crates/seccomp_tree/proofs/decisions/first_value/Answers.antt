@@ -1,11 +1,7 @@
-use Rattle.std.proofs.Common.{◌≡◌, ◌+◌, ◌∷◌, [], drop, sym, ap, ◌∙◌, subst, List}
-use Rattle.std.proofs.lemmas.Bool.{false≢true}
-use Rattle.seccompiler.specs.Policy.{Condition, RuleHolds}
-use Rattle.seccomp_tree.specs.Decisions.{Ruling, First, here, behind, nothing}
+use Rattle.seccomp_tree.proofs.Common.{◌≡◌, ◌+◌, drop, sym, ap, ◌∙◌, false≢true, RuleHolds, Ruling, here, behind, nothing, drop_all}
 use Rattle.seccomp_tree.proofs.Deciding.{drop_at, first_here, first_behind, first_nothing}
-use Rattle.std.proofs.lemmas.List.{drop_all}
-use Rattle.seccomp_tree.proofs.decisions.first_value.Goals as goal
 use Rattle.seccomp_tree.proofs.decisions.first_value.Goals.{After-all_hold}
+use Rattle.seccomp_tree.proofs.decisions.first_value.Goals as goal
 
 -- the conditions that were tried are the ruling's
 conditions_are : (c : After-all_hold) → c.deref.result.now ≡ c.ruling-item.result.conditions
@@ -15,37 +11,26 @@ pub returns-then-all_hold : goal.returns-then-all_hold
 returns-then-all_hold c = λ w.
     let l = c.loop-ruling in
     let d = c.ruling-item.result in
-    let r = c.args.call.now in
     let rest = drop (l.ruling-index + 1) c.args.rulings.now in
-    let First_of = λ (q : List Ruling). First c.args.default r q w in
-    let holds = subst (λ (q : List Condition). RuleHolds q r) (conditions_are c.before) (c.all_hold.ensures.0 c.if-all_hold.true) in
+    let holds = rw (conditions_are c.before) at (c.all_hold.ensures.0 c.if-all_hold.true) in
     let cons = drop_at c.args.rulings.now l.ruling-index d c.loop-ruling-test.true c.ruling-item.is in
     let value : d.value ≡ c.ruling.inside.value = sym (ap (λ (x : Ruling). x.value) c.ruling.view_is) in (
-      λ h. first_here d rest holds (subst First_of cons ((l.invariant w).1 h)) ∙ value,
-      λ e. (l.invariant w).0 (subst First_of (sym cons) (subst (λ v. First c.args.default r (d ∷ rest) v) (value ∙ sym e) (here d rest
-          holds))),
+      λ h. first_here d rest holds (rw cons at ((l.invariant w).1 h)) ∙ value,
+      λ e. (l.invariant w).0 (rw (cons, e, ← value) (here d rest holds)),
     )
 
 pub loop-ruling-preserved : goal.loop-ruling-preserved
 loop-ruling-preserved c = λ w.
     let l = c.loop-ruling in
     let d = c.ruling-item.result in
-    let r = c.args.call.now in
     let rest = drop (l.ruling-index + 1) c.args.rulings.now in
-    let First_of = λ (q : List Ruling). First c.args.default r q w in
     let cons = drop_at c.args.rulings.now l.ruling-index d c.loop-ruling-test.true c.ruling-item.is in
-    let not : RuleHolds d.conditions r → ⊥
-    = λ h. false≢true (sym c.if-all_hold.false ∙ c.all_hold.ensures.1 (subst (λ (q : List Condition). RuleHolds q r) (sym (conditions_are
-    c.before)) h)) in (
-      λ h. (l.invariant w).0 (subst First_of (sym cons) (behind d rest w not h)),
-      λ h. first_behind d rest not (subst First_of cons ((l.invariant w).1 h)),
-    )
+    let not : RuleHolds d.conditions c.args.call.now → ⊥
+    = λ h. false≢true (sym c.if-all_hold.false ∙ c.all_hold.ensures.1 (rw (conditions_are c.before) h)) in
+    (λ h. (l.invariant w).0 (rw cons (behind d rest w not h)), λ h. first_behind d rest not (rw cons at ((l.invariant w).1 h)))
 
 pub returns : goal.returns
 returns c = λ w.
     let l = c.loop-ruling in
-    let First_of = λ (q : List Ruling). First c.args.default c.args.call.now q w in
-    let end = drop_all l.ruling-index c.args.rulings.now c.loop-ruling-test.false in (
-      λ h. first_nothing (subst First_of end ((l.invariant w).1 h)),
-      λ e. (l.invariant w).0 (subst First_of (sym end) (subst (λ v. First c.args.default c.args.call.now [] v) (sym e) nothing)),
-    )
+    let end = drop_all l.ruling-index c.args.rulings.now c.loop-ruling-test.false in
+    (λ h. first_nothing (rw end at ((l.invariant w).1 h)), λ e. (l.invariant w).0 (rw (end, e) nothing))

@@ -1,6 +1,4 @@
-use Rattle.std.proofs.Common.{ℕ, drop}
-use Rattle.std.specs.Prelude.{◌↔◌}
-use Rattle.seccomp_tree.specs.Decisions.{First}
+use Rattle.seccomp_tree.proofs.Common.{ℕ, drop, ◌↔◌, First}
 use Rattle.seccomp_tree.proofs.decisions.first_value.Given as goal
 
 -- what those that are left name is what all name, and nothing else is

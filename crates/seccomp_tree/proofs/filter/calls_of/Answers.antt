@@ -1,8 +1,5 @@
-use Rattle.std.proofs.Common.{◌≡◌, [], sym, ap, ◌∙◌, subst, map}
-use Rattle.std.proofs.lemmas.List.Elements.{All-head, All-tail}
-use Rattle.seccompiler.specs.Policy.{IsCallNumber, chains_of}
-use Rattle.seccompiler.specs.Compiled.{AreCallNumbers, numbers_of}
-use Rattle.seccomp_tree.specs.FilterDecisions.{call_of, rulings_of}
+use Rattle.seccomp_tree.proofs.Common.{ap, ◌∙◌, map, All-head, All-tail, IsCallNumber, chains_of, call_of, rulings_of}
+use Rattle.seccompiler.specs.Compiled.{numbers_of}
 use Rattle.seccomp_tree.proofs.FilterDecided.{calls_next}
 use Rattle.seccomp_tree.proofs.filter.calls_of.Goals as goal
 
@@ -10,7 +7,7 @@ pub loop-number-preserved : goal.loop-number-preserved
 loop-number-preserved c =
     let l = c.loop-number in
     let number = c.in-Some.number.now in
-    let calls = subst (λ es. AreCallNumbers (numbers_of (chains_of es))) c.in-Some.ensures.steps l.invariant.numbers in
+    let calls = rw c.in-Some.ensures.steps at l.invariant.numbers in
     let back = c.next.new.self in
     record {
       made = rw c.in_ok-insert.ensures.entries (calls_next c.args.value c.call_number.result number c.in-Some.chain.now
@@ -23,14 +20,12 @@ loop-number-preserved c =
 pub loop-number-init : goal.loop-number-init
 loop-number-init c =
     let all = c.into_iter-number-iterator.ensures.into_iter_gives.0 in
-    let empty : c.new-calls.result.entries ≡ [] = c.new-calls.ensures.empty in
     record {
-      made = rw empty (ap (λ es. map (call_of c.args.value) (chains_of es)) all);
-      numbers = subst (λ es. AreCallNumbers (numbers_of (chains_of es))) (sym all) c.requires.numbers;
+      made = rw c.new-calls.ensures.empty (ap (λ es. map (call_of c.args.value) (chains_of es)) all);
+      numbers = rw all c.requires.numbers;
     }
 
 pub call_number-requires : goal.call_number-requires
 call_number-requires c =
-    let l = c.loop-number in
-    let calls = subst (λ es. AreCallNumbers (numbers_of (chains_of es))) c.in-Some.ensures.steps l.invariant.numbers in
+    let calls = rw c.in-Some.ensures.steps at c.loop-number.invariant.numbers in
     All-head IsCallNumber c.in-Some.number.now (numbers_of (chains_of c.next.new.self)) calls

@@ -1,8 +1,5 @@
-use Rattle.std.proofs.Common.{◌≡◌, ◌++◌, map}
-use Rattle.seccompiler.specs.Policy.{chains_of}
-use Rattle.seccompiler.specs.Compiled.{AreCallNumbers, numbers_of}
-use Rattle.seccomp_tree.specs.Decided.{calls_of}
-use Rattle.seccomp_tree.specs.FilterDecisions.{call_of}
+use Rattle.seccomp_tree.proofs.Common.{◌≡◌, ◌++◌, map, chains_of, AreCallNumbers, calls_of, call_of}
+use Rattle.seccompiler.specs.Compiled.{numbers_of}
 use Rattle.seccomp_tree.proofs.filter.calls_of.Given as goal
 
 -- the calls so far and those of the chains that are left are those of all chains, and what is left are call numbers

@@ -1,4 +1,4 @@
-use Rattle.std.proofs.Common.{◌≡◌, map, take}
+use Rattle.seccomp_tree.proofs.Common.{◌≡◌, map, take}
 use Rattle.seccomp_tree.proofs.filter.rulings_of.Given as goal
 
 -- the rulings of the rules so far

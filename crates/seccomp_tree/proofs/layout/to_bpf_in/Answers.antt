@@ -1,13 +1,5 @@
-use Rattle.std.proofs.Common.{ℕ, List, Result, Ok, Err, subst}
-use Rattle.std.specs.Prelude.{IfOk, Vec}
-use Rattle.std.specs.declared.alloc.Global.{Global}
-use Rattle.seccompiler.specs.declared.bpf.sock_filter.{sock_filter}
-use Rattle.seccompiler.specs.Machine.{IsRecord, Ends}
-use Rattle.seccompiler.specs.Policy.{Filter}
-use Rattle.seccompiler.specs.Compiled.{EndsAtDecision}
-use Rattle.seccomp_tree.specs.declared.layout.Layout.{Layout}
-use Rattle.seccomp_tree.specs.declared.layout.Layout.TheVariants.{Linear, Tree}
-use Rattle.seccomp_tree.specs.Layouts.{AgreesInAll, IsCompiledIn}
+use Rattle.seccomp_tree.proofs.Common.{ℕ, List, Result, Ok, Err, subst, IfOk, Vec, Global, sock_filter, IsRecord, Ends, Filter}
+use Rattle.seccomp_tree.proofs.Common.{EndsAtDecision, Layout, Linear, Tree, AgreesInAll, IsCompiledIn}
 use Rattle.seccomp_tree.proofs.FilterDecided.{one_decision}
 use Rattle.seccomp_tree.proofs.layout.to_bpf_in.Goals as goal
 

@@ -1,4 +1,4 @@
-use Rattle.std.proofs.Common.{◌^◌, sym, arith}
+use Rattle.seccomp_tree.proofs.Common.{◌^◌, sym, arith}
 use Rattle.seccomp_tree.proofs.Begun.{found_begun}
 use Rattle.seccomp_tree.proofs.steps.found.Goals as goal
 

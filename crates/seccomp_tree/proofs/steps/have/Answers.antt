@@ -1,8 +1,4 @@
-use Rattle.std.proofs.Common.{◌≡◌, ◌-◌, ◌+◌, ◌≤◌, length, get_or, ap, sym, ◌∙◌, arith}
-use Rattle.std.proofs.lemmas.Bool.Decides.{nat_tests}
-use Rattle.seccomp_tree.specs.declared.steps.Step.{Step}
-use Rattle.seccomp_tree.specs.declared.steps.Target.TheVariants.{Give}
-use Rattle.seccomp_tree.specs.Steps.{found_in}
+use Rattle.seccomp_tree.proofs.Common.{◌≡◌, ◌-◌, ◌+◌, ◌≤◌, length, get_or, ap, sym, ◌∙◌, arith, nat_tests, Step, Give, found_in}
 use Rattle.seccomp_tree.proofs.Begun.{above_none, begun_all, found_begun}
 use Rattle.seccomp_tree.proofs.steps.have.Goals as goal
 

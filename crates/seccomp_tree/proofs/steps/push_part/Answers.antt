@@ -1,4 +1,4 @@
-use Rattle.std.proofs.Common.{◌+◌, arith}
+use Rattle.seccomp_tree.proofs.Common.{◌+◌, arith}
 use Rattle.seccomp_tree.proofs.Begun.{part_begins, part_room, part_turn, part_ends, begun_more}
 use Rattle.seccomp_tree.proofs.steps.push_part.Goals as goal
 
@@ -37,5 +37,4 @@ returns-clause-part c =
     let a = c.args in
     let more = begun_more a.others.now (a.first + 1) (a.last + 1) (omega (arith, c.requires.order)) in
     part_ends a.steps.now.items a.others.now a.first a.last a.base c.requires.others c.requires.base c.requires.order c.loop-i.i
-    c.loop-i.steps.items (omega (arith, c.until-end.ensures.count)) (omega (arith, c.until-begin.ensures.count, c.until-end.ensures.count))
-    c.loop-i.invariant
+    c.loop-i.steps.items (omega (arith, c.until-begin.ensures.count, c.until-end.ensures.count)) c.loop-i.invariant

@@ -1,6 +1,4 @@
-use Rattle.std.proofs.Common.{sym, ◌∙◌}
-use Rattle.std.proofs.lemmas.Bool.{false≢true}
-use Rattle.seccomp_tree.specs.declared.steps.Step.{Step}
+use Rattle.seccomp_tree.proofs.Common.{sym, ◌∙◌, false≢true, Step}
 use Rattle.seccomp_tree.proofs.Begun.{pushed_same, pushed_more}
 use Rattle.seccomp_tree.proofs.steps.push_step.Goals as goal
 

@@ -1,6 +1,4 @@
-use Rattle.std.proofs.Common.{◌^◌, leb, rules, arith}
-use Rattle.std.proofs.lemmas.List.Sorted.{IsPartitionPoint-from_clause, IsPartitionedBy-leb}
-use Rattle.seccomp_tree.specs.declared.steps.Step.{Step}
+use Rattle.seccomp_tree.proofs.Common.{◌^◌, leb, rules, arith, IsPartitionPoint-from_clause, IsPartitionedBy-leb, Step}
 use Rattle.seccomp_tree.proofs.Begun.{begun_point, begun_some, starts_sorted}
 use Rattle.seccomp_tree.proofs.steps.until.Goals as goal
 

@@ -1,13 +1,9 @@
-use Rattle.std.proofs.Common.{◌-◌, ◌/◌, ◌^◌, ◌<◌, length, take, refl, sym, ◌∙◌, arith, inl, inr}
-use Rattle.std.proofs.lemmas.Bool.{cases_lt, false≢true}
-use Rattle.seccomp_tree.specs.Rows.{row}
-use Rattle.std.proofs.lemmas.Result.{err_from_is_err_and, IfOk-weaker}
+use Rattle.seccomp_tree.proofs.Common.{◌/◌, ◌^◌, length, refl, sym, ◌∙◌, arith, inl, inr, cases_lt, false≢true, row, err_from_is_err_and}
+use Rattle.seccomp_tree.proofs.Common.{IfOk-weaker, length-take-le, Give}
 use Rattle.seccomp_tree.proofs.Runs.{is_in_grown}
 use Rattle.seccomp_tree.proofs.Begun.{starts_rise}
-use Rattle.std.proofs.lemmas.List.{length-take-le}
-use Rattle.seccomp_tree.proofs.Trees.{ascend_take, in_take, all_behind, rest_of, rest_long, out_long, tree_single, tree_out}
-use Rattle.seccomp_tree.proofs.Trees.{tree_first, tree_halves}
-use Rattle.seccomp_tree.specs.declared.steps.Target.TheVariants.{Give}
+use Rattle.seccomp_tree.proofs.Trees.{ascend_take, in_take, all_behind, rest_of, rest_long, out_long, tree_single, tree_out, tree_first}
+use Rattle.seccomp_tree.proofs.Trees.{tree_halves}
 use Rattle.seccomp_tree.proofs.code.Code.+tree.Goals as goal
 
 pub returns-then-steps-eq1-clause-ok : goal.returns-then-steps-eq1-clause-ok
@@ -27,9 +23,8 @@ pub tree-requires-then-not-is_row : goal.tree-requires-then-not-is_row
 tree-requires-then-not-is_row t c =
     let steps = c.args.steps.now in
     let n = length steps / 2 in
-    let long = length-take-le n steps (omega arith) in
-    let falls : length (take n steps) < t = omega (arith, long, c.requires.some, c.decreases) in (
-      falls,
+    let long = length-take-le n steps (omega arith) in (
+      omega (arith, long, c.requires.some, c.decreases),
       (
         omega (arith, long, c.requires.some),
         (
@@ -41,10 +36,11 @@ tree-requires-then-not-is_row t c =
 
 pub overflow_cast-steps : goal.overflow_cast-steps
 overflow_cast-steps t c =
-    let n = length c.args.steps.now / 2 in
-    let rise = starts_rise (2 ^ 32) 0 c.args.steps.now n (record { start = 0; target = Give 0 }) c.requires.ascend
-    (omega (arith, c.requires.some)) in
-    omega (arith, rise.1)
+    omega (
+      arith,
+      (starts_rise (2 ^ 32) 0 c.args.steps.now (length c.args.steps.now / 2) (record { start = 0; target = Give 0 })
+          c.requires.ascend (omega (arith, c.requires.some))).1,
+    )
 
 pub returns-then-not-is_row-clause-ok : goal.returns-then-not-is_row-clause-ok
 returns-then-not-is_row-clause-ok t c =
@@ -86,7 +82,7 @@ returns-clause-ok t c =
     let all = all_behind steps 1 in
     IfOk-weaker c.test-2.result _ _
     (λ u h.
-    tree_first c.args.self.now c.tree-2.new.self c.test-2.new.self steps _ c.in_ok-rest-2.rest u c.requires.ascend
+    tree_first c.args.self.now c.tree-2.new.self c.test-2.new.self steps _ c.in_ok-rest-2.rest u
     (omega (arith, c.requires.some)) (sym c.stands_out.ensures ∙ c.if-stands_out.false) (c.is_row.ensures.0 c.if-not-is_row.false)
     (rw all at c.in_ok-rest-2.ensures.ok) h)
     c.test-2.ensures.ok

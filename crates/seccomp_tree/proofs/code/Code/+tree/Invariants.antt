@@ -1,4 +1,4 @@
-use Rattle.std.proofs.Common.{length}
+use Rattle.seccomp_tree.proofs.Common.{length}
 use Rattle.seccomp_tree.proofs.code.Code.+tree.Given as goal
 
 abbrev pub decreases-tree : goal.decreases-tree

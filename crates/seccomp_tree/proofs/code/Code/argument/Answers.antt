@@ -1,21 +1,10 @@
-use Rattle.std.proofs.Common.{◌^◌, sym, subst, arith}
-use Rattle.std.proofs.lemmas.Result.{IfErr-weaker, IfOk-weaker}
-use Rattle.seccomp_tree.specs.Steps.{AreSteps}
-use Rattle.seccomp_tree.specs.Code.{AreIn}
+use Rattle.seccomp_tree.proofs.Common.{arith, IfErr-weaker, IfOk-weaker}
 use Rattle.seccomp_tree.proofs.Halves.{highs_in, is_argument, full_highs}
 use Rattle.seccomp_tree.proofs.code.Code.argument.Goals as goal
 
-pub word-requires : goal.word-requires
-word-requires c =
-    let a = c.args in
-    let h = c.in_ok-highs.ensures.ok in
-    record {
-      aligned = omega arith;
-      inside_record = omega (arith, c.requires.index);
-      are = subst (AreSteps (2 ^ 32)) (sym c.deref.ensures.value) h.are;
-      inside = subst (AreIn c.high_halves.new.self) (sym c.deref.ensures.value)
-          (highs_in a.self.now c.high_halves.new.self a.index a.steps.now c.in_ok-highs.highs.items h);
-    }
+pub word-requires-clause-inside : goal.word-requires-clause-inside
+word-requires-clause-inside c =
+    rw c.deref.ensures.value (highs_in c.args.self.now _ c.args.index c.args.steps.now c.in_ok-highs.highs.items c.in_ok-highs.ensures.ok)
 
 pub returns-clause-ok : goal.returns-clause-ok
 returns-clause-ok c =

@@ -1,8 +1,5 @@
-use Rattle.std.proofs.Common.{length, refl, sym, arith}
-use Rattle.seccomp_tree.specs.Intervals.{numbers_of}
-use Rattle.seccomp_tree.specs.Conditions.{IsConditionMet}
-use Rattle.seccomp_tree.specs.Steps.{single}
-use Rattle.std.proofs.lemmas.Result.{IfErr-weaker, IfOk-weaker}
+use Rattle.seccomp_tree.proofs.Common.{length, refl, sym, arith, single, IfErr-weaker, IfOk-weaker}
+use Rattle.seccomp_tree.specs.Conditions.{numbers_of}
 use Rattle.seccomp_tree.proofs.Begun.{begun_few}
 use Rattle.seccomp_tree.proofs.Choices.{laid_in}
 use Rattle.seccomp_tree.proofs.Meeting.{met_now, met_by_steps, plain_cost, shorter_part}
@@ -25,19 +22,13 @@ part-requires c =
 pub returns-clause-ok : goal.returns-clause-ok
 returns-clause-ok c =
     let h = rw (c.deref.ensures.value, c.in_ok-no.ensures.ok) at c.in_ok-steps.ensures.ok in
-    IfOk-weaker c.part.result _ (λ t. IsConditionMet c.args.self.now c.args.condition.now c.args.yes c.args.no t c.part.new.self)
-    (λ t k. met_by_steps c.args.self.now c.part.new.self c.args.condition.now c.args.yes c.args.no t c.in_ok-steps.steps.items
-    h
-    (rw (c.arg_len.ensures, c.arg_index.ensures.index, c.deref-2.ensures.value) at k))
-    c.part.ensures.ok
+    IfOk-weaker c.part.result _ _ (λ t k. met_by_steps c.args.self.now c.part.new.self c.args.condition.now c.args.yes c.args.no t
+    c.in_ok-steps.steps.items h (rw (c.arg_len.ensures, c.arg_index.ensures.index, c.deref-2.ensures.value) at k)) c.part.ensures.ok
 
 pub returns-clause-err : goal.returns-clause-err
 returns-clause-err c =
     let h = rw (c.deref.ensures.value, c.in_ok-no.ensures.ok) at c.in_ok-steps.ensures.ok in
     let l = c.args.condition.now.arg_len in
-    let few = begun_few (single c.args.no) (numbers_of l) in
-    let less = shorter_part l (length c.in_ok-steps.steps.items) 3 (omega (arith, h.few, few)) in
-    let cost = plain_cost l c.args.condition.now.operator h.plain in
-    IfErr-weaker c.part.result _ _
-    (λ e k is. let full = rw (c.arg_len.ensures, c.deref-2.ensures.value) at k in omega (arith, full is, less, cost.1))
-    c.part.ensures.err
+    let less = shorter_part l (length c.in_ok-steps.steps.items) 3 (omega (arith, h.few, begun_few (single c.args.no) (numbers_of l))) in
+    IfErr-weaker c.part.result _ _ (λ e k is. let full = rw (c.arg_len.ensures, c.deref-2.ensures.value) at k in
+    omega (arith, full is, less, (plain_cost l c.args.condition.now.operator h.plain).1)) c.part.ensures.err

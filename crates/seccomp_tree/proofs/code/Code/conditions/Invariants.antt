@@ -1,11 +1,9 @@
-use Rattle.std.proofs.Common.{◌≤◌, length, drop}
-use Rattle.seccomp_tree.specs.Rules.{IsRulingMet}
+use Rattle.seccomp_tree.proofs.Common.{◌≤◌, length, drop, IsRulingMet}
 use Rattle.seccomp_tree.proofs.code.Code.conditions.Given as goal
 
 abbrev pub invariant-loop-left : goal.invariant-loop-left
 invariant-loop-left l =
-    (l.left ≤ length l.ruling.conditions) × IsRulingMet l.initial.self (drop l.left l.ruling.conditions) l.ruling.value l.after l.target
-    l.self
+    (l.left ≤ length l.conditions) × IsRulingMet l.initial.self (drop l.left l.conditions) l.value l.after l.target l.self
 
 abbrev pub decreases-loop-left : goal.decreases-loop-left
 decreases-loop-left l = l.left

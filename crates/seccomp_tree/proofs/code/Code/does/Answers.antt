@@ -1,6 +1,4 @@
-use Rattle.std.proofs.Common.{◌≡◌, ◌+◌, sym, subst, arith}
-use Rattle.std.proofs.lemmas.Bool.Decides.{nat_tests}
-use Rattle.seccomp_tree.specs.Code.{Says}
+use Rattle.seccomp_tree.proofs.Common.{◌≡◌, ◌+◌, sym, subst, arith, nat_tests, Says}
 use Rattle.seccomp_tree.proofs.Reaching.{written_does}
 use Rattle.seccomp_tree.proofs.code.Code.does.Goals as goal
 

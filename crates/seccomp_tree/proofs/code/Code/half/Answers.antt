@@ -1,21 +1,11 @@
-use Rattle.std.proofs.Common.{◌^◌, sym, subst, arith}
-use Rattle.std.proofs.lemmas.Result.{IfErr-weaker, IfOk-weaker}
-use Rattle.seccomp_tree.specs.Steps.{AreSteps}
-use Rattle.seccomp_tree.specs.Code.{AreIn}
+use Rattle.seccomp_tree.proofs.Common.{arith, IfErr-weaker, IfOk-weaker}
 use Rattle.seccomp_tree.proofs.Halves.{half_in, half_of_word, half_room}
 use Rattle.seccomp_tree.proofs.code.Code.half.Goals as goal
 
-pub word-requires : goal.word-requires
-word-requires c =
-    let a = c.args in
+pub word-requires-clause-inside : goal.word-requires-clause-inside
+word-requires-clause-inside c =
     let part = rw c.new-lows.ensures.items at c.in_ok-push_part.ensures.part in
-    let lows = half_in a.self.now a.steps.now c.push_part.new.steps.items a.high c.requires.are c.requires.inside part in
-    record {
-      aligned = omega arith;
-      inside_record = omega (arith, c.requires.index);
-      are = subst (AreSteps (2 ^ 32)) (sym c.deref.ensures.value) lows.0;
-      inside = subst (AreIn a.self.now) (sym c.deref.ensures.value) lows.1;
-    }
+    rw c.deref.ensures.value (half_in c.args.self.now c.args.steps.now _ c.args.high c.requires.are c.requires.inside part)
 
 pub returns-clause-ok : goal.returns-clause-ok
 returns-clause-ok c =

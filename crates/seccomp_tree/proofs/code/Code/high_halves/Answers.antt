@@ -1,9 +1,6 @@
-use Rattle.std.proofs.lemmas.Result.{err_from_is_err_and}
-use Rattle.seccomp_tree.proofs.Halves.{highs_none, highs_one, full_half}
+use Rattle.seccomp_tree.proofs.Common.{err_from_is_err_and}
+use Rattle.seccomp_tree.proofs.Halves.{highs_one, full_half}
 use Rattle.seccomp_tree.proofs.code.Code.high_halves.Goals as goal
-
-pub loop-high-init : goal.loop-high-init
-loop-high-init c = let e = c.new-highs.ensures.items in rw e (highs_none c.args.self.now c.args.index c.args.steps.now c.requires.are)
 
 pub returns-in_err-target-clause-err : goal.returns-in_err-target-clause-err
 returns-in_err-target-clause-err c =

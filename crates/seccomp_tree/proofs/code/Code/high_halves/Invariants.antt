@@ -1,5 +1,4 @@
-use Rattle.std.proofs.Common.{◌-◌, ◌^◌}
-use Rattle.seccomp_tree.specs.Arguments.{AreHighs}
+use Rattle.seccomp_tree.proofs.Common.{◌-◌, ◌^◌, AreHighs}
 use Rattle.seccomp_tree.proofs.code.Code.high_halves.Given as goal
 
 abbrev pub invariant-loop-high : goal.invariant-loop-high

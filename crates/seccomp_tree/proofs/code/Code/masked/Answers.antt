@@ -1,7 +1,4 @@
-use Rattle.std.proofs.Common.{◌≡◌, ◌-◌, ◌<◌, ◌^◌, ◌∷◌, sym, subst, arith}
-use Rattle.seccompiler.specs.Code.{load, mask}
-use Rattle.seccomp_tree.specs.declared.steps.Target.TheVariants.{At}
-use Rattle.seccomp_tree.specs.Conditions.{HasBits, IsMet}
+use Rattle.seccomp_tree.proofs.Common.{◌≡◌, ◌-◌, ◌<◌, ◌^◌, ◌∷◌, sym, subst, arith, load, mask, At, HasBits, IsMet}
 use Rattle.seccomp_tree.proofs.Meeting.{masked_none, masked_some}
 use Rattle.seccomp_tree.proofs.code.Code.masked.Goals as goal
 

@@ -1,6 +1,4 @@
-use Rattle.std.proofs.Common.{sym}
-use Rattle.seccomp_tree.specs.Conditions.{IsConditionMet}
-use Rattle.std.proofs.lemmas.Result.{IfOk-weaker}
+use Rattle.seccomp_tree.proofs.Common.{sym, IsConditionMet, IfOk-weaker}
 use Rattle.seccomp_tree.proofs.Meeting.{masked_dword, masked_qword}
 use Rattle.seccomp_tree.proofs.code.Code.masked_condition.Goals as goal
 

@@ -1,7 +1,4 @@
-use Rattle.std.proofs.Common.{length, ◌+◌, ◌<◌, sym, subst, arith}
-use Rattle.std.specs.Prelude.{reverse}
-use Rattle.std.proofs.lemmas.List.{length-reverse, reverse-append}
-use Rattle.seccompiler.specs.Machine.{IsFine}
+use Rattle.seccomp_tree.proofs.Common.{length, ◌+◌, ◌<◌, sym, subst, arith, reverse, length-reverse, reverse-append, IsFine}
 use Rattle.seccomp_tree.proofs.Runs.{sound_push}
 use Rattle.seccomp_tree.proofs.code.Code.push.Goals as goal
 

@@ -1,4 +1,4 @@
-use Rattle.std.proofs.Common.{◌≤◌, length, drop}
+use Rattle.seccomp_tree.proofs.Common.{◌≤◌, length, drop}
 use Rattle.seccomp_tree.proofs.Ruled.{IsRest}
 use Rattle.seccomp_tree.proofs.code.Code.rules.Given as goal
 

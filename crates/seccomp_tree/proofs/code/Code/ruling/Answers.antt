@@ -1,9 +1,6 @@
-use Rattle.std.proofs.Common.{◌≡◌, ◌<◌, ◌^◌, refl, sym, ap, ◌∙◌, subst}
-use Rattle.std.proofs.lemmas.Result.{IfOk-weaker}
-use Rattle.seccomp_tree.specs.Decisions.{Ruling, only}
-use Rattle.seccomp_tree.specs.Rules.{along, afresh, alone}
-use Rattle.seccomp_tree.proofs.code.Code.ruling.Goals as goal
+use Rattle.seccomp_tree.proofs.Common.{◌≡◌, ◌<◌, ◌^◌, refl, sym, ap, ◌∙◌, IfOk-weaker, Ruling, only, along, afresh, alone}
 use Rattle.seccomp_tree.proofs.code.Code.ruling.Goals.{After-only}
+use Rattle.seccomp_tree.proofs.code.Code.ruling.Goals as goal
 
 -- what there is of the conditions alone, and the value
 only_of : (c : After-only) → only c.args.ruling.now.conditions ≡ c.only.result
@@ -14,7 +11,7 @@ value_of : (c : After-only) → c.ruling.inside.value ≡ c.args.ruling.now.valu
 value_of c = ap (λ (d : Ruling). d.value) c.ruling.view_is
 
 fits : (c : After-only) → c.args.ruling.now.value < 2 ^ 32
-fits c = subst (λ v. v < 2 ^ 32) (value_of c) c.ruling.invariant
+fits c = rw (← value_of c) c.ruling.invariant
 
 pub returns-then-is_alike-clause-ok : goal.returns-then-is_alike-clause-ok
 returns-then-is_alike-clause-ok c =
@@ -39,6 +36,7 @@ returns-in-Some-clause-ok c =
 pub returns-clause-ok : goal.returns-clause-ok
 returns-clause-ok c =
     let b = (goal.at.returns-clause-ok c).After-only in
+    let own = c.deref-in-None.ensures.value ∙ ap (λ (d : Ruling). d.conditions) c.ruling.view_is in
     alone c.in_ok-behind-in-None.behind c.in_ok-target-in-None.target c.settle-in-None.new.self (only_of b ∙ c.in-None.is)
     c.in_ok-behind-in-None.ensures.ok
-    c.in_ok-target-in-None.ensures.ok c.in_ok-steps-in-None.ensures.ok refl
+    (rw (value_of b, own) at c.in_ok-target-in-None.ensures.ok) c.in_ok-steps-in-None.ensures.ok refl

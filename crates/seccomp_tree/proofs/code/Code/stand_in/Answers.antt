@@ -1,4 +1,4 @@
-use Rattle.std.proofs.Common.{◌-◌, arith}
+use Rattle.seccomp_tree.proofs.Common.{◌-◌, arith}
 use Rattle.seccomp_tree.proofs.Runs.{grows_not}
 use Rattle.seccomp_tree.proofs.Reaching.{reached_by, reached_new}
 use Rattle.seccomp_tree.proofs.code.Code.stand_in.Goals as goal

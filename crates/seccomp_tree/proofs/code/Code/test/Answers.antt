@@ -1,9 +1,7 @@
-use Rattle.std.proofs.Common.{◌≡◌, ◌-◌, ◌∷◌, ap, sym, ◌∙◌}
-use Rattle.seccompiler.specs.declared.bpf.sock_filter.{sock_filter}
-use Rattle.seccomp_tree.specs.declared.steps.Target.TheVariants.{At}
+use Rattle.seccomp_tree.proofs.Common.{◌≡◌, ◌-◌, ◌∷◌, ap, sym, ◌∙◌, sock_filter, At}
 use Rattle.seccomp_tree.proofs.Reaching.{code_of, tested}
-use Rattle.seccomp_tree.proofs.code.Code.test.Goals as goal
 use Rattle.seccomp_tree.proofs.code.Code.test.Goals.{in-Equal, in-AtLeast}
+use Rattle.seccomp_tree.proofs.code.Code.test.Goals as goal
 
 pub returns-clause-ok : goal.returns-clause-ok
 returns-clause-ok c =

@@ -1,16 +1,7 @@
-use Rattle.std.proofs.Common.{◌-◌, ◌∷◌, ◌^◌, ap, ◌∙◌, arith}
-use Rattle.seccompiler.specs.Code.{load}
-use Rattle.seccomp_tree.specs.declared.steps.Target.TheVariants.{At}
+use Rattle.seccomp_tree.proofs.Common.{◌-◌, ◌∷◌, ◌^◌, ap, ◌∙◌, arith, load, At}
 use Rattle.seccomp_tree.proofs.Begun.{not_none}
-use Rattle.seccomp_tree.proofs.Words.{word_one, word_more}
+use Rattle.seccomp_tree.proofs.Trees.{word_one, word_more}
 use Rattle.seccomp_tree.proofs.code.Code.word.Goals as goal
-
-pub tree-requires : goal.tree-requires
-tree-requires c = record {
-  some = not_none (2 ^ 32) c.args.steps.now c.requires.are (omega arith);
-  ascend = c.requires.are.ascend;
-  inside = c.requires.inside;
-}
 
 pub returns-then-steps-eq1-clause-ok : goal.returns-then-steps-eq1-clause-ok
 returns-then-steps-eq1-clause-ok c =

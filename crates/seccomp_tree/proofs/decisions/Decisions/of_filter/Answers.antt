@@ -1,16 +1,12 @@
-use Rattle.std.proofs.Common.{rules, ◌≡◌, sym, subst}
-use Rattle.seccompiler.specs.Compiled.{AreCallNumbers, numbers_of}
-use Rattle.seccomp_tree.specs.FilterDecisions.{DecideAs, decisions_of}
+use Rattle.seccomp_tree.proofs.Common.{rules, ◌≡◌, decisions_of}
 use Rattle.seccomp_tree.proofs.FilterDecided.{decide_as}
 use Rattle.seccomp_tree.proofs.decisions.Decisions.of_filter.Goals as goal
 
 pub calls_of-requires : goal.calls_of-requires
-calls_of-requires c =
-    record { numbers = subst (λ chains. AreCallNumbers (numbers_of chains)) (sym c.rules.ensures) c.in_ok-check_numbers.ensures.fit }
+calls_of-requires c = record { numbers = rw c.rules.ensures c.in_ok-check_numbers.ensures.fit }
 
 same : (c : goal.In-Some) → c.in-Some.decisions ≡ decisions_of c.args.filter.now
 same c = search rules
 
 pub returns-clause-alike : goal.returns-clause-alike
-returns-clause-alike c =
-    subst (DecideAs c.args.filter.now) (sym (same c)) (decide_as c.args.filter.now c.in_ok-check_numbers.ensures.fit)
+returns-clause-alike c = rw (same c) (decide_as c.args.filter.now c.in_ok-check_numbers.ensures.fit)

@@ -1,42 +1,18 @@
-use Rattle.std.proofs.Common.{◌-◌, ◌*◌, ◌^◌, length, refl, sym, subst, List, arith}
-use Rattle.seccomp_tree.specs.declared.steps.Step.{Step}
-use Rattle.seccomp_tree.specs.Steps.{AreSteps}
-use Rattle.seccomp_tree.specs.Code.{AreIn, IsFullBy}
-use Rattle.seccomp_tree.specs.CallSteps.{AreCallSteps, IsCallsTarget, IsTooFull}
-use Rattle.std.proofs.lemmas.Result.{IfErr-weaker, IfOk-weaker}
+use Rattle.seccomp_tree.proofs.Common.{IfErr-weaker, IfOk-weaker}
 use Rattle.seccomp_tree.proofs.Theorem.{calls_target, calls_room, calls_full}
 use Rattle.seccomp_tree.proofs.decisions.Decisions.write_calls.Goals as goal
 
-pub word-requires : goal.word-requires
-word-requires c =
-    let steps = c.in_ok-steps.steps.items in
-    let mid = c.call_steps.new.code in
-    let room = calls_room c.args.self.now c.args.code.now mid steps c.in_ok-steps.ensures.ok in
-    record {
-      aligned = refl;
-      inside_record = omega arith;
-      are = subst (λ (l : List Step). AreSteps (2 ^ 32) l) (sym c.deref.ensures.value) room.0;
-      inside = subst (λ (l : List Step). AreIn mid l) (sym c.deref.ensures.value) room.1;
-    }
+pub word-requires-clause-inside : goal.word-requires-clause-inside
+word-requires-clause-inside c =
+    rw c.deref.ensures.value
+    (calls_room c.args.self.now c.args.code.now c.call_steps.new.code c.in_ok-steps.steps.items c.in_ok-steps.ensures.ok)
 
 pub returns-clause-ok : goal.returns-clause-ok
-returns-clause-ok c =
-    let d = c.args.self.now in
-    let old = c.args.code.now in
-    let mid = c.call_steps.new.code in
-    let new = c.word.new.self in
-    let steps = c.deref.result.now in
-    let h = subst (λ (l : List Step). AreCallSteps old d l mid) (sym c.deref.ensures.value) c.in_ok-steps.ensures.ok in
-    IfOk-weaker c.word.result _ (λ t. IsCallsTarget old d t new)
-    (λ t w. calls_target d old mid new steps t h w)
-    c.word.ensures.ok
+returns-clause-ok c = IfOk-weaker c.word.result _ _
+    (λ t w. calls_target c.args.self.now c.args.code.now c.call_steps.new.code c.word.new.self c.in_ok-steps.steps.items t
+    c.in_ok-steps.ensures.ok (rw c.deref.ensures.value at w)) c.word.ensures.ok
 
 pub returns-clause-err : goal.returns-clause-err
-returns-clause-err c =
-    let d = c.args.self.now in
-    let old = c.args.code.now in
-    let mid = c.call_steps.new.code in
-    let steps = c.deref.result.now in
-    let h = subst (λ (l : List Step). AreCallSteps old d l mid) (sym c.deref.ensures.value) c.in_ok-steps.ensures.ok in
-    IfErr-weaker c.word.result (IsFullBy mid (3 * length steps - 2)) (IsTooFull d old 0) (λ e full. calls_full d old mid steps e h full)
-    c.word.ensures.err
+returns-clause-err c = IfErr-weaker c.word.result _ _
+    (λ e full. calls_full c.args.self.now c.args.code.now c.call_steps.new.code c.in_ok-steps.steps.items e
+    c.in_ok-steps.ensures.ok (rw c.deref.ensures.value at full)) c.word.ensures.err

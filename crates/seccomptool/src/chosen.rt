@@ -1,30 +1,28 @@
 // The filter that a command is asked for.
 
-ghost use Rattle.std.specs.Prelude.{◌≡◌, ◌≢◌, [], ◌∷◌, length, IfOk, IfSome, None, OnOk, map, string_bytes, string_cmp};
+ghost use Rattle.std.specs.Prelude.{◌≡◌, ◌≢◌, ℕ, List, [], ◌∷◌, length, IfOk, IfSome, None, OnOk, map, string_bytes, string_cmp};
 ghost use Rattle.std.specs.BTreeMap as tree;
+ghost use Rattle.seccompiler.specs.JsonAnswers.{OfValue};
+ghost use Rattle.seccompiler.specs.JsonSteps.{AreFilters};
 ghost use Rattle.seccomptool.specs.Chosen.{HoldsOnly, IsChosen, text_of};
 
 use crate::error::ToolError;
 use seccomp_command_line::readable::{TextKind, readable};
-use seccompiler::json::filters_of;
 use seccompiler::{JsonFilter, JsonFilterMap};
 use std::alloc::{AllocError, Global};
 use std::collections::BTreeMap;
 
-// The name that is asked for, or that of the policy's only filter.
+// The name that is asked for, or that of the policy's only filter, of whichever text these are the filters.
 pub(crate) fn chosen_name(
     alloc: Global,
-    text: &[u8],
     asked: Option<&str>,
+    filters: &JsonFilterMap,
 ) -> Result<String, ToolError>
-    ensures { IfOk result (λ name. IsChosen text.now (text_of asked.entry) (string_bytes name)) }
+    ensures { IfOk result (λ name. (text : List ℕ) → OfValue text (λ d. AreFilters d filters.now) → IsChosen text (text_of asked.entry) (string_bytes name)) }
 {
     match asked {
         Some(name) => Ok(String::from_str(alloc, name)?),
-        None => {
-            let filters = filters_of(alloc, text)?;
-            only_name(alloc, &filters)
-        }
+        None => only_name(alloc, filters),
     }
 }
 

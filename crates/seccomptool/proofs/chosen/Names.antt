@@ -54,15 +54,14 @@ single [] x one first = absurd (omega (arith, one))
 single (y ∷ []) x one first = let same : y ≡ x = cc in ap (λ z. z ∷ []) same
 single (y ∷ z ∷ xs) x one first = absurd (omega (arith, one))
 
-module _ (text : List ℕ) (filters : JsonFilterMap) (of_value : OfValue text (λ d. AreFilters d filters))
-    (order : IsStrictlySortedBy string_cmp (keys_of filters.0.entries)) where
-  -- The name of the only entry is chosen.
-  pub only_chosen : (r : Result (String Global) ToolError) → IfOk r (HoldsOnly filters.0.entries)
-      → IfOk r (λ name. IsChosen text None (string_bytes name))
-  only_chosen (Ok name) h = (
-    of_value.0,
-    of_value.1,
-    subst (HasOnlyName of_value.0) (sym h.3)
-        (only_entry (get_by_text filters.0) of_value.0 of_value.2 filters.0.entries order (λ n. by_text n filters.0.entries) h.0 h.1 h.2),
-  )
-  only_chosen (Err e) h = tt
+-- The name of the only entry is chosen, of whichever text these are the filters.
+pub only_chosen : (filters : JsonFilterMap) → IsStrictlySortedBy string_cmp (keys_of filters.0.entries)
+    → (r : Result (String Global) ToolError) → IfOk r (HoldsOnly filters.0.entries)
+    → IfOk r (λ name. (text : List ℕ) → OfValue text (λ d. AreFilters d filters) → IsChosen text None (string_bytes name))
+only_chosen filters order (Ok name) h = λ text of_value. (
+  of_value.0,
+  of_value.1,
+  subst (HasOnlyName of_value.0) (sym h.3)
+      (only_entry (get_by_text filters.0) of_value.0 of_value.2 filters.0.entries order (λ n. by_text n filters.0.entries) h.0 h.1 h.2),
+)
+only_chosen filters order (Err e) h = tt

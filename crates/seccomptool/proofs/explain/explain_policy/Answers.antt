@@ -27,7 +27,7 @@ returns c =
     record {
       named = record { name = c.in_ok-name.name; filter = c.in-Some.filter };
       is = refl;
-      chosen = c.in_ok-name.ensures;
+      chosen = c.in_ok-name.ensures c.args.text.now read;
       of_text = (read.0, read.1, there IsFilter (get_by_text filters.0) read.0 read.2 name c.in-Some.filter own.0);
       policy = own.1.0.0;
       is_policy = own.1.0.1;

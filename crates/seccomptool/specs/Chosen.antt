@@ -1,15 +1,11 @@
 -- The filter that a command is asked for: the one that is named, or the policy's only one.
-use Rattle.std.specs.Prelude.{◌≡◌, ◌≢◌, ℕ, List, [], ◌∷◌, length, Option, Some, None, String, option_map, string_bytes, ⊤}
+use Rattle.std.specs.Prelude.{◌≡◌, ℕ, List, [], ◌∷◌, Option, Some, None, String, option_map, string_bytes}
 use Rattle.std.specs.Borrow.{Bor}
 use Rattle.std.specs.declared.alloc.Global.{Global}
 use Rattle.serde_json.specs.Data.{Data}
-use Rattle.seccompiler.specs.declared.backend.TargetArch.{TargetArch}
 use Rattle.seccompiler.specs.JsonAnswers.{OfValue}
-use Rattle.seccompiler.specs.JsonPrograms.{TellsFirstFault}
 use Rattle.seccompiler.specs.JsonShape.{Has}
 use Rattle.seccompiler.specs.JsonTypes.{JsonFilter}
-use Rattle.seccomptool.specs.declared.error.ToolError.{ToolError}
-use Rattle.seccomptool.specs.declared.error.ToolError.TheVariants.{Library, Unchosen, OutOfMemory}
 
 -- The bytes of a text, if there is one.
 abbrev pub text_of : Option (Bor (List ℕ)) → Option (List ℕ)

@@ -1,6 +1,6 @@
 -- For `chosen_name`: what the entries of filters say of the names of their text's value.
-use Rattle.std.proofs.Common.{◌≡◌, ℕ, zero, suc, List, [], ◌∷◌, length, Option, Some, None, true, false, Less, All}
-use Rattle.std.proofs.Common.{Contains, String, Global, string_bytes, string_cmp, nat_cmp, map, refl, sym, ap, subst, ◌∙◌, arith}
+use Rattle.std.proofs.Common.{◌≡◌, ℕ, zero, suc, List, [], ◌∷◌, length, Option, Some, None, All}
+use Rattle.std.proofs.Common.{Contains, String, Global, string_bytes, string_cmp, map, sym, ap, subst, arith}
 use Rattle.std.specs.Prelude.{Result, Ok, Err, IfOk, slice_get}
 use Rattle.std.specs.BTreeMap.{get_by_text}
 use Rattle.std.specs.List.Sorted.{IsStrictlySortedBy}
@@ -14,7 +14,7 @@ use Rattle.seccompiler.specs.JsonFilters.{AreFound}
 use Rattle.seccompiler.specs.JsonSteps.{AreFilters}
 use Rattle.seccompiler.specs.JsonShape.{IsFilter, Under}
 use Rattle.seccompiler.specs.JsonTypes.{JsonFilter}
-use Rattle.seccomp_command_line.proofs.ByName.{by_text, names_ordered}
+use Rattle.seccomp_command_line.proofs.ByName.{by_text}
 use Rattle.seccomptool.specs.declared.error.ToolError.{ToolError}
 use Rattle.seccomptool.specs.Chosen.{HasOnlyName, HoldsOnly, IsChosen}
 use Rattle.seccomp_command_line.proofs.Found.{complete, each_there}

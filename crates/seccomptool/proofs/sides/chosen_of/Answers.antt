@@ -1,4 +1,4 @@
-use Rattle.std.proofs.Common.{◌≡◌, Some, Option, Bor, sym, ap, ◌∙◌}
+use Rattle.std.proofs.Common.{Option, Bor, sym, ap, ◌∙◌}
 use Rattle.std.specs.Prelude.{option_map}
 use Rattle.seccompiler.specs.Policy.{Filter}
 use Rattle.seccomptool.proofs.sides.chosen_of.Goals as goal

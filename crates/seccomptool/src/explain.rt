@@ -97,7 +97,7 @@ pub fn explain_policy(
     ensures { IfOk result (IsOfPolicy target (option_map (λ name. name.now) asked.entry) text.now records.now) }
 {
     let mut filters = filters_of(alloc, text)?;
-    let name = chosen_name(alloc, asked, &filters)?;
+    let name = chosen_name(alloc, asked, &filters.0)?;
     check_filters(alloc, target, &filters)?;
     let Some(filter) = filters.0.remove(name.as_str()) else {
         return Err(ToolError::NoFilter(name));

@@ -18,8 +18,8 @@ use crate::made::Made;
 use crate::record::call_number;
 use crate::words::Inputs;
 use seccomp_learn::{
-    Kept, Lesson, Observation, Taken, asked_kept, learn_within, profile_text, read_trace,
-    start_and_exit, taken_from, usual_kept, written_policy,
+    Kept, Lesson, Observation, asked_kept, learn_within, profile_text, read_trace, start_and_exit,
+    usual_kept, written_policy,
 };
 use seccompiler::json::filters_of;
 use seccompiler::{JsonFilter, JsonFilterMap, SeccompAction, TargetArch};
@@ -177,8 +177,9 @@ fn base_of(
 fn base_into(alloc: Global, asked: Option<&str>, policy: &[u8]) -> Result<Base, ToolError>
     ensures { IfOk result (λ base. IsBase Into (text_of asked.entry) policy.now base.filter) }
 {
-    let name = chosen_name(alloc, asked, &filters_of(alloc, policy)?)?;
-    let Some(Taken { filter, others }) = taken_from(alloc, policy, name.as_str())? else {
+    let mut others = filters_of(alloc, policy)?;
+    let name = chosen_name(alloc, asked, &others.0)?;
+    let Some(filter) = others.0.remove(name.as_str()) else {
         return Err(ToolError::NoFilter(name));
     };
     match filter.match_action {

@@ -5,7 +5,7 @@ ghost use Rattle.seccomptool.specs.Commands.{IsCalled, IsCompared, IsCompiled, I
 ghost use Rattle.seccomptool.specs.declared.findings.Verdict.TheVariants.{Same};
 ghost use Rattle.seccomptool.specs.declared.kind.Subject.TheVariants.{Policy};
 
-use crate::chosen::refuse_name;
+use crate::chosen::{chosen_of, refuse_name};
 use crate::compile::text::ProgramFormat;
 use crate::compile::{NamedProgram, program_text, too_large};
 use crate::diff::diff_of;
@@ -21,7 +21,7 @@ use crate::record::{called_record, calls_text, known_calls};
 use crate::run::program::program_of;
 use crate::show;
 use crate::show::programs_in;
-use crate::sides::{Side, chosen_of};
+use crate::sides::Side;
 use crate::stats::{filters_text, measure_of, measure_text, profile_stats, stats_of};
 use crate::words::{Calling, Comparing, Compiling, Inputs, Showing};
 use seccomp_check::policies_in;

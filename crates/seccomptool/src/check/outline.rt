@@ -217,29 +217,36 @@ fn label_of(alloc: Global, step: &Step) -> Result<String, AllocError> {
 fn piece_len(text: &[u8]) -> usize
     ensures { result ≤ length text.now }
 {
-    let is_mark = |byte: &u8| matches!(*byte, b'{' | b'}' | b'[' | b']' | b',' | b':' | b'"');
-    let end = match text {
-        [b'"', ..] => string_end(text),
-        [first, ..] if is_mark(first) || first.is_ascii_whitespace() => Some(1),
-        _ => text
-            .iter()
-            .position(|byte| is_mark(byte) || byte.is_ascii_whitespace()),
-    };
-    end.unwrap_or(text.len()).min(text.len())
+    if let [b'"', ..] = text {
+        return string_end(text);
+    }
+    for place in 1..text.len() {
+        if is_mark(text[0]) || is_mark(text[place]) {
+            return place;
+        }
+    }
+    text.len()
+}
+
+// Whether a byte is a mark or white space.
+fn is_mark(byte: u8) -> bool {
+    matches!(byte, b'{' | b'}' | b'[' | b']' | b',' | b':' | b'"') || byte.is_ascii_whitespace()
 }
 
 // Where the string ends that a text begins with.
-fn string_end(text: &[u8]) -> Option<usize> {
+fn string_end(text: &[u8]) -> usize
+    ensures { result ≤ length text.now }
+{
     let mut is_escaped = false;
-    for (place, byte) in text.iter().enumerate().skip(1) {
-        match *byte {
+    for place in 1..text.len() {
+        match text[place] {
             _ if is_escaped => is_escaped = false,
             b'\\' => is_escaped = true,
-            b'"' => return Some(place.saturating_add(1)),
+            b'"' => return place + 1,
             _ => {}
         }
     }
-    None
+    text.len()
 }
 
 // What a key says.

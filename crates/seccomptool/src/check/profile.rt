@@ -4,7 +4,6 @@ pub(crate) mod lines;
 
 ghost use Rattle.std.specs.Prelude.{◌≡◌, ◌↔◌, [], All, Contains, IfErr, IfOk, IsTrue, false};
 ghost use Rattle.seccompiler.specs.declared.backend.TargetArch.{TargetArch};
-ghost use Rattle.seccomp_oci.specs.ProfileText.{IsProfileText};
 ghost use Rattle.seccomp_oci.specs.Types.{AllOnArguments, Container, Profile};
 ghost use Rattle.seccomptool.specs.CheckProfile.{IsProfileCheckOf, IsRefusedProfile, IsSoOfProfile, IsTold, IsTrueOf, code_of};
 
@@ -92,24 +91,15 @@ pub fn profile_checked(
     ensures refused { IfErr result (IsRefusedProfile target container.now false text.now) }
 {
     let compiled = compiled_of(alloc, target, container, false, text)?;
-    let profile = taken(alloc, text)?;
+    let Ok(profile) = profile_of(alloc, text) else {
+        return Err(ToolError::OutOfMemory);
+    };
     let warnings = warnings_in(alloc, target, container, allowed, &profile, text)?;
     Ok(CheckedProfile {
         profile,
         compiled,
         warnings,
     })
-}
-
-// The profile of a text that is compiled: an error is want of memory.
-fn taken(alloc: Global, text: &[u8]) -> Result<Profile, AllocError>
-    ensures read { IfOk result (IsProfileText text.now) }
-    ensures arguments { IfOk result (λ p. AllOnArguments p.entries) }
-{
-    match profile_of(alloc, text) {
-        Ok(profile) => Ok(profile),
-        Err(_) => Err(AllocError),
-    }
 }
 
 // The warnings of a profile, which this text has.

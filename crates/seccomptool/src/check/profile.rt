@@ -2,7 +2,7 @@
 
 pub(crate) mod lines;
 
-ghost use Rattle.std.specs.Prelude.{◌≡◌, ◌↔◌, [], All, Contains, IfErr, IfOk, IsTrue, false};
+ghost use Rattle.std.specs.Prelude.{◌≡◌, ◌↔◌, All, Contains, IfErr, IfOk, IsTrue, false};
 ghost use Rattle.seccompiler.specs.declared.backend.TargetArch.{TargetArch};
 ghost use Rattle.seccomp_oci.specs.Types.{AllOnArguments, Container, Profile};
 ghost use Rattle.seccomptool.specs.CheckProfile.{IsProfileCheckOf, IsRefusedProfile, IsSoOfProfile, IsTold, IsTrueOf, code_of};
@@ -189,16 +189,10 @@ fn push_flags(
 ) -> Result<(), AllocError>
     ensures { IfOk result (λ _. (arch : TargetArch) (container : Container) → All (IsTold arch container profile.now allowed.now) all.old.items → All (IsTold arch container profile.now allowed.now) all.new.items) }
 {
-    if has_no_flags(profile) {
+    if profile.flags.is_empty() {
         return Ok(());
     }
     push(all, allowed, ProfileWarning::Flags)
-}
-
-fn has_no_flags(profile: &Profile) -> bool
-    ensures { IsTrue result ↔ (profile.now.flags ≡ []) }
-{
-    profile.flags.is_empty()
 }
 
 // Adds the keys of a text's object that are passed over.

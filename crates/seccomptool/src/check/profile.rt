@@ -2,7 +2,7 @@
 
 pub(crate) mod lines;
 
-ghost use Rattle.std.specs.Prelude.{◌≡◌, ◌↔◌, All, Contains, IfErr, IfOk, IsTrue, false};
+ghost use Rattle.std.specs.Prelude.{◌≡◌, All, IfErr, IfOk, false};
 ghost use Rattle.seccompiler.specs.declared.backend.TargetArch.{TargetArch};
 ghost use Rattle.seccomp_oci.specs.Types.{AllOnArguments, Container, Profile};
 ghost use Rattle.seccomptool.specs.CheckProfile.{IsProfileCheckOf, IsRefusedProfile, IsSoOfProfile, IsTold, IsTrueOf, code_of};
@@ -130,17 +130,10 @@ fn push(
 ) -> Result<(), AllocError>
     ensures { IfOk result (λ _. (arch : TargetArch) (container : Container) (p : Profile) → IsSoOfProfile arch container p warning → All (IsTold arch container p allowed.now) all.old.items → All (IsTold arch container p allowed.now) all.new.items) }
 {
-    if is_among(allowed, code_of(&warning)) {
+    if allowed.contains(&code_of(&warning)) {
         return Ok(());
     }
     Ok(all.push(warning)?)
-}
-
-// Whether a code is among some.
-fn is_among(codes: &[Code], sought: Code) -> bool
-    ensures { IsTrue result ↔ Contains codes.now sought }
-{
-    codes.contains(&sought)
 }
 
 /// The code of a warning.

@@ -1,3 +1,2 @@
 -- Lemmas for the functions of `sides`.
-pub mod Names
 pub mod Profiles

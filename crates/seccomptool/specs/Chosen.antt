@@ -1,15 +1,9 @@
 -- The filter that a command is asked for: the one that is named, or the policy's only one.
-use Rattle.std.specs.Prelude.{◌≡◌, ◌≢◌, ℕ, List, [], ◌∷◌, length, Option, Some, None, String, option_map, string_bytes, ⊤}
+use Rattle.std.specs.Prelude.{◌≡◌, ℕ, List, Option, Some, None, option_map}
 use Rattle.std.specs.Borrow.{Bor}
-use Rattle.std.specs.declared.alloc.Global.{Global}
 use Rattle.serde_json.specs.Data.{Data}
-use Rattle.seccompiler.specs.declared.backend.TargetArch.{TargetArch}
 use Rattle.seccompiler.specs.JsonAnswers.{OfValue}
-use Rattle.seccompiler.specs.JsonPrograms.{TellsFirstFault}
 use Rattle.seccompiler.specs.JsonShape.{Has}
-use Rattle.seccompiler.specs.JsonTypes.{JsonFilter}
-use Rattle.seccomptool.specs.declared.error.ToolError.{ToolError}
-use Rattle.seccomptool.specs.declared.error.ToolError.TheVariants.{Library, Unchosen, OutOfMemory}
 
 -- The bytes of a text, if there is one.
 abbrev pub text_of : Option (Bor (List ℕ)) → Option (List ℕ)
@@ -26,7 +20,13 @@ abbrev pub IsChosen : List ℕ → Option (List ℕ) → List ℕ → Type 0
 IsChosen text (Some asked) name = name ≡ asked
 IsChosen text None name = OfValue text (λ d. HasOnlyName d name)
 
--- Between layers: the entries are one, under this name.
-abbrev pub HoldsOnly : List (String Global × JsonFilter) → String Global → Type 0
-HoldsOnly entries name =
-    (key : String Global) × (filter : JsonFilter) × (entries ≡ (key, filter) ∷ []) × (string_bytes name ≡ string_bytes key)
+-- Something is found under this name, and under no other.
+pub record IsOnly {V : Type 0} (find : List ℕ → Option V) (name : List ℕ) : Type 0 where
+  pub value : V
+  pub there : find name ≡ Some value
+  pub only : (other : List ℕ) (v : V) → find other ≡ Some v → other ≡ name
+
+-- The name is the one that is asked for; or, if none is, the only one under which something is found.
+abbrev pub IsNamed : {V : Type 0} → Option (List ℕ) → (List ℕ → Option V) → List ℕ → Type 0
+IsNamed (Some asked) find name = name ≡ asked
+IsNamed None find name = IsOnly find name

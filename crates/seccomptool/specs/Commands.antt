@@ -16,18 +16,15 @@ use Rattle.seccomp_compare.specs.Machine.{IsChecked}
 use Rattle.seccomp_oci.specs.declared.compiled.CompiledProfile.{CompiledProfile}
 use Rattle.seccomp_oci.specs.CompiledProfile.{IsCompiledProfile}
 use Rattle.seccomp_oci.specs.Types.{Container}
-use Rattle.seccomp_warnings.specs.declared.code.Code.{Code}
 use Rattle.seccomptool.specs.declared.check.CheckedPolicy.{CheckedPolicy}
 use Rattle.seccomptool.specs.declared.check.profile.CheckedProfile.{CheckedProfile}
 use Rattle.seccomptool.specs.declared.compile.NamedProgram.{NamedProgram}
 use Rattle.seccomptool.specs.declared.diff.Diff.{Diff}
-use Rattle.seccomptool.specs.declared.diff.Scope.{Scope}
 use Rattle.seccomptool.specs.declared.error.ToolError.{ToolError}
 use Rattle.seccomptool.specs.declared.error.ToolError.TheVariants.{OutOfMemory}
 use Rattle.seccomptool.specs.declared.explain.Explanation.{Explanation}
 use Rattle.seccomptool.specs.declared.failure.Failure.{Failure}
 use Rattle.seccomptool.specs.declared.failure.Failure.TheVariants as failure
-use Rattle.seccomptool.specs.declared.findings.Terms.{Terms}
 use Rattle.seccomptool.specs.declared.findings.Verdict.{Verdict}
 use Rattle.seccomptool.specs.declared.findings.Verdict.TheVariants.{Same, Different, Undecided}
 use Rattle.seccomptool.specs.declared.kind.Reading.{Reading}
@@ -44,7 +41,12 @@ use Rattle.seccomptool.specs.declared.words.Command.{Command}
 use Rattle.seccomptool.specs.declared.words.Command.TheVariants.{Compile, Show, Check, Codes, Explain, Call as CallOf, Diff as DiffOf}
 use Rattle.seccomptool.specs.declared.words.Command.TheVariants.{Learn}
 use Rattle.seccomptool.specs.declared.words.Inputs.{Inputs}
-use Rattle.seccomptool.specs.declared.words.Names.{Names}
+use Rattle.seccomptool.specs.declared.words.Calling.{Calling}
+use Rattle.seccomptool.specs.declared.words.Checking.{Checking}
+use Rattle.seccomptool.specs.declared.words.Comparing.{Comparing}
+use Rattle.seccomptool.specs.declared.words.Compiling.{Compiling}
+use Rattle.seccomptool.specs.declared.words.Explaining.{Explaining}
+use Rattle.seccomptool.specs.declared.words.Showing.{Showing}
 use Rattle.seccomptool.specs.Check.{IsCheckOf, IsRefusal, verdict_where}
 use Rattle.seccomptool.specs.CheckProfile.{IsProfileCheckOf, IsRefusedProfile}
 use Rattle.seccomptool.specs.Chosen.{text_of}
@@ -78,14 +80,13 @@ abbrev pub IsCheckedProgram : (bytes : List ℕ) → Type 0
 IsCheckedProgram bytes = (program : List sock_filter) × IsProgramOf bytes program × IsChecked program
 
 -- The program of what is given.
-abbrev pub IsCompiledAs : TargetArch → Subject → Layout → (strict : Bool) → (asked : Option (List ℕ)) → (given : List ℕ) → Type 0
-IsCompiledAs arch subject.Policy layout strict asked text = (made : NamedProgram) × IsFilterCompiled arch layout asked text made
-IsCompiledAs arch (subject.Profile container) layout strict asked text = IsProfileCompiled arch container.now strict text
-IsCompiledAs arch subject.Program layout strict asked bytes = IsCheckedProgram bytes
+abbrev pub IsCompiledAs : Compiling → Subject → (given : List ℕ) → Type 0
+IsCompiledAs asked subject.Policy text = (made : NamedProgram) × IsFilterCompiled asked.arch asked.layout (text_of asked.filter) text made
+IsCompiledAs asked (subject.Profile container) text = IsProfileCompiled asked.arch container.now asked.strict text
+IsCompiledAs asked subject.Program bytes = IsCheckedProgram bytes
 
-abbrev pub IsCompiled : TargetArch → Reading → Layout → (strict : Bool) → (asked : Option (List ℕ)) → (given : List ℕ) → Type 0
-IsCompiled arch reading layout strict asked given =
-    (kind : Subject) × IsTakenAs reading given kind × IsCompiledAs arch kind layout strict asked given
+abbrev pub IsCompiled : Compiling → (given : List ℕ) → Type 0
+IsCompiled asked given = (kind : Subject) × IsTakenAs asked.reading given kind × IsCompiledAs asked kind given
 
 -- The programs of what is given, all those of a policy.
 abbrev pub IsShownAs : TargetArch → Subject → Layout → (given : List ℕ) → Type 0
@@ -104,18 +105,18 @@ abbrev pub IsShownOrMeasured : (measured : Bool) → TargetArch → Subject → 
 IsShownOrMeasured false arch kind layout given = IsShownAs arch kind layout given
 IsShownOrMeasured true arch kind layout given = IsMeasuredAs arch kind given
 
-abbrev pub IsShown : TargetArch → Reading → Layout → (measured : Bool) → (given : List ℕ) → Type 0
-IsShown arch reading layout measured given =
-    (kind : Subject) × IsTakenAs reading given kind × IsShownOrMeasured measured arch kind layout given
+abbrev pub IsShown : Showing → (given : List ℕ) → Type 0
+IsShown asked given =
+    (kind : Subject) × IsTakenAs asked.reading given kind × IsShownOrMeasured asked.measured asked.arch kind asked.layout given
 
 -- What is given is accepted, with its warnings, and whether they count.
-abbrev pub IsAccepted : TargetArch → Subject → (denied : Bool) → (allowed : List Code) → (given : List ℕ) → Verdict → Type 0
-IsAccepted arch subject.Policy denied allowed text v =
-    (checked : CheckedPolicy) × IsCheckOf arch allowed text checked × (v ≡ verdict_where denied checked.count)
-IsAccepted arch (subject.Profile container) denied allowed text v =
-    (checked : CheckedProfile) × IsProfileCheckOf arch container.now allowed text checked
-    × (v ≡ verdict_where denied (length checked.warnings.items))
-IsAccepted arch subject.Program denied allowed bytes v = IsCheckedProgram bytes × (v ≡ Same)
+abbrev pub IsAccepted : Checking → Subject → (given : List ℕ) → Verdict → Type 0
+IsAccepted asked subject.Policy text v =
+    (checked : CheckedPolicy) × IsCheckOf asked.arch asked.allowed.items text checked × (v ≡ verdict_where asked.denied checked.count)
+IsAccepted asked (subject.Profile container) text v =
+    (checked : CheckedProfile) × IsProfileCheckOf asked.arch container.now asked.allowed.items text checked
+    × (v ≡ verdict_where asked.denied (length checked.warnings.items))
+IsAccepted asked subject.Program bytes v = IsCheckedProgram bytes × (v ≡ Same)
 
 -- What is given is rejected for this, or memory ran out.
 abbrev pub IsRejectedFor : TargetArch → Subject → (given : List ℕ) → ToolError → Type 0
@@ -124,14 +125,12 @@ IsRejectedFor arch (subject.Profile container) text e = IsRefusedProfile arch co
 IsRejectedFor arch subject.Program bytes e = IsRefusedProgram bytes e
 
 -- What is given is accepted; or it is rejected, and not for want of memory.
-pub data IsJudged (arch : TargetArch) (kind : Subject) (denied : Bool) (allowed : List Code) (given : List ℕ) (v : Verdict) : Type 0 where
-  accepted : IsAccepted arch kind denied allowed given v → IsJudged arch kind denied allowed given v
-  rejected : (e : ToolError) → IsRejectedFor arch kind given e → e ≢ OutOfMemory → v ≡ Different
-      → IsJudged arch kind denied allowed given v
+pub data IsJudged (asked : Checking) (kind : Subject) (given : List ℕ) (v : Verdict) : Type 0 where
+  accepted : IsAccepted asked kind given v → IsJudged asked kind given v
+  rejected : (e : ToolError) → IsRejectedFor asked.arch kind given e → e ≢ OutOfMemory → v ≡ Different → IsJudged asked kind given v
 
-abbrev pub IsCheck : TargetArch → Reading → (denied : Bool) → (allowed : List Code) → (given : List ℕ) → Verdict → Type 0
-IsCheck arch reading denied allowed given v =
-    (kind : Subject) × IsTakenAs reading given kind × IsJudged arch kind denied allowed given v
+abbrev pub IsCheck : Checking → (given : List ℕ) → Verdict → Type 0
+IsCheck asked given v = (kind : Subject) × IsTakenAs asked.reading given kind × IsJudged asked kind given v
 
 -- The whole records of these bytes.
 abbrev pub records_in : List ℕ → List (List ℕ)
@@ -151,16 +150,19 @@ IsExplainedAs arch (subject.Profile container) asked text records = (e : Explana
 IsExplainedAs arch subject.Program asked bytes records =
     (program : List sock_filter) × IsProgramOf bytes program × (outcomes : List Outcome) × AreReturned program records outcomes
 
-abbrev pub IsExplained : TargetArch → Reading → (asked : Option (List ℕ)) → (given : List ℕ) → (records : List (List ℕ)) → Type 0
-IsExplained arch reading asked given records =
-    (kind : Subject) × IsTakenAs reading given kind × IsExplainedAs arch kind asked given records
+abbrev pub IsExplained : Explaining → (given : List ℕ) → (records : List (List ℕ)) → Type 0
+IsExplained asked given records =
+    (kind : Subject) × IsTakenAs asked.reading given kind × IsExplainedAs asked.arch kind (text_of asked.filter) given records
 
 -- The architectures' calls of this name or number; or the record of one.
-abbrev pub IsCalled : Option TargetArch → Call → (recorded : Bool) → Type 0
-IsCalled arch call false =
+abbrev pub IsCalledOn : Option TargetArch → Call → (recorded : Bool) → Type 0
+IsCalledOn arch call false =
     (calls : List KnownCall) × All (λ (known : KnownCall). IsCall known.target call.name.now known.number) calls
-IsCalled None call true = (bytes : List ℕ) × IsRecordOf x86_64 call.name.now call.arguments bytes
-IsCalled (Some arch) call true = (bytes : List ℕ) × IsRecordOf arch call.name.now call.arguments bytes
+IsCalledOn None call true = (bytes : List ℕ) × IsRecordOf x86_64 call.name.now call.arguments bytes
+IsCalledOn (Some arch) call true = (bytes : List ℕ) × IsRecordOf arch call.name.now call.arguments bytes
+
+abbrev pub IsCalled : Calling → Type 0
+IsCalled asked = IsCalledOn asked.arch asked.call asked.recorded
 
 -- The side is of these bytes, and of this filter of theirs.
 pub record IsSideOf (reading : Reading) (filter : Option (Bor (List ℕ))) (given : List ℕ) (side : Side) : Type 0 where
@@ -169,32 +171,28 @@ pub record IsSideOf (reading : Reading) (filter : Option (Bor (List ℕ))) (give
   pub given_is : side.given.now ≡ given
 
 -- On which calls the one decides otherwise than the other, and whether on any that counts.
-pub record IsCompared (terms : Terms) (reading : Reading) (names : Names) (counted : Scope) (old_given new_given : List ℕ) (v : Verdict)
-    : Type 0 where
+pub record IsCompared (asked : Comparing) (old_given new_given : List ℕ) (v : Verdict) : Type 0 where
   pub old : Side
   pub new : Side
-  pub of_old : IsSideOf reading names.old old_given old
-  pub of_new : IsSideOf reading names.new new_given new
+  pub of_old : IsSideOf asked.reading asked.old old_given old
+  pub of_new : IsSideOf asked.reading asked.new new_given new
   pub found : Diff
-  pub is : IsDiff terms.target terms.relation old new found
-  pub verdict : v ≡ verdict_in counted found
+  pub is : IsDiff asked.terms.target asked.terms.relation old new found
+  pub verdict : v ≡ verdict_in asked.scope found
 
 -- ---- a command
 
 -- The command is carried out on these bytes, the first and the second that it reads: a value is made that is so, and this is its
 -- verdict. The bytes say what is given.
 abbrev pub IsCarriedOut : Command → (first second : List ℕ) → Verdict → Type 0
-IsCarriedOut (Compile arch reading strict filter layout format quiet) given none v =
-    IsCompiled arch reading layout strict (text_of filter) given × (v ≡ Same)
-IsCarriedOut (Show arch reading filter layout measured) given none v = IsShown arch reading layout measured given × (v ≡ Same)
-IsCarriedOut (Check arch reading denied allowed format) given none v = IsCheck arch reading denied allowed.items given v
+IsCarriedOut (Compile asked) given none v = IsCompiled asked given × (v ≡ Same)
+IsCarriedOut (Show asked) given none v = IsShown asked given × (v ≡ Same)
+IsCarriedOut (Check asked) given none v = IsCheck asked given v
 IsCarriedOut Codes none other v = v ≡ Same
-IsCarriedOut (Explain arch reading filter format calls) given bytes v =
-    OnRecords arch calls bytes (IsExplained arch reading (text_of filter) given) × (v ≡ Same)
-IsCarriedOut (CallOf arch call recorded) none other v = IsCalled arch call recorded × (v ≡ Same)
-IsCarriedOut (DiffOf terms reading names counted quiet) old new v = IsCompared terms reading names counted old new v
-IsCarriedOut (Learn arch learning) trace policy v =
-    IsLesson arch learning.most learning.start (text_of learning.name) policy × (v ≡ Same)
+IsCarriedOut (Explain asked) given bytes v = OnRecords asked.arch asked.calls bytes (IsExplained asked given) × (v ≡ Same)
+IsCarriedOut (CallOf asked) none other v = IsCalled asked × (v ≡ Same)
+IsCarriedOut (DiffOf asked) old new v = IsCompared asked old new v
+IsCarriedOut (Learn asked) trace policy v = IsLesson asked policy × (v ≡ Same)
 
 -- It is carried out on some bytes.
 abbrev pub IsPerformed : Command → Verdict → Type 0

@@ -1,13 +1,9 @@
 -- What is wrong with a program that isn't run.
-use Rattle.std.specs.Prelude.{◌≡◌, ◌≢◌, ℕ, ◌+◌, ◌<◌, ◌≤◌, ◌%◌, ◌⊎◌, false, List, [], ◌∷◌, ◌++◌, length, All, Some, slice_get, codes}
-use Rattle.std.specs.Prelude.{decimal}
-use Rattle.std.specs.Fmt.{digits}
+use Rattle.std.specs.Prelude.{◌≡◌, ◌≢◌, ℕ, ◌+◌, ◌<◌, ◌≤◌, ◌%◌, ◌⊎◌, List, [], ◌∷◌, length, All, Some, slice_get}
 use Rattle.seccompiler.specs.declared.bpf.sock_filter.{sock_filter}
 use Rattle.seccomp_compare.specs.Machine.{IsFine, IsFirstUnfit}
 use Rattle.seccomptool.specs.declared.run.fault.Amiss.{Amiss}
 use Rattle.seccomptool.specs.declared.run.fault.Amiss.TheVariants.{Operation, Load, Jump, End}
-use Rattle.seccomptool.specs.declared.run.fault.ProgramFault.{ProgramFault}
-use Rattle.seccomptool.specs.declared.run.fault.ProgramFault.TheVariants.{Short, Length, Unfit}
 
 -- ---- what is amiss with an instruction
 

@@ -5,7 +5,7 @@ use Rattle.seccompiler.specs.declared.bpf.sock_filter.{sock_filter}
 use Rattle.seccompiler.specs.JsonAnswers.{ArePoliciesOf, OfValue}
 use Rattle.seccompiler.specs.Policy.{Filter}
 use Rattle.seccomp_oci.specs.ProfileText.{IsProfileText}
-use Rattle.seccomptool.specs.Chosen.{text_of}
+use Rattle.seccomptool.specs.Chosen.{IsNamed, text_of}
 use Rattle.seccomptool.specs.Rulings.{Ruling, StandsFor, of_filter, of_profile, of_program}
 use Rattle.seccomptool.specs.Run.{IsProgramOf}
 use Rattle.seccomptool.specs.declared.kind.Subject.{Subject}
@@ -16,15 +16,9 @@ use Rattle.seccomptool.specs.declared.sides.Side.{Side}
 abbrev pub Policies : Type 0
 Policies = List ℕ → Option Filter
 
--- The filter stands under this name, and under no other does one.
-pub record IsOnly (filters : Policies) (name : List ℕ) (filter : Filter) : Type 0 where
-  pub there : filters name ≡ Some filter
-  pub only : (other : List ℕ) (g : Filter) → filters other ≡ Some g → other ≡ name
-
 -- The filter of the name that is asked for; or, if none is, the only one, under its name.
 abbrev pub IsChosen : Option (List ℕ) → Policies → List ℕ → Filter → Type 0
-IsChosen (Some asked) filters name filter = (name ≡ asked) × (filters asked ≡ Some filter)
-IsChosen None filters name filter = IsOnly filters name filter
+IsChosen asked filters name filter = IsNamed asked filters name × (filters name ≡ Some filter)
 
 -- The filter is the one that is asked for, or the only one, of the policy's text.
 pub record IsFilterOf (target : TargetArch) (asked : Option (List ℕ)) (text : List ℕ) (filter : Filter) : Type 0 where

@@ -1,44 +1,48 @@
 // The filter that a command is asked for.
 
-ghost use Rattle.std.specs.Prelude.{◌≡◌, ◌≢◌, [], ◌∷◌, length, IfOk, IfSome, None, OnOk, map, string_bytes, string_cmp};
-ghost use Rattle.std.specs.BTreeMap as tree;
-ghost use Rattle.seccomptool.specs.Chosen.{HoldsOnly, IsChosen, text_of};
+ghost use Rattle.std.specs.Prelude.{◌≡◌, IfOk, None, OnOk, string_bytes};
+ghost use Rattle.std.specs.BTreeMap.{get_by_text};
+ghost use Rattle.seccomptool.specs.Chosen.{IsNamed, text_of};
+ghost use Rattle.seccomptool.specs.Sides.{IsChosen};
 
 use crate::error::ToolError;
 use seccomp_command_line::readable::{TextKind, readable};
-use seccompiler::json::filters_of;
-use seccompiler::{JsonFilter, JsonFilterMap};
+use seccompiler::SeccompFilter;
 use std::alloc::{AllocError, Global};
 use std::collections::BTreeMap;
 
-// The name that is asked for, or that of the policy's only filter.
-pub(crate) fn chosen_name(
+// The name that is asked for, or that of the only filter.
+pub(crate) fn chosen_name<V>(
     alloc: Global,
-    text: &[u8],
     asked: Option<&str>,
+    filters: &BTreeMap<String, V>,
 ) -> Result<String, ToolError>
-    ensures { IfOk result (λ name. IsChosen text.now (text_of asked.entry) (string_bytes name)) }
+    ensures { IfOk result (λ name. IsNamed (text_of asked.entry) (get_by_text filters.now) (string_bytes name)) }
 {
-    match asked {
-        Some(name) => Ok(String::from_str(alloc, name)?),
-        None => {
-            let filters = filters_of(alloc, text)?;
-            only_name(alloc, &filters)
+    if let Some(name) = asked {
+        return Ok(String::from_str(alloc, name)?);
+    }
+    if filters.len() == 1 {
+        if let Some((name, _)) = filters.first_key_value() {
+            return Ok(name.clone()?);
         }
     }
+    Err(ToolError::Unchosen(names_of(alloc, filters)?))
 }
 
-// The name of the only filter of these.
-fn only_name(alloc: Global, filters: &JsonFilterMap) -> Result<String, ToolError>
-    ensures only { IfOk result (HoldsOnly filters.now.0.entries) }
-    ensures ordered { tree.IsOrdered string_cmp filters.now.0 }
+// The filter that is asked for, or the only one.
+pub(crate) fn chosen_of<'a>(
+    alloc: Global,
+    asked: Option<&str>,
+    filters: &'a BTreeMap<String, SeccompFilter>,
+) -> Result<(String, &'a SeccompFilter), ToolError>
+    ensures { IfOk result (λ one. IsChosen (text_of asked.entry) (get_by_text filters.now) (string_bytes one.0) one.1.now) }
 {
-    if filters.0.len() == 1 {
-        if let Some((name, _)) = filters.0.first_key_value() {
-            return Ok(String::from_str(alloc, name.as_str())?);
-        }
+    let name = chosen_name(alloc, asked, filters)?;
+    match filters.get(name.as_str()) {
+        Some(filter) => Ok((name, filter)),
+        None => Err(ToolError::NoFilter(name)),
     }
-    Err(ToolError::Unchosen(names_of(alloc, &filters.0)?))
 }
 
 // That no filter is asked for, where there is none.

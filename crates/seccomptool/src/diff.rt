@@ -1,8 +1,7 @@
 // On which calls a new side rules otherwise than an old one, or permits more.
 
-pub(crate) mod lines;
 pub mod pair;
-pub(crate) mod values;
+pub(crate) mod text;
 
 ghost use Rattle.std.specs.Prelude.{◌≡◌, All, IfOk, map, option_map, string_bytes};
 ghost use Rattle.std.specs.BTreeMap.{get_by_text};

@@ -4,7 +4,6 @@ pub mod lines;
 pub(crate) mod log;
 pub(crate) mod made;
 pub mod search;
-pub(crate) mod values;
 
 ghost use Rattle.std.specs.Prelude.{◌≡◌, All, IfOk, OnOk, option_map};
 ghost use Rattle.std.specs.List.{AllZip};
@@ -35,6 +34,13 @@ pub enum Why {
         number: u32,
         /// The place of the entry whose action it is, from 0; none if it is the default action.
         entry: Option<usize>,
+    },
+    /// By a program.
+    Program {
+        /// The number of the record's call, if it is of the architecture.
+        number: Option<u32>,
+        /// How many steps the program takes.
+        steps: usize,
     },
 }
 
@@ -90,8 +96,8 @@ pub fn explain_policy(
 ) -> Result<Explanation, ToolError>
     ensures { IfOk result (IsOfPolicy target (option_map (λ name. name.now) asked.entry) text.now records.now) }
 {
-    let name = chosen_name(alloc, text, asked)?;
     let mut filters = filters_of(alloc, text)?;
+    let name = chosen_name(alloc, asked, &filters.0)?;
     check_filters(alloc, target, &filters)?;
     let Some(filter) = filters.0.remove(name.as_str()) else {
         return Err(ToolError::NoFilter(name));

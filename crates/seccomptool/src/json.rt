@@ -1,5 +1,7 @@
 // JSON that the program writes.
 
+use crate::findings::parts::name_of;
+use seccompiler::TargetArch;
 use serde_json::Value;
 use std::alloc::{AllocError, Global};
 
@@ -27,6 +29,26 @@ pub(crate) fn push_json(
 pub(crate) fn text_or_null(alloc: Global, text: Option<&str>) -> Result<Value, AllocError> {
     match text {
         Some(text) => Value::try_from_str(alloc, text),
+        None => Ok(Value::Null),
+    }
+}
+
+// A text, or null if it says nothing.
+pub(crate) fn said_or_null(alloc: Global, text: &str) -> Result<Value, AllocError> {
+    if text.is_empty() {
+        return Ok(Value::Null);
+    }
+    Value::try_from_str(alloc, text)
+}
+
+// The name of the call of a number, or null if it has none, or there is no number.
+pub(crate) fn call_or_null(
+    alloc: Global,
+    target: TargetArch,
+    number: Option<u32>,
+) -> Result<Value, AllocError> {
+    match number {
+        Some(number) => text_or_null(alloc, name_of(target, number)),
         None => Ok(Value::Null),
     }
 }

@@ -18,9 +18,10 @@ use crate::made::Made;
 use crate::record::call_number;
 use crate::words::Inputs;
 use seccomp_learn::{
-    Kept, Lesson, Observation, Taken, asked_kept, learn_within, profile_text, read_trace,
-    start_and_exit, taken_from, usual_kept, written_policy,
+    Kept, Lesson, Observation, asked_kept, learn_within, profile_text, read_trace, start_and_exit,
+    usual_kept, written_policy,
 };
+use seccompiler::json::filters_of;
 use seccompiler::{JsonFilter, JsonFilterMap, SeccompAction, TargetArch};
 use std::alloc::Global;
 use std::collections::BTreeMap;
@@ -46,6 +47,8 @@ pub struct AskedArguments<'a> {
 /// How a trace is learned from.
 #[derive(Drop)]
 pub struct Learning<'a> {
+    /// The architecture.
+    pub arch: TargetArch,
     /// What its calls are added to.
     pub start: Start,
     /// The filter's name, if it is given.
@@ -85,14 +88,14 @@ struct Base {
 
 pub(crate) fn learn_made(
     alloc: Global,
-    arch: TargetArch,
     learning: &Learning<'_>,
     inputs: Inputs<'_>,
     given: &[u8],
     policy: &[u8],
 ) -> Result<Made, FaultAt>
-    ensures { IfOk result (λ made. IsLesson arch learning.now.most learning.now.start (text_of learning.now.name) policy.now × (made.verdict ≡ Same)) }
+    ensures { IfOk result (λ made. IsLesson learning.now policy.now × (made.verdict ≡ Same)) }
 {
+    let arch = learning.arch;
     let mut trace = read_trace(alloc, arch, given)?;
     if learning.runnable {
         trace
@@ -102,13 +105,13 @@ pub(crate) fn learn_made(
     if learning.strict {
         refuse_strange(alloc, &trace)?;
     }
-    let wanted = wanted_in(alloc, arch, learning, &trace.observed)?;
-    let learned = match learned_of(alloc, arch, learning, &trace.observed, &wanted, policy) {
+    let wanted = wanted_in(alloc, learning, &trace.observed)?;
+    let learned = match learned_of(alloc, learning, &trace.observed, &wanted, policy) {
         Ok(learned) => learned,
         Err(error) => return Err(FaultAt::in_new(error)),
     };
     let path = inputs.first.unwrap_or("-");
-    let notes = notes_of(alloc, arch, learning, path, &trace, &wanted, &learned)?;
+    let notes = notes_of(alloc, learning, path, &trace, &wanted, &learned)?;
     let filter = &learned.lesson.learned.json;
     let mut text = if learning.as_profile {
         profile_text(alloc, arch, filter)?
@@ -126,20 +129,20 @@ pub(crate) fn learn_made(
 // The filter that allows the observed calls, with the values of the arguments that are wanted, and what it is added to.
 fn learned_of(
     alloc: Global,
-    arch: TargetArch,
     learning: &Learning<'_>,
     observed: &[Observation],
     wanted: &[Kept],
     policy: &[u8],
 ) -> Result<LearnedFilter, ToolError>
-    ensures { IfOk result (λ own. IsLearned arch learning.now.most wanted.now observed.now learning.now.start (text_of learning.now.name) policy.now own.lesson) }
+    ensures { IfOk result (λ own. IsLearned learning.now wanted.now observed.now policy.now own.lesson) }
 {
     let Base {
         name,
         filter,
         others,
     } = base_of(alloc, learning.start, learning.name, policy)?;
-    let lesson = learn_within(alloc, arch, observed, wanted, learning.most, filter)?;
+    let (arch, most) = (learning.arch, learning.most);
+    let lesson = learn_within(alloc, arch, observed, wanted, most, filter)?;
     Ok(LearnedFilter {
         name,
         lesson,
@@ -174,8 +177,9 @@ fn base_of(
 fn base_into(alloc: Global, asked: Option<&str>, policy: &[u8]) -> Result<Base, ToolError>
     ensures { IfOk result (λ base. IsBase Into (text_of asked.entry) policy.now base.filter) }
 {
-    let name = chosen_name(alloc, policy, asked)?;
-    let Some(Taken { filter, others }) = taken_from(alloc, policy, name.as_str())? else {
+    let mut others = filters_of(alloc, policy)?;
+    let name = chosen_name(alloc, asked, &others.0)?;
+    let Some(filter) = others.0.remove(name.as_str()) else {
         return Err(ToolError::NoFilter(name));
     };
     match filter.match_action {
@@ -194,10 +198,10 @@ fn base_into(alloc: Global, asked: Option<&str>, policy: &[u8]) -> Result<Base, 
 // The usual ones, and those that are asked for.
 fn wanted_in(
     alloc: Global,
-    arch: TargetArch,
     learning: &Learning<'_>,
     observed: &[Observation],
 ) -> Result<Vec<Kept>, ToolError> {
+    let arch = learning.arch;
     let mut wanted = usual_kept(alloc, arch)?;
     for asked in &learning.arguments {
         push_asked(alloc, arch, &mut wanted, *asked, observed)?;

@@ -1,21 +1,19 @@
 // What each command makes of the bytes that it is given: an answer, and a view of it.
 
 ghost use Rattle.std.specs.Prelude.{◌≡◌, IfOk, false};
-ghost use Rattle.seccomptool.specs.Chosen.{text_of};
 ghost use Rattle.seccomptool.specs.Commands.{IsCalled, IsCompared, IsCompiled, IsCompiledAs, IsMeasuredAs, IsProfileCompiled, IsShown, IsShownAs};
 ghost use Rattle.seccomptool.specs.declared.findings.Verdict.TheVariants.{Same};
 ghost use Rattle.seccomptool.specs.declared.kind.Subject.TheVariants.{Policy};
 
-use crate::chosen::refuse_name;
+use crate::chosen::{chosen_of, refuse_name};
 use crate::compile::text::ProgramFormat;
 use crate::compile::{NamedProgram, program_text, too_large};
-use crate::diff::lines::{lines_by_name, pair_lines};
-use crate::diff::values::diff_json;
-use crate::diff::{Diff, Scope, diff_of};
+use crate::diff::diff_of;
+use crate::diff::text::diff_text;
 use crate::error::{FaultAt, ToolError};
-use crate::findings::{Terms, Verdict};
+use crate::findings::Verdict;
 use crate::json::{push_item, written};
-use crate::kind::{Reading, Subject, subject_of};
+use crate::kind::{Subject, subject_of};
 use crate::notes::counted;
 use crate::profile::{compiled_of, profile_notes, uncompiled};
 use crate::progress::Progress;
@@ -23,12 +21,12 @@ use crate::record::{called_record, calls_text, known_calls};
 use crate::run::program::program_of;
 use crate::show;
 use crate::show::programs_in;
-use crate::sides::{Side, chosen_of};
+use crate::sides::Side;
 use crate::stats::{filters_text, measure_of, measure_text, profile_stats, stats_of};
-use crate::words::{Call, Inputs, Names};
+use crate::words::{Calling, Comparing, Compiling, Inputs, Showing};
 use seccomp_check::policies_in;
 use seccomp_oci::Container;
-use seccomp_tree::{Layout, to_bpf_in};
+use seccomp_tree::to_bpf_in;
 use seccomp_warnings::Code;
 use seccompiler::json::filters_of;
 use seccompiler::{JsonFrontendError, TargetArch};
@@ -71,34 +69,25 @@ impl Made {
 
 pub(crate) fn compile_made(
     alloc: Global,
-    arch: TargetArch,
-    reading: &Reading,
-    strict: bool,
-    filter: Option<&str>,
-    layout: Layout,
-    format: ProgramFormat,
-    quiet: bool,
+    asked: &Compiling<'_>,
     path: &str,
     given: &[u8],
 ) -> Result<Made, FaultAt>
-    ensures { IfOk result (λ made. IsCompiled arch reading.now layout strict (text_of filter.entry) given.now × (made.verdict ≡ Same)) }
+    ensures { IfOk result (λ made. IsCompiled asked.now given.now × (made.verdict ≡ Same)) }
 {
-    match subject_of(alloc, reading, given)? {
-        Subject::Policy => policy_made(alloc, arch, filter, layout, format, quiet, path, given),
+    match subject_of(alloc, &asked.reading, given)? {
+        Subject::Policy => policy_made(alloc, asked, path, given),
         Subject::Profile(container) => {
-            refuse_name(alloc, filter)?;
-            let listed = reading.listed;
-            profile_made(
-                alloc, arch, container, strict, format, quiet, listed, path, given,
-            )
+            refuse_name(alloc, asked.filter)?;
+            profile_made(alloc, asked, container, path, given)
         }
         Subject::Program => {
-            refuse_name(alloc, filter)?;
+            refuse_name(alloc, asked.filter)?;
             let program = NamedProgram {
                 name: String::from_str(alloc, "program")?,
                 program: program_of(alloc, given)?,
             };
-            Ok(Made::plain(alloc, program_text(alloc, format, &program)?))
+            Ok(Made::plain(alloc, program_text(alloc, asked.format, &program)?))
         }
     }
 }
@@ -107,27 +96,24 @@ pub(crate) fn compile_made(
 // another one is too large is no error.
 fn policy_made(
     alloc: Global,
-    arch: TargetArch,
-    filter: Option<&str>,
-    layout: Layout,
-    format: ProgramFormat,
-    quiet: bool,
+    asked: &Compiling<'_>,
     path: &str,
     policy: &[u8],
 ) -> Result<Made, FaultAt>
-    ensures { IfOk result (λ made. IsCompiledAs arch Policy layout false (text_of filter.entry) policy.now × (made.verdict ≡ Same)) }
+    ensures { IfOk result (λ made. IsCompiledAs asked.now Policy policy.now × (made.verdict ≡ Same)) }
 {
+    let (arch, layout) = (asked.arch, asked.layout);
     let filters = filters_of(alloc, policy)?;
     let policies = policies_in(alloc, arch, &filters)?;
-    let (name, chosen) = chosen_of(alloc, filter, &policies)?;
+    let (name, chosen) = chosen_of(alloc, asked.filter, &policies)?;
     let program = match to_bpf_in(alloc, chosen, layout) {
         Ok(program) => NamedProgram { name, program },
         Err(cause) => {
             return Err(too_large(alloc, chosen, name.as_str(), layout, cause)?.into());
         }
     };
-    let text = program_text(alloc, format, &program)?;
-    let notes = if quiet {
+    let text = program_text(alloc, asked.format, &program)?;
+    let notes = if asked.quiet {
         Vec::new(alloc)
     } else {
         counted(alloc, arch, path, &filters)?
@@ -137,24 +123,22 @@ fn policy_made(
 
 fn profile_made(
     alloc: Global,
-    arch: TargetArch,
+    asked: &Compiling<'_>,
     container: &Container,
-    strict: bool,
-    format: ProgramFormat,
-    quiet: bool,
-    listed: bool,
     path: &str,
     profile: &[u8],
 ) -> Result<Made, FaultAt>
-    ensures { IfOk result (λ made. IsProfileCompiled arch container.now strict profile.now × (made.verdict ≡ Same)) }
+    ensures { IfOk result (λ made. IsProfileCompiled asked.now.arch container.now asked.now.strict profile.now × (made.verdict ≡ Same)) }
 {
-    let compiled = match compiled_of(alloc, arch, container, strict, profile) {
+    let arch = asked.arch;
+    let compiled = match compiled_of(alloc, arch, container, asked.strict, profile) {
         Ok(compiled) => compiled,
         Err(error) => return Err(uncompiled(alloc, arch, error).into()),
     };
-    let notes = if quiet {
+    let notes = if asked.quiet {
         Vec::new(alloc)
     } else {
+        let listed = asked.reading.listed;
         profile_notes(
             alloc,
             arch,
@@ -168,33 +152,26 @@ fn profile_made(
         name: String::from_str(alloc, "profile")?,
         program: compiled.program,
     };
-    let text = program_text(alloc, format, &program)?;
+    let text = program_text(alloc, asked.format, &program)?;
     Ok(Made::noting(text, Verdict::Same, notes))
 }
 
 pub(crate) fn show_made(
     alloc: Global,
-    arch: TargetArch,
-    reading: &Reading,
-    filter: Option<&str>,
-    layout: Layout,
-    measured: bool,
+    asked: &Showing<'_>,
     json: bool,
     given: &[u8],
 ) -> Result<Made, FaultAt>
-    ensures { IfOk result (λ made. IsShown arch reading.now layout measured given.now × (made.verdict ≡ Same)) }
+    ensures { IfOk result (λ made. IsShown asked.now given.now × (made.verdict ≡ Same)) }
 {
-    let subject = subject_of(alloc, reading, given)?;
-    let (name, text) = if measured {
+    let subject = subject_of(alloc, &asked.reading, given)?;
+    let (name, text) = if asked.measured {
         (
             "measures",
-            measured_text(alloc, arch, json, subject, filter, given)?,
+            measured_text(alloc, asked, json, subject, given)?,
         )
     } else {
-        (
-            "programs",
-            shown_text(alloc, arch, json, layout, subject, filter, given)?,
-        )
+        ("programs", shown_text(alloc, asked, json, subject, given)?)
     };
     let text = written(alloc, json, name, text)?;
     Ok(Made::plain(alloc, text))
@@ -203,27 +180,26 @@ pub(crate) fn show_made(
 // The programs of what is given.
 fn shown_text(
     alloc: Global,
-    arch: TargetArch,
+    asked: &Showing<'_>,
     json: bool,
-    layout: Layout,
     subject: Subject<'_>,
-    filter: Option<&str>,
     given: &[u8],
 ) -> Result<Vec<u8>, ToolError>
-    ensures { IfOk result (λ text. IsShownAs arch subject.entry layout given.now) }
+    ensures { IfOk result (λ text. IsShownAs asked.now.arch subject.entry asked.now.layout given.now) }
 {
+    let arch = asked.arch;
     match subject {
         Subject::Policy => {
-            let programs = programs_in(alloc, arch, layout, given)?;
-            show::programs_text(alloc, json, filter, &programs)
+            let programs = programs_in(alloc, arch, asked.layout, given)?;
+            show::programs_text(alloc, json, asked.filter, &programs)
         }
         Subject::Profile(container) => {
-            refuse_name(alloc, filter)?;
+            refuse_name(alloc, asked.filter)?;
             let compiled = compiled_of(alloc, arch, container, false, given)?;
             Ok(show::program_text(alloc, json, "profile", Some(arch), &compiled.program)?)
         }
         Subject::Program => {
-            refuse_name(alloc, filter)?;
+            refuse_name(alloc, asked.filter)?;
             let program = program_of(alloc, given)?;
             Ok(show::program_text(alloc, json, "program", Some(arch), &program)?)
         }
@@ -233,26 +209,26 @@ fn shown_text(
 // How long the programs of what is given are, and how many steps they take.
 fn measured_text(
     alloc: Global,
-    arch: TargetArch,
+    asked: &Showing<'_>,
     json: bool,
     subject: Subject<'_>,
-    filter: Option<&str>,
     given: &[u8],
 ) -> Result<Vec<u8>, ToolError>
-    ensures { IfOk result (λ text. IsMeasuredAs arch subject.entry given.now) }
+    ensures { IfOk result (λ text. IsMeasuredAs asked.now.arch subject.entry given.now) }
 {
+    let arch = asked.arch;
     match subject {
         Subject::Policy => {
             let all = stats_of(alloc, arch, given)?;
-            filters_text(alloc, json, filter, &all)
+            filters_text(alloc, json, asked.filter, &all)
         }
         Subject::Profile(container) => {
-            refuse_name(alloc, filter)?;
+            refuse_name(alloc, asked.filter)?;
             let measure = profile_stats(alloc, arch, container, given)?;
             Ok(measure_text(alloc, json, "profile", None, measure)?)
         }
         Subject::Program => {
-            refuse_name(alloc, filter)?;
+            refuse_name(alloc, asked.filter)?;
             let program = program_of(alloc, given)?;
             let measure = measure_of(alloc, arch, &program)?;
             Ok(measure_text(alloc, json, "program", None, measure)?)
@@ -279,15 +255,14 @@ pub(crate) fn codes_made(alloc: Global, json: bool) -> Result<Made, FaultAt>
     Ok(Made::plain(alloc, text))
 }
 
-pub(crate) fn call_made(
-    alloc: Global,
-    arch: Option<TargetArch>,
-    call: Call<'_>,
-    recorded: bool,
-    json: bool,
-) -> Result<Made, FaultAt>
-    ensures { IfOk result (λ made. IsCalled arch call.entry recorded × (made.verdict ≡ Same)) }
+pub(crate) fn call_made(alloc: Global, asked: &Calling<'_>, json: bool) -> Result<Made, FaultAt>
+    ensures { IfOk result (λ made. IsCalled asked.now × (made.verdict ≡ Same)) }
 {
+    let Calling {
+        arch,
+        call,
+        recorded,
+    } = *asked;
     if recorded {
         let arch = arch.unwrap_or(TargetArch::x86_64);
         let record = called_record(alloc, arch, call.name, &call.arguments)?;
@@ -303,26 +278,23 @@ pub(crate) fn call_made(
 
 pub(crate) fn diff_made<G: Progress>(
     alloc: Global,
-    terms: Terms,
-    reading: &Reading,
-    names: Names<'_>,
-    scope: Scope,
-    quiet: bool,
+    asked: &Comparing<'_>,
     inputs: Inputs<'_>,
     old: &[u8],
     new: &[u8],
     progress: &mut G,
 ) -> Result<Made, FaultAt>
-    ensures { IfOk result (λ made. IsCompared terms reading.now names.entry scope old.now new.now made.verdict) }
+    ensures { IfOk result (λ made. IsCompared asked.now old.now new.now made.verdict) }
 {
+    let (terms, quiet) = (asked.terms, asked.quiet);
     let old = Side {
-        kind: subject_of(alloc, reading, old)?,
-        filter: names.old,
+        kind: subject_of(alloc, &asked.reading, old)?,
+        filter: asked.old,
         given: old,
     };
     let new = Side {
-        kind: subject_of(alloc, reading, new)?,
-        filter: names.new,
+        kind: subject_of(alloc, &asked.reading, new)?,
+        filter: asked.new,
         given: new,
     };
     let mut notes = side_counted(alloc, quiet, terms.target, inputs.first, old)?;
@@ -332,12 +304,8 @@ pub(crate) fn diff_made<G: Progress>(
     let found = diff_of(alloc, terms, old, new, progress);
     progress.end();
     let found = found?;
-    let text = match &found {
-        _ if inputs.json => diff_json(alloc, terms.target, old, new, &found)?,
-        Diff::ByName(all) => lines_by_name(alloc, terms, all)?,
-        Diff::OfPair(pair) => pair_lines(alloc, terms, old, new, pair)?,
-    };
-    Ok(Made::noting(text, found.verdict(scope), notes))
+    let text = diff_text(alloc, terms, inputs.json, old, new, &found)?;
+    Ok(Made::noting(text, found.verdict(asked.scope), notes))
 }
 
 // The note on how many warnings a side has, if it is a policy and the note isn't to be left out.

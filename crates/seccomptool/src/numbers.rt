@@ -1,8 +1,9 @@
 // Numbers as they are written in words.
 
-ghost use Rattle.std.specs.Prelude.{◌≡◌, ℕ, ◌^◌, ◌<◌, ◌≤◌, ◌↔◌, IfSome, IfNone, IsTrue};
-ghost use Rattle.std.specs.Str.Parse.{IsNumeral, digits_value};
-ghost use Rattle.seccomptool.specs.Numbers.{IsNumber, IsOctal, IsWritten};
+ghost use Rattle.std.specs.Prelude.{ℕ, ◌↔◌, IfSome, IfNone, IsTrue};
+ghost use Rattle.seccomptool.specs.Numbers.{IsNumber, IsOctal};
+
+use seccomp_command_line::numbers::read_digits;
 
 // The number that a text of decimal digits writes, or of hexadecimal ones after `0x`, if 64 bits hold it. Numbers that begin with a
 // 0 are octal in C, so none is read.
@@ -22,17 +23,4 @@ fn is_octal(text: &str) -> bool
     ensures { IsTrue result ↔ IsOctal text.now }
 {
     text.len() > 1 && text.as_bytes()[0] == b'0'
-}
-
-// The number that digits write, if 64 bits hold it.
-fn read_digits(text: &str, radix: u32) -> Option<u64>
-    requires some { 2 ≤ radix }
-    requires few { radix ≤ 36 }
-    ensures read { IfSome result (IsWritten radix text.now) }
-    ensures unread { IfNone result ((n : ℕ) → IsWritten radix text.now n → ⊥) }
-{
-    if text.starts_with('+') {
-        return None;
-    }
-    u64::from_str_radix(text, radix).ok()
 }

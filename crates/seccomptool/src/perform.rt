@@ -122,71 +122,15 @@ fn made_by<G: Progress>(
 {
     let path = inputs.first.unwrap_or("-");
     match command {
-        Command::Compile {
-            arch,
-            reading,
-            strict,
-            filter,
-            layout,
-            format,
-            quiet,
-        } => compile_made(
-            alloc, *arch, reading, *strict, *filter, *layout, *format, *quiet, path, first,
-        ),
-        Command::Show {
-            arch,
-            reading,
-            filter,
-            layout,
-            measured,
-        } => show_made(
-            alloc,
-            *arch,
-            reading,
-            *filter,
-            *layout,
-            *measured,
-            inputs.json,
-            first,
-        ),
-        Command::Check {
-            arch,
-            reading,
-            denied,
-            allowed,
-            format,
-        } => check_made(
-            alloc, *arch, reading, *denied, allowed, *format, path, first,
-        ),
+        Command::Compile(asked) => compile_made(alloc, asked, path, first),
+        Command::Show(asked) => show_made(alloc, asked, inputs.json, first),
+        Command::Check(asked) => check_made(alloc, asked, path, first),
         Command::Codes => codes_made(alloc, inputs.json),
-        Command::Explain {
-            arch,
-            reading,
-            filter,
-            format,
-            calls,
-        } => {
-            let log = inputs.second.unwrap_or("-");
-            explain_made(
-                alloc, *arch, reading, *filter, *format, *calls, log, first, second,
-            )
+        Command::Explain(asked) => {
+            explain_made(alloc, asked, inputs.second.unwrap_or("-"), first, second)
         }
-        Command::Call {
-            arch,
-            call,
-            recorded,
-        } => call_made(alloc, *arch, *call, *recorded, inputs.json),
-        Command::Diff {
-            terms,
-            reading,
-            names,
-            scope,
-            quiet,
-        } => diff_made(
-            alloc, *terms, reading, *names, *scope, *quiet, inputs, first, second, progress,
-        ),
-        Command::Learn { arch, learning } => {
-            learn_made(alloc, *arch, learning, inputs, first, second)
-        }
+        Command::Call(asked) => call_made(alloc, asked, inputs.json),
+        Command::Diff(asked) => diff_made(alloc, asked, inputs, first, second, progress),
+        Command::Learn(asked) => learn_made(alloc, asked, inputs, first, second),
     }
 }

@@ -157,7 +157,7 @@ fn write_gathered(rt: &(impl Print + AllocGlobal), gathered: &[u8]) -> io::Resul
 // Whether what a command makes is written at once, behind the last of what it is carried out on.
 fn gathers(command: &Command<'_>) -> bool {
     match command {
-        Command::Check { format, .. } => matches!(format, CheckFormat::Json),
+        Command::Check(asked) => matches!(asked.format, CheckFormat::Json),
         _ => false,
     }
 }
@@ -238,7 +238,7 @@ fn first_of<R: Files + Input + AllocGlobal>(
     inputs: Inputs<'_>,
 ) -> Result<Source<R::File, R::Reader>, Failure> {
     match command {
-        Command::Learn { learning, .. } if !learning.further.is_empty() => {
+        Command::Learn(learning) if !learning.further.is_empty() => {
             let first = inputs.first.unwrap_or("-");
             Ok(Source::Bytes(open_all(rt, first, &learning.further)?))
         }
@@ -251,7 +251,7 @@ fn is_onto(rt: &(impl Files + AllocGlobal), asked: &Asked<'_>, inputs: Inputs<'_
     let Some(output) = asked.output else {
         return false;
     };
-    if let Command::Learn { learning, .. } = &asked.command {
+    if let Command::Learn(learning) = &asked.command {
         for path in &learning.further {
             if is_same(rt, path, output) {
                 return true;
@@ -264,8 +264,8 @@ fn is_onto(rt: &(impl Files + AllocGlobal), asked: &Asked<'_>, inputs: Inputs<'_
 // Whether a command writes bytes that are no text.
 pub(crate) fn writes_bytes(command: &Command<'_>) -> bool {
     match command {
-        Command::Compile { format, .. } => matches!(format, ProgramFormat::Raw),
-        Command::Call { recorded, .. } => *recorded,
+        Command::Compile(asked) => matches!(asked.format, ProgramFormat::Raw),
+        Command::Call(asked) => asked.recorded,
         _ => false,
     }
 }

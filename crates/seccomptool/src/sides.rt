@@ -1,19 +1,17 @@
 // A side of a comparison: what it rules, and a program that stands for it.
 
-ghost use Rattle.std.specs.Prelude.{IfOk, None, option_map, string_bytes};
-ghost use Rattle.std.specs.BTreeMap.{get_by_text};
+ghost use Rattle.std.specs.Prelude.{IfOk};
 ghost use Rattle.seccomptool.specs.Chosen.{text_of};
-ghost use Rattle.seccomptool.specs.Sides.{IsChosen, StandsForFilter, StandsForSide};
+ghost use Rattle.seccomptool.specs.Sides.{StandsForFilter, StandsForSide};
 
-use crate::chosen::{names_of, refuse_name};
+use crate::chosen::{chosen_of, refuse_name};
 use crate::error::ToolError;
 use crate::findings::fitting::fitting_program;
 use crate::kind::Subject;
 use crate::profile::compiled_of;
 use crate::run::program::program_of;
-use seccompiler::{BpfProgram, JsonCompiler, SeccompFilter, TargetArch};
+use seccompiler::{BpfProgram, JsonCompiler, TargetArch};
 use std::alloc::Global;
-use std::collections::BTreeMap;
 
 /// A side of a comparison.
 #[derive(Clone, Copy)]
@@ -87,36 +85,4 @@ fn of_policy(
         name: Some(chosen.0),
         program,
     })
-}
-
-// The filter that is asked for, or the policy's only one.
-pub(crate) fn chosen_of<'a>(
-    alloc: Global,
-    asked: Option<&str>,
-    filters: &'a BTreeMap<String, SeccompFilter>,
-) -> Result<(String, &'a SeccompFilter), ToolError>
-    ensures { IfOk result (λ one. IsChosen (option_map (λ name. name.now) asked.entry) (get_by_text filters.now) (string_bytes one.0) one.1.now) }
-{
-    match asked {
-        Some(name) => match filters.get(name) {
-            Some(filter) => Ok((String::from_str(alloc, name)?, filter)),
-            None => Err(ToolError::NoFilter(String::from_str(alloc, name)?)),
-        },
-        None => only_of(alloc, filters),
-    }
-}
-
-// The policy's only filter.
-fn only_of<'a>(
-    alloc: Global,
-    filters: &'a BTreeMap<String, SeccompFilter>,
-) -> Result<(String, &'a SeccompFilter), ToolError>
-    ensures { IfOk result (λ one. IsChosen None (get_by_text filters.now) (string_bytes one.0) one.1.now) }
-{
-    if filters.len() == 1 {
-        if let Some((name, filter)) = filters.first_key_value() {
-            return Ok((name.clone()?, filter));
-        }
-    }
-    Err(ToolError::Unchosen(names_of(alloc, filters)?))
 }

@@ -26,101 +26,113 @@ use std::alloc::{AllocError, AllocFailed, Global};
 #[derive(Drop)]
 pub enum Command<'a> {
     /// Write the program of what is given.
-    Compile {
-        /// The architecture.
-        arch: TargetArch,
-        /// How what is given is read.
-        reading: Reading,
-        /// Whether names that no call of the architecture has are an error, in a profile.
-        strict: bool,
-        /// The filter's name; the policy's only filter if there is none.
-        filter: Option<&'a str>,
-        /// The program's layout.
-        layout: Layout,
-        /// How the program is written.
-        format: ProgramFormat,
-        /// Whether the number of warnings is left out.
-        quiet: bool,
-    },
+    Compile(Compiling<'a>),
     /// Print the programs of what is given for people, or how long they are and how many steps they take.
-    Show {
-        /// The architecture.
-        arch: TargetArch,
-        /// How what is given is read.
-        reading: Reading,
-        /// The filter's name; all filters of a policy if there is none.
-        filter: Option<&'a str>,
-        /// The programs' layout.
-        layout: Layout,
-        /// Whether they are measured.
-        measured: bool,
-    },
+    Show(Showing<'a>),
     /// Print the first error of what is given, or else its warnings.
-    Check {
-        /// The architecture.
-        arch: TargetArch,
-        /// How what is given is read.
-        reading: Reading,
-        /// Whether warnings count for the exit status.
-        denied: bool,
-        /// The codes whose warnings aren't printed.
-        allowed: Vec<Code>,
-        /// How errors and warnings are written.
-        format: CheckFormat,
-    },
+    Check(Checking),
     /// Print the codes of warnings.
     Codes,
     /// Print what is decided for calls, and why.
-    Explain {
-        /// The architecture.
-        arch: TargetArch,
-        /// How what is given is read.
-        reading: Reading,
-        /// The filter's name; the policy's only filter if there is none.
-        filter: Option<&'a str>,
-        /// How a line is written.
-        format: LineFormat,
-        /// The calls that it is asked about.
-        calls: Calls<'a>,
-    },
+    Explain(Explaining<'a>),
     /// Print the name and the number of a call, or write its record.
-    Call {
-        /// The architecture; all if there is none.
-        arch: Option<TargetArch>,
-        /// The call.
-        call: Call<'a>,
-        /// Whether its record is written.
-        recorded: bool,
-    },
+    Call(Calling<'a>),
     /// Print the calls that two sides decide otherwise.
-    Diff {
-        /// On which terms.
-        terms: Terms,
-        /// How both are read.
-        reading: Reading,
-        /// The filters that are asked for.
-        names: Names<'a>,
-        /// Which calls count for the exit status.
-        scope: Scope,
-        /// Whether the numbers of warnings are left out.
-        quiet: bool,
-    },
+    Diff(Comparing<'a>),
     /// Write a policy of the calls that a trace has.
-    Learn {
-        /// The architecture.
-        arch: TargetArch,
-        /// How the trace is learned from.
-        learning: Learning<'a>,
-    },
+    Learn(Learning<'a>),
 }
 
-/// The names of the filters of two sides, if they are asked for.
+/// How a program is written.
+#[derive(Drop)]
+pub struct Compiling<'a> {
+    /// The architecture.
+    pub arch: TargetArch,
+    /// How what is given is read.
+    pub reading: Reading,
+    /// Whether names that no call of the architecture has are an error, in a profile.
+    pub strict: bool,
+    /// The filter's name; the policy's only filter if there is none.
+    pub filter: Option<&'a str>,
+    /// The program's layout.
+    pub layout: Layout,
+    /// How the program is written.
+    pub format: ProgramFormat,
+    /// Whether the number of warnings is left out.
+    pub quiet: bool,
+}
+
+/// What is printed of programs.
+#[derive(Drop)]
+pub struct Showing<'a> {
+    /// The architecture.
+    pub arch: TargetArch,
+    /// How what is given is read.
+    pub reading: Reading,
+    /// The filter's name; all filters of a policy if there is none.
+    pub filter: Option<&'a str>,
+    /// The programs' layout.
+    pub layout: Layout,
+    /// Whether they are measured.
+    pub measured: bool,
+}
+
+/// How what is given is checked.
+#[derive(Drop)]
+pub struct Checking {
+    /// The architecture.
+    pub arch: TargetArch,
+    /// How what is given is read.
+    pub reading: Reading,
+    /// Whether warnings count for the exit status.
+    pub denied: bool,
+    /// The codes whose warnings aren't printed.
+    pub allowed: Vec<Code>,
+    /// How errors and warnings are written.
+    pub format: CheckFormat,
+}
+
+/// What is explained.
+#[derive(Drop)]
+pub struct Explaining<'a> {
+    /// The architecture.
+    pub arch: TargetArch,
+    /// How what is given is read.
+    pub reading: Reading,
+    /// The filter's name; the policy's only filter if there is none.
+    pub filter: Option<&'a str>,
+    /// How a line is written.
+    pub format: LineFormat,
+    /// The calls that it is asked about.
+    pub calls: Calls<'a>,
+}
+
+/// What is printed of a call.
 #[derive(Clone, Copy)]
-pub struct Names<'a> {
-    /// The old one.
+pub struct Calling<'a> {
+    /// The architecture; all if there is none.
+    pub arch: Option<TargetArch>,
+    /// The call.
+    pub call: Call<'a>,
+    /// Whether its record is written.
+    pub recorded: bool,
+}
+
+/// How two sides are compared.
+#[derive(Drop)]
+pub struct Comparing<'a> {
+    /// On which terms.
+    pub terms: Terms,
+    /// How both are read.
+    pub reading: Reading,
+    /// The name of the old filter, if it is asked for.
     pub old: Option<&'a str>,
-    /// The new one.
+    /// The name of the new one.
     pub new: Option<&'a str>,
+    /// Which calls count for the exit status.
+    pub scope: Scope,
+    /// Whether the numbers of warnings are left out.
+    pub quiet: bool,
 }
 
 /// A call that a command is asked about.

@@ -1,5 +1,5 @@
 -- For `true_of`: each of the warnings that are picked has what they are picked for.
-use Rattle.std.proofs.Common.{◌≡◌, List, [], ◌∷◌, inl, inr, subst, sym}
+use Rattle.std.proofs.Common.{List, [], ◌∷◌, inl, inr, subst, sym}
 use Rattle.std.specs.Prelude.{All}
 use Rattle.std.proofs.lemmas.List.Elements.{All-cons, All-nil}
 use Rattle.seccomp_warnings.specs.Warnings.{ArePicked}

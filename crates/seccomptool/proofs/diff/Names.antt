@@ -1,14 +1,13 @@
 -- For `names_of` and `found_under`: names, one by one.
-use Rattle.std.proofs.Common.{◌≡◌, ℕ, ◌+◌, ◌<◌, ◌⊎◌, List, [], ◌∷◌, ◌++◌, length, take, get_or, map, All, Contains, Some, Option, IfSome}
+use Rattle.std.proofs.Common.{◌≡◌, ℕ, ◌+◌, ◌<◌, List, [], ◌∷◌, ◌++◌, length, take, get_or, map, All, Contains, Some, Option}
 use Rattle.std.proofs.Common.{String}
-use Rattle.std.proofs.Common.{Global, string_bytes, string_cmp, refl, sym, ap, ◌∙◌, subst, arith}
-use Rattle.std.proofs.Common.{Bor, None}
+use Rattle.std.proofs.Common.{Global, string_bytes, sym, ap, ◌∙◌, subst}
+use Rattle.std.proofs.Common.{Bor}
 use Rattle.std.specs.Prelude.{option_map}
 use Rattle.std.specs.BTreeMap.{is_at}
-use Rattle.std.specs.List.Sorted.{IsStrictlySortedBy}
-use Rattle.std.specs.Map.{keys_of, lookup}
-use Rattle.std.proofs.lemmas.List.{take_more, map-append, get_or-map, length-map}
-use Rattle.std.proofs.lemmas.List.Elements.{All-nil, All-push, All-map, All-weaker, All-contains, Contains-append_left, Contains-push}
+use Rattle.std.specs.Map.{lookup}
+use Rattle.std.proofs.lemmas.List.{take_more, map-append}
+use Rattle.std.proofs.lemmas.List.Elements.{All-map, All-weaker, All-contains, Contains-append_left, Contains-push}
 use Rattle.std.proofs.lemmas.Map.Text.{text_cmp}
 use Rattle.seccompiler.specs.Policy.{Filter}
 use Rattle.seccomp_command_line.proofs.ByName.{by_text, found_name}

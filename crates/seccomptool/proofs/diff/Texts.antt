@@ -1,5 +1,5 @@
 -- For `diff_policies`: what is found of two texts.
-use Rattle.std.proofs.Common.{◌≡◌, ℕ, ◌⊎◌, List, map, All, Contains, Option, Some, None, refl, sym, subst, inl, inr, ◌∙◌}
+use Rattle.std.proofs.Common.{◌≡◌, ℕ, List, map, All, Contains, Option, Some, None, refl, sym, subst, inl, inr, ◌∙◌}
 use Rattle.std.proofs.lemmas.List.Elements.{All-weaker}
 use Rattle.seccompiler.specs.declared.backend.TargetArch.{TargetArch}
 use Rattle.seccomp_compare.specs.declared.Relation.{Relation}

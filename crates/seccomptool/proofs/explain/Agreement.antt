@@ -1,6 +1,6 @@
 -- For `explain_record`: the policy of a JSON filter decides what the reason says.
-use Rattle.std.proofs.Common.{◌≡◌, ℕ, pos, ◌∷◌, [], List, map, get_or, Option, Some, None, refl, sym, subst, ap, ◌∙◌}
-use Rattle.std.specs.Prelude.{◌↔◌, All, Any, slice_get}
+use Rattle.std.proofs.Common.{◌≡◌, ℕ, pos, ◌∷◌, [], List, map, Option, Some, None, refl, sym, subst, ap, ◌∙◌}
+use Rattle.std.specs.Prelude.{◌↔◌, All, Any}
 use Rattle.std.proofs.lemmas.List.Elements.{All-contains, All-map, All-nil, All-same, All-cons, All-head, All-tail}
 use Rattle.std.proofs.lemmas.Option.{get_or_from_slice_get, slice_get_within, slice_get-get_or}
 use Rattle.seccompiler.specs.declared.backend.TargetArch.{TargetArch}

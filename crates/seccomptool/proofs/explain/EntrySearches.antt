@@ -1,7 +1,7 @@
 -- For `first_failing`, `reason_among` and `reason_of`: what a search among the entries of a call has shown, and that there is
 -- one reason.
 use Rattle.std.proofs.Common.{◌≡◌, ℕ, ℤ, pos, ◌+◌, ◌<◌, ◌≤◌, List, [], ◌∷◌, ◌++◌, length, take, Option, Some, None}
-use Rattle.std.proofs.Common.{true, false, nat_le, refl, sym, subst, ap, ◌∙◌, inl, inr, append_assoc, length-append, length-take-le}
+use Rattle.std.proofs.Common.{true, nat_le, refl, sym, subst, ap, ◌∙◌, inl, inr, append_assoc, length-append, length-take-le}
 use Rattle.std.proofs.Common.{arith}
 use Rattle.std.specs.Prelude.{All, Contains, IfSome, slice_get}
 use Rattle.std.proofs.Math.Seq.{take-append_seam}

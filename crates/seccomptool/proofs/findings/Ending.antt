@@ -1,6 +1,5 @@
 -- For `try_comparisons` and `ruled_by`: a program that may be run ends on each record, so that it is related to itself.
-use Rattle.std.proofs.Common.{◌≡◌, ◌≢◌, ℕ, zero, suc, ◌+◌, ◌<◌, ◌≤◌, List, length, get_or, Some, refl, subst, inl, inr, arith, bit_and}
-use Rattle.std.specs.Prelude.{slice_get}
+use Rattle.std.proofs.Common.{◌≡◌, ◌≢◌, ℕ, zero, suc, ◌+◌, ◌<◌, ◌≤◌, List, length, get_or, refl, subst, inl, inr, arith, bit_and}
 use Rattle.std.proofs.lemmas.Bool.{cases_eq, cases_lt}
 use Rattle.std.proofs.lemmas.Option.{slice_get-get_or}
 use Rattle.seccompiler.specs.declared.bpf.sock_filter.{sock_filter}

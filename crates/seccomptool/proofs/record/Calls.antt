@@ -1,5 +1,5 @@
 -- For `call_number`: texts that are calls.
-use Rattle.std.proofs.Common.{◌≡◌, ℕ, ◌<◌, ◌^◌, List, ◌++◌, Option, None, Result, Ok, Err, IfSome, IfNone, codes, sym, subst, ◌∙◌}
+use Rattle.std.proofs.Common.{◌≡◌, ℕ, ◌<◌, ◌^◌, List, ◌++◌, None, Result, Ok, Err, IfSome, IfNone, codes, sym, subst, ◌∙◌}
 use Rattle.std.proofs.Common.{ap, arith}
 use Rattle.std.specs.Result.{OkIff, result_ok}
 use Rattle.std.specs.Str.Parse.{IsNumeral, digits_value}

@@ -1,5 +1,5 @@
 -- For `ruled_by`: the program of a profile stands for it.
-use Rattle.std.proofs.Common.{ℕ, List}
+use Rattle.std.proofs.Common.{List}
 use Rattle.seccompiler.specs.declared.backend.TargetArch.{TargetArch}
 use Rattle.seccompiler.specs.declared.bpf.sock_filter.{sock_filter}
 use Rattle.seccomp_compare.proofs.OfSeven.{checked_of_seven, ends_of_seven}

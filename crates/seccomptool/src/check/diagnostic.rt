@@ -80,14 +80,18 @@ impl Diagnostic {
     pub(crate) fn position(
         &self,
         alloc: Global,
-        outline: &Outline<'_>,
+        outline: &Outline,
     ) -> Result<Option<Position>, AllocError> {
-        match self.place {
-            Place::Value => outline.value_at(alloc, &self.path),
-            Place::Key => outline.key_at(alloc, &self.path),
-            Place::At(position) => Ok(Some(position)),
-            Place::None => Ok(None),
-        }
+        let is_key = match self.place {
+            Place::Value => false,
+            Place::Key => true,
+            Place::At(position) => return Ok(Some(position)),
+            Place::None => return Ok(None),
+        };
+        Ok(match outline.places_at(alloc, &self.path)? {
+            Some((value, key)) => Some(if is_key { key } else { value }),
+            None => None,
+        })
     }
 }
 

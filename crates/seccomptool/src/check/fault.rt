@@ -55,8 +55,8 @@ fn of_fault(alloc: Global, text: &[u8], fault: Fault) -> Result<Diagnostic, Allo
         Problem::Stands(_, _, _) => "wrong-value",
         Problem::Strange(strange, _) => {
             path.push(key(alloc, strange.as_str())?)?;
-            if let Some(position) = Outline::of(alloc, text)?.key_at(alloc, &path)? {
-                place = Place::At(position);
+            if let Some((_, key)) = Outline::of(alloc, text)?.places_at(alloc, &path)? {
+                place = Place::At(key);
             }
             drop(path.pop());
             "unexpected-key"

@@ -14,79 +14,58 @@ use crate::check::{checked, verdict_where};
 use crate::error::{FaultAt, ToolError};
 use crate::failure::rejection;
 use crate::findings::Verdict;
-use crate::kind::{Reading, Subject, subject_of};
+use crate::kind::{Subject, subject_of};
 use crate::made::Made;
 use crate::notes::front_of;
 use crate::profile::profile_notes;
 use crate::run::program::program_of;
-use seccomp_warnings::Code;
-use seccompiler::TargetArch;
+use crate::words::Checking;
 use std::alloc::{AllocError, Global};
 
 pub(crate) fn check_made(
     alloc: Global,
-    arch: TargetArch,
-    reading: &Reading,
-    denied: bool,
-    allowed: &[Code],
-    format: CheckFormat,
+    asked: &Checking,
     path: &str,
     given: &[u8],
 ) -> Result<Made, FaultAt>
-    ensures { IfOk result (λ made. IsCheck arch reading.now denied allowed.now given.now made.verdict) }
+    ensures { IfOk result (λ made. IsCheck asked.now given.now made.verdict) }
 {
-    let subject = subject_of(alloc, reading, given)?;
-    let listed = reading.listed;
-    match accepted(
-        alloc, arch, subject, listed, denied, allowed, format, path, given,
-    ) {
+    let subject = subject_of(alloc, &asked.reading, given)?;
+    match accepted(alloc, asked, subject, path, given) {
         Ok(made) => Ok(made),
         Err(fault) if fault.is_out_of_memory() => Err(fault.into()),
-        Err(fault) => Ok(rejected(alloc, format, path, given, fault)?),
+        Err(fault) => Ok(rejected(alloc, asked.format, path, given, fault)?),
     }
 }
 
 // What `check` makes of what is accepted.
 fn accepted(
     alloc: Global,
-    arch: TargetArch,
+    asked: &Checking,
     subject: Subject<'_>,
-    listed: bool,
-    denied: bool,
-    allowed: &[Code],
-    format: CheckFormat,
     path: &str,
     given: &[u8],
 ) -> Result<Made, ToolError>
-    ensures accepted { IfOk result (λ made. IsAccepted arch subject.entry denied allowed.now given.now made.verdict) }
-    ensures rejected { IfErr result (IsRejectedFor arch subject.entry given.now) }
+    ensures accepted { IfOk result (λ made. IsAccepted asked.now subject.entry given.now made.verdict) }
+    ensures rejected { IfErr result (IsRejectedFor asked.now.arch subject.entry given.now) }
 {
+    let (arch, denied) = (asked.arch, asked.denied);
     match subject {
         Subject::Policy => {
-            let checked = checked(alloc, arch, allowed, given)?;
+            let checked = checked(alloc, arch, &asked.allowed, given)?;
             let diagnostics = policy_diagnostics(alloc, &checked.filters)?;
-            let text = written(alloc, format, path, given, &diagnostics)?;
+            let text = written(alloc, asked.format, path, given, &diagnostics)?;
             let verdict = verdict_where(denied, checked.count);
             Ok(Made::noting(text, verdict, Vec::new(alloc)))
         }
         Subject::Profile(container) => {
-            let checked = profile_checked(alloc, arch, container, allowed, given)?;
-            let diagnostics = profile_diagnostics(
-                alloc,
-                arch,
-                container,
-                &checked.profile,
-                &checked.warnings,
-            )?;
-            let left_out = &checked.compiled.left_out;
+            let checked = profile_checked(alloc, arch, container, &asked.allowed, given)?;
+            let diagnostics = profile_diagnostics(alloc, arch, container, &checked)?;
+            let (listed, left_out) = (asked.reading.listed, &checked.compiled.left_out);
             let notes = profile_notes(alloc, arch, path, listed, left_out, &[])?;
-            let text = written(alloc, format, path, given, &diagnostics)?;
-            Ok(Made {
-                text,
-                rest: 0,
-                verdict: verdict_where(denied, checked.warnings.len()),
-                notes,
-            })
+            let text = written(alloc, asked.format, path, given, &diagnostics)?;
+            let verdict = verdict_where(denied, checked.warnings.len());
+            Ok(Made::noting(text, verdict, notes))
         }
         Subject::Program => {
             let _program = program_of(alloc, given)?;

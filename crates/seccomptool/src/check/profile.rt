@@ -2,9 +2,8 @@
 
 pub(crate) mod lines;
 
-ghost use Rattle.std.specs.Prelude.{◌≡◌, ◌↔◌, [], All, Contains, IfErr, IfOk, IsTrue, false};
+ghost use Rattle.std.specs.Prelude.{◌≡◌, All, IfErr, IfOk, false};
 ghost use Rattle.seccompiler.specs.declared.backend.TargetArch.{TargetArch};
-ghost use Rattle.seccomp_oci.specs.ProfileText.{IsProfileText};
 ghost use Rattle.seccomp_oci.specs.Types.{AllOnArguments, Container, Profile};
 ghost use Rattle.seccomptool.specs.CheckProfile.{IsProfileCheckOf, IsRefusedProfile, IsSoOfProfile, IsTold, IsTrueOf, code_of};
 
@@ -92,24 +91,15 @@ pub fn profile_checked(
     ensures refused { IfErr result (IsRefusedProfile target container.now false text.now) }
 {
     let compiled = compiled_of(alloc, target, container, false, text)?;
-    let profile = taken(alloc, text)?;
+    let Ok(profile) = profile_of(alloc, text) else {
+        return Err(ToolError::OutOfMemory);
+    };
     let warnings = warnings_in(alloc, target, container, allowed, &profile, text)?;
     Ok(CheckedProfile {
         profile,
         compiled,
         warnings,
     })
-}
-
-// The profile of a text that is compiled: an error is want of memory.
-fn taken(alloc: Global, text: &[u8]) -> Result<Profile, AllocError>
-    ensures read { IfOk result (IsProfileText text.now) }
-    ensures arguments { IfOk result (λ p. AllOnArguments p.entries) }
-{
-    match profile_of(alloc, text) {
-        Ok(profile) => Ok(profile),
-        Err(_) => Err(AllocError),
-    }
 }
 
 // The warnings of a profile, which this text has.
@@ -140,17 +130,10 @@ fn push(
 ) -> Result<(), AllocError>
     ensures { IfOk result (λ _. (arch : TargetArch) (container : Container) (p : Profile) → IsSoOfProfile arch container p warning → All (IsTold arch container p allowed.now) all.old.items → All (IsTold arch container p allowed.now) all.new.items) }
 {
-    if is_among(allowed, code_of(&warning)) {
+    if allowed.contains(&code_of(&warning)) {
         return Ok(());
     }
     Ok(all.push(warning)?)
-}
-
-// Whether a code is among some.
-fn is_among(codes: &[Code], sought: Code) -> bool
-    ensures { IsTrue result ↔ Contains codes.now sought }
-{
-    codes.contains(&sought)
 }
 
 /// The code of a warning.
@@ -199,16 +182,10 @@ fn push_flags(
 ) -> Result<(), AllocError>
     ensures { IfOk result (λ _. (arch : TargetArch) (container : Container) → All (IsTold arch container profile.now allowed.now) all.old.items → All (IsTold arch container profile.now allowed.now) all.new.items) }
 {
-    if has_no_flags(profile) {
+    if profile.flags.is_empty() {
         return Ok(());
     }
     push(all, allowed, ProfileWarning::Flags)
-}
-
-fn has_no_flags(profile: &Profile) -> bool
-    ensures { IsTrue result ↔ (profile.now.flags ≡ []) }
-{
-    profile.flags.is_empty()
 }
 
 // Adds the keys of a text's object that are passed over.

@@ -4,7 +4,7 @@ ghost use Rattle.std.specs.Prelude.{◌≡◌, ◌++◌, IfOk, OnOk};
 ghost use Rattle.seccomptool.specs.Compile.{instruction_bytes, program_bytes};
 
 use crate::compile::NamedProgram;
-use crate::json::{push_json, text_or_null};
+use crate::json::{push_json, said_or_null};
 use seccomp_command_line::listing::push_listing;
 use seccompiler::{BpfProgramRef, sock_filter};
 use serde_json::{Value, json};
@@ -76,8 +76,10 @@ pub(crate) fn program_value(
         let value = match notes {
             None => json!(in alloc; { "code": code, "jt": jt, "jf": jf, "k": k })?,
             Some(notes) => {
-                let note = notes.get(place).map(|note| note.as_str());
-                let note = text_or_null(alloc, note.filter(|note| !note.is_empty()))?;
+                let note = match notes.get(place) {
+                    Some(note) => said_or_null(alloc, note.as_str())?,
+                    None => Value::Null,
+                };
                 json!(in alloc; { "code": code, "jt": jt, "jf": jf, "k": k, "note": note })?
             }
         };

@@ -1,14 +1,15 @@
-// What is printed of what is decided on records.
+// What is written of what is decided on records.
 
 use crate::explain::log::{Caller, caller_at};
 use crate::explain::search::{Miss, Reason};
-use crate::explain::values::explained_value;
-use crate::explain::{Explained, Explanation, NamedFilter, Why};
+use crate::explain::{Explanation, Why};
 use crate::findings::lines::{CallName, Word};
 use crate::findings::parts::name_of;
-use crate::json::push_item;
+use crate::findings::values::action_value;
+use crate::json::{call_or_null, push_item, said_or_null};
 use seccomp_command_line::readable::{TextKind, readable};
 use seccompiler::TargetArch;
+use serde_json::{Value, json};
 use std::alloc::{AllocError, Global};
 
 /// How `explain` writes the line of a decision.
@@ -23,11 +24,22 @@ pub enum LineFormat {
     Json,
 }
 
+/// A decision on a record of this architecture.
+#[derive(Clone, Copy)]
+pub(crate) struct Decision<'a> {
+    /// The architecture.
+    pub target: TargetArch,
+    /// The name of the filter that decides, if one does.
+    pub name: &'a str,
+    /// Who made the call.
+    pub caller: Caller<'a>,
+    /// The value that is returned.
+    pub word: u32,
+    /// Why.
+    pub why: Why,
+}
+
 /// The lines of records, one for each.
-///
-/// By `LineFormat::Path` the action by its name in a policy, with the low 16 bits of its number, if it has one, and the reason by
-/// paths in the policy or in the profile. By `LineFormat::Word` the return value in 8 hexadecimal digits, and of a filter the reason
-/// in numbers.
 pub(crate) fn explained_lines(
     alloc: Global,
     target: TargetArch,
@@ -36,98 +48,166 @@ pub(crate) fn explained_lines(
     callers: &[Caller<'_>],
 ) -> Result<Vec<u8>, AllocError> {
     let mut text = Vec::new(alloc);
-    let filter = &explanation.filter;
+    let name = match &explanation.filter {
+        Some(filter) => filter.name.as_str(),
+        None => "",
+    };
     for (index, explained) in explanation.records.iter().enumerate() {
-        let Explained { action, why } = *explained;
-        let caller = caller_at(callers, index);
-        if let LineFormat::Json = format {
-            let value = explained_value(alloc, target, filter, *explained, caller)?;
-            push_item(&mut text, alloc, &value)?;
-            continue;
-        }
-        let reason = match (why, format, filter) {
-            (Why::Filter(reason), LineFormat::Path, Some(filter)) => {
-                path_of(alloc, target, filter, reason)?
-            }
-            (Why::Filter(reason), _, _) => format!(in alloc; "{reason}")?,
-            (Why::Elsewhere, _, _) => String::from_str(alloc, "another architecture")?,
-            (Why::Profile { number, entry }, _, _) => {
-                profile_reason(alloc, target, format, number, entry)?
-            }
+        let decision = Decision {
+            target,
+            name,
+            caller: caller_at(callers, index),
+            word: explained.action.into(),
+            why: explained.why,
         };
-        let action = Word(action.into());
-        let line = match format {
-            LineFormat::Word => format!(in alloc; "{caller}{:08x} {reason}\n", action.0)?,
-            _ => format!(in alloc; "{caller}{action}: {reason}\n")?,
-        };
-        text.extend_from_slice(line.as_bytes())?;
+        push_decision(&mut text, alloc, format, decision)?;
     }
     Ok(text)
 }
 
-// By which entry of a profile a call is decided.
-fn profile_reason(
+/// Adds the line of a decision, after who made the call.
+///
+/// By `LineFormat::Path` the action by its name in a policy: `allow`, `log`, `trap`, `kill_thread`, `kill_process` and
+/// `user_notif`, a space and the low 16 bits in decimal after `errno` and `trace`, and the name of an errno that has one in brackets;
+/// a value that is none of these is written in hexadecimal digits after `0x`. The reason follows, by paths in the policy or the
+/// profile, and the call by its name and number. By `LineFormat::Word` the value in 8 hexadecimal digits, a space, and the reason in
+/// numbers: of a program its steps.
+pub(crate) fn push_decision(
+    text: &mut Vec<u8>,
     alloc: Global,
-    target: TargetArch,
     format: LineFormat,
-    number: u32,
-    entry: Option<usize>,
-) -> Result<String, AllocError> {
-    let call = call_text(alloc, target, number)?;
-    let name = CallName { target, number };
-    match (format, entry) {
-        (LineFormat::Word, None) => String::from_str(alloc, "defaultAction"),
-        (LineFormat::Word, Some(place)) => format!(in alloc; "syscalls[{place}] ({name})"),
-        (_, None) => format!(in alloc; "defaultAction of {call}"),
-        (_, Some(place)) => format!(in alloc; "syscalls[{place}] of {call}"),
-    }
+    decision: Decision<'_>,
+) -> Result<(), AllocError> {
+    let Decision { caller, word, .. } = decision;
+    let line = match format {
+        LineFormat::Json => return push_item(text, alloc, &value_of(alloc, decision)?),
+        LineFormat::Word => {
+            let reason = reason_in_numbers(alloc, decision)?;
+            format!(in alloc; "{caller}{word:08x} {reason}\n")?
+        }
+        LineFormat::Path => {
+            let (action, reason) = (Word(word), reason_by_path(alloc, decision)?);
+            format!(in alloc; "{caller}{action}: {reason}\n")?
+        }
+    };
+    text.extend_from_slice(line.as_bytes())
 }
 
-// A filter's reason by paths in the policy.
-fn path_of(
-    alloc: Global,
-    target: TargetArch,
-    filter: &NamedFilter,
-    reason: Reason,
-) -> Result<String, AllocError> {
-    let name = readable(alloc, filter.name.as_str(), TextKind::Name)?;
-    match reason {
-        Reason::AnotherArchitecture => String::from_str(alloc, "another architecture"),
-        Reason::NoEntry { number } => {
-            let call = call_text(alloc, target, number)?;
-            format!(in alloc; "no entry of {call}")
+// The kind of a reason; the number of the call, if it is of the architecture; the entry, and the condition of it, that are the
+// reason; and how many steps a program takes.
+type Told = (
+    &'static str,
+    Option<u32>,
+    Option<usize>,
+    Option<usize>,
+    Option<usize>,
+);
+
+fn told_of(why: Why) -> Told {
+    match why {
+        Why::Elsewhere | Why::Filter(Reason::AnotherArchitecture) => {
+            ("another-architecture", None, None, None, None)
         }
-        Reason::NoMatch {
-            entries,
+        Why::Filter(Reason::NoEntry { number }) => ("no-entry", Some(number), None, None, None),
+        Why::Filter(
+            Reason::NoMatch {
+                number,
+                nearest,
+                ..
+            },
+        ) => {
+            let Miss { entry, condition } = nearest;
+            ("no-match", Some(number), Some(entry), Some(condition), None)
+        }
+        Why::Filter(Reason::Entry { place, number, .. }) => {
+            ("entry", Some(number), Some(place), None, None)
+        }
+        Why::Profile {
             number,
-            nearest: Miss { entry, condition },
-        } => {
-            let call = call_text(alloc, target, number)?;
-            let front = "no match: ";
-            if entries == 1 {
-                return format!(in alloc;
-                    "{front}{name}.filter[{entry}].args[{condition}] of {call} does not hold"
-                );
-            }
-            format!(in alloc;
-                "{front}{name}.filter[{entry}].args[{condition}] of {call} does not hold, the nearest of {entries} entries"
-            )
-        }
-        Reason::Entry { place, number, .. } => {
-            let call = call_text(alloc, target, number)?;
-            format!(in alloc; "{name}.filter[{place}] of {call}")
+            entry: None,
+        } => ("no-entry", Some(number), None, None, None),
+        Why::Profile { number, entry } => ("entry", Some(number), entry, None, None),
+        Why::Program { number, steps } => ("program", number, None, None, Some(steps)),
+    }
+}
+
+// The path of what is the reason, in the filter of this name or in a profile: nothing if it is no entry and no condition.
+fn path_of(alloc: Global, name: &str, why: Why) -> Result<String, AllocError> {
+    let (_, _, entry, condition, _) = told_of(why);
+    match (why, entry, condition) {
+        (_, None, _) => Ok(String::new(alloc)),
+        (Why::Profile { .. }, Some(entry), _) => format!(in alloc; "syscalls[{entry}]"),
+        (_, Some(entry), None) => format!(in alloc; "{name}.filter[{entry}]"),
+        (_, Some(entry), Some(condition)) => {
+            format!(in alloc; "{name}.filter[{entry}].args[{condition}]")
         }
     }
 }
 
-// A call, by its name and number, or by its number alone if the architecture has no name for it.
-pub(crate) fn call_text(
-    alloc: Global,
-    target: TargetArch,
-    number: u32,
-) -> Result<String, AllocError> {
-    match name_of(target, number) {
-        Some(name) => format!(in alloc; "{name} ({number})"),
-        None => format!(in alloc; "call {number}"),
+// A reason in numbers.
+fn reason_in_numbers(alloc: Global, decision: Decision<'_>) -> Result<String, AllocError> {
+    let target = decision.target;
+    match decision.why {
+        Why::Filter(reason) => format!(in alloc; "{reason}"),
+        Why::Elsewhere => String::from_str(alloc, "another architecture"),
+        Why::Profile { entry: None, .. } => String::from_str(alloc, "defaultAction"),
+        Why::Profile {
+            number,
+            entry: Some(place),
+        } => {
+            let name = CallName { target, number };
+            format!(in alloc; "syscalls[{place}] ({name})")
+        }
+        Why::Program { steps, .. } => format!(in alloc; "{steps}"),
     }
+}
+
+// A reason by paths in the policy, and the call, by its number alone if the architecture has no name for it.
+fn reason_by_path(alloc: Global, decision: Decision<'_>) -> Result<String, AllocError> {
+    let Decision {
+        target,
+        name,
+        why,
+        ..
+    } = decision;
+    let Some(number) = told_of(why).1 else {
+        return String::from_str(alloc, "another architecture");
+    };
+    let call = match name_of(target, number) {
+        Some(name) => format!(in alloc; "{name} ({number})")?,
+        None => format!(in alloc; "call {number}")?,
+    };
+    let name = readable(alloc, name, TextKind::Name)?;
+    let path = path_of(alloc, name.as_str(), why)?;
+    match why {
+        Why::Program { .. } => Ok(call),
+        Why::Filter(Reason::NoMatch { entries: 1, .. }) => {
+            format!(in alloc; "no match: {path} of {call} does not hold")
+        }
+        Why::Filter(Reason::NoMatch { entries, .. }) => format!(in alloc;
+            "no match: {path} of {call} does not hold, the nearest of {entries} entries"
+        ),
+        Why::Profile { entry: None, .. } => format!(in alloc; "defaultAction of {call}"),
+        _ if path.is_empty() => format!(in alloc; "no entry of {call}"),
+        _ => format!(in alloc; "{path} of {call}"),
+    }
+}
+
+// A decision as an object.
+fn value_of(alloc: Global, decision: Decision<'_>) -> Result<Value, AllocError> {
+    let (reason, number, entry, condition, steps) = told_of(decision.why);
+    let Caller { program, process } = decision.caller;
+    let path = path_of(alloc, decision.name, decision.why)?;
+    json!(in alloc; {
+        "action": action_value(alloc, decision.word)?,
+        "call": call_or_null(alloc, decision.target, number)?,
+        "number": number,
+        "reason": reason,
+        "path": said_or_null(alloc, path.as_str())?,
+        "entry": entry,
+        "condition": condition,
+        "steps": steps,
+        "program": said_or_null(alloc, program)?,
+        "process": said_or_null(alloc, process)?
+    })
 }

@@ -12,44 +12,34 @@ use crate::chosen::refuse_name;
 use crate::error::{FaultAt, ToolError};
 use crate::findings::Verdict;
 use crate::json::written;
-use crate::kind::{Reading, Subject, subject_of};
+use crate::kind::{Subject, subject_of};
 use crate::learn::notes::strange_note;
 use crate::made::Made;
 use crate::record::called_record;
 use crate::run::program::program_of;
 use crate::run::{outcomes_text, returned};
-use crate::words::Calls;
-use seccompiler::TargetArch;
+use crate::words::{Calls, Explaining};
 use std::alloc::Global;
 
 pub(crate) fn explain_made(
     alloc: Global,
-    arch: TargetArch,
-    reading: &Reading,
-    filter: Option<&str>,
-    format: LineFormat,
-    calls: Calls<'_>,
+    asked: &Explaining<'_>,
     path: &str,
     given: &[u8],
     bytes: &[u8],
 ) -> Result<Made, FaultAt>
-    ensures { IfOk result (λ made. OnRecords arch calls.entry bytes.now (IsExplained arch reading.now (text_of filter.entry) given.now) × (made.verdict ≡ Same)) }
+    ensures { IfOk result (λ made. OnRecords asked.now.arch asked.now.calls bytes.now (IsExplained asked.now given.now) × (made.verdict ≡ Same)) }
 {
-    match calls {
+    match asked.calls {
         Calls::One(call) => {
-            let record = called_record(alloc, arch, call.name, &call.arguments)?;
-            explain_records(alloc, arch, reading, filter, format, given, &record, &[])
+            let record = called_record(alloc, asked.arch, call.name, &call.arguments)?;
+            explain_records(alloc, asked, given, &record, &[])
         }
-        Calls::Records => {
-            explain_records(alloc, arch, reading, filter, format, given, bytes, &[])
-        }
+        Calls::Records => explain_records(alloc, asked, given, bytes, &[]),
         // Each line comes after who made the call.
         Calls::Log => {
-            let log = log_of(alloc, arch, bytes)?;
-            let (records, callers) = (log.records.as_slice(), log.callers.as_slice());
-            let made = explain_records(
-                alloc, arch, reading, filter, format, given, records, callers,
-            )?;
+            let log = log_of(alloc, asked.arch, bytes)?;
+            let made = explain_records(alloc, asked, given, &log.records, &log.callers)?;
             let notes = strange_note(alloc, path, log.strange, log.first_strange)?;
             Ok(Made::noting(made.text, made.verdict, notes))
         }
@@ -58,22 +48,22 @@ pub(crate) fn explain_made(
 
 fn explain_records(
     alloc: Global,
-    arch: TargetArch,
-    reading: &Reading,
-    filter: Option<&str>,
-    format: LineFormat,
+    asked: &Explaining<'_>,
     given: &[u8],
     records: &[u8],
     callers: &[Caller<'_>],
 ) -> Result<Made, FaultAt>
-    ensures { IfOk result (λ made. IsExplained arch reading.now (text_of filter.entry) given.now (records_in records.now) × (made.verdict ≡ Same)) }
+    ensures { IfOk result (λ made. IsExplained asked.now given.now (records_in records.now) × (made.verdict ≡ Same)) }
 {
-    let subject = subject_of(alloc, reading, given)?;
+    let subject = subject_of(alloc, &asked.reading, given)?;
     let (records, rest) = records.as_chunks::<64>();
-    let text = explained_text(
-        alloc, arch, subject, filter, format, given, records, callers,
+    let text = explained_text(alloc, asked, subject, given, records, callers)?;
+    let text = written(
+        alloc,
+        matches!(asked.format, LineFormat::Json),
+        "decisions",
+        text,
     )?;
-    let text = written(alloc, matches!(format, LineFormat::Json), "decisions", text)?;
     Ok(Made {
         text,
         rest: rest.len(),
@@ -85,28 +75,27 @@ fn explain_records(
 // What is decided on records, and why.
 fn explained_text(
     alloc: Global,
-    arch: TargetArch,
+    asked: &Explaining<'_>,
     subject: Subject<'_>,
-    filter: Option<&str>,
-    format: LineFormat,
     given: &[u8],
     records: &[[u8; 64]],
     callers: &[Caller<'_>],
 ) -> Result<Vec<u8>, ToolError>
-    ensures { IfOk result (λ text. IsExplainedAs arch subject.entry (text_of filter.entry) given.now records.now) }
+    ensures { IfOk result (λ text. IsExplainedAs asked.now.arch subject.entry (text_of asked.now.filter) given.now records.now) }
 {
+    let (arch, format) = (asked.arch, asked.format);
     match subject {
         Subject::Policy => {
-            let explanation = explain_policy(alloc, arch, filter, given, records)?;
+            let explanation = explain_policy(alloc, arch, asked.filter, given, records)?;
             Ok(explained_lines(alloc, arch, format, &explanation, callers)?)
         }
         Subject::Profile(container) => {
-            refuse_name(alloc, filter)?;
+            refuse_name(alloc, asked.filter)?;
             let explanation = explain_profile(alloc, arch, container, given, records)?;
             Ok(explained_lines(alloc, arch, format, &explanation, callers)?)
         }
         Subject::Program => {
-            refuse_name(alloc, filter)?;
+            refuse_name(alloc, asked.filter)?;
             let program = program_of(alloc, given)?;
             let outcomes = returned(alloc, &program, records)?;
             Ok(outcomes_text(alloc, arch, format, records, &outcomes, callers)?)

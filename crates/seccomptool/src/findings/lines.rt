@@ -2,6 +2,7 @@
 
 ghost use Rattle.std.specs.Prelude.{◌≤◌};
 
+use crate::explain::search::word_at;
 use crate::findings::parts::{X32, name_of};
 use crate::findings::{Answer, Finding, Part, Verdict};
 use seccomp_command_line::readable::{TextKind, push_readable};
@@ -10,27 +11,6 @@ use seccomp_names::error_name;
 use seccompiler::TargetArch;
 use std::alloc::{AllocError, Global};
 use std::fmt;
-
-// The actions of return values, and the data beside them, as `linux/seccomp.h` has them.
-const ALLOW: u32 = 0x7fff_0000;
-
-const LOG: u32 = 0x7ffc_0000;
-
-const USER_NOTIF: u32 = 0x7fc0_0000;
-
-const TRAP: u32 = 0x0003_0000;
-
-const KILL_THREAD: u32 = 0x0000_0000;
-
-const KILL_PROCESS: u32 = 0x8000_0000;
-
-const ERRNO: u32 = 0x0005_0000;
-
-const TRACE: u32 = 0x7ff0_0000;
-
-const ACTION: u32 = 0xffff_0000;
-
-const DATA: u32 = 0x0000_ffff;
 
 /// How findings are shown.
 #[derive(Clone, Copy)]
@@ -108,20 +88,19 @@ pub(crate) struct Word(pub u32);
 
 impl Word {
     /// The action's name in a policy, if the value stands for one, and its number, if it has one.
-    pub(super) fn action(self) -> (Option<&'static str>, Option<u32>) {
-        let data = Some(self.0 & DATA);
-        match self.0 {
-            ALLOW => (Some("allow"), None),
-            LOG => (Some("log"), None),
-            USER_NOTIF => (Some("user_notif"), None),
-            TRAP => (Some("trap"), None),
-            KILL_THREAD => (Some("kill_thread"), None),
-            KILL_PROCESS => (Some("kill_process"), None),
-            word => match word & ACTION {
-                ERRNO => (Some("errno"), data),
-                TRACE => (Some("trace"), data),
-                _ => (None, None),
-            },
+    pub(crate) fn action(self) -> (Option<&'static str>, Option<u32>) {
+        // The actions of return values, and the data beside them, as `linux/seccomp.h` has them.
+        let data = self.0 % 0x1_0000;
+        match (self.0 / 0x1_0000, data) {
+            (0x7fff, 0) => (Some("allow"), None),
+            (0x7ffc, 0) => (Some("log"), None),
+            (0x7fc0, 0) => (Some("user_notif"), None),
+            (0x0003, 0) => (Some("trap"), None),
+            (0x0000, 0) => (Some("kill_thread"), None),
+            (0x8000, 0) => (Some("kill_process"), None),
+            (0x0005, _) => (Some("errno"), Some(data)),
+            (0x7ff0, _) => (Some("trace"), Some(data)),
+            _ => (None, None),
         }
     }
 }
@@ -201,8 +180,7 @@ impl fmt::Display for Example {
     fn fmt<W: fmt::Write>(&self, f: &mut fmt::Formatter<W>) -> fmt::Result {
         let Example { shown, call } = *self;
         let Shown { target, pointer } = shown;
-        let number = u32::from_le_bytes([call[0], call[1], call[2], call[3]]);
-        let arch = u32::from_le_bytes([call[4], call[5], call[6], call[7]]);
+        let (number, arch) = (word_at(&call, 0), word_at(&call, 4));
         if arch == target.get_audit_value() {
             let name = CallName { target, number };
             write!(f, "{name}(")?;
@@ -227,14 +205,5 @@ impl fmt::Display for Example {
 pub(super) fn number_at(call: &[u8; 64], k: usize) -> u64
     requires { k ≤ 56 }
 {
-    u64::from_le_bytes([
-        call[k],
-        call[k + 1],
-        call[k + 2],
-        call[k + 3],
-        call[k + 4],
-        call[k + 5],
-        call[k + 6],
-        call[k + 7],
-    ])
+    u64::from(word_at(call, k)) | u64::from(word_at(call, k + 4)) << 32
 }

@@ -1,9 +1,9 @@
 // Findings as JSON.
 
+use crate::explain::search::word_at;
 use crate::findings::lines::{Word, kind_of, number_at};
-use crate::findings::parts::name_of;
 use crate::findings::{Answer, Finding, Part, Verdict};
-use crate::json::text_or_null;
+use crate::json::{call_or_null, text_or_null};
 use seccompiler::TargetArch;
 use serde_json::{Value, json};
 use std::alloc::{AllocError, Global};
@@ -24,30 +24,18 @@ pub(crate) fn verdict_name(verdict: Verdict) -> &'static str {
     }
 }
 
-/// The objects of what is found on parts: none of one on which the relation holds.
-pub(crate) fn parts_value(
+/// What is found on a part on which the relation doesn't hold, or that is undecided, as an object.
+pub(crate) fn part_value(
     alloc: Global,
     target: TargetArch,
-    findings: &[Finding],
+    finding: Finding,
 ) -> Result<Value, AllocError> {
-    let mut parts = Vec::new(alloc);
-    for finding in findings {
-        if !matches!(finding.answer, Answer::Holds) {
-            parts.push(part_value(alloc, target, *finding)?)?;
-        }
-    }
-    Ok(Value::Array(parts))
-}
-
-// What is found on a part, as an object.
-fn part_value(alloc: Global, target: TargetArch, finding: Finding) -> Result<Value, AllocError> {
     let (number, least, greatest) = match finding.part {
         Part::Named { number } => (Some(number), number, number),
         Part::Unnamed { least, greatest } | Part::Elsewhere { least, greatest } => {
             (None, least, greatest)
         }
     };
-    let call = number.and_then(|number| name_of(target, number));
     let (verdict, old, new, change, example) = match finding.answer {
         Answer::Fails { call, old, new } => (
             Verdict::Different,
@@ -65,7 +53,7 @@ fn part_value(alloc: Global, target: TargetArch, finding: Finding) -> Result<Val
         ),
     };
     json!(in alloc; {
-        "call": text_or_null(alloc, call)?,
+        "call": call_or_null(alloc, target, number)?,
         "number": number,
         "least": least,
         "greatest": greatest,
@@ -86,8 +74,8 @@ fn record_value(alloc: Global, call: &[u8; 64]) -> Result<Value, AllocError> {
     }
     let pointer = number_at(call, 8);
     json!(in alloc; {
-        "number": u32::from_le_bytes([call[0], call[1], call[2], call[3]]),
-        "architecture": u32::from_le_bytes([call[4], call[5], call[6], call[7]]),
+        "number": word_at(call, 0),
+        "architecture": word_at(call, 4),
         "instruction_pointer": format!(in alloc; "0x{pointer:x}")?,
         "arguments": arguments
     })

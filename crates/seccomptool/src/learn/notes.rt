@@ -21,13 +21,13 @@ pub(super) fn refuse_strange(alloc: Global, trace: &Trace) -> Result<(), ToolErr
 // The notes on a trace of this path, and on what is learned from it.
 pub(super) fn notes_of(
     alloc: Global,
-    arch: TargetArch,
     learning: &Learning<'_>,
     path: &str,
     trace: &Trace,
     wanted: &[Kept],
     learned: &LearnedFilter,
 ) -> Result<Vec<u8>, AllocError> {
+    let arch = learning.arch;
     let mut notes = strange_note(alloc, path, trace.strange, trace.first_strange)?;
     if trace.foreign > 0 {
         let told = match trace.foreign {

@@ -1,7 +1,6 @@
 // What is learned, as JSON.
 
-use crate::findings::parts::name_of;
-use crate::json::{push_json, text_or_null};
+use crate::json::{call_or_null, push_json};
 use seccomp_learn::{Kept, Observation};
 use seccompiler::{SeccompCmpArgLen, TargetArch};
 use serde_json::{Value, json};
@@ -54,6 +53,6 @@ fn kept_value(alloc: Global, arch: TargetArch, kept: Kept) -> Result<Value, Allo
         SeccompCmpArgLen::Dword => "dword",
         SeccompCmpArgLen::Qword => "qword",
     };
-    let call = text_or_null(alloc, name_of(arch, number))?;
+    let call = call_or_null(alloc, arch, Some(number))?;
     json!(in alloc; { "call": call, "number": number, "index": arg_index, "type": length })
 }

@@ -82,18 +82,18 @@ pub(crate) fn bytes_of_initializers(alloc: Global, text: &[u8]) -> Result<Vec<u8
 fn piece_len(text: &[u8]) -> usize
     ensures { result ≤ length text.now }
 {
-    let end = match text {
-        [b'/', b'/', ..] => text.iter().position(|byte| *byte == b'\n'),
-        [b'/', b'*', inner @ ..] => inner
-            .windows(2)
-            .position(|two| two.starts_with(b"*/"))
-            .map(|place| place.saturating_add(4)),
-        [first, ..] if first.is_ascii_alphanumeric() => {
-            text.iter().position(|byte| !byte.is_ascii_alphanumeric())
+    for place in 1..text.len() {
+        let is_behind = match text {
+            [b'/', b'/', ..] => text[place] == b'\n',
+            [b'/', b'*', ..] => place > 3 && text[place - 2] == b'*' && text[place - 1] == b'/',
+            [first, ..] if first.is_ascii_alphanumeric() => !text[place].is_ascii_alphanumeric(),
+            _ => true,
+        };
+        if is_behind {
+            return place;
         }
-        _ => Some(1),
-    };
-    end.unwrap_or(text.len()).min(text.len())
+    }
+    text.len()
 }
 
 impl Reader {
@@ -102,8 +102,11 @@ impl Reader {
             return Ok(());
         };
         if first.is_ascii_whitespace() || (*first == b'/' && piece.len() > 1) {
-            let lines = piece.iter().filter(|byte| **byte == b'\n').count();
-            self.line = self.line.saturating_add(lines);
+            for byte in piece {
+                if *byte == b'\n' {
+                    self.line = self.line.saturating_add(1);
+                }
+            }
             return Ok(());
         }
         self.next = match (self.next, *first) {
@@ -123,12 +126,11 @@ impl Reader {
 
     // Adds the bytes of a number, and gives the place behind it.
     fn number(&mut self, piece: &[u8]) -> Result<u8, ToolError> {
-        // C takes digits behind a 0 for octal ones.
-        let number = match piece {
-            [b'0', b'0'..=b'9', ..] => None,
-            _ => str::from_utf8(piece).ok().and_then(read_number),
+        let number = match str::from_utf8(piece) {
+            Ok(digits) => read_number(digits),
+            Err(_) => None,
         };
-        let Some(number) = number.and_then(|number| u32::try_from(number).ok()) else {
+        let Ok(number) = u32::try_from(number.unwrap_or(u64::MAX)) else {
             return Err(self.fault());
         };
         match (self.next, u8::try_from(number)) {

@@ -46,17 +46,12 @@ pub(crate) fn load_meaning(alloc: Global, k: u32) -> Result<String, AllocError> 
 
 // The action that a returned word stands for, in words; nothing where it stands for none.
 pub(crate) fn word_meaning(alloc: Global, word: u32) -> Result<String, AllocError> {
-    match (word / 0x1_0000, word % 0x1_0000) {
-        (0x7fff, 0) => String::from_str(alloc, "allow"),
-        (0x0000, 0) => String::from_str(alloc, "kill the thread"),
-        (0x8000, 0) => String::from_str(alloc, "kill the process"),
-        (0x7ffc, 0) => String::from_str(alloc, "log"),
-        (0x0003, 0) => String::from_str(alloc, "trap"),
-        (0x7fc0, 0) => String::from_str(alloc, "notify the supervisor"),
-        (0x0005 | 0x7ff0, _) => {
-            let word = Word(word);
-            format!(in alloc; "{word}")
-        }
-        _ => Ok(String::new(alloc)),
+    let word = Word(word);
+    match word.action().0 {
+        None => Ok(String::new(alloc)),
+        Some("kill_thread") => String::from_str(alloc, "kill the thread"),
+        Some("kill_process") => String::from_str(alloc, "kill the process"),
+        Some("user_notif") => String::from_str(alloc, "notify the supervisor"),
+        Some(_) => format!(in alloc; "{word}"),
     }
 }

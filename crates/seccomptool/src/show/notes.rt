@@ -35,7 +35,10 @@ pub(crate) fn notes(
     program: BpfProgramRef<'_>,
 ) -> Result<Vec<String>, AllocError> {
     let mut known = vec![in alloc; None; program.len()]?;
-    let arch = arch.map(|target| target.get_audit_value());
+    let arch = match arch {
+        Some(target) => Some(target.get_audit_value()),
+        None => None,
+    };
     lead(&mut known, 0, Known { word: None, arch });
     let mut notes = Vec::new(alloc);
     for (place, instruction) in program.iter().enumerate() {
@@ -167,18 +170,22 @@ fn note(alloc: Global, here: Known, instruction: &sock_filter) -> Result<String,
 
 // A call: its name on the architecture of this value, or its number.
 fn call(alloc: Global, arch: Option<u32>, number: u32) -> Result<String, AllocError> {
-    let target = arch_of(arch.unwrap_or(0));
-    match target.and_then(|target| name_of(target, number)) {
-        Some(name) => String::from_str(alloc, name),
-        None => format!(in alloc; "call {number}"),
+    if let Some(target) = arch_of(arch.unwrap_or(0)) {
+        if let Some(name) = name_of(target, number) {
+            return String::from_str(alloc, name);
+        }
     }
+    format!(in alloc; "call {number}")
 }
 
 // The architecture of an `AUDIT_ARCH_*` value.
 fn arch_of(value: u32) -> Option<TargetArch> {
-    let mut all = TargetArch::all().iter();
-    all.find(|target| target.get_audit_value() == value)
-        .copied()
+    for target in TargetArch::all() {
+        if target.get_audit_value() == value {
+            return Some(*target);
+        }
+    }
+    None
 }
 
 // The part of a record that a word is.

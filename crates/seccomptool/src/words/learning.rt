@@ -39,6 +39,7 @@ pub(super) fn learn_in<'a>(alloc: Global, found: &ArgMatches<'a>) -> Result<Aske
         further.push(*path)?;
     }
     let learning = Learning {
+        arch: arch_in(found),
         start,
         name: found.get_str("name"),
         arguments: arguments_in(alloc, found)?,
@@ -54,10 +55,7 @@ pub(super) fn learn_in<'a>(alloc: Global, found: &ArgMatches<'a>) -> Result<Aske
         json: found.get_flag("json"),
     };
     Ok(Asked {
-        command: Command::Learn {
-            arch: arch_in(found),
-            learning,
-        },
+        command: Command::Learn(learning),
         inputs: vec![in alloc; inputs]?,
         output: output_in(found),
     })

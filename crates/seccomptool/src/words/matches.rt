@@ -6,7 +6,10 @@ use super::values::{
     TWO_FORMATS, arch_in, arguments_in, calls_in, check_format_in, given_arch, layout_in,
     output_in, path_in,
 };
-use super::{Asked, Call, Command, Inputs, Misuse, Names};
+use super::{
+    Asked, Call, Calling, Checking, Command, Comparing, Compiling, Explaining, Inputs, Misuse,
+    Showing,
+};
 use crate::check::format::CheckFormat;
 use crate::compile::text::ProgramFormat;
 use crate::diff::Scope;
@@ -79,13 +82,13 @@ fn check_in<'a>(alloc: Global, found: &ArgMatches<'a>) -> Read<'a> {
             allowed.push(code)?;
         }
     }
-    let command = Command::Check {
+    let command = Command::Check(Checking {
         arch: arch_in(found),
         reading: reading_in(alloc, found)?,
         denied: found.get_flag("deny-warnings"),
         allowed,
         format,
-    };
+    });
     Ok(Asked {
         command,
         inputs,
@@ -95,7 +98,7 @@ fn check_in<'a>(alloc: Global, found: &ArgMatches<'a>) -> Read<'a> {
 
 fn compile_in<'a>(alloc: Global, found: &ArgMatches<'a>) -> Read<'a> {
     let json = found.get_flag("json");
-    let command = Command::Compile {
+    let command = Command::Compile(Compiling {
         arch: arch_in(found),
         reading: reading_in(alloc, found)?,
         strict: found.get_flag("strict"),
@@ -109,19 +112,19 @@ fn compile_in<'a>(alloc: Global, found: &ArgMatches<'a>) -> Read<'a> {
             _ => ProgramFormat::Raw,
         },
         quiet: found.get_flag("quiet"),
-    };
+    });
     let subject = Some(path_in(found, "subject"));
     on(alloc, command, subject, None, json, output_in(found))
 }
 
 fn show_in<'a>(alloc: Global, found: &ArgMatches<'a>) -> Read<'a> {
-    let command = Command::Show {
+    let command = Command::Show(Showing {
         arch: arch_in(found),
         reading: reading_in(alloc, found)?,
         filter: found.get_str("filter"),
         layout: layout_in(found),
         measured: found.get_flag("stats"),
-    };
+    });
     let subject = Some(path_in(found, "subject"));
     on(alloc, command, subject, None, found.get_flag("json"), None)
 }
@@ -130,7 +133,7 @@ fn explain_in<'a>(alloc: Global, found: &ArgMatches<'a>) -> Read<'a> {
     let subject = path_in(found, "subject");
     let (calls, second) = calls_in(found, subject)?;
     let json = found.get_flag("json");
-    let command = Command::Explain {
+    let command = Command::Explain(Explaining {
         arch: arch_in(found),
         reading: reading_in(alloc, found)?,
         filter: found.get_str("filter"),
@@ -141,7 +144,7 @@ fn explain_in<'a>(alloc: Global, found: &ArgMatches<'a>) -> Read<'a> {
             _ => LineFormat::Path,
         },
         calls,
-    };
+    });
     on(alloc, command, Some(subject), second, json, None)
 }
 
@@ -154,7 +157,7 @@ fn diff_in<'a>(alloc: Global, found: &ArgMatches<'a>) -> Read<'a> {
     let Some(most) = read_number(found.get_str("most").unwrap_or("")) else {
         return Err(Misuse::Told(NO_MOST));
     };
-    let command = Command::Diff {
+    let command = Command::Diff(Comparing {
         terms: Terms {
             target: arch_in(found),
             relation: if found.get_flag("only-more") {
@@ -165,17 +168,15 @@ fn diff_in<'a>(alloc: Global, found: &ArgMatches<'a>) -> Read<'a> {
             most: most as usize,
         },
         reading: reading_in(alloc, found)?,
-        names: Names {
-            old: of_old,
-            new: of_new,
-        },
+        old: of_old,
+        new: of_new,
         scope: if found.get_flag("all") {
             Scope::All
         } else {
             Scope::Named
         },
         quiet: found.get_flag("quiet"),
-    };
+    });
     let json = found.get_flag("json");
     on(alloc, command, Some(old), Some(new), json, None)
 }
@@ -203,10 +204,10 @@ fn call_of<'a>(alloc: Global, found: &ArgMatches<'a>) -> Read<'a> {
         name: path_in(found, "call"),
         arguments: arguments_in(found)?,
     };
-    let command = Command::Call {
+    let command = Command::Call(Calling {
         arch: given_arch(found),
         call,
         recorded,
-    };
+    });
     on(alloc, command, None, None, json, output)
 }

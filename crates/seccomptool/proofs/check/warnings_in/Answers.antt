@@ -1,4 +1,4 @@
-use Rattle.std.proofs.Common.{◌≡◌, ◌+◌, List, [], ◌∷◌, ◌++◌, String, Global, sym, ap, ◌∙◌, subst, append_assoc, length}
+use Rattle.std.proofs.Common.{◌+◌, List, [], ◌∷◌, ◌++◌, String, Global, sym, ap, ◌∙◌, subst, append_assoc, length}
 use Rattle.std.specs.List.{AllZip}
 use Rattle.std.proofs.lemmas.List.Sums.{sum_by_push}
 use Rattle.std.proofs.lemmas.Slice.Zip.{all_zipped_more}

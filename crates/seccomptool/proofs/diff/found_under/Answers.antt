@@ -1,11 +1,9 @@
-use Rattle.std.proofs.Common.{◌≡◌, All, Some, string_bytes, sym, ap, ◌∙◌, subst, refl, String, Global}
+use Rattle.std.proofs.Common.{◌≡◌, All, string_bytes, sym, ◌∙◌, subst}
 use Rattle.std.specs.BTreeMap.{get_by_text}
-use Rattle.std.specs.Prelude.{option_map}
 use Rattle.std.proofs.lemmas.List.Elements.{All-push}
-use Rattle.seccompiler.specs.Policy.{Filter}
 use Rattle.seccomptool.specs.declared.diff.NamedFound.{NamedFound}
 use Rattle.seccomptool.specs.DiffParts.{IsFoundUnder}
-use Rattle.seccomptool.specs.Diff.{IsFoundOf, name_bytes}
+use Rattle.seccomptool.specs.Diff.{name_bytes}
 use Rattle.seccomptool.proofs.diff.Names.{named_more, under_name}
 use Rattle.seccomptool.proofs.diff.found_under.Goals as goal
 

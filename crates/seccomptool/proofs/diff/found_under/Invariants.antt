@@ -1,4 +1,4 @@
-use Rattle.std.proofs.Common.{◌≡◌, All, map, take, Some, string_bytes, String, Global}
+use Rattle.std.proofs.Common.{◌≡◌, All, map, take, string_bytes, String, Global}
 use Rattle.std.specs.BTreeMap.{get_by_text}
 use Rattle.seccomptool.specs.Diff.{name_bytes}
 use Rattle.seccomptool.specs.DiffParts.{IsFoundUnder}

@@ -2,7 +2,9 @@ use Rattle.std.proofs.Common.{refl, string_bytes}
 use Rattle.std.specs.BTreeMap.{get_by_text}
 use Rattle.seccompiler.specs.JsonShape.{IsFilter}
 use Rattle.seccomp_command_line.proofs.Found.{there}
+use Rattle.seccomptool.proofs.chosen.Names.{chosen_in}
 use Rattle.seccomptool.proofs.explain.Filters.{taken}
+use Rattle.seccomptool.specs.Chosen.{text_of}
 use Rattle.seccomptool.proofs.explain.explain_policy.Goals as goal
 
 pub explain_each-requires-clause-fine : goal.explain_each-requires-clause-fine
@@ -27,7 +29,7 @@ returns c =
     record {
       named = record { name = c.in_ok-name.name; filter = c.in-Some.filter };
       is = refl;
-      chosen = c.in_ok-name.ensures;
+      chosen = chosen_in c.args.text.now (get_by_text filters.0) read (text_of c.args.asked) name c.in_ok-name.ensures;
       of_text = (read.0, read.1, there IsFilter (get_by_text filters.0) read.0 read.2 name c.in-Some.filter own.0);
       policy = own.1.0.0;
       is_policy = own.1.0.1;

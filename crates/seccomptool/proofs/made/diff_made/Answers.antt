@@ -6,14 +6,15 @@ use Rattle.seccomptool.proofs.made.diff_made.Goals as goal
 
 pub returns : goal.returns
 returns g c =
-    let old : Side = record { kind = c.in_ok-subject_of.field-0; filter = c.args.names.old; given = c.args.old } in
-    let new : Side = record { kind = c.in_ok-subject_of-2.field-0; filter = c.args.names.new; given = c.args.new } in
+    let asked = c.args.asked.now in
+    let old : Side = record { kind = c.in_ok-subject_of.field-0; filter = asked.old; given = c.args.old } in
+    let new : Side = record { kind = c.in_ok-subject_of-2.field-0; filter = asked.new; given = c.args.new } in
     record {
       old = old;
       new = new;
       of_old = record { kind = c.in_ok-subject_of.ensures; filter_is = refl; given_is = refl };
       of_new = record { kind = c.in_ok-subject_of-2.ensures; filter_is = refl; given_is = refl };
       found = c.in_ok-found.found;
-      is = IfOk-at_ok (IsDiff c.args.terms.target c.args.terms.relation old new) c.in_ok-found.was c.diff_of-found.ensures;
+      is = IfOk-at_ok (IsDiff asked.terms.target asked.terms.relation old new) c.in_ok-found.was c.diff_of-found.ensures;
       verdict = c.noting.ensures ∙ c.verdict.ensures;
     }

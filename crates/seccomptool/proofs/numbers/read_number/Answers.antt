@@ -1,5 +1,6 @@
 use Rattle.std.proofs.Common.{◌≡◌, ℕ, List, ◌++◌, Option, Some, None, IfSome, codes, sym, ap, ◌∙◌}
-use Rattle.seccomptool.specs.Numbers.{IsNumber, IsWritten, hexadecimal}
+use Rattle.seccomp_command_line.specs.Numbers.{IsWritten}
+use Rattle.seccomptool.specs.Numbers.{IsNumber, hexadecimal}
 use Rattle.seccomptool.proofs.numbers.read_number.Goals as goal
 
 -- What the digits behind the prefix write, the text does.

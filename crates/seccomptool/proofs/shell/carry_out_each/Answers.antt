@@ -1,4 +1,4 @@
-use Rattle.std.proofs.Common.{◌<◌, ◌≤◌, arith, inl, inr, length, subst, take}
+use Rattle.std.proofs.Common.{◌<◌, ◌≤◌, arith, inl, inr, length, subst}
 use Rattle.std.proofs.lemmas.List.{take_all}
 use Rattle.seccomptool.specs.Commands.{EndWith, EndsWith}
 use Rattle.seccomptool.proofs.shell.Statuses.{next_ended, none_ended, once_ended}

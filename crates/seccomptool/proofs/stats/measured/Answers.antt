@@ -1,4 +1,4 @@
-use Rattle.std.proofs.Common.{◌≡◌, ◌∷◌, [], ◌++◌, List, String, Global, sym, ap, ◌∙◌, subst, append_assoc}
+use Rattle.std.proofs.Common.{◌∷◌, [], ◌++◌, List, String, Global, sym, ap, ◌∙◌, subst, append_assoc}
 use Rattle.std.specs.List.{AllZip}
 use Rattle.std.proofs.lemmas.Slice.Zip.{all_zipped_more}
 use Rattle.seccompiler.specs.Policy.{Filter}

@@ -1,13 +1,14 @@
 // What is said of the warnings of a profile.
 
 use crate::check::diagnostic::{Diagnostic, Place, key};
-use crate::check::profile::{ProfilePart, ProfileWarning, code_of};
+use crate::check::profile::{CheckedProfile, ProfilePart, ProfileWarning, code_of};
+use crate::explain::search::word_at;
 use crate::findings::lines::{CallName, Example, Shown};
 use crate::findings::parts::name_of;
 use seccomp_check::Step;
-use seccomp_oci::{Container, Entry, Profile, applies};
-use seccomp_profile_checks::{Doubt, Origin};
-use seccomp_warnings::{Code, Subject, Warning, said_text};
+use seccomp_oci::{Container, Profile, applies};
+use seccomp_profile_checks::Doubt;
+use seccomp_warnings::{Code, Subject, said_text};
 use seccompiler::TargetArch;
 use std::alloc::{AllocError, Global};
 use std::collections::BTreeMap;
@@ -20,31 +21,29 @@ struct Told<'a> {
     profile: &'a Profile,
 }
 
-// The way to what a warning is about, and the name of the call if it is about one.
-type Placed = (Vec<Step>, Option<String>);
-
-// Where a line stands: those of the profile itself first, then those of entries, by place, part, number and code.
-type Order = (usize, usize, usize, usize, &'static str);
-
 /// What is said of the warnings of a profile, in the order of their places: once for each code of a place, and for each pair
 /// of entries.
 pub(crate) fn profile_diagnostics(
     alloc: Global,
     target: TargetArch,
     container: &Container,
-    profile: &Profile,
-    warnings: &[ProfileWarning],
+    checked: &CheckedProfile,
 ) -> Result<Vec<Diagnostic>, AllocError> {
     let told = Told {
         target,
         container,
-        profile,
+        profile: &checked.profile,
     };
     let mut ordered = BTreeMap::new(alloc);
-    for (nth, warning) in warnings.iter().enumerate() {
-        let order = order_of(warning, nth);
+    for (nth, warning) in checked.warnings.iter().enumerate() {
+        let spot = spot_of(warning, nth);
+        let entry = match spot.entry {
+            Some(entry) => entry.saturating_add(1),
+            None => 0,
+        };
+        let order = (entry, spot.rank, code_of(warning).name());
         if !ordered.contains_key(&order) {
-            drop(ordered.insert(order, diagnostic_of(alloc, told, warning)?)?);
+            drop(ordered.insert(order, diagnostic_of(alloc, told, warning, spot)?)?);
         }
     }
     let mut diagnostics = Vec::new(alloc);
@@ -54,127 +53,150 @@ pub(crate) fn profile_diagnostics(
     Ok(diagnostics)
 }
 
-// Where the line of a warning stands, which is the one at this place among all.
-fn order_of(warning: &ProfileWarning, nth: usize) -> Order {
-    let (group, place, part, number) = match warning {
-        ProfileWarning::Doubtful(doubt) => match *doubt {
-            Doubt::LargeDefaultErrno => (0, 0, 0, 0),
-            Doubt::EqualsDefault { place } | Doubt::LargeErrno { place } => (1, place, 0, 0),
-            Doubt::Behind { place, number } => (1, place, 1, number as usize),
-            Doubt::ManyConditions { place } => (1, place, 2, 0),
-            Doubt::OpenOrder { first, second, .. } | Doubt::SameConditions { first, second, .. } =>
-                { (1, second, 3, first) }
-        },
-        ProfileWarning::Flags => (0, 0, 2, 0),
-        ProfileWarning::UnknownKey(_) => (0, 0, 3, nth),
-        ProfileWarning::OfEntries(warning, part) => match (*part, warning.subject) {
-            (ProfilePart::Default, Subject::MismatchCall(call)) => (0, 0, 1, call as usize),
-            (ProfilePart::Default, _) => (0, 0, 0, 0),
-            (ProfilePart::Action(place), _) => (1, place, 0, 0),
-            (ProfilePart::Rule(origin), subject) => match condition_in(subject, origin) {
-                Some(condition) => (1, origin.entry, 2, condition),
-                None => (1, origin.entry, 1, origin.number as usize),
-            },
-        },
-    };
-    (group, place, part, number, code_of(warning).name())
+// What a line is about.
+#[derive(Clone, Copy)]
+struct Spot<'a> {
+    // The entry; none of the profile itself.
+    entry: Option<usize>,
+    // Where the line stands among those of the entry, or of the profile.
+    rank: (usize, usize),
+    // The key of the entry or of the profile.
+    key: Option<&'a str>,
+    // The place of the condition.
+    condition: Option<usize>,
+    // The number of the call, if it is one of several.
+    number: Option<u32>,
+    // The name of the call, if it is one that the profile doesn't list.
+    unlisted: Option<&'a str>,
 }
 
-// The condition of an entry that is told of, if one is.
-fn condition_in(subject: Subject, origin: Origin) -> Option<usize> {
-    match subject {
-        Subject::Condition(comparison) => Some(origin.condition.unwrap_or(comparison.place)),
-        _ => origin.condition,
+fn of_key<'a>(entry: Option<usize>, key: &'a str, rank: (usize, usize)) -> Spot<'a> {
+    Spot {
+        entry,
+        rank,
+        key: Some(key),
+        condition: None,
+        number: None,
+        unlisted: None,
     }
 }
 
-// What is said of a warning.
+fn of_call<'a>(entry: usize, number: u32, rank: (usize, usize)) -> Spot<'a> {
+    Spot {
+        entry: Some(entry),
+        rank,
+        key: None,
+        condition: None,
+        number: Some(number),
+        unlisted: None,
+    }
+}
+
+// What a warning is about, which is the one at this place among all.
+fn spot_of(warning: &ProfileWarning, nth: usize) -> Spot<'_> {
+    match warning {
+        ProfileWarning::Doubtful(doubt) => match *doubt {
+            Doubt::LargeDefaultErrno => of_key(None, "defaultAction", (0, 0)),
+            Doubt::EqualsDefault { place } | Doubt::LargeErrno { place } => {
+                of_key(Some(place), "action", (0, 0))
+            }
+            Doubt::Behind { place, number } => of_call(place, number, (1, number as usize)),
+            Doubt::ManyConditions { place } => of_key(Some(place), "args", (2, 0)),
+            Doubt::SameConditions {
+                first,
+                second,
+                number,
+            } => of_call(second, number, (3, first)),
+            Doubt::OpenOrder {
+                first,
+                second,
+                call,
+            } => of_call(second, word_at(&call, 0), (3, first)),
+        },
+        ProfileWarning::Flags => of_key(None, "flags", (2, 0)),
+        ProfileWarning::UnknownKey(name) => of_key(None, name.as_str(), (3, nth)),
+        ProfileWarning::OfEntries(warning, part) => spot_of_part(warning.subject, *part),
+    }
+}
+
+// What a warning of a filter is about, in the profile.
+fn spot_of_part<'a>(subject: Subject, part: ProfilePart) -> Spot<'a> {
+    let origin = match (part, subject) {
+        (ProfilePart::Default, Subject::MismatchCall(call)) => return Spot {
+            unlisted: Some(call.name()),
+            ..of_key(None, "defaultAction", (1, call as usize))
+        },
+        (ProfilePart::Default, _) => return of_key(None, "defaultAction", (0, 0)),
+        (ProfilePart::Action(place), _) => return of_key(Some(place), "action", (0, 0)),
+        (ProfilePart::Rule(origin), _) => origin,
+    };
+    let condition = match subject {
+        Subject::Condition(comparison) => Some(origin.condition.unwrap_or(comparison.place)),
+        _ => origin.condition,
+    };
+    match condition {
+        Some(place) => Spot {
+            condition,
+            ..of_key(Some(origin.entry), "args", (2, place))
+        },
+        None => of_call(origin.entry, origin.number, (1, origin.number as usize)),
+    }
+}
+
+// The way to what a line is about, of a warning of this code.
+fn path_of(alloc: Global, spot: Spot<'_>, code: Code) -> Result<Vec<Step>, AllocError> {
+    let mut path = Vec::new(alloc);
+    if let Some(entry) = spot.entry {
+        path.push(key(alloc, "syscalls")?)?;
+        path.push(Step::Item(entry))?;
+    }
+    if let Some(name) = spot.key {
+        path.push(key(alloc, name)?)?;
+    }
+    if let Some(condition) = spot.condition {
+        path.push(Step::Item(condition))?;
+        if let Code::ValueOutsideMask = code {
+            path.push(key(alloc, "valueTwo")?)?;
+        }
+    }
+    Ok(path)
+}
+
+// What is said of a warning that is about this.
 fn diagnostic_of(
     alloc: Global,
     told: Told<'_>,
     warning: &ProfileWarning,
+    spot: Spot<'_>,
 ) -> Result<Diagnostic, AllocError> {
-    let (path, call, said) = match warning {
-        ProfileWarning::Doubtful(doubt) => {
-            let (path, call) = place_of_doubt(alloc, told.target, *doubt)?;
-            (path, call, said_of_doubt(alloc, told, *doubt)?)
+    let code = code_of(warning);
+    let said = match warning {
+        ProfileWarning::Doubtful(doubt) => said_of_doubt(alloc, told, *doubt)?,
+        ProfileWarning::Flags => String::from_str(
+            alloc,
+            "crun sets them, and runc 1.1 starts no container with them; leave them out for runc",
+        )?,
+        ProfileWarning::UnknownKey(_) => String::from_str(
+            alloc,
+            "the key is passed over; leave it out, or correct it, also its letter case",
+        )?,
+        ProfileWarning::OfEntries(_, _) => String::from_str(alloc, said_of_entries(code))?,
+    };
+    let call = match (spot.number, spot.unlisted) {
+        (Some(number), _) => {
+            let target = told.target;
+            let name = CallName { target, number };
+            Some(format!(in alloc; "{name}")?)
         }
-        ProfileWarning::Flags => (
-            vec![in alloc; key(alloc, "flags")?]?,
-            None,
-            String::from_str(
-                alloc,
-                "crun sets them, and runc 1.1 starts no container with them; leave them out for runc",
-            )?,
-        ),
-        ProfileWarning::UnknownKey(name) => (
-            vec![in alloc; key(alloc, name.as_str())?]?,
-            None,
-            String::from_str(
-                alloc,
-                "the key is passed over; leave it out, or correct it, also its letter case",
-            )?,
-        ),
-        ProfileWarning::OfEntries(warning, part) => {
-            let (path, call) = place_of_part(alloc, told.target, *warning, *part)?;
-            (
-                path,
-                call,
-                String::from_str(alloc, said_of_entries(warning.code))?,
-            )
-        }
+        (None, Some(name)) => Some(String::from_str(alloc, name)?),
+        (None, None) => None,
     };
     let place = match warning {
         ProfileWarning::UnknownKey(_) => Place::Key,
         _ => Place::Value,
     };
-    Ok(Diagnostic::warning(code_of(warning), path, call, said, place))
-}
-
-// The way to an entry, or to what it has under a name.
-fn entry_path(alloc: Global, entry: usize, part: Option<&str>) -> Result<Vec<Step>, AllocError> {
-    let mut path = vec![in alloc; key(alloc, "syscalls")?, Step::Item(entry)]?;
-    if let Some(part) = part {
-        path.push(key(alloc, part)?)?;
-    }
-    Ok(path)
-}
-
-// The place of what is doubtful, and the call that it is about.
-fn place_of_doubt(alloc: Global, target: TargetArch, doubt: Doubt) -> Result<Placed, AllocError> {
-    let (place, number) = match doubt {
-        Doubt::LargeDefaultErrno => return Ok((
-            vec![in alloc; key(alloc, "defaultAction")?]?,
-            None,
-        )),
-        Doubt::EqualsDefault { place } | Doubt::LargeErrno { place } => {
-            return Ok((entry_path(alloc, place, Some("action"))?, None));
-        }
-        Doubt::ManyConditions { place } => {
-            return Ok((entry_path(alloc, place, Some("args"))?, None));
-        }
-        Doubt::Behind { place, number } => (place, number),
-        Doubt::SameConditions { second, number, .. } => (second, number),
-        Doubt::OpenOrder { second, call, .. } => {
-            (
-                second,
-                u32::from_le_bytes([call[0], call[1], call[2], call[3]]),
-            )
-        }
-    };
-    of_call(alloc, target, place, number)
-}
-
-// An entry, and the call of a number.
-fn of_call(
-    alloc: Global,
-    target: TargetArch,
-    entry: usize,
-    number: u32,
-) -> Result<Placed, AllocError> {
-    let call = CallName { target, number };
-    let call = format!(in alloc; "{call}")?;
-    Ok((entry_path(alloc, entry, None)?, Some(call)))
+    let path = path_of(alloc, spot, code)?;
+    Ok(Diagnostic::warning(code, path, call, said, place))
 }
 
 // What is doubtful, and what to write instead.
@@ -220,50 +242,15 @@ fn said_of_doubt(alloc: Global, told: Told<'_>, doubt: Doubt) -> Result<String, 
 fn settling(told: Told<'_>, number: u32) -> usize {
     let (name, profile) = (name_of(told.target, number).unwrap_or(""), told.profile);
     for (place, entry) in profile.entries.iter().enumerate() {
-        if settles(told, entry, name) {
+        if entry.args.is_empty()
+            && entry.action != profile.default
+            && entry.names.iter().any(|own| own.as_str() == name)
+            && applies(told.target, told.container, entry)
+        {
             return place;
         }
     }
     0
-}
-
-fn settles(told: Told<'_>, entry: &Entry, name: &str) -> bool {
-    let profile = told.profile;
-    entry.args.is_empty()
-        && entry.action != profile.default
-        && entry.names.iter().any(|own| own.as_str() == name)
-        && applies(told.target, told.container, entry)
-}
-
-// The place of what a warning of a filter is about, and the call.
-fn place_of_part(
-    alloc: Global,
-    target: TargetArch,
-    warning: Warning,
-    part: ProfilePart,
-) -> Result<Placed, AllocError> {
-    let origin = match part {
-        ProfilePart::Default => {
-            let call = match warning.subject {
-                Subject::MismatchCall(call) => Some(String::from_str(alloc, call.name())?),
-                _ => None,
-            };
-            return Ok((vec![in alloc; key(alloc, "defaultAction")?]?, call));
-        }
-        ProfilePart::Action(place) => {
-            return Ok((entry_path(alloc, place, Some("action"))?, None));
-        }
-        ProfilePart::Rule(origin) => origin,
-    };
-    let Some(condition) = condition_in(warning.subject, origin) else {
-        return of_call(alloc, target, origin.entry, origin.number);
-    };
-    let mut path = entry_path(alloc, origin.entry, Some("args"))?;
-    path.push(Step::Item(condition))?;
-    if let Code::ValueOutsideMask = warning.code {
-        path.push(key(alloc, "valueTwo")?)?;
-    }
-    Ok((path, None))
 }
 
 // What is so of an entry, and what to write instead: of a code whose words for a policy don't fit, in words for a profile.

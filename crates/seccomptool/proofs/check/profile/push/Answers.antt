@@ -1,5 +1,5 @@
-use Rattle.std.proofs.Common.{subst, sym, ◌∙◌}
-use Rattle.std.specs.Prelude.{All, Contains}
+use Rattle.std.proofs.Common.{rules, subst, sym, ◌∙◌}
+use Rattle.std.specs.Prelude.{◌↔◌, All, Contains, IsTrue}
 use Rattle.std.proofs.lemmas.Bool.{true≢false}
 use Rattle.std.proofs.lemmas.List.Elements.{All-push}
 use Rattle.seccomptool.specs.CheckProfile.{IsTold, code_of}
@@ -7,8 +7,8 @@ use Rattle.seccomptool.proofs.check.profile.push.Goals as goal
 
 pub returns : goal.returns
 returns c = λ arch container p so told.
+    let among : IsTrue c.contains.result ↔ Contains c.args.allowed.now c.code_of.result = search rules in
     let kept : Contains c.args.allowed.now (code_of c.args.warning) → ⊥ =
-    λ there. true≢false (sym (c.is_among.ensures.1 (subst (Contains c.args.allowed.now) (sym c.code_of.ensures) there))
-    ∙ c.if-is_among.false) in
+    λ there. true≢false (sym (among.1 (subst (Contains c.args.allowed.now) (sym c.code_of.ensures) there)) ∙ c.if-contains.false) in
     subst (All (IsTold arch container p c.args.allowed.now)) (sym c.in_ok-push.ensures.items)
     (All-push (IsTold arch container p c.args.allowed.now) c.args.all.now.items c.args.warning told (record { is_so = so; kept = kept }))

@@ -1,5 +1,4 @@
 use Rattle.std.specs.Prelude.{All}
-use Rattle.seccompiler.specs.declared.backend.TargetArch.{TargetArch}
 use Rattle.seccomp_oci.specs.Types.{Container, Profile}
 use Rattle.seccomptool.specs.CheckProfile.{IsTold, IsTrueOf}
 use Rattle.seccomptool.proofs.check.profile.push_actions.Given as goal

@@ -1,7 +1,7 @@
 use Rattle.std.specs.Prelude.{All}
 use Rattle.seccompiler.specs.declared.backend.TargetArch.{TargetArch}
 use Rattle.seccomp_oci.specs.Types.{Container, Profile}
-use Rattle.seccomptool.specs.CheckProfile.{IsTold, IsTrueOf}
+use Rattle.seccomptool.specs.CheckProfile.{IsTold}
 use Rattle.seccomptool.proofs.check.profile.push_keys.Given as goal
 
 abbrev pub invariant-loop-key : goal.invariant-loop-key

@@ -1,5 +1,4 @@
-use Rattle.seccomp_tree.specs.Layouts.{IsFitting, as_linear, as_tree}
-use Rattle.seccomptool.specs.Rulings.{StandsFor, of_filter}
+use Rattle.seccomp_tree.specs.Layouts.{as_linear, as_tree}
 use Rattle.seccomptool.proofs.findings.Programs.{stands_for}
 use Rattle.seccomptool.proofs.findings.fitting.fitting_program.Goals as goal
 

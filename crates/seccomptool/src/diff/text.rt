@@ -1,0 +1,190 @@
+// What is written of a comparison: lines, or JSON.
+
+use crate::diff::pair::Pair;
+use crate::diff::{Diff, Found, NamedFound, verdict_found};
+use crate::findings::lines::{Shown, push_filter, push_finding, push_verdict};
+use crate::findings::values::{part_value, verdict_name};
+use crate::findings::{Answer, Finding, Part, Terms, Verdict, verdict_of};
+use crate::json::{push_item, said_or_null, text_or_null, written};
+use crate::kind::Subject;
+use crate::sides::Side;
+use seccomp_command_line::readable::{TextKind, push_readable};
+use seccompiler::TargetArch;
+use serde_json::{Value, json};
+use std::alloc::{AllocError, Global};
+
+// What is found of the calls of an architecture, or of all others.
+#[derive(Clone, Copy)]
+struct Compared<'a> {
+    // The name of the old side, and of the new one; none if the other one alone has it.
+    names: [Option<&'a str>; 2],
+    // The architecture.
+    arch: Option<TargetArch>,
+    verdict: Verdict,
+    findings: &'a [Finding],
+}
+
+/// Of two policies what is found under each name. Of a pair of sides what is found on the architecture's calls, and then, if one of
+/// these is a program, on the calls of others. As JSON an item for each.
+pub(crate) fn diff_text(
+    alloc: Global,
+    terms: Terms,
+    json: bool,
+    old: Side<'_>,
+    new: Side<'_>,
+    found: &Diff,
+) -> Result<Vec<u8>, AllocError> {
+    let mut text = Vec::new(alloc);
+    match found {
+        Diff::ByName(all) => {
+            for named in all {
+                push_named(&mut text, alloc, terms, json, named)?;
+            }
+        }
+        Diff::OfPair(pair) => {
+            let names = [
+                Some(title(old, &pair.old_name)),
+                Some(title(new, &pair.new_name)),
+            ];
+            let (target, pointer) = (terms.target, pair.loads_pointer);
+            let both = [(Some(target), &pair.found.own), (None, &pair.found.others)];
+            for (arch, findings) in both {
+                if arch.is_none() && !is_program(old) && !is_program(new) {
+                    continue;
+                }
+                let found = Compared {
+                    names,
+                    arch,
+                    verdict: verdict_of(findings),
+                    findings,
+                };
+                if json {
+                    push_item(&mut text, alloc, &value_of(alloc, target, found)?)?;
+                } else {
+                    push_title(&mut text, arch, pair, names)?;
+                    push_verdict(&mut text, terms.relation, found.verdict)?;
+                    let shown = Shown { target, pointer };
+                    push_findings(
+                        &mut text,
+                        alloc,
+                        shown,
+                        &[Some(true), Some(false)],
+                        findings,
+                    )?;
+                }
+            }
+        }
+    }
+    written(alloc, json, "compared", text)
+}
+
+// Adds what is found under a name.
+fn push_named(
+    text: &mut Vec<u8>,
+    alloc: Global,
+    terms: Terms,
+    json: bool,
+    named: &NamedFound,
+) -> Result<(), AllocError> {
+    let name = Some(named.name.as_str());
+    let none: &[Finding] = &[];
+    let (names, findings, only) = match &named.found {
+        Found::OnlyOld => ([name, None], none, ": only in OLD\n"),
+        Found::OnlyNew => ([None, name], none, ": only in NEW\n"),
+        Found::Both(findings) => ([name, name], findings.as_slice(), ""),
+    };
+    let (target, verdict) = (terms.target, verdict_found(&named.found));
+    if json {
+        let found = Compared {
+            names,
+            arch: Some(target),
+            verdict,
+            findings,
+        };
+        return push_item(text, alloc, &value_of(alloc, target, found)?);
+    }
+    push_filter(text, named.name.as_str())?;
+    if !only.is_empty() {
+        return text.extend_from_slice(only.as_bytes());
+    }
+    push_verdict(text, terms.relation, verdict)?;
+    let shown = Shown {
+        target,
+        pointer: false,
+    };
+    push_findings(text, alloc, shown, &[None], findings)
+}
+
+// Adds the lines of findings: in turn of calls that have a name or that have none, or of all.
+fn push_findings(
+    text: &mut Vec<u8>,
+    alloc: Global,
+    shown: Shown,
+    turns: &[Option<bool>],
+    findings: &[Finding],
+) -> Result<(), AllocError> {
+    for of_named in turns {
+        for finding in findings {
+            let is_named = matches!(finding.part, Part::Named { .. });
+            if of_named.unwrap_or(is_named) == is_named {
+                push_finding(alloc, text, shown, *finding)?;
+            }
+        }
+    }
+    Ok(())
+}
+
+fn is_program(side: Side<'_>) -> bool {
+    matches!(side.kind, Subject::Program)
+}
+
+// What is compared of a side.
+fn title<'a>(side: Side<'_>, name: &'a Option<String>) -> &'a str {
+    match (name, side.kind) {
+        (Some(name), _) => name.as_str(),
+        (None, Subject::Program) => "program",
+        (None, _) => "profile",
+    }
+}
+
+// Adds what is compared on the calls of the architecture: a filter by its name, or both by theirs; else programs, or a profile.
+fn push_title(
+    text: &mut Vec<u8>,
+    arch: Option<TargetArch>,
+    pair: &Pair,
+    names: [Option<&str>; 2],
+) -> Result<(), AllocError> {
+    match (&pair.old_name, &pair.new_name) {
+        _ if arch.is_none() => text.extend_from_slice(b"other architectures"),
+        (Some(old), Some(new)) if old != new => {
+            push_filter(text, old.as_str())?;
+            text.extend_from_slice(b" -> ")?;
+            push_readable(text, new.as_str(), TextKind::Name)
+        }
+        (Some(name), _) | (None, Some(name)) => push_filter(text, name.as_str()),
+        (None, None) if names == [Some("program"); 2] => text.extend_from_slice(b"program"),
+        (None, None) => text.extend_from_slice(b"profile"),
+    }
+}
+
+// What is found, as an object: no part on which the relation holds.
+fn value_of(alloc: Global, target: TargetArch, found: Compared<'_>) -> Result<Value, AllocError> {
+    let mut parts = Vec::new(alloc);
+    for finding in found.findings {
+        if !matches!(finding.answer, Answer::Holds) {
+            parts.push(part_value(alloc, target, *finding)?)?;
+        }
+    }
+    let [old, new] = found.names;
+    let arch = match found.arch {
+        Some(arch) => arch.name(),
+        None => "",
+    };
+    json!(in alloc; {
+        "old": text_or_null(alloc, old)?,
+        "new": text_or_null(alloc, new)?,
+        "architecture": said_or_null(alloc, arch)?,
+        "verdict": verdict_name(found.verdict),
+        "parts": parts
+    })
+}

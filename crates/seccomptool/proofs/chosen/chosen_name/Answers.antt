@@ -11,4 +11,4 @@ returns-in-Some-first_key_value g c =
     let order : IsStrictlySortedBy string_cmp (keys_of entries) = search rules in
     let one : length entries ≡ 1 = grind (arith, nat_tests, c.if-len-eq1.true, c.len.ensures.len) in
     rw c.in_default.is (only_entry entries order c.in-Some-first_key_value.name.now c.in-Some-first_key_value.field-0-1.now _ one
-        c.in-Some-first_key_value.ensures.first c.in_ok-clone.ensures.cases)
+    c.in-Some-first_key_value.ensures.first c.in_ok-clone.ensures.cases)

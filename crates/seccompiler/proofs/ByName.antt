@@ -5,11 +5,10 @@ use Rattle.std.specs.BTreeMap.{BTreeMap, is_at}
 use Rattle.std.specs.BTreeMap as tree
 use Rattle.std.specs.HashMap.{HashMap}
 use Rattle.std.specs.HashMap as hash
-use Rattle.std.specs.List.{AllZip, IsDistinct}
+use Rattle.std.specs.List.{AllByRecursion, AllZip, IsDistinct}
 use Rattle.std.specs.List.Sorted.{IsStrictlySortedBy}
 use Rattle.std.specs.Map.{keys_of, lookup}
 use Rattle.std.specs.Option.{MatchOption}
-use Rattle.std.specs.Prelude.{Result, Ok, Err, MatchResult, IfOk, IfErr, OnOk}
 use Rattle.std.specs.Ordering.{eq_by_cmp}
 use Rattle.std.specs.String.{string_eq_equiv, string_cmp_total}
 use Rattle.std.proofs.lemmas.List.Elements.{Contains-append_right}
@@ -112,44 +111,58 @@ module _ {X : Type 0} where
 
 -- Of each value one is made that R relates to it, under the same name.
 abbrev pub AreMade : {X Y : Type 0} → (X → Y → Type 0) → ByName X → ByName Y → Type 0
-AreMade R xs ys = AllZip (λ x y. (y.0 ≡ x.0) × R x.1 y.1) xs ys
+AreMade R xs ys = AllZip (λ x y. (string_bytes y.0 ≡ string_bytes x.0) × R x.1 y.1) xs ys
 
 module _ {X Y : Type 0} (R : X → Y → Type 0) where
   made_more : (xs : ByName X) (ys : ByName Y) (x : String Global × X) (y : String Global × Y)
-      → AreMade R xs ys → y.0 ≡ x.0 → R x.1 y.1 → AreMade R (xs ++ x ∷ []) (ys ++ y ∷ [])
+      → AreMade R xs ys → string_bytes y.0 ≡ string_bytes x.0 → R x.1 y.1 → AreMade R (xs ++ x ∷ []) (ys ++ y ∷ [])
   made_more [] [] x y h name made = ((name, made), tt)
   made_more [] (b ∷ ys) x y h name made = absurd h
   made_more (a ∷ xs) [] x y h name made = absurd h
   made_more (a ∷ xs) (b ∷ ys) x y h name made = (h.0, made_more xs ys x y h.1 name made)
 
-  same_keys : (xs : ByName X) (ys : ByName Y) → AreMade R xs ys → keys_of ys ≡ keys_of xs
-  same_keys [] [] h = refl
-  same_keys [] (y ∷ ys) h = absurd h
-  same_keys (x ∷ xs) [] h = absurd h
-  same_keys (x ∷ xs) (y ∷ ys) h = λ i. h.0.0 i ∷ same_keys xs ys h.1 i
+  -- The names are the same, so they stand in the same order.
+  all_below : (a b : String Global) → string_bytes b ≡ string_bytes a → (xs : ByName X) (ys : ByName Y) → AreMade R xs ys
+      → AllByRecursion (λ key. string_cmp a key ≡ Less) (keys_of xs) → AllByRecursion (λ key. string_cmp b key ≡ Less) (keys_of ys)
+  all_below a b same [] [] h below = below
+  all_below a b same [] (y ∷ ys) h below = absurd h
+  all_below a b same (x ∷ xs) [] h below = absurd h
+  all_below a b same (x ∷ xs) (y ∷ ys) h below = (rw (same, h.0.0) below.0, all_below a b same xs ys h.1 below.1)
+
+  same_order : (xs : ByName X) (ys : ByName Y) → AreMade R xs ys → AreInOrder xs → AreInOrder ys
+  unfolding IsStrictlySortedBy
+  same_order [] [] h order = order
+  same_order [] (y ∷ ys) h order = absurd h
+  same_order (x ∷ xs) [] h order = absurd h
+  same_order (x ∷ xs) (y ∷ ys) h order = (all_below x.0 y.0 h.0.0 xs ys h.1 order.0, same_order xs ys h.1 order.1)
 
   -- What a loop has made of the values so far, and the values that are left.
-  pub record IsMaking (given done left : ByName X) (ys : ByName Y) : Type 0 where
+  pub record IsMaking (given left : ByName X) (ys : ByName Y) : Type 0 where
+    pub done : ByName X
     pub all : given ≡ done ++ left
     pub made : AreMade R done ys
 
-  module _ {given done left : ByName X} {ys : ByName Y} (so_far : IsMaking given done left ys) where
-    pub at_next : (x : String Global × X) (rest : ByName X) → left ≡ x ∷ rest → given ≡ done ++ x ∷ rest
-    at_next x rest next = so_far.all ∙ ap (λ es. done ++ es) next
+  pub making_none : (given left : ByName X) (ys : ByName Y) → left ≡ given → ys ≡ [] → IsMaking given left ys
+  making_none given left ys whole none = record { done = []; all = sym whole; made = rw none tt }
+
+  module _ {given left : ByName X} {ys : ByName Y} (so_far : IsMaking given left ys) where
+    pub at_next : (x : String Global × X) (rest : ByName X) → left ≡ x ∷ rest → given ≡ so_far.done ++ x ∷ rest
+    at_next x rest next = so_far.all ∙ ap (λ es. so_far.done ++ es) next
 
     pub making_more : (x : String Global × X) (y : String Global × Y) (rest : ByName X) (zs : ByName Y) → left ≡ x ∷ rest
-        → zs ≡ ys ++ y ∷ [] → y.0 ≡ x.0 → R x.1 y.1 → IsMaking given (done ++ x ∷ []) rest zs
+        → zs ≡ ys ++ y ∷ [] → string_bytes y.0 ≡ string_bytes x.0 → R x.1 y.1 → IsMaking given rest zs
     making_more x y rest zs next added name own = record {
-      all = at_next x rest next ∙ sym (append_assoc done (x ∷ []) rest);
-      made = subst (AreMade R (done ++ x ∷ [])) (sym added) (made_more done ys x y so_far.made name own);
+      done = so_far.done ++ x ∷ [];
+      all = at_next x rest next ∙ sym (append_assoc so_far.done (x ∷ []) rest);
+      made = subst (AreMade R (so_far.done ++ x ∷ [])) (sym added) (made_more so_far.done ys x y so_far.made name own);
     }
 
     -- In the end all are made, and the map of them finds them.
     pub making_done : (m : BTreeMap (String Global) Y) → left ≡ [] → AreInOrder given → tree.IsFromIterResult string_cmp ys m
         → AreMade R given ys × ((q : List ℕ) → tree.get_by_text m q ≡ under ys q)
     making_done m none order collected =
-        let made = subst (λ xs. AreMade R xs ys) (sym (so_far.all ∙ ap (λ es. done ++ es) none ∙ append-nil done)) so_far.made in
-        (made, ordered ys m (subst (IsStrictlySortedBy string_cmp) (sym (same_keys given ys made)) order) collected)
+        let made = subst (λ xs. AreMade R xs ys) (sym (so_far.all ∙ ap (λ es. so_far.done ++ es) none ∙ append-nil so_far.done)) so_far.made in
+        (made, ordered ys m (same_order given ys made order) collected)
 
   -- Under a name there is what is made of the value that is found; where none is found, there is nothing.
   pub made_under : (xs : ByName X) (ys : ByName Y) → AreMade R xs ys → (q : List ℕ)
@@ -161,24 +174,3 @@ module _ {X Y : Type 0} (R : X → Y → Type 0) where
       rw h.0.0 (elim (bytes_eq q (string_bytes a.0)) as
       (λ t. MatchOption (cond t (Some a.1) (under xs q)) (cond t (Some b.1) (under ys q) ≡ None)
       (λ x. (y : Y) × (cond t (Some b.1) (under ys q) ≡ Some y) × R x y)) [ true ↦ (b.1, refl, h.0.1) | false ↦ made_under xs ys h.1 q ])
-
--- A map by hash, if there is one, finds what an ordered one does; in its place there is what is told in place of that one.
-abbrev pub IsHashed : {X S E : Type 0} → Result (BTreeMap (String Global) X) E → Result (HashMap (String Global) X S) E → Type 0
-IsHashed r s = MatchResult r (λ n. IfOk s (λ m. (q : List ℕ) → hash.get_by_text m q ≡ tree.get_by_text n q)) (λ e. s ≡ Err e)
-
-module _ {X S E : Type 0} where
-  -- What is so of all that the ordered one finds is so of what the other finds.
-  pub hashed_ok : (P Q : (List ℕ → Option X) → Type 0) → ((find : List ℕ → Option X) → P find → Q find)
-      → (r : Result (BTreeMap (String Global) X) E) (s : Result (HashMap (String Global) X S) E) → IsHashed r s
-      → IfOk r (λ n. P (tree.get_by_text n)) → IfOk s (λ m. Q (hash.get_by_text m))
-  hashed_ok P Q so (Ok n) (Ok m) same h = so (hash.get_by_text m) (subst P (λ i q. sym (same q) i) h)
-  hashed_ok P Q so (Err e) (Ok m) same h = absurd (cc)
-  hashed_ok P Q so r (Err e) same h = tt
-
-  -- So is what is so of the error, and of that of want of memory.
-  pub hashed_err : (P Q Lost : E → Type 0) → ((e : E) → P e → Q e) → ((e : E) → Lost e → Q e)
-      → (r : Result (BTreeMap (String Global) X) E) (s : Result (HashMap (String Global) X S) E) → IsHashed r s
-      → OnOk r (IfErr s Lost) → IfErr r P → IfErr s Q
-  hashed_err P Q Lost so no_room r (Ok m) same lost h = tt
-  hashed_err P Q Lost so no_room (Ok n) (Err e) same lost h = no_room e lost
-  hashed_err P Q Lost so no_room (Err f) (Err e) same lost h = let is : f ≡ e = cc in subst Q is (so f h)

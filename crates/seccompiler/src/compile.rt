@@ -15,7 +15,7 @@ use crate::backend::{BackendError, TargetArch};
 use crate::bpf::BpfProgram;
 use crate::error::Result;
 use crate::filter::SeccompFilter;
-use crate::json::{JsonCompiler, hashed, text_of};
+use crate::json::{read_policies, text_of};
 use std::alloc::Global;
 use std::collections::{BTreeMap, HashMap};
 use std::io::Read;
@@ -59,7 +59,9 @@ pub fn compile_from_json<R: Read + Drop>(
     ensures memory { IfErr result IsNoMemoryInside }
 {
     let text = text_of(alloc, reader)?;
-    hashed(alloc, programs_of(alloc, text.as_slice(), arch))
+    let (_source, policies) = read_policies(alloc, arch, text.as_slice())?;
+    let programs = programs_under(alloc, &policies)?;
+    Ok(programs.into_iter().collect(alloc)?)
 }
 
 /// Compiles each filter of a text for an architecture, as [`compile_from_json`] does with what a reader
@@ -87,21 +89,22 @@ pub fn programs_of(
     ensures fault { IfErr result (TellsFirstFault arch text.now) }
     ensures memory { IfErr result IsNoMemoryInside }
 {
-    let policies = JsonCompiler::new(arch).policies_of(alloc, text)?;
-    Ok(programs_under(alloc, policies)?)
+    let (_source, policies) = read_policies(alloc, arch, text)?;
+    Ok(programs_under(alloc, &policies)?)
 }
 
 // The programs of policies, under their names.
 fn programs_under(
     alloc: Global,
-    policies: BTreeMap<String, SeccompFilter>,
+    policies: &BTreeMap<String, SeccompFilter>,
 ) -> std::result::Result<BTreeMap<String, BpfProgram>, BackendError>
-    ensures programs { IfOk result (λ m. (arch : TargetArch) (d : Data) → ArePoliciesOf arch (tree.get_by_text policies) d → AreProgramsOf arch (tree.get_by_text m) d) }
-    ensures refused { IfErr result (λ e. (arch : TargetArch) (d : Data) → ArePoliciesOf arch (tree.get_by_text policies) d → TellsTooLarge arch d e) }
+    ensures programs { IfOk result (λ m. (arch : TargetArch) (d : Data) → ArePoliciesOf arch (tree.get_by_text policies.now) d → AreProgramsOf arch (tree.get_by_text m) d) }
+    ensures refused { IfErr result (λ e. (arch : TargetArch) (d : Data) → ArePoliciesOf arch (tree.get_by_text policies.now) d → TellsTooLarge arch d e) }
 {
     let mut found = Vec::new(alloc);
-    for (name, policy) in policies {
-        found.push((name, policy.to_bpf(alloc)?))?;
+    for (name, policy) in policies.iter() {
+        let program = policy.to_bpf(alloc)?;
+        found.push((name.clone()?, program))?;
     }
     Ok(found.into_iter().collect(alloc)?)
 }

@@ -17,7 +17,7 @@ mod texts;
 mod types;
 
 pub use compiler::JsonCompiler;
-pub(crate) use compiler::hashed;
+pub(crate) use compiler::read_policies;
 pub use error::JsonFrontendError;
 pub use filter_map::read_filters;
 pub use parts::{read_action, read_arg_len, read_operator};

@@ -137,13 +137,15 @@ impl SyscallTable {
         self.lookup(name).number
     }
 
-    /// The same number, which is found soon if the name stands where the last one was found, or behind it.
+    /// The same number, which is found soon if the name stands behind that which was found last, or is the same.
     ///
     /// `near` is that place. It says where to look first and nothing else: any number may stand there.
     pub(crate) fn number_near(&self, near: &mut usize, name: &str) -> Option<i64>
         ensures { result ≡ number_of (table_of self.now) name.now }
     {
         let pairs = self.pairs();
+        let last = *near;
+        *near = last.wrapping_add(1);
         for turn in 0..3 {
             if *near < pairs.len() {
                 let pair = &pairs[*near];
@@ -152,7 +154,7 @@ impl SyscallTable {
                 }
             }
             *near = match turn {
-                0 => near.wrapping_add(1),
+                0 => last,
                 _ => pairs.partition_point(|pair| pair.0 < name),
             };
         }

@@ -21,9 +21,11 @@ use crate::backend::TargetArch;
 use crate::filter::SeccompFilter;
 use crate::json::error::JsonFrontendError;
 use crate::json::policy::{seccomp_filter, widened_numbers};
-use crate::json::texts::{filters_of, text_of};
+use crate::json::filter_map::filters_in;
+use crate::json::texts::{text_of, value_of};
 use crate::json::types::{JsonFilter, JsonFilterMap};
-use std::alloc::{AllocError, Global};
+use serde_json::Value;
+use std::alloc::Global;
 use std::collections::{BTreeMap, HashMap};
 use std::io::Read;
 use std::marker::Model;
@@ -155,8 +157,8 @@ impl JsonCompiler {
         ensures no_reader { IfErr result IsNoFailedRead }
         ensures memory { IfErr result IsNoMemoryInFrontend }
     {
-        let filters = filters_of(alloc, text)?;
-        policies_under(alloc, self.arch, filters)
+        let (_source, policies) = read_policies(alloc, self.arch, text)?;
+        Ok(policies)
     }
 
     /// Reads a text of JSON filters to its end, and makes each filter, as `make_seccomp_filter` does.
@@ -198,35 +200,58 @@ impl JsonCompiler {
         ensures memory { IfErr result IsNoMemoryInFrontend }
     {
         let text = text_of(alloc, reader)?;
-        hashed(alloc, self.policies_of(alloc, text.as_slice()))
+        let (_source, policies) = read_policies(alloc, self.arch, text.as_slice())?;
+        Ok(policies.into_iter().collect(alloc)?)
     }
 }
 
-// What a map has in order, if there is one, in a map by hash.
-pub(crate) fn hashed<V: Drop, E: From<AllocError>>(
+/// What policies were read from.
+///
+/// It is dropped last, as it is many small pieces of memory: an allocator joins those that were given back
+/// whenever a large one is asked for or given back.
+#[derive(Drop)]
+pub(crate) struct Source {
+    value: Value,
+    filters: JsonFilterMap,
+}
+
+/// The policies of a text under their names, and what they were read from.
+pub(crate) fn read_policies(
     alloc: Global,
-    ordered: Result<BTreeMap<String, V>, E>,
-) -> Result<HashMap<String, V>, E>
-    ensures found { MatchResult ordered (λ o. IfOk result (λ m. (name : List ℕ) → get_by_text m name ≡ tree.get_by_text o name)) (λ e. result ≡ Err e) }
-    ensures memory { OnOk ordered (IfErr result (E.from_gives alloc_error)) }
+    arch: TargetArch,
+    text: &[u8],
+) -> Result<(Source, BTreeMap<String, SeccompFilter>), JsonFrontendError>
+    ensures policies { IfOk result (λ read. OfValue text.now (ArePoliciesOf arch (tree.get_by_text read.1))) }
+    ensures fault { IfErr result (TellsFrontendFault arch text.now) }
+    ensures no_reader { IfErr result IsNoFailedRead }
+    ensures memory { IfErr result IsNoMemoryInFrontend }
 {
-    Ok(ordered?.into_iter().collect(alloc)?)
+    let mut value = value_of(alloc, text)?;
+    let filters = match filters_in(alloc, &mut value) {
+        Ok(filters) => filters,
+        Err(error) => {
+            drop(value);
+            return Err(error);
+        }
+    };
+    let source = Source { value, filters };
+    let policies = policies_under(alloc, arch, &source.filters)?;
+    Ok((source, policies))
 }
 
 // The policies of JSON filters, under their names.
 fn policies_under(
     alloc: Global,
     arch: TargetArch,
-    filters: JsonFilterMap,
+    filters: &JsonFilterMap,
 ) -> Result<BTreeMap<String, SeccompFilter>, JsonFrontendError>
-    ensures policies { IfOk result (λ m. (d : Data) → AreFilters d filters → ArePoliciesOf arch (tree.get_by_text m) d) }
-    ensures refused { IfErr result (λ e. (d : Data) → AreFilters d filters → Tells (λ fault. IsLeastRefused arch fault d) e) }
+    ensures policies { IfOk result (λ m. (d : Data) → AreFilters d filters.now → ArePoliciesOf arch (tree.get_by_text m) d) }
+    ensures refused { IfErr result (λ e. (d : Data) → AreFilters d filters.now → Tells (λ fault. IsLeastRefused arch fault d) e) }
 {
     let mut found = Vec::new(alloc);
-    for (name, filter) in filters.0 {
-        let policy = seccomp_filter(alloc, arch, &filter);
-        drop(filter);
-        found.push((name, policy?))?;
+    for (name, filter) in filters.0.iter() {
+        let policy = seccomp_filter(alloc, arch, filter)?;
+        found.push((name.clone()?, policy))?;
     }
     Ok(found.into_iter().collect(alloc)?)
 }

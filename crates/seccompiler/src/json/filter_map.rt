@@ -40,22 +40,22 @@ pub fn read_filters(alloc: Global, value: &Value) -> Result<JsonFilterMap, JsonF
     // A value is at most one filter.
     ensures one_filter { (d : Data) (f g : JsonFilter) → IsFilter d f → IsFilter d g → f ≡ g }
 {
-    filters_in(alloc, value.clone()?)
+    let mut copy = value.clone()?;
+    filters_in(alloc, &mut copy)
 }
 
-/// The same of a value that is no longer needed: the names of filters and calls are taken out of it.
-pub fn filters_in(alloc: Global, value: Value) -> Result<JsonFilterMap, JsonFrontendError>
-    ensures filters { IfOk result (AreFilters (view value)) }
-    ensures refusal { IfErr result (IsShapeRefusal (view value)) }
+/// The same of a value that is no longer needed as it is: the names of calls are taken out of it.
+pub fn filters_in(alloc: Global, value: &mut Value) -> Result<JsonFilterMap, JsonFrontendError>
+    ensures filters { IfOk result (AreFilters (view value.old)) }
+    ensures refusal { IfErr result (IsShapeRefusal (view value.old)) }
 {
     let Value::Object(members) = value else {
         return Err(JsonFrontendError::NotAnObject);
     };
     let mut found = Vec::new(alloc);
-    for (name, mut value) in members {
-        let read = read_filter(alloc, &mut value);
-        drop(value);
-        match read? {
+    for (key, member) in members.iter_mut() {
+        let name = key.clone()?;
+        match read_filter(alloc, member)? {
             Some(filter) => found.push((name, filter))?,
             None => return Err(JsonFrontendError::Shape(name)),
         }

@@ -79,11 +79,14 @@ pub fn filters_of(alloc: Global, text: &[u8]) -> Result<JsonFilterMap, JsonFront
     // A value is at most one filter.
     ensures one_filter { (d : Data) (f g : JsonFilter) → IsFilter d f → IsFilter d g → f ≡ g }
 {
-    filters_in(alloc, value_of(alloc, text)?)
+    let mut value = value_of(alloc, text)?;
+    let filters = filters_in(alloc, &mut value);
+    drop(value);
+    filters
 }
 
-// The value of a text that repeats no name.
-fn value_of(alloc: Global, text: &[u8]) -> Result<Value, JsonFrontendError>
+/// The value of a text that repeats no name.
+pub fn value_of(alloc: Global, text: &[u8]) -> Result<Value, JsonFrontendError>
     ensures value { IfOk result (λ value. IsValueOf text.now (view value)) }
     ensures fault { IfErr result (λ e. (arch : TargetArch) → TellsFrontendFault arch text.now e) }
     ensures cause { IfErr result IsBeforePolicies }

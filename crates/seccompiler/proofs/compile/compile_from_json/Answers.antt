@@ -1,14 +1,12 @@
-use Rattle.std.proofs.Common.{◌≡◌, ℕ, List, Option, Vec, Global, IfSome}
+use Rattle.std.proofs.Common.{string_eq, rules, sym, subst}
+use Rattle.std.specs.HashMap.{IsFromIterResult, get_by_text}
 use Rattle.std.proofs.lemmas.Result.{err_from_is_err_and}
-use Rattle.seccompiler.specs.Machine.{IsChecked}
-use Rattle.seccompiler.specs.Errors.{IsNoMemoryInside}
+use Rattle.seccompiler.specs.Errors.{from_backend, from_frontend}
 use Rattle.seccompiler.specs.JsonAnswers.{OfValue}
 use Rattle.seccompiler.specs.JsonPrograms.{AreProgramsOf, TellsFirstFault}
-use Rattle.seccompiler.specs.Reads.{Reads}
-use Rattle.seccompiler.specs.declared.bpf.sock_filter.{sock_filter}
-use Rattle.seccompiler.proofs.ByName.{hashed_ok, hashed_err}
+use Rattle.seccompiler.proofs.ByName.{rehashed}
 use Rattle.seccompiler.proofs.TextFilters.{reads_some, reads_this}
-use Rattle.seccompiler.proofs.compile.TextPrograms.{told_by_frontend}
+use Rattle.seccompiler.proofs.compile.TextPrograms.{all_checked, refused_told, told_by_frontend}
 use Rattle.seccompiler.proofs.compile.compile_from_json.Goals as goal
 
 pub returns-in_err-text-clause-fault : goal.returns-in_err-text-clause-fault
@@ -17,24 +15,45 @@ returns-in_err-text-clause-fault g c =
     rw (p.1, p.2) (reads_some (g.R.Read.remaining c.args.reader) _
     (λ text. told_by_frontend c.args.arch text c.in_err-text.field-0.0 (c.in_err-text.ensures.fault c.args.arch text)))
 
+pub returns-in_err-_source-clause-fault : goal.returns-in_err-_source-clause-fault
+returns-in_err-_source-clause-fault g c =
+    let p = err_from_is_err_and c.from_residual-in_err-_source.result c.from_residual-in_err-_source.ensures.1 in
+    let arch = c.args.arch in
+    let cause = c.in_err-_source.field-0.0 in
+    let text = c.in_ok-text.text.items in
+    rw (p.1, p.2) (reads_this (g.R.Read.remaining c.args.reader) (λ text. TellsFirstFault arch text (from_frontend cause)) text
+    c.in_ok-text.ensures.text (told_by_frontend arch text cause (rw c.as_slice.ensures.value at c.in_err-_source.ensures.fault)))
+
+pub returns-in_err-programs-clause-fault : goal.returns-in_err-programs-clause-fault
+returns-in_err-programs-clause-fault g c =
+    let p = err_from_is_err_and c.from_residual-in_err-programs.result c.from_residual-in_err-programs.ensures.1 in
+    let arch = c.args.arch in
+    let cause = c.in_err-programs.field-0.0 in
+    let text = c.in_ok-text.text.items in
+    let read = rw c.as_slice.ensures.value at c.in_ok-_source.ensures.policies in
+    rw (p.1, p.2) (reads_this (g.R.Read.remaining c.args.reader) (λ text. TellsFirstFault arch text (from_backend cause)) text
+    c.in_ok-text.ensures.text (refused_told arch read.0 text read.1 cause (c.in_err-programs.ensures.refused arch read.0 read.2)))
+
+pub returns-in_err-collect-clause-fault : goal.returns-in_err-collect-clause-fault
+returns-in_err-collect-clause-fault g c =
+    let p = err_from_is_err_and c.from_residual-in_err-collect.result c.from_residual-in_err-collect.ensures.1 in
+    rw (p.1, p.2) (c.in_ok-text.text.items, c.in_ok-text.ensures.text, tt)
+
 pub returns : goal.returns
 returns g c =
-    let known = g.R.Read.remaining c.args.reader in
-    let text = c.in_ok-text.text.items in
-    let own : IfSome known (λ k. text ≡ k) = c.in_ok-text.ensures.text in
     let arch = c.args.arch in
-    let r = c.programs_of.result in
-    let of = c.programs_of.ensures in
-    let by = c.hashed.ensures in
-    let Are = λ (text : List ℕ) (find : List ℕ → Option (Vec sock_filter Global)). OfValue text (AreProgramsOf arch find) in
-    let All_run = λ (find : List ℕ → Option (Vec sock_filter Global)). (name : List ℕ) → IfSome (find name) (λ p. IsChecked p.items) in
+    let text = c.in_ok-text.text.items in
+    let ordered = c.in_ok-programs.programs in
+    let m = c.in_ok-collect.field-0 in
+    let made : IsFromIterResult string_eq ordered.entries m = search rules in
+    let same = rehashed ordered m c.into_iter.ensures.into_iter_gives.5 made in
+    let read = rw c.as_slice.ensures.value at c.in_ok-_source.ensures.policies in
+    let are = subst (λ find. OfValue text (AreProgramsOf arch find)) (λ i q. sym (same q) i)
+    (read.0, read.1, c.in_ok-programs.ensures.programs arch read.0 read.2) in
     record {
-      programs = hashed_ok (Are text) (λ find. Reads known (λ text. Are text find))
-          (λ find. reads_this known (λ text. Are text find) text own)
-          r _ by.found (rw c.as_slice.ensures.value at of.programs);
-      checked = hashed_ok All_run All_run (λ find run. run) r _ by.found of.checked;
-      fault = hashed_err (TellsFirstFault arch text) (λ e. Reads known (λ text. TellsFirstFault arch text e)) _
-          (λ e. reads_this known (λ text. TellsFirstFault arch text e) text own) (λ e lost. rw lost (text, own, tt))
-          r _ by.found by.memory (rw c.as_slice.ensures.value at of.fault);
-      memory = hashed_err IsNoMemoryInside IsNoMemoryInside _ (λ e fit. fit) (λ e lost. rw lost tt) r _ by.found by.memory of.memory;
+      programs = reads_this (g.R.Read.remaining c.args.reader) (λ text. OfValue text (AreProgramsOf arch (get_by_text m))) text
+          c.in_ok-text.ensures.text are;
+      checked = all_checked arch (get_by_text m) are.0 are.2;
+      fault = tt;
+      memory = tt;
     }

@@ -1,32 +1,43 @@
-use Rattle.std.proofs.Common.{String, Global, string_cmp, refl, rules, ◌∙◌, sym}
+use Rattle.std.proofs.Common.{◌≡◌, String, Global, string_cmp, refl, rules, ◌∙◌, sym, ap, ◌∷◌, ◌++◌}
 use Rattle.std.specs.BTreeMap.{IsFromIterResult}
+use Rattle.std.specs.BTreeMap.IterMut.{iter_mut_rest}
 use Rattle.serde_json.proofs.Views.{Entry, view-Object}
 use Rattle.seccompiler.specs.JsonTypes.{JsonFilter}
-use Rattle.seccompiler.proofs.ByName.{at_next, making_more, making_done}
+use Rattle.seccompiler.proofs.ByName.{at_next, making_none, making_more, making_done}
 use Rattle.seccompiler.proofs.json.filter_map.FilterMaps.{IsRead, are_filters, least_fault}
 use Rattle.seccompiler.proofs.json.filter_map.filters_in.Goals as goal
 
-pub loop-name-preserved : goal.loop-name-preserved
-loop-name-preserved c =
-    let e : Entry = (c.in-Some.name, c.in-Some.value) in
-    let made : String Global × JsonFilter = (c.in-Some.name, c.in-Some-2.filter) in
-    making_more IsRead c.loop-name.invariant e made _ _ c.in-Some.ensures.steps c.in_ok-push-in-Some-2.ensures.items refl
-    (rw c.in-Some-2.is at c.in_ok-filter.ensures.found)
+pub loop-key-init : goal.loop-key-init
+loop-key-init c = making_none IsRead _ _ _ refl c.new-found.ensures.items
+
+pub loop-key-preserved : goal.loop-key-preserved
+loop-key-preserved c =
+    let e : Entry = (c.in-Some.key.now, c.in-Some.member.now) in
+    let made : String Global × JsonFilter = (c.in_ok-name.name, c.in-Some-2.filter) in
+    making_more IsRead c.loop-key.invariant e made _ _ c.in-Some.ensures.steps c.in_ok-push-in-Some-2.ensures.items
+    c.in_ok-name.ensures.cases (rw c.in-Some-2.is at c.in_ok-filter.ensures.found)
 
 pub returns-in-None-2-clause-refusal : goal.returns-in-None-2-clause-refusal
 returns-in-None-2-clause-refusal c =
-    let l = c.loop-name in
-    let e : Entry = (c.in-Some.name, c.in-Some.value) in
-    let given = c.into_iter-name-iterator.ensures.into_iter_gives in
-    let all = sym given.0 ∙ at_next IsRead l.invariant e c.next.new.self c.in-Some.ensures.steps in
-    rw (c.in-Object.is, view-Object c.in-Object.members, all) (least_fault l.yielded e c.next.new.self l.found.items (rw all at given.5)
-    l.invariant.made (rw c.in-None-2.is at c.in_ok-filter.ensures.none))
+    let so_far = c.loop-key.invariant in
+    let e : Entry = (c.in-Some.key.now, c.in-Some.member.now) in
+    let rest = iter_mut_rest c.next.new.self in
+    let lent = c.iter_mut-key-items.ensures in
+    let given : iter_mut_rest c.into_iter-key-iterator.result ≡ c.in-Object.members.entries =
+    ap iter_mut_rest c.into_iter-key-iterator.ensures.into_iter_gives ∙ lent.rest
+    ∙ ap (λ m. m.entries) c.in-Object.members-is in
+    let all : c.in-Object.members.entries ≡ so_far.done ++ e ∷ rest = sym given ∙ at_next IsRead so_far e rest c.in-Some.ensures.steps in
+    rw (c.in-Object.is, view-Object c.in-Object.members, all, c.in_ok-name.ensures.cases) (least_fault so_far.done e rest c.loop-key.found.items
+    (rw (c.in-Object.members-is, all) at lent.ordered) so_far.made (rw c.in-None-2.is at c.in_ok-filter.ensures.none))
 
 pub returns-clause-filters : goal.returns-clause-filters
 returns-clause-filters c =
-    let l = c.loop-name in
+    let so_far = c.loop-key.invariant in
     let m = c.in_ok-collect.field-0 in
-    let given = c.into_iter-name-iterator.ensures.into_iter_gives in
-    let collected : IsFromIterResult string_cmp l.found.items m = search rules in
-    let all = making_done IsRead l.invariant m c.in-None.ensures.steps.0 (rw given.0 given.5) collected in
-    rw (c.in-Object.is, view-Object c.in-Object.members, ← given.0) (are_filters _ l.found.items m all.0 all.1)
+    let lent = c.iter_mut-key-items.ensures in
+    let given : iter_mut_rest c.into_iter-key-iterator.result ≡ c.in-Object.members.entries =
+    ap iter_mut_rest c.into_iter-key-iterator.ensures.into_iter_gives ∙ lent.rest
+    ∙ ap (λ m. m.entries) c.in-Object.members-is in
+    let collected : IsFromIterResult string_cmp c.loop-key.found.items m = search rules in
+    let all = making_done IsRead so_far m c.in-None.ensures.steps.0 (rw given (rw c.in-Object.members-is at lent.ordered)) collected in
+    rw (c.in-Object.is, view-Object c.in-Object.members, ← given) (are_filters _ c.loop-key.found.items m all.0 all.1)

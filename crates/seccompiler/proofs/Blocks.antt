@@ -28,8 +28,7 @@ returns_front a b r x s w h = (h.0, front_returns a b r x s h.0 w h.1)
 -- a run to the end of the first piece, and then a return of the second
 pub back_returns : (a b : List sock_filter) (r : List ℕ) (s s' m n w : ℕ) → Goes (a ++ b) r 0 s m (length a) s'
     → ReturnsAfter b r 0 s' n w → ReturnsAfter (a ++ b) r 0 s (m + n) w
-back_returns a b r s s' m n w g h =
-    let shifted = goes_shift (a ++ b) b r (length a) (stands_second a b) h.goes in
+back_returns a b r s s' m n w g h = let shifted = goes_shift (a ++ b) b r (length a) (stands_second a b) h.goes in
     let second = goes_as (a ++ b) r {x' = length a} shifted (omega arith) refl refl in
     record {
       to = length a + h.to;

@@ -17,11 +17,9 @@ lent_chains : (entries : List (ℤ × Vec Rule Global)) (lent : List (Bor (Vec R
 lent_chains [] [] same = refl
 lent_chains [] (chain ∷ lent) same = cc
 lent_chains (e ∷ entries) [] same = cc
-lent_chains (e ∷ entries) (chain ∷ lent) same =
-    let first : chain.now ≡ e.1 = cc in
+lent_chains (e ∷ entries) (chain ∷ lent) same = let first : chain.now ≡ e.1 = cc in
     let rest : map deref lent ≡ values_of entries = cc in
-    sum_by-cons (λ c. chain_length c.now.items) chain lent
-    ∙ ap (λ v. chain_length v.items + lent_length lent) first
+    sum_by-cons (λ c. chain_length c.now.items) chain lent ∙ ap (λ v. chain_length v.items + lent_length lent) first
     ∙ ap (λ n. chain_length e.1.items + n) (lent_chains entries lent rest)
     ∙ sym (sum_by-cons (λ (c : ℤ × Chain). chain_length c.1) (e.0, e.1.items) (chains_of entries))
 
@@ -40,13 +38,11 @@ counted_empty (x ∷ entries) chains e none = absurd (omega arith)
 pub capped_filter : (m : ℕ) (f : Filter) (entries : List (ℤ × Vec Rule Global)) (lent : List (Bor (Vec Rule Global))) (so_far : ℕ)
     → chains_of entries ≡ f.chains → (length entries ≡ 0 → ⊥) → map deref lent ≡ values_of entries
     → so_far ≡ min (5 + lent_length lent) m → so_far ≡ min (counted_length f) m
-capped_filter m f entries lent so_far same some all first =
-    first ∙ ap (λ n. min (5 + n) m) (lent_chains entries lent all)
+capped_filter m f entries lent so_far same some all first = first ∙ ap (λ n. min (5 + n) m) (lent_chains entries lent all)
     ∙ ap (λ n. min n m) (sym (counted_full entries f.chains same (omega arith)))
 
 -- A filter that has none.
 pub empty_filter : (m : ℕ) (f : Filter) (entries : List (ℤ × Vec Rule Global)) → 4 ≤ m
     → chains_of entries ≡ f.chains → length entries ≡ 0 → 4 ≡ min (counted_length f) m
-empty_filter m f entries large same none =
-    let four : 4 ≡ min 4 m = omega arith in
+empty_filter m f entries large same none = let four : 4 ≡ min 4 m = omega arith in
     four ∙ ap (λ n. min n m) (sym (counted_empty entries f.chains same none))

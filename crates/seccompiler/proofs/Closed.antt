@@ -22,10 +22,8 @@ pub get_split : (a b : List sock_filter) (k : ℕ) (i : sock_filter) → slice_g
     → (slice_get a k ≡ Some i) ⊎ ((j : ℕ) × (k ≡ length a + j) × (slice_get b j ≡ Some i))
 get_split [] b k i e = inr (k, omega arith, e)
 get_split (x ∷ a) b zero i e = inl e
-get_split (x ∷ a) b (suc k) i e =
-    ⊎_elim (λ h. inl h)
-    (λ h. inr (h.0, omega (arith, h.1), h.2))
-    (get_split a b k i e)
+get_split (x ∷ a) b (suc k) i e = ⊎_elim (λ h. inl h)
+    (λ h. inr (h.0, omega (arith, h.1), h.2)) (get_split a b k i e)
 
 -- one piece and then another
 pub closed_join : (a b : List sock_filter) (m n m' : ℕ) → IsClosed a m → IsClosed b n → m ≤ m' → length a + n ≤ m' → IsClosed (a ++ b) m'
@@ -45,12 +43,9 @@ EachInside place m (i ∷ is) = IsInside i place m × EachInside (place + 1) m i
 each_at : (is : List sock_filter) (base m k : ℕ) (i : sock_filter) → EachInside base m is
     → slice_get is k ≡ Some i → IsInside i (base + k) m
 each_at [] base m k i h e = cc
-each_at (x ∷ is) base m zero i h e =
-    let same : x ≡ i = cc in
-    let z : base ≡ base + 0 = omega arith in
-    subst (λ q. IsInside i q m) z (subst (λ y. IsInside y base m) same h.0)
-each_at (x ∷ is) base m (suc k) i h e =
-    let z : base + 1 + k ≡ base + suc k = omega arith in
+each_at (x ∷ is) base m zero i h e = let same : x ≡ i = cc in
+    let z : base ≡ base + 0 = omega arith in subst (λ q. IsInside i q m) z (subst (λ y. IsInside y base m) same h.0)
+each_at (x ∷ is) base m (suc k) i h e = let z : base + 1 + k ≡ base + suc k = omega arith in
     subst (λ q. IsInside i q m) z (each_at is (base + 1) m k i h.1 e)
 
 pub closed_from : (is : List sock_filter) (m : ℕ) → EachInside 0 m is → IsClosed is m

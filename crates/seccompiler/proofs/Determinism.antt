@@ -9,12 +9,10 @@ use Rattle.seccompiler.specs.Machine.{is_less, Step, Goes, stays, then_step, End
 
 -- Where an instruction leads.
 abbrev place_after : sock_filter → ℕ → ℕ → ℕ
-place_after i place a =
-    if i.code == 0x05 then place + 1 + i.k
+place_after i place a = if i.code == 0x05 then place + 1 + i.k
     else (if i.code == 0x15 then (if a == i.k then place + 1 + i.jt else (place + 1 + i.jf))
     else (if i.code == 0x25 then (if nat_lt i.k a then place + 1 + i.jt else (place + 1 + i.jf))
-    else (if i.code == 0x35 then (if nat_le i.k a then place + 1 + i.jt else (place + 1 + i.jf))
-    else (place + 1))))
+    else (if i.code == 0x35 then (if nat_le i.k a then place + 1 + i.jt else (place + 1 + i.jf)) else (place + 1))))
 
 -- What an instruction leaves in the accumulator.
 abbrev accumulator_after : sock_filter → List ℕ → ℕ → ℕ
@@ -37,8 +35,7 @@ told i r place a place' a' (is_less code test to is) = (grind (arith, nat_tests)
 step_only : (p : List sock_filter) (r : List ℕ) {place a place' a' at b at' b' : ℕ} → Step p r place a place' a'
     → Step p r at b at' b' → place ≡ at → a ≡ b → (place' ≡ at') × (a' ≡ b')
 step_only p r {place} {a} {place'} {a'} {at} {b} {at'} {b'} s t here with_same =
-    let same : s.instruction ≡ t.instruction = cc (s.here, t.here) in
-    let one = told s.instruction r place a place' a' s.does in
+    let same : s.instruction ≡ t.instruction = cc (s.here, t.here) in let one = told s.instruction r place a place' a' s.does in
     let other = told t.instruction r at b at' b' t.does in
     ((rw (same, here, with_same) at one.0) ∙ sym other.0, (rw (same, with_same) at one.1) ∙ sym other.1)
 
@@ -48,33 +45,25 @@ goes_only : (p : List sock_filter) (r : List ℕ) {place a n place' a' m place''
 goes_only p r stays stays equally_many = (refl, refl)
 goes_only p r stays (then_step g s) equally_many = absurd (omega arith)
 goes_only p r (then_step g s) stays equally_many = absurd (omega arith)
-goes_only p r (then_step g s) (then_step h t) equally_many =
-    let before = goes_only p r g h (omega arith) in
+goes_only p r (then_step g s) (then_step h t) equally_many = let before = goes_only p r g h (omega arith) in
     step_only p r s t before.0 before.1
 
 -- A run goes on after each lesser number of steps.
 goes_on_before : (p : List sock_filter) (r : List ℕ) {place a m place' a' : ℕ} (n : ℕ)
     → Goes p r place a m place' a' → n < m → (b : ℕ) × (c : ℕ) × (d : ℕ) × (e : ℕ) × Goes p r place a n b c × Step p r b c d e
 goes_on_before p r n stays fewer = absurd (omega arith)
-goes_on_before p r n (then_step {n = m} g s) fewer =
-    ⊎_elim (λ before. goes_on_before p r n g before)
-    (λ after. let here : m ≡ n = omega arith in (_, _, _, _, rw here at g, s))
-    (cases_lt n m)
+goes_on_before p r n (then_step {n = m} g s) fewer = ⊎_elim (λ before. goes_on_before p r n g before)
+    (λ after. let here : m ≡ n = omega arith in (_, _, _, _, rw here at g, s)) (cases_lt n m)
 
 -- A run that returns does not go on.
 ends_no_later : (p : List sock_filter) (r : List ℕ) {n w m v : ℕ} → Ends p r n w → Ends p r m v → n < m → ⊥
-ends_no_later p r {n} {w} {m} {v} e f fewer =
-    let on = goes_on_before p r (n - 1) f.goes (omega arith) in
-    let same = goes_only p r e.goes on.4 refl in
-    let found : e.instruction ≡ on.5.instruction = cc (e.here, on.5.here, same.0) in
+ends_no_later p r {n} {w} {m} {v} e f fewer = let on = goes_on_before p r (n - 1) f.goes (omega arith) in
+    let same = goes_only p r e.goes on.4 refl in let found : e.instruction ≡ on.5.instruction = cc (e.here, on.5.here, same.0) in
     (told on.5.instruction r _ _ _ _ on.5.does).2 (cc (found, e.returns))
 
 -- A program that ends on a record does so with one word and one number of steps.
 pub ends_only : (p : List sock_filter) (r : List ℕ) {n w m v : ℕ} → Ends p r n w → Ends p r m v → (n ≡ m) × (w ≡ v)
-ends_only p r {n} {w} {m} {v} e f =
-    let no_later : n < m → ⊥ = ends_no_later p r e f in
-    let no_sooner : m < n → ⊥ = ends_no_later p r f e in
-    let as_many : n ≡ m = omega arith in
-    let fewer : n - 1 ≡ m - 1 = omega arith in
-    let same = goes_only p r e.goes f.goes fewer in
+ends_only p r {n} {w} {m} {v} e f = let no_later : n < m → ⊥ = ends_no_later p r e f in
+    let no_sooner : m < n → ⊥ = ends_no_later p r f e in let as_many : n ≡ m = omega arith in
+    let fewer : n - 1 ≡ m - 1 = omega arith in let same = goes_only p r e.goes f.goes fewer in
     (as_many, cc (e.here, f.here, e.value, f.value, same.0))

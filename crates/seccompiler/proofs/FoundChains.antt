@@ -43,8 +43,7 @@ last_same chains a chain none =
 
 pub last_other : (chains : List Entry) (a n : ℕ) (chain : Chain) → a ≢ n → chain_under chains a ≡ None
     → chain_under (chains ++ (pos n, chain) ∷ []) a ≡ None
-last_other chains a n chain differs none =
-    let other : is_at (int_cmp (pos a)) (pos n) ≡ false = grind (arith, nat_tests) in
+last_other chains a n chain differs none = let other : is_at (int_cmp (pos a)) (pos n) ≡ false = grind (arith, nat_tests) in
     rw (found_last chains (pos n, chain) a none, other) refl
 
 abbrev pub MapEntry : Type 0
@@ -57,8 +56,7 @@ key_of_rest (x ∷ done) t e h = key_of_rest done t e (All-tail IsCallNumber x.0
 
 pub key_fits : (entries done rest t : List MapEntry) (e : MapEntry) → rest ≡ e ∷ t → done ++ rest ≡ entries
     → All IsCallNumber (map (λ (x : MapEntry). x.0) entries) → IsCallNumber e.0
-key_fits entries done rest t e er ee h =
-    let same : done ++ e ∷ t ≡ entries = sym (ap (λ l. done ++ l) er) ∙ ee in
+key_fits entries done rest t e er ee h = let same : done ++ e ∷ t ≡ entries = sym (ap (λ l. done ++ l) er) ∙ ee in
     key_of_rest done t e (subst (λ l. All IsCallNumber (map (λ (x : MapEntry). x.0) l)) (sym same) h)
 
 pub rest_step : (entries done rest t : List MapEntry) (e : MapEntry) → rest ≡ e ∷ t → done ++ rest ≡ entries

@@ -10,8 +10,7 @@ use borrow.Rule.Slice.PartMut.{put_mid, post_of, Post-is, same_len_mid}
 
 -- from the start of the part on, it has what was written, and then what it had behind the part
 pub drop-written : {X : Type 0} (a e : ℕ) (xs ys : List X) → a ≤ e → e ≤ length xs → drop a (put_mid a (e - a) xs ys) ≡ ys ++ drop e xs
-drop-written a e xs ys some within =
-    let inside : a ≤ length xs = omega arith in
+drop-written a e xs ys some within = let inside : a ≤ length xs = omega arith in
     drop_at (take a xs) (ys ++ post_of a (e - a) xs) a (length-take-le a xs inside) ∙ ap (λ l. ys ++ l) (Post-is a e xs some)
 
 -- a part has as many elements as its bounds say
@@ -22,28 +21,24 @@ length-part a e xs some within = let left : e - a ≤ length (drop a xs) = omega
 -- up to one place behind the part, where one more element was set, it has what it had, what was written, and that element
 pub take-written : {X : Type 0} (a e : ℕ) (xs ys : List X) (x : X) → a ≤ e → e < length xs
     → length ys ≡ e - a → take (e + 1) (set (put_mid a (e - a) xs ys) e x) ≡ take a xs ++ (ys ++ x ∷ [])
-take-written a e xs ys x some within long =
-    let inside : a ≤ length xs = omega arith in
+take-written a e xs ys x some within long = let inside : a ≤ length xs = omega arith in
     let here : e < length (put_mid a (e - a) xs ys) =
     omega (arith, same_len_mid a (e - a) xs ys (long ∙ sym (length-part a e xs some (omega arith)))) in
-    let z : e + 1 ≡ suc e = omega arith in
-    let before = take-put_mid a (e - a) xs ys e (omega arith) inside in
+    let z : e + 1 ≡ suc e = omega arith in let before = take-put_mid a (e - a) xs ys e (omega arith) inside in
     ap (λ n. take n (set (put_mid a (e - a) xs ys) e x)) z ∙ take-suc-set (put_mid a (e - a) xs ys) e x here
     ∙ ap (λ l. l ++ x ∷ []) before ∙ append_assoc (take a xs) ys (x ∷ [])
 
 -- a list, cut at an index
 pub around : {X : Type 0} (items : List X) (i : ℕ) (x : X) → i < length items → x ≡ get_or items i x
     → items ≡ take i items ++ x ∷ drop (i + 1) items
-around items i x within is =
-    let e : i + 1 ≡ suc i = omega arith in
+around items i x within is = let e : i + 1 ≡ suc i = omega arith in
     sym (take-append-drop i items) ∙ ap (λ l. take i items ++ l) (drop-cons items i x within
     ∙ ap (λ y. y ∷ drop (suc i) items) (sym is) ∙ ap (λ n. x ∷ drop n items) (sym e))
 
 -- up to a place of the part, it has what it had, and then what was written up to that place
 pub take-front : {X : Type 0} (a n : ℕ) (xs ys : List X) → a ≤ length xs → n ≤ length ys
     → take (a + n) (put_mid a (length xs - a) xs ys) ≡ take a xs ++ take n ys
-take-front a n xs ys inside few =
-    let behind = post_of a (length xs - a) xs in
+take-front a n xs ys inside few = let behind = post_of a (length xs - a) xs in
     let at : length (take a xs) ≡ a = length-take-le a xs inside in
     subst (λ m. take (m + n) (put_mid a (length xs - a) xs ys) ≡ take a xs ++ take n ys) at
     (take-append-add (take a xs) (ys ++ behind) n ∙ ap (λ l. take a xs ++ l) (take-append-le n ys behind few))
@@ -52,10 +47,8 @@ take-front a n xs ys inside few =
 pub framed : {X : Type 0} (n : ℕ) (xs ys : List X) (x z : X) → length ys + 1 ≡ length xs → n < length ys → let first = set xs 0 x in
     take (1 + n + 1) (set (put_mid 1 (length first - 1) first ys) (1 + n) z) ≡ x ∷ (take n ys ++ z ∷ [])
 framed n [] ys x z long few = absurd (omega arith)
-framed n (y ∷ xs) ys x z long few =
-    let first = x ∷ xs in
-    let whole = put_mid 1 (length first - 1) first ys in
-    let count : length ys ≡ length first - 1 = omega arith in
+framed n (y ∷ xs) ys x z long few = let first = x ∷ xs in
+    let whole = put_mid 1 (length first - 1) first ys in let count : length ys ≡ length first - 1 = omega arith in
     let same = same_len_mid 1 (length first - 1) first ys (count ∙ sym (length-part 1 (length first) first (omega arith) (omega arith))) in
     let one_more : 1 + n + 1 ≡ suc (1 + n) = omega arith in
     ap (λ m. take m (set whole (1 + n) z)) one_more ∙ take-suc-set whole (1 + n) z (omega arith)
@@ -79,12 +72,9 @@ headed front [] ys a b c d z is long = absurd (omega arith)
 headed front (x ∷ []) ys a b c d z is long = absurd (omega arith)
 headed front (x ∷ y ∷ []) ys a b c d z is long = absurd (omega arith)
 headed front (x ∷ y ∷ v ∷ []) ys a b c d z is long = absurd (omega arith)
-headed front (x ∷ y ∷ v ∷ w ∷ xs) ys a b c d z is long =
-    let first = a ∷ b ∷ c ∷ d ∷ xs in
-    let last = length first - 1 in
-    let e : last + 1 ≡ length first = omega arith in
-    let whole = set (put_mid 4 (last - 4) first ys) last z in
-    let count : length ys ≡ last - 4 = omega arith in
+headed front (x ∷ y ∷ v ∷ w ∷ xs) ys a b c d z is long = let first = a ∷ b ∷ c ∷ d ∷ xs in
+    let last = length first - 1 in let e : last + 1 ≡ length first = omega arith in
+    let whole = set (put_mid 4 (last - 4) first ys) last z in let count : length ys ≡ last - 4 = omega arith in
     let long_whole : length whole ≡ length first = length-set (put_mid 4 (last - 4) first ys) last z
     ∙ same_len_mid 4 (last - 4) first ys (count ∙ sym (length-part 4 last first (omega arith) (omega arith))) in
     rw is (sym (take_all (last + 1) whole (omega arith)) ∙ take-written 4 last first ys z (omega arith) (omega arith) count)
@@ -92,8 +82,7 @@ headed front (x ∷ y ∷ v ∷ w ∷ xs) ys a b c d z is long =
 -- up to an element that is set behind what was written in front, a list has what was written and that element
 pub front-written : {X : Type 0} (n : ℕ) (xs ys : List X) (x : X) → length ys ≡ n → n < length xs
     → take (n + 1) (set (ys ++ drop n xs) n x) ≡ ys ++ x ∷ []
-front-written n xs ys x long within =
-    let one_more : n + 1 ≡ suc n = omega arith in
+front-written n xs ys x long within = let one_more : n + 1 ≡ suc n = omega arith in
     let here : n < length (ys ++ drop n xs) = omega (arith, length-append ys (drop n xs), length-drop n xs) in
     ap (λ m. take m (set (ys ++ drop n xs) n x)) one_more ∙ take-suc-set (ys ++ drop n xs) n x here
     ∙ ap (λ l. l ++ x ∷ []) (take_at ys (drop n xs) n long)

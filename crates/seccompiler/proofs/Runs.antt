@@ -60,8 +60,7 @@ goes_on p r {m = m} g (then_step {n = n} f h) = let z : m + suc n ≡ suc (m + n
 pub goes_far : (p : List sock_filter) (r : List ℕ) {place a n place' a' : ℕ} → Goes p r place a n place' a' → place + n ≤ place'
 goes_far p r stays = omega arith
 goes_far p r {place} {a} (then_step {n = n} {place' = place'} {a' = a'} {place'' = place''} {a'' = a''} g h) =
-    let before = goes_far p r g in
-    let step = (does_shift h.instruction r 0 place' a' place'' a'' h.does).1 in
+    let before = goes_far p r g in let step = (does_shift h.instruction r 0 place' a' place'' a'' h.does).1 in
     omega arith
 
 pub stands_second : (a b : List sock_filter) → Stands (a ++ b) (length a) b
@@ -112,8 +111,7 @@ leads_through cc code r a y g h =
 -- what a first piece and then a run in a second do together
 pub leads_both : (cc code : List sock_filter) (r : List ℕ) (a x y : ℕ) → a < 2 ^ 32 → Leads cc r 0 a (length cc + x)
     → ((b : ℕ) → b < 2 ^ 32 → Leads code r x b y) → Leads (cc ++ code) r 0 a (length cc + y)
-leads_both cc code r a x y small g f =
-    let h = leads_second cc code r x g.accumulator y (f g.accumulator (stays_small cc r small g.goes)) in
+leads_both cc code r a x y small g f = let h = leads_second cc code r x g.accumulator y (f g.accumulator (stays_small cc r small g.goes)) in
     record { count = g.count + h.count; accumulator = h.accumulator; goes = goes_on (cc ++ code) r (goes_front cc code r g.goes) h.goes }
 
 -- one step and then a run

@@ -21,8 +21,7 @@ none_is_any P xs none (k, x, within, is, has) = none k x within (subst P (sym is
 
 -- What some item of a list has, some item of each permutation has.
 pub Any-permutation : {X : Type 0} (P : X → Type 0) (xs ys : List X) → IsPermutation xs ys → Any P xs → Any P ys
-Any-permutation P xs ys order (k, x, within, is, has) =
-    let there = Contains-permutation xs ys x order (k, within, is) in
+Any-permutation P xs ys order (k, x, within, is, has) = let there = Contains-permutation xs ys x order (k, within, is) in
     (there.0, x, there.1, there.2, has)
 
 -- Each item of a list has one property, or some item has the other.

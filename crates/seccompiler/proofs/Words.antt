@@ -9,10 +9,8 @@ use Rattle.seccompiler.specs.Machine.{IsRecord, word_at, number_at}
 
 -- a byte of a record is below 256
 byte_fits : (r : List ℕ) (k : ℕ) → IsRecord r → slice_index r k < 256
-byte_fits r k rec =
-    ⊎_elim (λ within. All-get_or (λ b. b < 256) r k 0 within rec.bytes)
-    (λ past. let e : slice_index r k ≡ 0 = get_or_past r k 0 past in omega arith)
-    (cases_lt k (length r))
+byte_fits r k rec = ⊎_elim (λ within. All-get_or (λ b. b < 256) r k 0 within rec.bytes)
+    (λ past. let e : slice_index r k ≡ 0 = get_or_past r k 0 past in omega arith) (cases_lt k (length r))
 
 -- a word of a record has 32 bits
 pub word_fits : (r : List ℕ) (k : ℕ) → IsRecord r → word_at r k < 2 ^ 32
@@ -20,15 +18,13 @@ word_fits r k rec = omega (arith, byte_fits r k rec, byte_fits r (k + 1) rec, by
 
 -- an eight-byte number is two words
 pub number_halves : (r : List ℕ) (k : ℕ) → number_at r k 8 ≡ word_at r k + 2 ^ 32 * word_at r (k + 4)
-number_halves r k =
-    let e : k + 1 + 1 + 1 + 1 ≡ k + 4 = omega arith in
+number_halves r k = let e : k + 1 + 1 + 1 + 1 ≡ k + 4 = omega arith in
     let same : word_at r (k + 1 + 1 + 1 + 1) ≡ word_at r (k + 4) = ap (λ n. word_at r n) e in
     omega (arith, same)
 
 -- a mask goes over the halves
 pub mask_halves : (x m : ℕ) → bit_and x m ≡ bit_and (x / 2 ^ 32) (m / 2 ^ 32) * 2 ^ 32 + bit_and (x % 2 ^ 32) (m % 2 ^ 32)
-mask_halves x m =
-    let ex : x ≡ x / 2 ^ 32 * 2 ^ 32 + x % 2 ^ 32 = omega arith in
+mask_halves x m = let ex : x ≡ x / 2 ^ 32 * 2 ^ 32 + x % 2 ^ 32 = omega arith in
     let em : m ≡ m / 2 ^ 32 * 2 ^ 32 + m % 2 ^ 32 = omega arith in
     ap (λ n. bit_and n m) ex ∙ ap (λ n. bit_and (x / 2 ^ 32 * 2 ^ 32 + x % 2 ^ 32) n) em
     ∙ and_block 32 (x / 2 ^ 32) (m / 2 ^ 32) (x % 2 ^ 32) (m % 2 ^ 32) (omega arith) (omega arith)

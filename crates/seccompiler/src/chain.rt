@@ -1,9 +1,9 @@
 // The rules of one call number, and their code.
 
-ghost use Rattle.std.specs.Prelude.{◌≡◌, ◌≤◌, ◌+◌, ◌↔◌, [], ◌∷◌, pos, min, length, take, IsTrue, IsNone, IfOk, IfSome, IsOkUnless};
+ghost use Rattle.std.specs.Prelude.{◌≡◌, ◌≤◌, ◌+◌, ◌↔◌, [], ◌∷◌, pos, length, take, IsNone, IfOk, IfSome, IsOkUnless};
 ghost use Rattle.std.specs.BTreeMap.{keys};
 ghost use Rattle.seccompiler.specs.Machine.{greatest_length};
-ghost use Rattle.seccompiler.specs.Policy.{IsCallNumber, ChainMatches};
+ghost use Rattle.seccompiler.specs.Policy.{IsCallNumber};
 ghost use Rattle.seccompiler.specs.Layout.{rule_length, rules_length};
 ghost use Rattle.seccompiler.specs.Compiled.{AreCallNumbers, IsLeastUnfit};
 ghost use Rattle.seccompiler.specs.ChainCode.{IsRulesCode};
@@ -23,33 +23,6 @@ pub(crate) fn unfit_number(rules: &BTreeMap<i64, Vec<SeccompRule>>) -> Option<i6
         }
     }
     None
-}
-
-/// Whether a rule of the chain holds for the call of this record, or the chain has none.
-pub(crate) fn chain_matches(chain: &[SeccompRule], call: &[u8; 64]) -> bool
-    ensures { IsTrue result ↔ ChainMatches chain.now call.now }
-{
-    if chain.is_empty() {
-        return true;
-    }
-    for rule in chain {
-        if rule.holds(call) {
-            return true;
-        }
-    }
-    false
-}
-
-/// How many instructions the rules of the chain take, each with its return, or `usize::MAX` if that
-/// is less.
-pub(crate) fn rules_len(chain: &[SeccompRule]) -> usize
-    ensures { result ≡ min (rules_length chain.now) usize.MAX }
-{
-    let mut length: usize = 0;
-    for rule in chain {
-        length = length.saturating_add(rule.code_len()).saturating_add(1);
-    }
-    length
 }
 
 /// The call number as a record has it.

@@ -50,10 +50,10 @@ impl fmt::Display for Error {
                 f,
                 "Seccomp filter synchronization failed in thread `{thread}`"
             ),
-            Error::JsonFrontend(error) => {
-                f.write_str("Json Frontend error: ")?;
-                fmt::Display::fmt(error, f)
-            }
+            Error::JsonFrontend(error) => match f.write_str("Json Frontend error: ") {
+                Ok(()) => fmt::Display::fmt(error, f),
+                Err(refused) => Err(refused),
+            },
             Error::OutOfMemory => f.write_str("Out of memory."),
         }
     }

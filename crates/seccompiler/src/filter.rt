@@ -2,7 +2,6 @@
 
 use crate::backend::{BackendError, SeccompAction, TargetArch};
 use crate::bpf::{SECCOMP_DATA_ARCH_OFFSET, SECCOMP_DATA_NR_OFFSET};
-use crate::chain::chain_matches;
 use crate::equality::EqualByParts;
 use crate::record::word_at;
 use crate::rule::SeccompRule;
@@ -159,10 +158,15 @@ impl SeccompFilter {
         ensures { IsTrue result ↔ Matches self.now call.now }
     {
         let number = word_at(call, SECCOMP_DATA_NR_OFFSET as usize);
-        match self.rules.get(&i64::from(number)) {
-            Some(chain) => chain_matches(chain, call),
-            None => false,
+        let Some(chain) = self.rules.get(&i64::from(number)) else {
+            return false;
+        };
+        for rule in chain {
+            if rule.holds(call) {
+                return true;
+            }
         }
+        chain.is_empty()
     }
 }
 

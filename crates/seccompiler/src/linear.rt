@@ -13,7 +13,7 @@ use crate::bpf::{
     BPF_MAX_LEN, BpfProgram, SECCOMP_DATA_NR_OFFSET, jump_if_equal, jump_over, load_word,
     return_word, sock_filter,
 };
-use crate::chain::{call_number, rules_len, unfit_number, write_rules};
+use crate::chain::{call_number, unfit_number, write_rules};
 use crate::filter::SeccompFilter;
 use crate::rule::SeccompRule;
 use std::alloc::Global;
@@ -146,14 +146,18 @@ impl SeccompFilter {
     }
 }
 
-/// How many instructions the chain takes, or `usize::MAX` if that is less.
-pub(crate) fn chain_len(chain: &[SeccompRule]) -> usize
+// How many instructions the chain takes, or `usize::MAX` if that is less.
+fn chain_len(chain: &[SeccompRule]) -> usize
     ensures { result ≡ min (chain_length chain.now) usize.MAX }
 {
     if chain.is_empty() {
         return EMPTY_CHAIN_LEN;
     }
-    rules_len(chain).saturating_add(CHAIN_ENDS)
+    let mut length = CHAIN_ENDS;
+    for rule in chain {
+        length = length.saturating_add(rule.code_len()).saturating_add(1);
+    }
+    length
 }
 
 /// Fills the part with the code of the chains, in ascending order of call numbers.

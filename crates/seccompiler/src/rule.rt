@@ -189,11 +189,7 @@ impl Clone for SeccompRule {
     ghost is_clone = { λ rule copy. copy ≡ rule };
 
     fn clone(&self) -> Result<SeccompRule, AllocError> {
-        match self
-            .conditions
-            .as_slice()
-            .to_vec(*self.conditions.allocator())
-        {
+        match self.conditions.clone() {
             Ok(copied) => Ok(SeccompRule { conditions: copied }),
             Err(refused) => Err(refused),
         }

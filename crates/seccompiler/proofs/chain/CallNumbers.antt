@@ -40,8 +40,7 @@ above_behind (x ∷ front) z back ascends = above_behind front z back (sorted_ta
 
 -- What compares as less is at most.
 le_if_less : (x y : ℤ) → int_cmp x y ≡ Less → x ≤ℤ y
-le_if_less x y less =
-    let below : x <ℤ y = subst (λ o. MatchOrdering o (x <ℤ y) (x ≡ y) (y <ℤ x)) less (int_ranks x y) in
+le_if_less x y less = let below : x <ℤ y = subst (λ o. MatchOrdering o (x <ℤ y) (x ≡ y) (y <ℤ x)) less (int_ranks x y) in
     omega (arith, ints)
 
 -- The one number of a list is at least itself.

@@ -39,24 +39,20 @@ any_only P q any = ⊎_elim (λ here. here) (λ later. absurd (any_nil P later))
 
 -- some rule of a chain with one rule more
 any_front : (P : Rule → Type 0) (chain : Chain) (q : Rule) → Any P chain → Any P (chain ++ q ∷ [])
-any_front P chain q h =
-    let len = length-append chain (q ∷ []) in
+any_front P chain q h = let len = length-append chain (q ∷ []) in
     (h.0, h.1, omega (arith, h.2, len), get_or_append_left chain (q ∷ []) h.1 h.0 h.2 ∙ h.3, h.4)
 
 any_split : (P : Rule → Type 0) (chain : Chain) (q : Rule) → Any P (chain ++ q ∷ []) → (Any P chain) ⊎ (P q)
-any_split P chain q h =
-    let len = length-append chain (q ∷ []) in
+any_split P chain q h = let len = length-append chain (q ∷ []) in
     ⊎_elim (λ lt. inl (h.0, h.1, lt, sym (get_or_append_left chain (q ∷ []) h.1 h.0 lt) ∙ h.3, h.4))
     (λ le.
-    let at : length chain ≡ h.0 = omega (arith, h.2, len) in
-    let same : h.1 ≡ q = sym h.3 ∙ get_or_push chain q h.1 h.0 at in
+    let at : length chain ≡ h.0 = omega (arith, h.2, len) in let same : h.1 ≡ q = sym h.3 ∙ get_or_push chain q h.1 h.0 at in
     inr (subst P same h.4))
     (cases_lt h.0 (length chain))
 
 -- the code of a rule and its return
 pub with_return : (q : Rule) (w : ℕ) (own : List sock_filter) → w < 2 ^ 32 → IsRuleCode q own → IsRulesCode (q ∷ []) w (own ++ give w ∷ [])
-with_return q w own fits h =
-    let p = own ++ give w ∷ [] in
+with_return q w own fits h = let p = own ++ give w ∷ [] in
     let len : length p ≡ length own + 1 = length-append own (give w ∷ []) in
     record {
       long = omega (arith, h.long);
@@ -81,8 +77,7 @@ with_return q w own fits h =
 rules_more : (chain : Chain) (w : ℕ) (code one : List sock_filter) (q : Rule) → IsRulesCode (q ∷ []) w one → IsRulesCode chain w code
     → IsRulesCode (chain ++ q ∷ []) w (code ++ one)
 unfolding leads_front
-rules_more chain w code one q last h =
-    let p = code ++ one in
+rules_more chain w code one q last h = let p = code ++ one in
     let len : length p ≡ length code + length one = length-append code one in
     record {
       long = omega (arith, h.long, last.long, sum_by_push (λ rule. rule_length rule + 1) chain q);
@@ -92,8 +87,7 @@ rules_more chain w code one q last h =
       enters = λ r rec a small.
           ⊎_elim (λ t. inl (any_front (λ x. RuleHolds x r) chain q t.0, returns_front code one r 0 a w t.1))
           (λ t.
-          let g = leads_front code one r 0 a (length code) t.1 in
-          let fits = stays_small code r small t.1.goes in
+          let g = leads_front code one r 0 a (length code) t.1 in let fits = stays_small code r small t.1.goes in
           ⊎_elim (λ u. inl (Any-push (λ x. RuleHolds x r) chain q (any_only (λ x. RuleHolds x r) q u.0), returns_back code one r a w g u.1))
           (λ u. inr (
             λ any. ⊎_elim t.0 (λ h. u.0 (any_head (λ x. RuleHolds x r) q [] h)) (any_split (λ x. RuleHolds x r) chain q any),
@@ -122,7 +116,6 @@ rules_all chain i w code past h = subst (λ x. IsRulesCode x w code) (take_all i
 -- there is room for a further rule
 pub rules_room : (chain : Chain) (i start : ℕ) (q : Rule) → i < length chain → q ≡ get_or chain i q
     → start ≡ rules_length (take i chain) → start + rule_length q + 1 ≤ rules_length chain
-rules_room chain i start q within is e =
-    let f = λ (rule : Rule). rule_length rule + 1 in
+rules_room chain i start q within is e = let f = λ (rule : Rule). rule_length rule + 1 in
     let whole = ap rules_length (around chain i q within is) in
     omega (arith, whole, sum_by-append f (take i chain) (q ∷ drop (i + 1) chain), sum_by-cons f q (drop (i + 1) chain))

@@ -58,8 +58,7 @@ module _ (low v d x X Y : ℕ) (r : List ℕ) (within : low + 8 ≤ length r) (f
       (then_step (then_step (then_step g t.1) s.1) (on_load p r 3 Y low X refl (omega arith) fits_Y fits_X is_X)) (test_low s.0))
       (λ s. let k = then_step (then_step g t.1) s.1 in
       ⊎_elim (λ u. inl (u.0, arrive p r 5 k u.1)) (λ u. inr (u.0, arrive p r (5 + d) k u.1)) (less (omega (arith, s.0))))
-      (on_equal p r 2 Y (v / 2 ^ 32) 0 down refl fits_Y))
-      (on_greater p r 1 Y (v / 2 ^ 32) up 0 refl fits_Y)
+      (on_equal p r 2 Y (v / 2 ^ 32) 0 down refl fits_Y)) (on_greater p r 1 Y (v / 2 ^ 32) up 0 refl fits_Y)
 
   pub comparison_exits : (len : SeccompCmpArgLen) (op : SeccompCmpOp)
       → Exits (comparison_code len op low v d) d r a (Compares (operator_part len op) (part_of len x) (part_of len v))
@@ -69,30 +68,25 @@ module _ (low v d x X Y : ℕ) (r : List ℕ) (within : low + 8 ≤ length r) (f
   comparison_exits Dword Gt = low_half _ _ (reworded (λ e. omega arith) (λ n h. omega arith) (on_greater _ r 1 X _ 0 d refl fits_X))
   comparison_exits Dword Le = low_half _ _ (turned (λ e h. omega arith) (λ n. omega arith) (on_greater _ r 1 X _ d 0 refl fits_X))
   comparison_exits Dword Lt = low_half _ _ (turned (λ e h. omega arith) (λ n. omega arith) (on_at_least _ r 1 X _ d 0 refl fits_X))
-  comparison_exits Dword (MaskedEq m) =
-      let p = comparison_code Dword (MaskedEq m) low v d in
-      let M = m % 2 ^ 32 in
-      let e : x % 2 ^ 32 ≡ X = omega arith in
+  comparison_exits Dword (MaskedEq m) = let p = comparison_code Dword (MaskedEq m) low v d in
+      let M = m % 2 ^ 32 in let e : x % 2 ^ 32 ≡ X = omega arith in
       let same : bit_and (x % 2 ^ 32) M ≡ bit_and X M = ap (λ n. bit_and n M) e in
       let g = then_step (then_step stays (on_load p r 0 a low X refl (omega arith) small fits_X is_X)) (on_mask p r 1 X M refl fits_X) in
       tested p _ g (reworded (λ e. same ∙ e) (λ n h. n (sym same ∙ h))
       (on_equal p r 2 (bit_and X M) (bit_and (v % 2 ^ 32) M) 0 d refl (omega (arith, and_le_l X M))))
-  comparison_exits Qword Eq =
-      let p = comparison_code Qword Eq low v d in
+  comparison_exits Qword Eq = let p = comparison_code Qword Eq low v d in
       let g = then_step stays (on_load p r 0 a (low + 4) Y refl (omega arith) small fits_Y is_Y) in
       ⊎_elim (λ t.
       let k = then_step (then_step g t.1) (on_load p r 2 Y low X refl (omega arith) fits_Y fits_X is_X) in
       tested p _ k (reworded (λ u. omega arith) (λ u h. u (omega arith)) (on_equal p r 3 X (v % 2 ^ 32) 0 d refl fits_X)))
       (λ t. inr (λ h. t.0 (omega arith), arrive p r (4 + d) (then_step g t.1) (omega arith)))
       (on_equal p r 1 Y (v / 2 ^ 32) 0 (d + 2) refl fits_Y)
-  comparison_exits Qword Ne =
-      let p = comparison_code Qword Ne low v d in
+  comparison_exits Qword Ne = let p = comparison_code Qword Ne low v d in
       let g = then_step stays (on_load p r 0 a (low + 4) Y refl (omega arith) small fits_Y is_Y) in
       ⊎_elim (λ t.
       let k = then_step (then_step g t.1) (on_load p r 2 Y low X refl (omega arith) fits_Y fits_X is_X) in
       tested p _ k (turned (λ u h. h (omega arith)) (λ u h. u (omega arith)) (on_equal p r 3 X (v % 2 ^ 32) d 0 refl fits_X)))
-      (λ t. inl (λ h. t.0 (omega arith), arrive p r 4 (then_step g t.1) refl))
-      (on_equal p r 1 Y (v / 2 ^ 32) 0 2 refl fits_Y)
+      (λ t. inl (λ h. t.0 (omega arith), arrive p r 4 (then_step g t.1) refl)) (on_equal p r 1 Y (v / 2 ^ 32) 0 2 refl fits_Y)
   comparison_exits Qword Ge = halves 3 (d + 2) _ _ (λ t. inl (omega arith, refl)) (λ t. inr (λ h. omega arith, omega arith))
       (λ s. reworded (λ u. omega arith) (λ u h. omega arith) (on_at_least _ r 4 X (v % 2 ^ 32) 0 d refl fits_X))
   comparison_exits Qword Gt = halves 3 (d + 2) _ _ (λ t. inl (omega arith, refl)) (λ t. inr (λ h. omega arith, omega arith))
@@ -101,14 +95,9 @@ module _ (low v d x X Y : ℕ) (r : List ℕ) (within : low + 8 ≤ length r) (f
       (λ s. turned (λ u h. omega arith) (λ u. omega arith) (on_greater _ r 4 X (v % 2 ^ 32) d 0 refl fits_X))
   comparison_exits Qword Lt = halves (d + 3) 2 _ _ (λ t. inr (λ h. omega arith, omega arith)) (λ t. inl (omega arith, refl))
       (λ s. turned (λ u h. omega arith) (λ u. omega arith) (on_at_least _ r 4 X (v % 2 ^ 32) d 0 refl fits_X))
-  comparison_exits Qword (MaskedEq m) =
-      let p = comparison_code Qword (MaskedEq m) low v d in
-      let M = m % 2 ^ 32 in
-      let N = m / 2 ^ 32 in
-      let V = v % 2 ^ 32 in
-      let W = v / 2 ^ 32 in
-      let eX : x % 2 ^ 32 ≡ X = omega arith in
-      let eY : x / 2 ^ 32 ≡ Y = omega arith in
+  comparison_exits Qword (MaskedEq m) = let p = comparison_code Qword (MaskedEq m) low v d in
+      let M = m % 2 ^ 32 in let N = m / 2 ^ 32 in let V = v % 2 ^ 32 in
+      let W = v / 2 ^ 32 in let eX : x % 2 ^ 32 ≡ X = omega arith in let eY : x / 2 ^ 32 ≡ Y = omega arith in
       let of_x : bit_and x m ≡ bit_and Y N * 2 ^ 32 + bit_and X M = rw (eX, eY) at (mask_halves x m) in
       let of_v : bit_and v m ≡ bit_and W N * 2 ^ 32 + bit_and V M = mask_halves v m in
       let small_X : bit_and X M < 2 ^ 32 = omega (arith, and_le_l X M) in

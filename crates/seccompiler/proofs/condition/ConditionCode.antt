@@ -71,8 +71,7 @@ pub written_meets : {view c : Condition} {d : ℕ} {part : List sock_filter} →
     → view.arg_index ≤ 5 → part ≡ condition_code c d → AreInRange part → IsConditionCode c d part
 written_meets {view} {c} {d} same is_argument written ranges =
     let small : c.arg_index ≤ 5 = subst (λ x. x.arg_index ≤ 5) same is_argument in
-    let low = 16 + 8 * c.arg_index in
-    subst (λ code. IsConditionCode c d code) (sym written) record {
+    let low = 16 + 8 * c.arg_index in subst (λ code. IsConditionCode c d code) (sym written) record {
       long = length-comparison_code c.arg_len c.operator low c.value d;
       ranges = subst AreInRange written ranges;
       closed = closed_from (condition_code c d) _ (inside_code low c.value d (omega arith) (omega arith) c.arg_len c.operator);

@@ -1,16 +1,17 @@
 -- For `SeccompFilter::clone` and `SeccompFilter::matches`: the chains that a map holds: copied with it, and found under their
 -- keys.
 use Rattle.std.proofs.Common.{◌≡◌, ◌↔◌, ℕ, ℤ, pos, List, [], ◌∷◌, Vec, vec_len, Global, Bool, false, Option, Some, None}
-use Rattle.std.proofs.Common.{option_map, refl, sym, ap, ◌∙◌, subst}
+use Rattle.std.proofs.Common.{All, nat_eq, length, inl, ⊎_elim, arith, option_map, refl, sym, ap, ◌∙◌, subst}
 use Rattle.std.specs.Prelude.{IsTrue}
 use Rattle.std.specs.List.{AllZip, each_same}
 use Rattle.std.specs.Ordering.{int_cmp}
 use Rattle.std.specs.Map.{lookup}
 use Rattle.std.specs.BTreeMap.{is_at}
 use Rattle.std.proofs.lemmas.Map.Made.{lookup-map_values}
-use Rattle.std.proofs.lemmas.Bool.{false≢true}
+use Rattle.std.proofs.lemmas.Bool.{false≢true, eqb-true}
 use Rattle.seccompiler.specs.Machine.{word_at}
-use Rattle.seccompiler.specs.Policy.{Rule, Chain, Filter, chains_of, chain_under, ChainMatches, Matches}
+use Rattle.seccompiler.specs.Policy.{Rule, Chain, Filter, RuleHolds, chains_of, chain_under, ChainMatches, Matches}
+use Rattle.seccompiler.proofs.Searches.{none_is_any}
 
 -- The chains of a map's copy are the map's.
 pub copied_chains : (xs ys : List (ℤ × Vec Rule Global))
@@ -43,3 +44,12 @@ matches_by_chain f r chain b there iff = (
 -- Where there is none, it doesn't.
 pub differs_without_chain : (f : Filter) (r : List ℕ) → chain_under f.chains (word_at r 0) ≡ None → IsTrue false ↔ Matches f r
 differs_without_chain f r none = (λ e. absurd (false≢true e), λ matches. let e : None ≡ Some matches.chain = sym none ∙ matches.there in cc)
+
+-- A chain of which no rule holds matches exactly if it is empty.
+pub empty_or_any : (chain : Chain) (r : List ℕ) (empty : Bool) → empty ≡ nat_eq (length chain) 0
+    → All (λ rule. RuleHolds rule r → ⊥) chain → IsTrue empty ↔ ChainMatches chain r
+empty_or_any [] r empty tested none = (λ _. inl refl, λ _. tested)
+empty_or_any (q ∷ chain) r empty tested none = (
+  λ e. absurd (let zero = eqb-true (length (q ∷ chain)) 0 (sym tested ∙ e) in omega (arith, zero)),
+  λ matches. absurd (⊎_elim (λ empty. cc) (none_is_any (λ rule. RuleHolds rule r) (q ∷ chain) none) matches),
+)

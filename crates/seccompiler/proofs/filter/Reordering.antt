@@ -40,8 +40,7 @@ same_condition c r s same holds =
 
 -- A rule holds in any order of its conditions, on any record of the call.
 same_rule : (q q' : Rule) (r s : List ℕ) → IsPermutation q q' → IsSameCall r s → RuleHolds q r → RuleHolds q' s
-same_rule q q' r s order same holds =
-    All-permutation (λ c. Holds c s) q q' order
+same_rule q q' r s order same holds = All-permutation (λ c. Holds c s) q q' order
     (All-weaker (λ c. Holds c r) (λ c. Holds c s) (λ c. same_condition c r s same) q holds)
 
 -- A chain matches in any order of its rules.
@@ -76,8 +75,7 @@ chain_matches_back chain chain' r s order same matches =
 lookup_step : {X : Type 0} (S : X → X → Type 0) (b : Bool) (v v' : X) (rest rest' : Option X) (x : X) → S v v'
     → (rest ≡ Some x → (y : X) × (rest' ≡ Some y) × S x y) → cond b (Some v) rest ≡ Some x
     → (y : X) × (cond b (Some v') rest' ≡ Some y) × S x y
-lookup_step S true v v' rest rest' x pair more found =
-    let is : v ≡ x = cc in (v', refl, subst (λ z. S z v') is pair)
+lookup_step S true v v' rest rest' x pair more found = let is : v ≡ x = cc in (v', refl, subst (λ z. S z v') is pair)
 lookup_step S false v v' rest rest' x pair more found = more found
 
 -- Where the entries of two lists, place by place, have one key and related values, look-ups find related values.
@@ -95,8 +93,7 @@ lookup_all_zip R S test (e ∷ es) (e' ∷ es') x parts pairs found = let pair =
 matches_by_entries : (R : ℤ × Chain → ℤ × Chain → Type 0) (f g : Filter) (r s : List ℕ)
     → ((e e' : ℤ × Chain) → R e e' → (e.0 ≡ e'.0) × (ChainMatches e.1 r → ChainMatches e'.1 s))
     → AllZip R f.chains g.chains → IsSameCall r s → Matches f r → Matches g s
-matches_by_entries R f g r s parts pairs same matches =
-    let number = word_at r 0 in
+matches_by_entries R f g r s parts pairs same matches = let number = word_at r 0 in
     let found = lookup_all_zip R (λ chain chain'. ChainMatches chain r → ChainMatches chain' s)
     (is_at (int_cmp (pos number))) f.chains g.chains matches.chain parts pairs matches.there in
     record {
@@ -107,15 +104,12 @@ matches_by_entries R f g r s parts pairs same matches =
 
 -- A reordered filter matches where the first does, on any record of the call.
 reordered_matches : (f g : Filter) (r s : List ℕ) → IsReordered f g → IsSameCall r s → Matches f r → Matches g s
-reordered_matches f g r s order same =
-    matches_by_entries IsReorderedEntry f g r s
-    (λ e e' pair. (pair.number, chain_matches e.1 e'.1 r s pair.chain same))
-    order.chains same
+reordered_matches f g r s order same = matches_by_entries IsReorderedEntry f g r s
+    (λ e e' pair. (pair.number, chain_matches e.1 e'.1 r s pair.chain same)) order.chains same
 
 -- The first filter matches where a reordered one does, on any record of the call.
 reordered_matches_back : (f g : Filter) (r s : List ℕ) → IsReordered f g → IsSameCall r s → Matches g s → Matches f r
-reordered_matches_back f g r s order same =
-    matches_by_entries (λ e' e. IsReorderedEntry e e') g f s r
+reordered_matches_back f g r s order same = matches_by_entries (λ e' e. IsReorderedEntry e e') g f s r
     (λ e' e pair. (sym pair.number, chain_matches_back e.1 e'.1 r s pair.chain same))
     (all_zip_back IsReorderedEntry (λ e' e. IsReorderedEntry e e') f.chains g.chains (λ e e' pair. pair) order.chains)
     (same_call_back r s same)

@@ -31,8 +31,7 @@ after_chains code own r a k w g x = (k + x.0, back_returns code own r a a k x.0 
 -- past the code so far, and then past one more
 past_chains : (code own : List sock_filter) (r : List ℕ) (a k m : ℕ) → Goes code r 0 a k (length code) a
     → Goes own r 0 a m (length own) a → Goes (code ++ own) r 0 a (k + m) (length (code ++ own)) a
-past_chains code own r a k m g h =
-    let p = code ++ own in
+past_chains code own r a k m g h = let p = code ++ own in
     let second = goes_as p r {x' = length code} (goes_shift p own r (length code) (stands_second code own) h) (omega arith) refl refl in
     goes_as p r (goes_on p r (goes_front code own r g) second) refl refl (sym (length-append code own))
 
@@ -44,14 +43,12 @@ dispatches_more chains mismatch matched n chain code own one r rec a small (in_c
     in_chain found (found_before chains (pos n, chain) a found there) (inl (t.0, returns_front code own r 0 a matched t.1))
 dispatches_more chains mismatch matched n chain code own one r rec a small (in_chain found there (inr t)) =
     in_chain found (found_before chains (pos n, chain) a found there) (inr (t.0, returns_front code own r 0 a mismatch t.1))
-dispatches_more chains mismatch matched n chain code own one r rec a small (no_chain none g) =
-    ⊎_elim (λ same.
+dispatches_more chains mismatch matched n chain code own one r rec a small (no_chain none g) = ⊎_elim (λ same.
     let there : chain_under (chains ++ (pos n, chain) ∷ []) a ≡ Some chain =
     subst (λ k. chain_under (chains ++ (pos k, chain) ∷ []) a ≡ Some chain) same (last_same chains a chain none) in
     in_chain chain there (⊎_elim
     (λ t. inl (t.0, after_chains code own r a _ matched g (subst (λ k. Returns own r 0 k matched) (sym same) t.1)))
-    (λ t. inr (t.0, after_chains code own r a _ mismatch g (subst (λ k. Returns own r 0 k mismatch) (sym same) t.1)))
-    (one.enters r rec)))
+    (λ t. inr (t.0, after_chains code own r a _ mismatch g (subst (λ k. Returns own r 0 k mismatch) (sym same) t.1))) (one.enters r rec)))
     (λ differs.
     let steps = sym (sum_by_push (λ (e : Entry). chain_steps e.1) chains (pos n, chain)) in
     no_chain (last_other chains a n chain differs none)
@@ -84,8 +81,7 @@ chains_step done mismatch matched n k chain items code own code' ek ei one ec h 
 -- there is room for the chain of an entry that is left
 pub chains_room : (entries done rest t : List MapEntry) (e : MapEntry) (start : ℕ) → rest ≡ e ∷ t → done ++ rest ≡ entries
     → start ≡ chains_length (chains_of done) → start + chain_length e.1.items ≤ chains_length (chains_of entries)
-chains_room entries done rest t e start er ee es =
-    let f = λ (x : Entry). chain_length x.1 in
+chains_room entries done rest t e start er ee es = let f = λ (x : Entry). chain_length x.1 in
     let same : entries ≡ done ++ e ∷ t = sym ee ∙ ap (λ l. done ++ l) er in
     let mapped : chains_of entries ≡ chains_of done ++ (e.0, e.1.items) ∷ chains_of t =
     ap chains_of same ∙ map-append (λ (x : MapEntry). (x.0, x.1.items)) done (e ∷ t) in

@@ -34,8 +34,7 @@ audit_word_fits _ = omega arith
 
 -- a counted run from the start that returns ends
 pub ends_after : (p : List sock_filter) (r : List ℕ) (n w : ℕ) → ReturnsAfter p r 0 0 n w → Ends p r (n + 1) w
-ends_after p r n w h =
-    let z : n + 1 - 1 ≡ n = omega arith in
+ends_after p r n w h = let z : n + 1 - 1 ≡ n = omega arith in
     record {
       place = h.to;
       accumulator = h.accumulator;
@@ -77,8 +76,7 @@ fine_inside i place m n le (inside_at_least c a b) = fine_at_least c (omega arit
 -- a block whose jumps stay within it, with a return behind it, is a checked program
 pub checked_of : (front : List sock_filter) (w : ℕ) → AreInRange (front ++ give w ∷ [])
     → IsBlock (front ++ give w ∷ []) (length front) → length front + 1 ≤ greatest_length → IsChecked (front ++ give w ∷ [])
-checked_of front w ranges block short =
-    let p = front ++ give w ∷ [] in
+checked_of front w ranges block short = let p = front ++ give w ∷ [] in
     let len : length p ≡ length front + 1 = length-append front (give w ∷ []) in
     record {
       some = omega arith;
@@ -89,8 +87,7 @@ checked_of front w ranges block short =
       last = λ i here.
           let at : length p - 1 ≡ length front + 0 = omega arith in
           let same = sym (get_behind front (give w ∷ []) 0 (give w) refl) ∙ rw at at here in
-          let found : give w ≡ i = cc in
-          ap (λ (x : sock_filter). x.code) (sym found);
+          let found : give w ≡ i = cc in ap (λ (x : sock_filter). x.code) (sym found);
     }
 
 module _ (f : Filter) where
@@ -108,13 +105,11 @@ module _ (f : Filter) where
   load_in_range k h = record { code = omega arith; jt = omega arith; jf = omega arith; k = omega arith }
 
   pub guard_ranges : AreInRange guard
-  guard_ranges =
-      let test = test_in_range arch_word 1 0 (audit_word_fits f.target_arch) (omega arith) (omega arith) in
+  guard_ranges = let test = test_in_range arch_word 1 0 (audit_word_fits f.target_arch) (omega arith) (omega arith) in
       ranges_from guard (load_in_range 4 (omega arith), (test, (give_in_range 0x80000000 (omega arith), tt)))
 
   pub guard_block : IsBlock guard 3
-  guard_block =
-      let test = block_one (jump_equal arch_word 1 0) 2 (inside_equal refl (omega arith) (omega arith)) in
+  guard_block = let test = block_one (jump_equal arch_word 1 0) 2 (inside_equal refl (omega arith) (omega arith)) in
       block_join (load 4 ∷ []) (jump_equal arch_word 1 0 ∷ give 0x80000000 ∷ []) 3 2 3 (block_one _ 3 (inside_load refl refl (omega arith)))
       (block_join (jump_equal arch_word 1 0 ∷ []) (give 0x80000000 ∷ []) 2 1 2 test (block_give 0x80000000 1) (omega arith) (omega arith))
       (omega arith) (omega arith)
@@ -123,8 +118,7 @@ module _ (f : Filter) where
   pub guarded : (back : List sock_filter) (r : List ℕ) → IsRecord r
       → ((word_at r 4 ≡ arch_word) × Goes (guard ++ back) r 0 0 2 3 (word_at r 4))
       ⊎ ((word_at r 4 ≢ arch_word) × Goes (guard ++ back) r 0 0 2 2 (word_at r 4))
-  guarded back r rec =
-      let p = guard ++ back in
+  guarded back r rec = let p = guard ++ back in
       let fits = word_fits r 4 rec in
       let g = then_step stays (on_load p r 0 0 4 (word_at r 4) refl (omega (arith, rec.long)) (omega arith) fits refl) in
       ⊎_elim (λ t. inl (t.0, then_step g t.1)) (λ t. inr (t.0, then_step g t.1)) (on_equal p r 1 (word_at r 4) arch_word 1 0 refl fits)
@@ -133,8 +127,7 @@ module _ (f : Filter) where
   pub decides : (back : List sock_filter) (r : List ℕ) → IsRecord r
       → (word_at r 4 ≡ arch_word → Goes (guard ++ back) r 0 0 2 3 (word_at r 4) → EndsAtDecision f (guard ++ back) r)
       → EndsAtDecision f (guard ++ back) r
-  decides back r rec own =
-      ⊎_elim (λ t. own t.0 t.1)
+  decides back r rec own = ⊎_elim (λ t. own t.0 t.1)
       (λ t. decided_at f (guard ++ back) r 2 0x80000000
       record { to = 2; accumulator = word_at r 4; instruction = give 0x80000000; goes = t.1; here = refl; returns = refl; value = refl }
       (other_architecture t.0 refl))
@@ -151,16 +144,14 @@ module _ (f : Filter) where
 
   -- so the program decides as the code answers
   pub head_decides : (body : List sock_filter) (r : List ℕ) → IsRecord r → Answered f body r → EndsAtDecision f (head ++ body) r
-  head_decides body r rec x =
-      decides (load 0 ∷ body) r rec
+  head_decides body r rec x = decides (load 0 ∷ body) r rec
       (λ same g. decided_at f (head ++ body) r (3 + x.count) x.word (returns_behind_head body r x.count x.word rec g x.returns)
       (x.decision same))
 
   -- and may be run
   pub head_checked : (front : List sock_filter) (w : ℕ) → AreInRange (front ++ give w ∷ []) → IsBlock (front ++ give w ∷ []) (length front)
       → length front + 5 ≤ greatest_length → IsChecked (head ++ (front ++ give w ∷ []))
-  head_checked front w ranges block short =
-      let body = front ++ give w ∷ [] in
+  head_checked front w ranges block short = let body = front ++ give w ∷ [] in
       let len : length (head ++ front) ≡ 4 + length front = length-append head front in
       let head_block : IsBlock head 4 =
       block_join guard (load 0 ∷ []) 3 1 4 guard_block (block_one _ 1 (inside_load refl refl (omega arith))) (omega arith) (omega arith) in

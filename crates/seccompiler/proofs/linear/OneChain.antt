@@ -25,8 +25,7 @@ on_others p r n a here small differs =
 module _ (n mismatch matched : ℕ) (fits : n < 2 ^ 32) (fits_mismatch : mismatch < 2 ^ 32) (fits_matched : matched < 2 ^ 32) where
   -- a chain without rules
   empty_chain : IsChainCode n [] mismatch matched (jump_equal n 0 1 ∷ jump 1 ∷ jump 2 ∷ give matched ∷ give mismatch ∷ [])
-  empty_chain =
-      let p = jump_equal n 0 1 ∷ jump 1 ∷ jump 2 ∷ give matched ∷ give mismatch ∷ [] in
+  empty_chain = let p = jump_equal n 0 1 ∷ jump 1 ∷ jump 2 ∷ give matched ∷ give mismatch ∷ [] in
       record {
         long = refl;
         ranges = ranges_from p (
@@ -61,11 +60,8 @@ module _ (n mismatch matched : ℕ) (fits : n < 2 ^ 32) (fits_mismatch : mismatc
       → IsRulesCode (q ∷ chain) matched rules → IsChainCode n (q ∷ chain) mismatch matched
       (jump_equal n 0 1 ∷ (rules ++ give mismatch ∷ []))
   unfolding leads_front
-  full_chain q chain rules h =
-      let head = jump_equal n 0 1 ∷ [] in
-      let last = give mismatch ∷ [] in
-      let both = rules ++ last in
-      let p = head ++ both in
+  full_chain q chain rules h = let head = jump_equal n 0 1 ∷ [] in
+      let last = give mismatch ∷ [] in let both = rules ++ last in let p = head ++ both in
       let len_both : length both ≡ length rules + 1 = length-append rules last in
       let len : length p ≡ 1 + (length rules + 1) = length-append head both ∙ ap (λ x. 1 + x) len_both in
       record {

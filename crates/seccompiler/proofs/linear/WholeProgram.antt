@@ -39,8 +39,7 @@ module _ (f : Filter) where
 
   -- the program of a filter without chains
   empty_program : f.chains ≡ [] → IsCompiled f (guard f ++ last)
-  empty_program none =
-      let p = guard f ++ last in
+  empty_program none = let p = guard f ++ last in
       record {
         long = sym (ap counted_length_of none);
         checked = checked_of (guard f) mismatch_word
@@ -57,8 +56,7 @@ module _ (f : Filter) where
   -- a number that leaves the chains comes to the return behind them
   passed : (chains : List sock_filter) (r : List ℕ) (a n : ℕ) → Goes chains r 0 a n (length chains) a
       → ReturnsAfter (chains ++ last) r 0 a n mismatch_word
-  passed chains r a n g =
-      let z : n ≡ n + 0 = omega arith in
+  passed chains r a n g = let z : n ≡ n + 0 = omega arith in
       rw z (back_returns chains last r a a n 0 mismatch_word (goes_front chains last r g) (gives mismatch_word [] r a))
 
   -- what the chains and the return behind them answer
@@ -90,10 +88,8 @@ module _ (f : Filter) where
       → chain_under f.chains (word_at r 0) ≡ None → Dispatches f.chains mismatch_word match_word chains r (word_at r 0)
       → Ends (head f ++ (chains ++ last)) r (passing_steps f) mismatch_word
   passes chains r rec same none (in_chain chain there returns) = let found = sym there ∙ none in absurd (cc)
-  passes chains r rec same none (no_chain there g) =
-      let p = head f ++ (chains ++ last) in
-      let n = chains_steps f.chains in
-      let steps : 3 + n + 1 ≡ passing_steps f = omega arith in
+  passes chains r rec same none (no_chain there g) = let p = head f ++ (chains ++ last) in
+      let n = chains_steps f.chains in let steps : 3 + n + 1 ≡ passing_steps f = omega arith in
       subst (λ k. Ends p r k mismatch_word) steps (ends_after p r (3 + n) mismatch_word
       (⊎_elim
       (λ t. returns_behind_head f (chains ++ last) r n mismatch_word rec t.1 (passed chains r (word_at r 0) n g))
@@ -102,8 +98,7 @@ module _ (f : Filter) where
 
   full_program : (chains : List sock_filter) → 0 < length f.chains → counted_length f ≤ greatest_length
       → IsChainsCode f.chains mismatch_word match_word chains → IsCompiled f (head f ++ (chains ++ last))
-  full_program chains some short h =
-      let sized = counted_some f.chains some in
+  full_program chains some short h = let sized = counted_some f.chains some in
       let len : length (chains ++ last) ≡ length chains + 1 = length-append chains last in
       record {
         long = omega (arith, length-append (head f) (chains ++ last), len, h.long);
@@ -126,8 +121,7 @@ pub written_full : (f : Filter) (entries : List (ℤ × Vec Rule Global)) (misma
 written_full f entries mismatch matched chains p w some short code e =
     let mapped = length-map {B = ℤ × Chain} entries (λ (x : ℤ × Vec Rule Global). (x.0, x.1.items)) in
     let some_chains : 0 < length f.chains = omega (arith, ap length w.chains, mapped) in
-    let own = rw (w.mismatch_is, w.matched_is, w.chains) at code in
-    rw (e, w.mismatch_is) (full_program f chains some_chains short own)
+    let own = rw (w.mismatch_is, w.matched_is, w.chains) at code in rw (e, w.mismatch_is) (full_program f chains some_chains short own)
 
 -- the program of a filter without chains, as it was written
 pub written_empty : (f : Filter) (entries : List (ℤ × Vec Rule Global)) (mismatch matched : ℕ) (p : List sock_filter)

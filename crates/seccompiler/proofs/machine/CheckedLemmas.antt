@@ -11,8 +11,7 @@ use Rattle.seccompiler.specs.Machine.{greatest_length, IsFine, IsInRange, IsChec
 pub one_more : (P : ℕ → sock_filter → Type 0) (p : List sock_filter) (j : ℕ) (default : sock_filter)
     → ((place : ℕ) → place < j → (i : sock_filter) → slice_get p place ≡ Some i → P place i)
     → P j (get_or p j default) → (place : ℕ) → place < j + 1 → (i : sock_filter) → slice_get p place ≡ Some i → P place i
-one_more P p j default below here =
-    below_more (λ place. (i : sock_filter) → slice_get p place ≡ Some i → P place i) j below
+one_more P p j default below here = below_more (λ place. (i : sock_filter) → slice_get p place ≡ Some i → P place i) j below
     (λ i found. subst (P j) (get_or_from_slice_get p j i default found) here)
 
 -- A program that isn't empty has an instruction.
@@ -37,8 +36,7 @@ checked_if p j default some few all_passed passed = (
 -- An instruction of a checked program that does not return is not the last.
 pub not_last : (p : List sock_filter) (place : ℕ) (default : sock_filter) → IsChecked p
     → place < length p → ((get_or p place default).code ≡ 6 → ⊥) → place + 1 < length p
-not_last p place default checked within goes_on =
-    ⊎_elim (λ before. before)
+not_last p place default checked within goes_on = ⊎_elim (λ before. before)
     (λ behind. let at : length p - 1 ≡ place = omega arith in
     absurd
     (goes_on (checked.last _ (subst (λ n. slice_get p n ≡ Some (get_or p place default))

@@ -39,8 +39,7 @@ more_closes_late group c late few front back d e = by (two_fronts group front (c
   where
     by : Fronts group front → total_size front < greatest_offset
     by (same f) = subst (λ l. total_size l < greatest_offset) f few
-    by (shorter x rest f) =
-        let split = length-append front (d ∷ back) in
+    by (shorter x rest f) = let split = length-append front (d ∷ back) in
         absurd (omega (arith, ap length e, ap length f, split, length-append group (c ∷ []), length-append group (x ∷ rest)))
     by (longer x rest f) = late front rest x f
 
@@ -71,8 +70,7 @@ full_cut group q groups some late many cut = record {
 -- The groups of a group that is begun and the conditions behind it are a cut of both.
 begun_cut : (group q : List Condition) → 1 ≤ length group → ClosesLate group → IsCutIntoGroups (group ++ q) (groups_from group q)
 begun_cut group [] some late = last_cut group some late
-begun_cut group (c ∷ q) some late =
-    by (nat_le greatest_offset (total_size group)) refl
+begun_cut group (c ∷ q) some late = by (nat_le greatest_offset (total_size group)) refl
     (begun_cut (c ∷ []) q (omega arith) (one_closes_late c))
     (λ few. begun_cut (group ++ c ∷ []) q (omega (arith, length-append group (c ∷ []))) (more_closes_late group c late few))
   where
@@ -110,8 +108,7 @@ cut_rest q group groups cut = record {
 -- The first group of a cut is no proper front of the first group of another cut of the same conditions.
 not_shorter : (q group other : List Condition) (groups others : List (List Condition)) (c : Condition) (back : List Condition)
     → IsCutIntoGroups q (group ∷ groups) → IsCutIntoGroups q (other ∷ others) → other ≡ group ++ c ∷ back → ⊥
-not_shorter q group other [] others c back cut another e =
-    let tail = length-append group (c ∷ back) in
+not_shorter q group other [] others c back cut another e = let tail = length-append group (c ∷ back) in
     let joined = ap length cut.joined in
     omega (arith, joined, ap length another.joined, ap length e, length-append group [], length-append other (join others), tail)
 not_shorter q group other (next ∷ groups) others c back cut another e =
@@ -121,8 +118,7 @@ not_shorter q group other (next ∷ groups) others c back cut another e =
 
 -- A cut into no groups and a cut into some are not of the same conditions.
 not_empty : (q group : List Condition) (groups : List (List Condition)) → IsCutIntoGroups q [] → IsCutIntoGroups q (group ∷ groups) → ⊥
-not_empty q group groups none cut =
-    let some = All-head (λ g. 1 ≤ length g) group groups cut.some in
+not_empty q group groups none cut = let some = All-head (λ g. 1 ≤ length g) group groups cut.some in
     omega (arith, ap length none.joined, ap length cut.joined, length-append group (join groups), some)
 
 -- Two cuts of the same conditions are equal.
@@ -152,8 +148,7 @@ cut_small : (q : List Condition) (groups : List (List Condition)) → IsCutIntoG
     → greatest_offset * (length groups - 1) ≤ total_size q
 cut_small q [] cut = omega arith
 cut_small q (group ∷ []) cut = omega arith
-cut_small q (group ∷ next ∷ groups) cut =
-    let many : greatest_offset ≤ total_size group = cut.full [] groups group next refl in
+cut_small q (group ∷ next ∷ groups) cut = let many : greatest_offset ≤ total_size group = cut.full [] groups group next refl in
     let rest = cut_small (join (next ∷ groups)) (next ∷ groups) (cut_rest q group (next ∷ groups) cut) in
     let total : total_size q ≡ total_size group + total_size (join (next ∷ groups)) =
     ap (λ l. total_size l) (sym cut.joined) ∙ sum_by-append size_of group (join (next ∷ groups)) in

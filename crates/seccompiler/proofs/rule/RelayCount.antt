@@ -17,15 +17,13 @@ pub data Cutting (q : List Condition) (o k : ℕ) : Type 0 where
 -- a group goes on
 goes_into : (group rest : List Condition) (c : Condition) → total_size group < greatest_offset
     → groups_from group (c ∷ rest) ≡ groups_from (group ++ c ∷ []) rest
-goes_into group rest c few =
-    let not_full : nat_le greatest_offset (total_size group) ≡ false = grind (arith, nat_tests) in
+goes_into group rest c few = let not_full : nat_le greatest_offset (total_size group) ≡ false = grind (arith, nat_tests) in
     ap (λ b. if b then group ∷ groups_from (c ∷ []) rest else groups_from (group ++ c ∷ []) rest) not_full
 
 -- a group closes
 closes_at : (group rest : List Condition) (c : Condition) → greatest_offset ≤ total_size group
     → groups_from group (c ∷ rest) ≡ group ∷ groups_from (c ∷ []) rest
-closes_at group rest c many =
-    let is_full : nat_le greatest_offset (total_size group) ≡ true = grind (arith, nat_tests) in
+closes_at group rest c many = let is_full : nat_le greatest_offset (total_size group) ≡ true = grind (arith, nat_tests) in
     ap (λ b. if b then group ∷ groups_from (c ∷ []) rest else groups_from (group ++ c ∷ []) rest) is_full
 
 -- one condition more, in the group that is begun
@@ -33,8 +31,7 @@ pub cutting_more : (q : List Condition) (o k : ℕ) (c : Condition) → o ≤ gr
     → Cutting q o k → Cutting (q ++ c ∷ []) (o + size_of c) k
 cutting_more q o k c room (none e eo ek) =
     begun [] (c ∷ []) (λ rest. ap (λ l. groups_of ((l ++ c ∷ []) ++ rest)) e) (omega (arith, total_more [] c)) ek
-cutting_more q o k c room (begun groups group f eo ek) =
-    begun groups (group ++ c ∷ [])
+cutting_more q o k c room (begun groups group f eo ek) = begun groups (group ++ c ∷ [])
     (λ rest. ap groups_of (append_assoc q (c ∷ []) rest) ∙ f (c ∷ rest) ∙ ap (λ l. groups ++ l) (goes_into group rest c (omega arith)))
     (omega (arith, total_more group c)) ek
 
@@ -42,8 +39,7 @@ cutting_more q o k c room (begun groups group f eo ek) =
 pub cutting_relay : (q : List Condition) (o k : ℕ) (c : Condition) → greatest_offset < o
     → Cutting q o k → Cutting (q ++ c ∷ []) (1 + size_of c) (suc k)
 cutting_relay q o k c full (none e eo ek) = absurd (omega arith)
-cutting_relay q o k c full (begun groups group f eo ek) =
-    begun (groups ++ group ∷ []) (c ∷ [])
+cutting_relay q o k c full (begun groups group f eo ek) = begun (groups ++ group ∷ []) (c ∷ [])
     (λ rest. ap groups_of (append_assoc q (c ∷ []) rest) ∙ f (c ∷ rest) ∙ ap (λ l. groups ++ l) (closes_at group rest c (omega arith))
     ∙ sym (append_assoc groups (group ∷ []) (groups_from (c ∷ []) rest)))
     (omega (arith, total_more [] c)) (omega (arith, length-append groups (group ∷ [])))
@@ -76,7 +72,6 @@ relays_so_far q rest o k (begun groups group f eo ek) =
 pub relays_so_far_full : (q rest : List Condition) (o k : ℕ) (c : Condition) → greatest_offset < o
     → Cutting q o k → suc k ≤ relays (q ++ c ∷ rest)
 relays_so_far_full q rest o k c full (none e eo ek) = absurd (omega arith)
-relays_so_far_full q rest o k c full (begun groups group f eo ek) =
-    let closed = closes_at group rest c (omega arith) in
+relays_so_far_full q rest o k c full (begun groups group f eo ek) = let closed = closes_at group rest c (omega arith) in
     let all = ap length (f (c ∷ rest) ∙ ap (λ l. groups ++ l) closed) in
     omega (arith, all, length-append groups (group ∷ groups_from (c ∷ []) rest), some_groups (c ∷ []) rest)

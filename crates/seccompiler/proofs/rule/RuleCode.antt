@@ -61,10 +61,8 @@ body_empty = record {
 -- one condition more, in front
 pub body_more : (q : List Condition) (code own : List sock_filter) (o k : ℕ) (c : Condition)
     → o ≤ greatest_offset → IsConditionCode c o own → Body q code o k → Body (q ++ c ∷ []) (own ++ code) (o + size_of c) k
-body_more q code own o k c room one body =
-    let size : length own ≡ size_of c = one.long in
-    let small_size : size_of c ≤ 6 = size_small c in
-    let len : length (own ++ code) ≡ length own + length code = length-append own code in
+body_more q code own o k c room one body = let size : length own ≡ size_of c = one.long in
+    let small_size : size_of c ≤ 6 = size_small c in let len : length (own ++ code) ≡ length own + length code = length-append own code in
     let to_end : length own + (length code + 1) ≡ length (own ++ code) + 1 = omega arith in
     let pop = λ (r : List ℕ). All-pop (λ x. Holds x r) (q ++ c ∷ []) q (Some c) refl in
     record {
@@ -77,17 +75,12 @@ body_more q code own o k c room one body =
           (omega (arith, body.near)) (omega arith);
       enters = λ r rec a small.
           ⊎_elim (λ t.
-          let g = t.1 in
-          let fits = stays_small own r small g.goes in
-          ⊎_elim
+          let g = t.1 in let fits = stays_small own r small g.goes in ⊎_elim
           (λ u. inl (
             All-push (λ x. Holds x r) q c u.0 t.0,
             leads_as (own ++ code) r (leads_through own code r a (length code) g u.1) refl (sym len),
           ))
-          (λ u. inr (
-            λ h. u.0 (pop r h).0,
-            leads_as (own ++ code) r (leads_through own code r a (length code + 1) g u.1) refl to_end,
-          ))
+          (λ u. inr (λ h. u.0 (pop r h).0, leads_as (own ++ code) r (leads_through own code r a (length code + 1) g u.1) refl to_end))
           (body.enters r rec g.accumulator fits))
           (λ t. inr (
             λ h. t.0 (pop r h).1,
@@ -103,8 +96,7 @@ body_more q code own o k c room one body =
 -- code to which jumps in front of it lead has the exits that it had
 exits_behind : (front code : List sock_filter) (r : List ℕ) (a : ℕ) (fact : Type 0) → Step (front ++ code) r 0 a (length front) a
     → Exits code 1 r a fact → Exits (front ++ code) 1 r a fact
-exits_behind front code r a fact step exits =
-    let len = length-append front code in
+exits_behind front code r a fact step exits = let len = length-append front code in
     let at : (y y' : ℕ) → length front + y ≡ y' → Leads code r 0 a y → Leads (front ++ code) r 0 a y' =
     λ y y' e h. via (front ++ code) r 0 a (length front) y' step
     (leads_as (front ++ code) r (leads_second front code r 0 a y h) (omega arith) e) in
@@ -114,8 +106,7 @@ exits_behind front code r a fact step exits =
 
 -- a relay in front
 pub body_relay : (q : List Condition) (code : List sock_filter) (o k : ℕ) → Body q code o k → Body q (relay_code o ++ code) 1 (suc k)
-body_relay q code o k body =
-    let p = relay_code o ++ code in
+body_relay q code o k body = let p = relay_code o ++ code in
     let far = jump_in_range (o + 1) (omega (arith, body.high)) in
     let len : length p ≡ 3 + length code = length-append (relay_code o) code in
     record {
@@ -146,8 +137,7 @@ entry_code o = jump 1 ∷ jump (o + 1) ∷ []
 -- the entry in front: the code of the rule
 pub rule_of : (q : List Condition) (code : List sock_filter) (o k : ℕ) → k ≡ relays q
     → Body q code o k → IsRuleCode q (entry_code o ++ code)
-rule_of q code o k is_k body =
-    let p = entry_code o ++ code in
+rule_of q code o k is_k body = let p = entry_code o ++ code in
     let len : length p ≡ 2 + length code = length-append (entry_code o) code in
     record {
       long = omega (arith, body.long);

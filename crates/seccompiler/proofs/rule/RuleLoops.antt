@@ -50,10 +50,8 @@ built_more q code own o c one h = ⊎_elim
 -- there is room for what a further condition needs
 room_for : (q rest : List Condition) (code : List sock_filter) (o free : ℕ) (c : Condition)
     → Built q code o → free + length code ≡ rule_length (q ++ c ∷ rest) → 2 + length (relay_front o) + size_of c ≤ free
-room_for q rest code o free c h whole =
-    let sizes = sum_by-append size_of q (c ∷ rest) in
-    let more = sum_by-cons size_of c rest in
-    ⊎_elim
+room_for q rest code o free c h whole = let sizes = sum_by-append size_of q (c ∷ rest) in
+    let more = sum_by-cons size_of c rest in ⊎_elim
     (λ lt. omega (arith, ap length (relay_none o (omega arith)).0, h.body.long, relays_so_far q (c ∷ rest) o h.k h.cutting))
     (λ far. omega (arith, ap length (relay_one o far).0, h.body.long, relays_so_far_full q rest o h.k c far h.cutting))
     (cases_lt o (greatest_offset + 1))
@@ -127,8 +125,7 @@ counted_at items i c n o within is h =
 
 pub counted_rule : (items : List Condition) (i n o : ℕ) → 1 ≤ length items → length items ≤ i
     → Counted (take i items) n o → n ≡ min (rule_length items) (2 ^ 64 - 1)
-counted_rule items i n o some past h =
-    let all = subst (λ l. Counted l n o) (take_all i items past) h in
+counted_rule items i n o some past h = let all = subst (λ l. Counted l n o) (take_all i items past) h in
     omega (arith, all.count, relays_are items o all.k some all.cutting)
 
 -- the code that is written so far lies in the part

@@ -46,7 +46,7 @@ impl fmt::Display for JsonFrontendError {
         ensures text { WritesOne W.write_str_gives (IsJsonText self.now) f.old result f.new }
     {
         match self {
-            JsonFrontendError::Backend(error) => write!(f, "{error}"),
+            JsonFrontendError::Backend(error) => fmt::Display::fmt(error, f),
             JsonFrontendError::SerdeJson(error) => {
                 // They are put aside first, since no contract says what they leave of what a formatter has.
                 let words = InlineText::<WORDS_CAPACITY>::of(error);

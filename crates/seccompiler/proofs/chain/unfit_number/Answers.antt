@@ -11,19 +11,15 @@ use Rattle.std.proofs.lemmas.Bool.{true≢false}
 use Rattle.seccompiler.proofs.chain.unfit_number.Goals as goal
 
 pub loop-number-preserved : goal.loop-number-preserved
-loop-number-preserved c =
-    let fits : SFits w64 c.in-Some.number.now = search rules in
+loop-number-preserved c = let fits : SFits w64 c.in-Some.number.now = search rules in
     All-push (λ number. IsCallNumber number.now) c.loop-number.yielded c.in-Some.number c.loop-number.invariant
     (call_number_if_ok c.in-Some.number.now _ c.try_from.result _
     (to_z-of_z w64 c.in-Some.number.now fits) c.try_from.ensures c.if-is_err.ensures.value)
 
 pub returns-then-is_err : goal.returns-then-is_err
-returns-then-is_err c =
-    let number = c.in-Some.number.now in
-    let fits : SFits w64 number = search rules in
-    let numbers = keys c.args.rules.now in
-    let front = map deref c.loop-number.yielded in
-    let back = c.next.new.self in
+returns-then-is_err c = let number = c.in-Some.number.now in
+    let fits : SFits w64 number = search rules in let numbers = keys c.args.rules.now in
+    let front = map deref c.loop-number.yielded in let back = c.next.new.self in
     let rest : c.loop-number.number-iterator ≡ number ∷ back = c.in-Some.ensures.steps in
     let all : c.into_iter-number-iterator.result ≡ front ++ c.loop-number.number-iterator =
     rest_so_far deref c.loop-number.yielded _ _ c.loop-number.yielded_by in
@@ -39,8 +35,7 @@ returns-then-is_err c =
     }
 
 pub returns : goal.returns
-returns c =
-    let numbers = keys c.args.rules.now in
+returns c = let numbers = keys c.args.rules.now in
     let whole = iter_end deref numbers c.loop-number.yielded _ _ _ _
     (c.into_iter-number-iterator.ensures.into_iter_gives ∙ c.keys-number-items.ensures.rest)
     c.loop-number.yielded_by c.in-None.is c.next.ensures.steps in

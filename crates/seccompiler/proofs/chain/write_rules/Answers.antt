@@ -21,8 +21,7 @@ pub loop-rule-init : goal.loop-rule-init
 loop-rule-init c = record { code = rules_empty c.args.matched; within = omega arith }
 
 pub loop-rule-preserved : goal.loop-rule-preserved
-loop-rule-preserved c =
-    let l = c.loop-rule in
+loop-rule-preserved c = let l = c.loop-rule in
     let fits = room c.args.chain.now l.rule-index l.start c.args.matched l.part
     c.rule-item.result c.loop-rule-test.true c.rule-item.is l.invariant.code l.invariant.within
     (omega (arith, c.requires.room, l.auto.part)) in
@@ -39,7 +38,6 @@ loop-rule-preserved c =
     }
 
 pub returns : goal.returns
-returns c =
-    let l = c.loop-rule in
+returns c = let l = c.loop-rule in
     let code = rules_all c.args.chain.now l.rule-index c.args.matched _ c.loop-rule-test.false l.invariant.code in
     record { length = sym (length-take-le l.start l.part l.invariant.within) ∙ code.long; code = code }

@@ -30,19 +30,16 @@ loop-number-init c = record {
 }
 
 pub call_number-requires : goal.call_number-requires
-call_number-requires c =
-    key_fits c.args.rules.now.entries c.loop-number.invariant.done c.loop-number.number-iterator c.next.new.self
+call_number-requires c = key_fits c.args.rules.now.entries c.loop-number.invariant.done c.loop-number.number-iterator c.next.new.self
     (c.in-Some.number.now, c.in-Some.chain.now) c.in-Some.ensures.steps c.loop-number.invariant.rest c.requires.numbers
 
 pub loop-number-preserved : goal.loop-number-preserved
-loop-number-preserved c =
-    let l = c.loop-number in
+loop-number-preserved c = let l = c.loop-number in
     let fits = room c.args.rules.now.entries l.invariant.done l.number-iterator c.next.new.self
     (c.in-Some.number.now, c.in-Some.chain.now) c.deref.result.now l.start c.args.mismatch c.args.matched l.part c.args.part.now
     c.in-Some.ensures.steps l.invariant.rest c.deref.ensures.value l.invariant.made l.invariant.within l.auto.part
     (omega (arith, c.requires.room)) in
-    let count = length l.part - l.start in
-    let part = length-part l.start (length l.part) l.part l.invariant.within (omega arith) in
+    let count = length l.part - l.start in let part = length-part l.start (length l.part) l.part l.invariant.within (omega arith) in
     let long : length c.write_chain-start.new.part ≡ count = omega (arith, c.write_chain-start.auto.part, part) in
     let written = take-front l.start c.write_chain-start.result l.part c.write_chain-start.new.part l.invariant.within
     (omega (arith, fits, c.write_chain-start.ensures.length, long)) in
@@ -52,17 +49,27 @@ loop-number-preserved c =
       rest = rest_step c.args.rules.now.entries l.invariant.done l.number-iterator c.next.new.self
           (c.in-Some.number.now, c.in-Some.chain.now) c.in-Some.ensures.steps l.invariant.rest;
       made = chains_step l.invariant.done c.args.mismatch c.args.matched c.call_number.result c.in-Some.number.now c.in-Some.chain.now
-          c.deref.result.now (take l.start l.part)
-          (take c.write_chain-start.result c.write_chain-start.new.part) _ c.call_number.ensures
+          c.deref.result.now (take l.start l.part) (take c.write_chain-start.result c.write_chain-start.new.part) _ c.call_number.ensures
           c.deref.ensures.value c.write_chain-start.ensures.code written l.invariant.made;
       within = omega (arith, fits, c.write_chain-start.ensures.length, kept);
     }
 
 pub write_chain-start-requires-clause-room : goal.write_chain-start-requires-clause-room
-write_chain-start-requires-clause-room c =
-    let l = c.loop-number in
+write_chain-start-requires-clause-room c = let l = c.loop-number in
     let fits = room c.args.rules.now.entries l.invariant.done l.number-iterator c.next.new.self
     (c.in-Some.number.now, c.in-Some.chain.now) c.deref.result.now l.start c.args.mismatch c.args.matched l.part c.args.part.now
     c.in-Some.ensures.steps l.invariant.rest c.deref.ensures.value l.invariant.made l.invariant.within l.auto.part
     (omega (arith, c.requires.room)) in
     omega (arith, fits, length-part l.start (length l.part) l.part l.invariant.within (omega arith))
+
+pub write_chain-start-requires-clause-short : goal.write_chain-start-requires-clause-short
+write_chain-start-requires-clause-short c = let l = c.loop-number in
+    omega (arith, c.requires.short, l.auto.part, length-part l.start (length l.part) l.part l.invariant.within (omega arith))
+
+pub overflow_add-start : goal.overflow_add-start
+overflow_add-start c = let l = c.loop-number in
+    let fits = room c.args.rules.now.entries l.invariant.done l.number-iterator c.next.new.self
+    (c.in-Some.number.now, c.in-Some.chain.now) c.deref.result.now l.start c.args.mismatch c.args.matched l.part c.args.part.now
+    c.in-Some.ensures.steps l.invariant.rest c.deref.ensures.value l.invariant.made l.invariant.within l.auto.part
+    (omega (arith, c.requires.room)) in
+    omega (arith, fits, c.write_chain-start.ensures.length, l.auto.part, c.requires.short)

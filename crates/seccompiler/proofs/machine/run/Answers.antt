@@ -30,8 +30,7 @@ loop-place-preserved c = record {
 }
 
 pub returns : goal.returns
-returns c =
-    let steps : c.loop-place.steps + 1 - 1 ≡ c.loop-place.steps = omega arith in
+returns c = let steps : c.loop-place.steps + 1 - 1 ≡ c.loop-place.steps = omega arith in
     let ends : Ends c.args.prog.now c.args.call.now (c.loop-place.steps + 1) _ = record {
       place = c.loop-place.place;
       accumulator = c.loop-place.accumulator;

@@ -4,8 +4,7 @@ use Rattle.seccompiler.proofs.filter.Reordering.{same_decision}
 use Rattle.seccompiler.proofs.filter.SeccompFilter.decide.Goals as goal
 
 pub returns-then-matches : goal.returns-then-matches
-returns-then-matches c =
-    let decision : IsDecision c.args.self.now c.args.call.now c.into-then-matches.result = search rules in
+returns-then-matches c = let decision : IsDecision c.args.self.now c.args.call.now c.into-then-matches.result = search rules in
     record {
       decision = decision;
       only = search rules;
@@ -13,8 +12,7 @@ returns-then-matches c =
     }
 
 pub returns-else-matches : goal.returns-else-matches
-returns-else-matches c =
-    let decision : IsDecision c.args.self.now c.args.call.now c.into-else-matches.result = search rules in
+returns-else-matches c = let decision : IsDecision c.args.self.now c.args.call.now c.into-else-matches.result = search rules in
     record {
       decision = decision;
       only = search rules;

@@ -9,18 +9,14 @@ use Rattle.seccompiler.proofs.CappedLengths.{capped_filter, empty_filter}
 use Rattle.seccompiler.proofs.filter.SeccompFilter.program_len.Goals as goal
 
 pub returns-then-is_empty : goal.returns-then-is_empty
-returns-then-is_empty c =
-    let f = c.args.self.now in
-    let entries = c.self.inside.rules.entries in
-    let chains = ap (λ (g : Filter). g.chains) c.self.view_is in
+returns-then-is_empty c = let f = c.args.self.now in
+    let entries = c.self.inside.rules.entries in let chains = ap (λ (g : Filter). g.chains) c.self.view_is in
     let none = c.if-is_empty.ensures.0 refl in
     record { length = empty_filter (2 ^ 64 - 1) f entries (lit≤ tt) chains none; ordered = no_numbers_ascend f entries chains none }
 
 pub returns : goal.returns
-returns c =
-    let f = c.args.self.now in
-    let entries = c.self.inside.rules.entries in
-    let chains = ap (λ (g : Filter). g.chains) c.self.view_is in
+returns c = let f = c.args.self.now in
+    let entries = c.self.inside.rules.entries in let chains = ap (λ (g : Filter). g.chains) c.self.view_is in
     let whole = iter_end deref (values_of entries) c.loop-chain.yielded _ _ _ _
     (c.into_iter-chain-iterator.ensures.into_iter_gives ∙ c.values-chain-items.ensures.rest)
     c.loop-chain.yielded_by c.in-None.is c.next.ensures.steps in

@@ -5,8 +5,7 @@ use Rattle.seccompiler.proofs.filter.SeccompFilterPartialEq.eq.Goals.{then-eq, e
 use Rattle.seccompiler.proofs.filter.SeccompFilterPartialEq.eq.Goals as goal
 
 pub returns-then-eq-3 : goal.returns-then-eq-3
-returns-then-eq-3 c =
-    rw (← c.self.view_is, ← c.other.view_is)
+returns-then-eq-3 c = rw (← c.self.view_is, ← c.other.view_is)
     (filters_tested (the_view c.self.inside) (the_view c.other.inside) c.eq.result c.if-eq.value c.if-eq-2.value c.eq-then-eq-3.result
     (c.eq.ensures ∙ maps_equal c.self.inside.rules.entries c.other.inside.rules.entries)
     (elim c.if-eq.branch [
@@ -20,8 +19,7 @@ returns-then-eq-3 c =
     (inl (c.if-eq-3.true, c.eq-then-eq-3.ensures)))
 
 pub returns-else-eq-3 : goal.returns-else-eq-3
-returns-else-eq-3 c =
-    rw (← c.self.view_is, ← c.other.view_is)
+returns-else-eq-3 c = rw (← c.self.view_is, ← c.other.view_is)
     (filters_tested (the_view c.self.inside) (the_view c.other.inside) c.eq.result c.if-eq.value c.if-eq-2.value c.if-eq-2.value
     (c.eq.ensures ∙ maps_equal c.self.inside.rules.entries c.other.inside.rules.entries)
     (elim c.if-eq.branch [

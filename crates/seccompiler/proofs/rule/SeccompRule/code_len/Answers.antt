@@ -7,8 +7,7 @@ use Rattle.seccompiler.proofs.rule.SeccompRule.code_len.Goals as goal
 use Rattle.seccompiler.proofs.rule.SeccompRule.code_len.Goals.{then-offset-gt-GREATEST_OFFSET, else-offset-gt-GREATEST_OFFSET}
 
 pub loop-condition-preserved : goal.loop-condition-preserved
-loop-condition-preserved c =
-    let l = c.loop-condition in
+loop-condition-preserved c = let l = c.loop-condition in
     let size : c.code_len-size.result ≡ size_of c.condition-item.result = c.code_len-size.ensures in
     let sum = c.saturating_add-length-in-loop-condition.ensures in
     counted_at c.deref-condition-items.result.now l.condition-index c.condition-item.result
@@ -21,8 +20,7 @@ loop-condition-preserved c =
     ])
 
 pub returns : goal.returns
-returns c =
-    let same = c.deref-condition-items.ensures.value ∙ c.self.view_is in
+returns c = let same = c.deref-condition-items.ensures.value ∙ c.self.view_is in
     let some : 1 ≤ length c.deref-condition-items.result.now =
     omega (arith, ap length c.deref-condition-items.ensures.value, c.self.invariant) in
     record {

@@ -161,7 +161,8 @@ module _ {X Y : Type 0} (R : X → Y → Type 0) where
     pub making_done : (m : BTreeMap (String Global) Y) → left ≡ [] → AreInOrder given → tree.IsFromIterResult string_cmp ys m
         → AreMade R given ys × ((q : List ℕ) → tree.get_by_text m q ≡ under ys q)
     making_done m none order collected =
-        let made = subst (λ xs. AreMade R xs ys) (sym (so_far.all ∙ ap (λ es. so_far.done ++ es) none ∙ append-nil so_far.done)) so_far.made in
+        let whole = so_far.all ∙ ap (λ es. so_far.done ++ es) none ∙ append-nil so_far.done in
+        let made = subst (λ xs. AreMade R xs ys) (sym whole) so_far.made in
         (made, ordered ys m (same_order given ys made order) collected)
 
   -- Under a name there is what is made of the value that is found; where none is found, there is nothing.

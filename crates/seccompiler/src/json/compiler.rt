@@ -20,8 +20,8 @@ ghost use Rattle.seccompiler.specs.JsonWidened.{DecideAlikeOff, KeepsMatches, Ma
 use crate::backend::TargetArch;
 use crate::filter::SeccompFilter;
 use crate::json::error::JsonFrontendError;
-use crate::json::policy::{seccomp_filter, widened_numbers};
 use crate::json::filter_map::filters_in;
+use crate::json::policy::{seccomp_filter, widened_numbers};
 use crate::json::texts::{text_of, value_of};
 use crate::json::types::{JsonFilter, JsonFilterMap};
 use serde_json::Value;

@@ -63,7 +63,7 @@ returns-clause-policies c =
     let made = subst (λ es. AllZip (IsMade c.args.target) es l.found.items) (sym all) l.invariant.made in
     let order : IsStrictlySortedBy string_cmp (keys_of filters.0.entries) = search rules in
     let collected : IsFromIterResult string_cmp l.found.items m = search rules in
-    let found = making_done Same {given = l.found.items} {done = l.found.items} {left = []} {ys = l.found.items}
-    (record { all = sym (append-nil l.found.items); made = themselves l.found.items }) m refl
+    let found = making_done Same {given = l.found.items} {left = []} {ys = l.found.items}
+    (record { done = l.found.items; all = sym (append-nil l.found.items); made = themselves l.found.items }) m refl
     (made_in_order c.args.target filters.0.entries l.found.items made order) collected in
     are_policies c.args.target filters l.found.items made (get_by_text m) found.1

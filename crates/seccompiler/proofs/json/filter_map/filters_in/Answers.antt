@@ -26,9 +26,11 @@ returns-in-None-2-clause-refusal c =
     let given : iter_mut_rest c.into_iter-key-iterator.result ≡ c.in-Object.members.entries =
     ap iter_mut_rest c.into_iter-key-iterator.ensures.into_iter_gives ∙ lent.rest
     ∙ ap (λ m. m.entries) c.in-Object.members-is in
-    let all : c.in-Object.members.entries ≡ so_far.done ++ e ∷ rest = sym given ∙ at_next IsRead so_far e rest c.in-Some.ensures.steps in
-    rw (c.in-Object.is, view-Object c.in-Object.members, all, c.in_ok-name.ensures.cases) (least_fault so_far.done e rest c.loop-key.found.items
-    (rw (c.in-Object.members-is, all) at lent.ordered) so_far.made (rw c.in-None-2.is at c.in_ok-filter.ensures.none))
+    let all : c.in-Object.members.entries ≡ so_far.done ++ e ∷ rest = sym given
+    ∙ at_next IsRead so_far e rest c.in-Some.ensures.steps in
+    rw (c.in-Object.is, view-Object c.in-Object.members, all, c.in_ok-name.ensures.cases) (least_fault so_far.done e rest
+    c.loop-key.found.items (rw (c.in-Object.members-is, all) at lent.ordered)
+    so_far.made (rw c.in-None-2.is at c.in_ok-filter.ensures.none))
 
 pub returns-clause-filters : goal.returns-clause-filters
 returns-clause-filters c =

@@ -2,7 +2,7 @@
 use Rattle.seccomp_tree.proofs.Common.{◌≡◌, ℕ, zero, suc, ◌+◌, ◌-◌, ◌<◌, ◌≤◌, ◌^◌, List, [], ◌∷◌, ◌++◌, length, drop, Some, length-append}
 use Rattle.seccomp_tree.proofs.Common.{length-drop, refl, sym, ap, ◌∙◌, arith, add-one, slice_get, drop-drop, sock_filter, give, Does}
 use Rattle.seccomp_tree.proofs.Common.{loads, masks, jumps, is_equal, is_not_equal, is_greater, is_not_greater, is_at_least, is_less, Goes}
-use Rattle.seccomp_tree.proofs.Common.{stays, then_step, Ends, IsFine, IsInRange, IsChecked, fine_load, fine_mask, fine_jump, fine_equal}
+use Rattle.seccomp_tree.proofs.Common.{stays, then_step, Ends, IsFine, IsInRange, IsChecked, greatest_length, fine_load, fine_mask, fine_jump, fine_equal}
 use Rattle.seccomp_tree.proofs.Common.{fine_greater, fine_at_least, fine_return, AreFine, IsSound, Returns, gives}
 use Rattle.seccomp_tree.specs.Code.{goes_on}
 
@@ -95,14 +95,14 @@ last_get : (front : List sock_filter) (x : sock_filter) → slice_get (front ++ 
 last_get [] x = refl
 last_get (y ∷ front) x = last_get front x
 
--- Sound code is a checked program.
-pub sound_checked : (p : List sock_filter) → IsSound p → IsChecked p
-sound_checked p h =
+-- Sound code is a checked program, if it is no longer than that may be.
+pub sound_checked : (p : List sock_filter) → IsSound p → length p ≤ greatest_length → IsChecked p
+sound_checked p h few =
     let kill = give 0x80000000 in
     let long : length p ≡ length h.front + 1 = ap length h.ends ∙ length-append h.front (kill ∷ []) in
     record {
       some = omega (arith, long);
-      few = h.few;
+      few = few;
       ranges = record { each = λ place i here. (each_fine p place i h.fine here).1 };
       each = λ place i here. (each_fine p place i h.fine here).0;
       last = λ i here.

@@ -17,7 +17,7 @@ use Rattle.seccomp_tree.proofs.Trees.{load_run}
 use Rattle.seccomp_tree.proofs.FewestSteps.{fewest}
 use Rattle.seccomp_tree.specs.declared.code.Test.TheVariants.{Equal}
 use Rattle.seccomp_tree.proofs.Meeting.{rule_or_not}
-use Rattle.seccomp_tree.proofs.ProgramEnds.{program_ends, sound_checked}
+use Rattle.seccomp_tree.proofs.ProgramEnds.{program_ends, returns_short, sound_checked}
 
 -- the one value that answers is the word that is decided
 one_first : (default v w : ℕ) (rulings : List Ruling) (r : List ℕ) → one_value default rulings ≡ Some v → First default r rulings w → w ≡ v
@@ -111,8 +111,8 @@ module _ (d : DecisionSet) (p : List sock_filter) (h : IsWritten d p) where
       let k = length h.steps in
       let x = decided_some d r in
       let y = takes_some r [] (rulings_for d.calls (word_at r 0)) in
-      let end = program_ends p r x.0 (4 + 2 * k + y.0) (written_returns r x.0 y.0 k rec (power k) x.1 (own y.0 y.1)) in
-      record { word = x.0; decided = x.1; ends = record { steps = end.steps; few = end.short; ends = end.ends } }
+      let run = written_returns r x.0 y.0 k rec (power k) x.1 (own y.0 y.1) in
+      record { word = x.0; decided = x.1; ends = program_ends p r x.0 (length p) (returns_short p run) }
 
   pub written_short : (starts : List ℕ) → AreRanges d starts → length p ≤ length_by d (length starts)
   written_short starts ranges =
@@ -126,8 +126,7 @@ module _ (d : DecisionSet) (p : List sock_filter) (h : IsWritten d p) where
     decides = written_decides;
     soon = λ r rec w n k decision takes starts ranges few.
         let less = fewest d h.mid h.steps starts h.answers.answers ranges in
-        let end = program_ends p r w (4 + 2 * k + n) (written_returns r w n k rec (omega (arith, less)) decision takes) in
-        record { steps = end.steps; few = end.few; ends = end.ends };
+        program_ends p r w (4 + 2 * k + n) (written_returns r w n k rec (omega (arith, less)) decision takes);
     short = written_short;
   }
 

@@ -42,13 +42,15 @@ impl Decisions {
         code.test(Test::Equal, arch, calls, Target::Give(KILL_PROCESS))?;
         code.push(bpf_stmt(LOAD, u32::from(SECCOMP_DATA_ARCH_OFFSET)))?;
         let program = code.into_program();
-        if program.len() > BPF_MAX_LEN {
+        let is_large = program.len() > BPF_MAX_LEN;
+        if is_large {
             return Err(TreeError::TooLarge);
         }
         Ok(program)
     }
 
     // The steps over call numbers.
+    #[tactic(auto, using(crate::proofs::CallsPushed::calls_end, crate::proofs::CallsPushed::calls_less))]
     fn call_steps(&self, alloc: Global, code: &mut Code) -> Result<Vec<Step>, TreeError>
         ensures ok { IfOk result (λ steps. AreCallSteps code.old self.now steps.items code.new) }
         ensures err { IfErr result (IsTooMany (calls_length self.now.calls)) }

@@ -1,7 +1,7 @@
 -- Steps without alike neighbours are as few as can be: at most as many as any ranges of the decisions.
-use Rattle.seccomp_tree.proofs.Common.{◌≡◌, ℕ, ◌+◌, ◌-◌, ◌<◌, ◌≤◌, ◌^◌, List, [], ◌∷◌, length, Bool, true, false, refl, sym, ap, ◌∙◌}
-use Rattle.seccomp_tree.proofs.Common.{inl, inr, arith, nat_eq, nat_le, if◌then◌else◌, nat_tests, cases_eq, is_member, sock_filter}
-use Rattle.seccomp_tree.proofs.Common.{Target, Step, found_from, AscendFrom, TightFrom, DecisionSet, default_for, rulings_for, AreRanges}
+use Rattle.seccomp_tree.proofs.Common.{◌≡◌, ℕ, ◌+◌, ◌-◌, ◌<◌, ◌≤◌, ◌^◌, List, [], ◌∷◌, length, Bool, true, false, refl, sym, ap, ◌∙◌, inl}
+use Rattle.seccomp_tree.proofs.Common.{inr, arith, nat_eq, nat_le, if◌then◌else◌, nat_tests, cases_eq, is_member, sock_filter, Target, Step}
+use Rattle.seccomp_tree.proofs.Common.{found_from, AscendFrom, TightFrom, DecisionSet, default_for, rulings_for, AreRanges}
 use Rattle.seccomp_tree.specs.CallSteps.{IsAnswer, AreAnswers}
 use Rattle.seccomp_tree.proofs.Begun.{found_before}
 

@@ -2,8 +2,8 @@
 use Rattle.seccomp_tree.proofs.Common.{◌≡◌, ℕ, zero, suc, ◌+◌, ◌-◌, ◌<◌, ◌≤◌, ◌^◌, List, [], ◌∷◌, ◌++◌, length, drop, Some, length-append}
 use Rattle.seccomp_tree.proofs.Common.{length-drop, refl, sym, ap, ◌∙◌, arith, add-one, slice_get, drop-drop, sock_filter, give, Does}
 use Rattle.seccomp_tree.proofs.Common.{loads, masks, jumps, is_equal, is_not_equal, is_greater, is_not_greater, is_at_least, is_less, Goes}
-use Rattle.seccomp_tree.proofs.Common.{stays, then_step, IsFine, IsInRange, IsChecked, greatest_length, fine_load, fine_mask, fine_jump, fine_equal}
-use Rattle.seccomp_tree.proofs.Common.{fine_greater, fine_at_least, fine_return, AreFine, IsSound, Returns, gives}
+use Rattle.seccomp_tree.proofs.Common.{stays, then_step, IsFine, IsInRange, IsChecked, greatest_length, fine_load, fine_mask, fine_jump}
+use Rattle.seccomp_tree.proofs.Common.{fine_equal, fine_greater, fine_at_least, fine_return, AreFine, IsSound, Returns, gives}
 use Rattle.seccomp_tree.specs.Code.{goes_on}
 use Rattle.seccomp_tree.specs.TreeProgram.{EndsWithin}
 use Rattle.seccomp_tree.proofs.Runs.{returns_more}

@@ -1,8 +1,8 @@
 -- Code that grows: what starts at a place stays what it was, how long code is, and that it stays sound; and runs that begin at a target.
 use Rattle.seccomp_tree.proofs.Common.{◌≡◌, ℕ, suc, ◌+◌, ◌-◌, ◌<◌, List, [], ◌∷◌, ◌++◌, length, drop, get_or, length-append, zero-add, sym}
-use Rattle.seccomp_tree.proofs.Common.{ap, ◌∙◌, arith, ◌≤◌, ◌^◌, append_assoc, refl, subst, zero, reverse, drop_more, drop-drop, get_or-reverse}
-use Rattle.seccomp_tree.proofs.Common.{length-reverse, sock_filter, tail_at, IsIn, Grows, Returns, gives, Starts, Leads, to_return}
-use Rattle.seccomp_tree.proofs.Common.{to_place, near, IsSound, Target, Give, At, IsFine, IsInRange}
+use Rattle.seccomp_tree.proofs.Common.{ap, ◌∙◌, arith, ◌≤◌, ◌^◌, append_assoc, refl, subst, zero, reverse, drop_more, drop-drop}
+use Rattle.seccomp_tree.proofs.Common.{get_or-reverse, length-reverse, sock_filter, tail_at, IsIn, Grows, Returns, gives, Starts, Leads}
+use Rattle.seccomp_tree.proofs.Common.{to_return, to_place, near, IsSound, Target, Give, At, IsFine, IsInRange}
 use Rattle.seccomp_tree.specs.Code.{goes_on}
 
 drop_behind : (front old : List sock_filter) (n : ℕ) → drop (length front + n) (front ++ old) ≡ drop n old

@@ -1,12 +1,12 @@
 -- The theorem: what is written answers every record as is decided.
 use Rattle.seccomp_tree.proofs.Common.{◌≡◌, ℕ, ◌+◌, ◌-◌, ◌*◌, ◌≤◌, ◌^◌, List, [], ◌∷◌, length, Bool, true, false, Option, Some, None, refl}
 use Rattle.seccomp_tree.proofs.Common.{ap, inl, inr, arith, nat_eq, if◌then◌else◌, suc, zero, nat_tests, All-nil, sock_filter, IsRecord}
-use Rattle.seccomp_tree.proofs.Common.{word_at, audit_word, Condition, Holds, Target, Give, Step, AreIn, StartsAlways}
-use Rattle.seccomp_tree.proofs.Common.{to_return, LeadsAlways, IsPart, IsSound, Returns, chosen, part_steps, Dword, Ruling, First, nothing}
-use Rattle.seccomp_tree.proofs.Common.{Takes, stops, passes, ends, Enters, begins, RunTakes, by_steps, by_conditions, only, joins, joined}
+use Rattle.seccomp_tree.proofs.Common.{word_at, audit_word, Condition, Holds, Target, Give, Step, AreIn, StartsAlways, to_return}
+use Rattle.seccomp_tree.proofs.Common.{LeadsAlways, IsPart, IsSound, Returns, chosen, part_steps, Dword, Ruling, First, nothing, Takes}
+use Rattle.seccomp_tree.proofs.Common.{stops, passes, ends, Enters, begins, RunTakes, by_steps, by_conditions, only, joins, joined}
 use Rattle.seccomp_tree.proofs.Common.{conditions_steps, DecisionSet, default_for, rulings_for, IsDecided, other_architecture, decided}
-use Rattle.seccomp_tree.proofs.Common.{one_value, value_for, TakesOwn, other, one, own, EndsAsDecided, IsTreeProgram}
-use Rattle.seccomp_tree.proofs.Common.{AreRanges, IsTested, greatest_length, load, word_fits, pow-succ', one-le-pow, give}
+use Rattle.seccomp_tree.proofs.Common.{one_value, value_for, TakesOwn, other, one, own, EndsAsDecided, IsTreeProgram, AreRanges, IsTested}
+use Rattle.seccomp_tree.proofs.Common.{greatest_length, load, word_fits, pow-succ', one-le-pow, give}
 use Rattle.seccomp_tree.specs.Decisions.{goes_on as runs_on}
 use Rattle.seccomp_tree.specs.CallSteps.{IsAnswer, AreCallSteps}
 use Rattle.seccomp_tree.proofs.Deciding.{first_here, decided_some}

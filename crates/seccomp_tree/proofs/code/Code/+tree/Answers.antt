@@ -1,9 +1,8 @@
-use Rattle.seccomp_tree.proofs.Common.{◌/◌, ◌^◌, length, refl, sym, ◌∙◌, arith, inl, inr, cases_lt, false≢true, row}
-use Rattle.seccomp_tree.proofs.Common.{IfOk-weaker, length-take-le, Give}
+use Rattle.seccomp_tree.proofs.Common.{◌/◌, ◌^◌, length, refl, sym, ◌∙◌, arith, inl, inr, cases_lt, false≢true, row, IfOk-weaker}
+use Rattle.seccomp_tree.proofs.Common.{length-take-le, Give}
 use Rattle.seccomp_tree.proofs.Runs.{is_in_grown}
 use Rattle.seccomp_tree.proofs.Begun.{starts_rise}
-use Rattle.seccomp_tree.proofs.Trees.{ascend_take, in_take, all_behind, rest_of, out_long, tree_single, tree_out, tree_first}
-use Rattle.seccomp_tree.proofs.Trees.{tree_halves}
+use Rattle.seccomp_tree.proofs.Trees.{ascend_take, in_take, all_behind, rest_of, out_long, tree_single, tree_out, tree_first, tree_halves}
 use Rattle.seccomp_tree.proofs.code.Code.+tree.Goals as goal
 
 pub returns-then-steps-eq1 : goal.returns-then-steps-eq1

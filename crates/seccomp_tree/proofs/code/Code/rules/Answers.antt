@@ -16,7 +16,8 @@ loop-left-init c =
     (omega arith, rw (none, c.in_ok-steps.ensures) (rest_none c.args.self.now c.args.default c.ranges.default.fits))
 
 -- what is in front of them then
-front : (c : In_ok-rest) → drop (c.loop-left.left - 1) c.args.rulings.now ≡ c.index-rulings-left.result ∷ drop c.loop-left.left c.args.rulings.now
+front : (c : In_ok-rest)
+    → drop (c.loop-left.left - 1) c.args.rulings.now ≡ c.index-rulings-left.result ∷ drop c.loop-left.left c.args.rulings.now
     → IsRest c.args.self.now c.args.default (drop (c.loop-left.left - 1) c.args.rulings.now) c.in_ok-rest.rest.like
     c.in_ok-rest.rest.steps.items c.ruling.new.self
 front c cons = rw cons (in_front c.args.self.now c.loop-left.self c.ruling.new.self c.args.default c.index-rulings-left.result _

@@ -23,8 +23,8 @@ pub returns-in-Some : goal.returns-in-Some
 returns-in-Some c =
     let b = (goal.at.returns-in-Some c).After-only-like in
     let e = c.deref-in-Some.ensures.value ∙ c.in_ok-others-in-Some.ensures in
-    afresh c.in-Some.condition c.in_ok-after-in-Some.after (only_of b ∙ c.in-Some.is) (sym c.is_alike.ensures ∙ c.if-is_alike.false) (fits b)
-    c.in_ok-after-in-Some.ensures (rw (value_of b, e) at c.in_ok-steps-in-Some-2.ensures) refl
+    afresh c.in-Some.condition c.in_ok-after-in-Some.after (only_of b ∙ c.in-Some.is) (sym c.is_alike.ensures ∙ c.if-is_alike.false)
+    (fits b) c.in_ok-after-in-Some.ensures (rw (value_of b, e) at c.in_ok-steps-in-Some-2.ensures) refl
 
 pub returns : goal.returns
 returns c =

@@ -4,7 +4,7 @@ use Rattle.seccomp_tree.proofs.Common.{if◌then◌else◌, refl, suc, get_or, �
 use Rattle.seccomp_tree.proofs.Common.{nat_cmp, Global, sock_filter, Target, Step, IsPushed, Grows, Ruling, rules_length, DecisionSet}
 use Rattle.seccomp_tree.proofs.Common.{default_for, rulings_for, calls_of, default_from, calls_length, DefaultValue}
 use Rattle.seccomp_tree.specs.CallSteps.{IsAnswer, IsAnswered, AreAnswers, AreCallSteps, IsNextNumber, IsNextDefault}
-use Rattle.seccomp_tree.proofs.Runs.{grows_not, grows_on, is_in_grown, grown_long, leads_grown}
+use Rattle.seccomp_tree.proofs.Runs.{grows_not, grows_on, is_in_grown, leads_grown}
 use Rattle.seccomp_tree.proofs.Begun.{steps_more}
 use Rattle.seccomp_tree.proofs.Deciding.{items_of, rulings_under}
 
@@ -64,6 +64,11 @@ below_all : (calls : List (ℕ × List Ruling)) (n : ℕ) → below_length calls
 below_all [] n = omega arith
 below_all (e ∷ calls) n = grind (arith, nat_tests, below_all calls n)
 
+-- a call's rulings are among all
+pub calls_less : (calls : List (ℕ × List Ruling)) (n : ℕ) → rules_length (rulings_for calls n) ≤ calls_length calls
+calls_less [] n = omega arith
+calls_less (e ∷ calls) n = grind (arith, nat_tests, calls_less calls n)
+
 below_one : (calls : List (ℕ × List Ruling)) (n m : ℕ) → n < m
     → below_length calls n + rules_length (rulings_for calls n) ≤ below_length calls m
 below_one [] n m lt = omega arith
@@ -90,12 +95,6 @@ calls_on d old mid new steps more number next t h answered pushed on = record {
     ];
   };
 }
-
--- what the code so far takes, and one call more, is within what all take
-pub calls_room : (d : DecisionSet) (old : List sock_filter) (number : ℕ) (steps : List Step) (code : List sock_filter)
-    → CallsOn d old number steps code → length code + rules_length (rulings_for d.calls number) ≤ length old + calls_length d.calls
-calls_room d old number steps code h =
-    omega (arith, (grown_long h.grows).1, below_one d.calls number (number + 1) (omega arith), below_all d.calls (number + 1))
 
 pub calls_end : (d : DecisionSet) (old : List sock_filter) (next : ℕ) (steps : List Step) (code : List sock_filter) → 2 ^ 32 ≤ next
     → CallsOn d old next steps code → AreCallSteps old d steps code

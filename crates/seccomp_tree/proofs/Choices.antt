@@ -1,6 +1,6 @@
 -- Comparisons as steps, laid over others.
 use Rattle.seccomp_tree.proofs.Common.{◌≡◌, ℕ, ◌+◌, ◌^◌, ◌<◌, ◌≤◌, List, [], length, true, ap, ◌↔◌, Option, Some, None, ◌⊎◌, inl, inr}
-use Rattle.seccomp_tree.proofs.Common.{arith, refl, cases_lt, cases_eq, bit_and, sock_filter, SeccompCmpArgLen, Dword, Qword, SeccompCmpOp}
+use Rattle.seccomp_tree.proofs.Common.{arith, refl, cases_lt, cases_eq, bit_and, sock_filter, SeccompCmpArgLen, SeccompCmpOp}
 use Rattle.seccomp_tree.proofs.Common.{MaskedEq, Condition, Compares, part_of, Target, Step, found_in, AreSteps, begun, IsPushed, IsIn}
 use Rattle.seccomp_tree.proofs.Common.{AreIn, is_plain, IsChosen, over, IsOverPushed, AreLaidTo, AreLaid}
 use Rattle.seccomp_tree.specs.Conditions.{numbers_of}

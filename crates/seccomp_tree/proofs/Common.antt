@@ -1,6 +1,6 @@
 -- The names that the proofs share, of std, of the library and of the definitions.
 pub use Rattle.seccomp_tree.specs.Arguments.{AreHighs, IsHalf, IsNext, half_length}
-pub use Rattle.seccomp_tree.specs.Code.{AreFine, AreIn, DoesAs, GoesOn, Grows, IsFar, IsFullBy, IsIn, IsPart, IsReached, IsSound, IsTested}
+pub use Rattle.seccomp_tree.specs.Code.{AreFine, AreIn, DoesAs, GoesOn, Grows, IsFar, IsIn, IsPart, IsReached, IsSound, IsTested}
 pub use Rattle.seccomp_tree.specs.Code.{IsTree, Leads, LeadsAlways, Returns, Says, Starts, StartsAlways, chosen, gives, near, part_length}
 pub use Rattle.seccomp_tree.specs.Code.{part_steps, tail_at, to_place, to_return}
 pub use Rattle.seccomp_tree.specs.Conditions.{AreLaid, AreLaidTo, HasBits, IsChosen, IsConditionMet, IsMet, IsOverPushed, condition_length}
@@ -12,14 +12,13 @@ pub use Rattle.seccomp_tree.specs.Decisions.{conditions_length, conditions_steps
 pub use Rattle.seccomp_tree.specs.Decisions.{rules_length, same_length, stops}
 pub use Rattle.seccomp_tree.specs.FilterDecisions.{DecideAs, call_of, decisions_of, rulings_of}
 pub use Rattle.seccomp_tree.specs.Layouts.{AgreesInAll, IsCompiledIn}
-pub use Rattle.seccomp_tree.specs.Rules.{AreRules, IsInFront, IsRulingMet, IsSettled, afresh, alone, along, rest_length}
+pub use Rattle.seccomp_tree.specs.Rules.{AreRules, IsInFront, IsRulingMet, IsSettled, afresh, alone, along}
 pub use Rattle.seccomp_tree.specs.Steps.{AreSteps, AscendFrom, IsPartPushed, IsPushed, TightFrom, begun, found_from, found_in, row, same}
 pub use Rattle.seccomp_tree.specs.Steps.{second_stands_out, single}
 pub use Rattle.seccomp_tree.specs.TreeProgram.{AreRanges, EndsAsDecided, IsTreeProgram, TakesOwn, calls_length, one, one_value, other, own}
 pub use Rattle.seccomp_tree.specs.TreeProgram.{value_for}
 pub use Rattle.seccomp_tree.specs.declared.code.Test.{Test}
 pub use Rattle.seccomp_tree.specs.declared.decisions.DefaultValue.{DefaultValue}
-pub use Rattle.seccomp_tree.specs.declared.error.TreeError.{TreeError}
 pub use Rattle.seccomp_tree.specs.declared.layout.Layout.{Layout}
 pub use Rattle.seccomp_tree.specs.declared.layout.Layout.TheVariants.{Linear, Tree}
 pub use Rattle.seccomp_tree.specs.declared.steps.Step.{Step}

@@ -1,8 +1,8 @@
 -- What decisions decide: the first ruling that holds, the rulings of a number, the default.
 use Rattle.seccomp_tree.proofs.Common.{◌≡◌, ℕ, ◌+◌, ◌<◌, List, [], ◌∷◌, length, drop, get_or, refl, sym, ap, ◌∙◌, Option, Some, None, Vec}
-use Rattle.seccomp_tree.proofs.Common.{nat_eq, inl, inr, arith, All, drop_more, All-cons, nat_tests, is_at, lookup, nat_cmp, Global}
-use Rattle.seccomp_tree.proofs.Common.{RuleHolds, Ruling, First, here, behind, nothing, word_at, cases_eq, audit_word, DecisionSet}
-use Rattle.seccomp_tree.proofs.Common.{default_for, calls_of, rulings_for, IsDecided, other_architecture, decided}
+use Rattle.seccomp_tree.proofs.Common.{inl, inr, arith, All, drop_more, All-cons, nat_tests, is_at, lookup, nat_cmp, Global, RuleHolds}
+use Rattle.seccomp_tree.proofs.Common.{Ruling, First, here, behind, nothing, word_at, cases_eq, audit_word, DecisionSet, default_for}
+use Rattle.seccomp_tree.proofs.Common.{calls_of, rulings_for, IsDecided, other_architecture, decided}
 use Rattle.seccomp_tree.proofs.Meeting.{rule_or_not}
 
 -- ---- lists that a loop goes down
@@ -31,9 +31,6 @@ pub first_nothing : {default w : ℕ} {r : List ℕ} → First default r [] w �
 first_nothing nothing = refl
 
 -- ---- the rulings of a number
-
-at_same : (n k : ℕ) → is_at (nat_cmp n) k ≡ nat_eq n k
-at_same n k = grind (arith, nat_tests)
 
 -- the rulings of a number are those that a map has for it
 abbrev pub items_of : Option (Vec Ruling Global) → List Ruling

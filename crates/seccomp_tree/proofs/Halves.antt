@@ -1,9 +1,9 @@
 -- Arguments of 64 bits: steps by their high and their low halves.
 use Rattle.seccomp_tree.proofs.Common.{◌≡◌, ℕ, suc, ◌+◌, ◌-◌, ◌*◌, ◌/◌, ◌^◌, ◌<◌, ◌≤◌, List, [], length, get_or, sym, ap, subst, arith, inl}
-use Rattle.seccomp_tree.proofs.Common.{inr, max, cases_lt, cases_eq, pow-succ', sock_filter, word_at, argument_at, greatest_length}
+use Rattle.seccomp_tree.proofs.Common.{inr, max, cases_lt, cases_eq, pow-succ', sock_filter, word_at, argument_at}
 use Rattle.seccomp_tree.proofs.Common.{word_fits, number_halves, Target, Give, Step, found_in, AreSteps, begun, IsPushed, IsPartPushed}
 use Rattle.seccomp_tree.proofs.Common.{Dword, Qword, AreIn, IsIn, LeadsAlways, IsPart, half_length, IsHalf, IsNext, AreHighs}
-use Rattle.seccomp_tree.proofs.Runs.{grows_on, grown_long, is_in_grown, leads_by, leads_grown, starts_more}
+use Rattle.seccomp_tree.proofs.Runs.{grows_on, is_in_grown, leads_by, leads_grown, starts_more}
 use Rattle.seccomp_tree.proofs.Begun.{begun_few, begun_more, begun_below, begun_counts, starts_rise, found_same, are_in_below, not_none}
 use Rattle.seccomp_tree.proofs.Begun.{steps_more, begun_some, found_in_code}
 
@@ -128,18 +128,3 @@ is_argument old mid new index steps highs t are h word =
           λ a fits. starts_more (n + (5 + 4 * k)) (omega arith)
           (word.leads r rec w (n + 2 + 2 * k) (suc k) (omega (arith, h.few, h.end, pow-succ' 2 k)) behind a fits);
     }
-
--- what a half has no room for, all steps have none for; and what the high halves have none for
-pub full_half : (old mid : List sock_filter) (index : ℕ) (steps highs : List Step) (high : ℕ) → AreHighs old index steps high highs mid
-    → high < 2 ^ 32 → greatest_length < length mid + (half_length steps high)
-    → greatest_length < length old + 5 * length steps
-full_half old mid index steps highs high h small full =
-    let up = begun_more steps (high * 2 ^ 32) ((high + 1) * 2 ^ 32) (omega arith) in
-    omega (arith, full, h.soon small, (grown_long h.grows).1, begun_few steps ((high + 1) * 2 ^ 32), up)
-
-pub full_highs : (old mid : List sock_filter) (index : ℕ) (steps highs : List Step) → AreSteps (2 ^ 64) steps
-    → AreHighs old index steps (2 ^ 32) highs mid → greatest_length < length mid + (3 * length highs - 2)
-    → greatest_length < length old + (13 * length steps - 2)
-full_highs old mid index steps highs are h full =
-    let some = not_none (2 ^ 64) steps are (omega arith) in
-    omega (arith, full, (grown_long h.grows).1, h.few, h.end, some, begun_few steps (2 ^ 32 * 2 ^ 32))

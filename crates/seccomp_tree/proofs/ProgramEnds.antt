@@ -2,9 +2,11 @@
 use Rattle.seccomp_tree.proofs.Common.{◌≡◌, ℕ, zero, suc, ◌+◌, ◌-◌, ◌<◌, ◌≤◌, ◌^◌, List, [], ◌∷◌, ◌++◌, length, drop, Some, length-append}
 use Rattle.seccomp_tree.proofs.Common.{length-drop, refl, sym, ap, ◌∙◌, arith, add-one, slice_get, drop-drop, sock_filter, give, Does}
 use Rattle.seccomp_tree.proofs.Common.{loads, masks, jumps, is_equal, is_not_equal, is_greater, is_not_greater, is_at_least, is_less, Goes}
-use Rattle.seccomp_tree.proofs.Common.{stays, then_step, Ends, IsFine, IsInRange, IsChecked, fine_load, fine_mask, fine_jump, fine_equal}
-use Rattle.seccomp_tree.proofs.Common.{fine_greater, fine_at_least, fine_return, AreFine, IsSound, Returns, gives}
+use Rattle.seccomp_tree.proofs.Common.{stays, then_step, IsFine, IsInRange, IsChecked, greatest_length, fine_load, fine_mask, fine_jump}
+use Rattle.seccomp_tree.proofs.Common.{fine_equal, fine_greater, fine_at_least, fine_return, AreFine, IsSound, Returns, gives}
 use Rattle.seccomp_tree.specs.Code.{goes_on}
+use Rattle.seccomp_tree.specs.TreeProgram.{EndsWithin}
+use Rattle.seccomp_tree.proofs.Runs.{returns_more}
 
 -- an instruction does the same further on
 does_there : (i : sock_filter) (r : List ℕ) (place a d a' : ℕ) → Does i r 0 a (1 + d) a' → Does i r place a (place + (1 + d)) a'
@@ -25,21 +27,20 @@ get_at [] (suc place) i rest e = cc
 get_at (x ∷ p) zero i rest e = cc
 get_at (x ∷ p) (suc place) i rest e = get_at p place i rest e
 
--- The program ends with the word within n steps; and within as many as some number.
-pub record EndsWithin (p : List sock_filter) (r : List ℕ) (w n long : ℕ) : Type 0 where
-  pub steps : ℕ
-  pub few : steps ≤ n
-  pub short : steps ≤ long
-  pub ends : Ends p r steps w
+-- a run takes no more steps than there are instructions
+pub returns_short : {r : List ℕ} {a w n : ℕ} (code : List sock_filter) → Returns r code a w n → Returns r code a w (length code)
+returns_short [] h = elim h [ ]
+returns_short (i ∷ rest) (gives i' rest' a w n is word) = gives i rest a w (length rest) is word
+returns_short (i ∷ rest) (goes_on i' rest' a a' w n d does small h) =
+    goes_on i rest a a' w (length rest) d does small
+    (returns_more (length rest) (omega (arith, length-drop d rest)) (returns_short (drop d rest) h))
 
 -- a run that has come to a place ends as it does from there
 ends_from : (p : List sock_filter) (r : List ℕ) (tail : List sock_filter) (place m a w n : ℕ) → drop place p ≡ tail → Goes p r 0 0 m place
-    a → a < 2 ^ 32
-    → Returns r tail a w n → EndsWithin p r w (m + n) (m + length tail)
+    a → a < 2 ^ 32 → Returns r tail a w n → EndsWithin p r w (m + n)
 ends_from p r tail place m a w n at goes small (gives i rest b v k is word) = record {
   steps = m + 1;
   few = omega arith;
-  short = omega arith;
   ends = record {
     place = place;
     accumulator = a;
@@ -63,13 +64,13 @@ ends_from p r tail place m a w n at goes small (goes_on i rest b a' v n' d does 
     let at' : drop (place + (1 + d)) p ≡ drop d rest =
     sym (drop-drop (1 + d) place p) ∙ ap (λ l. drop (1 + d) l) at ∙ ap (λ k. drop k (i ∷ rest)) over in
     let end = ends_from p r (drop d rest) (place + (1 + d)) (suc m) a' w n' at' step small' h in
-    record { steps = end.steps; few = omega (arith, end.few); short = omega (arith, end.short, length-drop d rest); ends = end.ends }
+    record { steps = end.steps; few = omega (arith, end.few); ends = end.ends }
 
--- A program whose run returns a word ends with it, in no more steps than it has instructions.
-pub program_ends : (p : List sock_filter) (r : List ℕ) (w n : ℕ) → Returns r p 0 w n → EndsWithin p r w n (length p)
+-- A program whose run returns a word ends with it.
+pub program_ends : (p : List sock_filter) (r : List ℕ) (w n : ℕ) → Returns r p 0 w n → EndsWithin p r w n
 program_ends p r w n h =
     let end = ends_from p r p 0 0 0 w n refl stays (omega arith) h in
-    record { steps = end.steps; few = omega (arith, end.few); short = omega (arith, end.short); ends = end.ends }
+    record { steps = end.steps; few = omega (arith, end.few); ends = end.ends }
 
 -- an instruction is as fine if one more comes in front
 fine_behind : (i : sock_filter) (place n : ℕ) → IsFine i place n → IsFine i (suc place) (suc n)
@@ -95,14 +96,14 @@ last_get : (front : List sock_filter) (x : sock_filter) → slice_get (front ++ 
 last_get [] x = refl
 last_get (y ∷ front) x = last_get front x
 
--- Sound code is a checked program.
-pub sound_checked : (p : List sock_filter) → IsSound p → IsChecked p
-sound_checked p h =
+-- Sound code is a checked program, if it is no longer than that may be.
+pub sound_checked : (p : List sock_filter) → IsSound p → length p ≤ greatest_length → IsChecked p
+sound_checked p h few =
     let kill = give 0x80000000 in
     let long : length p ≡ length h.front + 1 = ap length h.ends ∙ length-append h.front (kill ∷ []) in
     record {
       some = omega (arith, long);
-      few = h.few;
+      few = few;
       ranges = record { each = λ place i here. (each_fine p place i h.fine here).1 };
       each = λ place i here. (each_fine p place i h.fine here).0;
       last = λ i here.

@@ -1,15 +1,15 @@
 -- Rulings as a target, from the last to the first: each is put in front of what comes after it.
-use Rattle.seccomp_tree.proofs.Common.{◌≡◌, ℕ, zero, suc, ◌+◌, ◌*◌, ◌<◌, ◌≤◌, ◌^◌, List, [], ◌∷◌, length, drop, true, false, refl, sym, ap}
+use Rattle.seccomp_tree.proofs.Common.{◌≡◌, ℕ, suc, ◌+◌, ◌*◌, ◌<◌, ◌≤◌, ◌^◌, List, [], ◌∷◌, length, drop, true, false, refl, sym, ap}
 use Rattle.seccomp_tree.proofs.Common.{◌∙◌, subst, inl, inr, Option, Some, None, arith, nat_tests, false≢true, true≢false, All-nil}
 use Rattle.seccomp_tree.proofs.Common.{All-cons, All-head, All-tail, sock_filter, SeccompCmpArgLen, IsRecord, argument_at, Condition, Holds}
 use Rattle.seccomp_tree.proofs.Common.{RuleHolds, part_of, Target, Give, Step, found_in, AreSteps, single, is_plain, AreLaid}
-use Rattle.seccomp_tree.proofs.Common.{condition_length, IsConditionMet, LeadsAlways, to_return, AreIn, Grows, part_length, part_steps}
+use Rattle.seccomp_tree.proofs.Common.{IsConditionMet, LeadsAlways, to_return, AreIn, Grows, part_length, part_steps}
 use Rattle.seccomp_tree.proofs.Common.{IsPart, Ruling, First, only, alike, same_length, joins, joined, conditions_length, conditions_steps}
 use Rattle.seccomp_tree.proofs.Common.{rules_length, RunTakes, by_steps, by_conditions, Enters, begins, Takes, stops, passes, ends}
-use Rattle.seccomp_tree.proofs.Common.{IsRulingMet, AreRules, rest_length, IsSettled, IsInFront, along, afresh, alone}
+use Rattle.seccomp_tree.proofs.Common.{IsRulingMet, AreRules, greatest_length, IsSettled, IsInFront, along, afresh, alone}
 use Rattle.seccomp_tree.specs.Conditions.{numbers_of}
 use Rattle.seccomp_tree.specs.Decisions.{goes_on}
-use Rattle.seccomp_tree.proofs.Runs.{grows_not, grows_on, grown_long, leads_by, starts_more}
+use Rattle.seccomp_tree.proofs.Runs.{grows_not, grows_on, leads_by, starts_more}
 use Rattle.seccomp_tree.proofs.Begun.{begun_few, found_in_code}
 use Rattle.seccomp_tree.proofs.Choices.{numbers_many, laid_in}
 use Rattle.seccomp_tree.proofs.Deciding.{first_here, first_behind, first_nothing}
@@ -28,18 +28,6 @@ ruling_one old mid new value after t u c rest h one = met_both _ _ (holds_or_not
   λ all. (All-head (λ (x : Condition). Holds x r) c rest all, All-tail (λ (x : Condition). Holds x r) c rest all),
   λ both. All-cons (λ (x : Condition). Holds x r) c rest both.0 both.1,
 )) (omega arith) (omega arith) h one
-
-conditions_less : (n : ℕ) (q : List Condition) → conditions_length (drop n q) ≤ conditions_length q
-conditions_less (suc n) (c ∷ q) = omega (arith, conditions_less n q)
-conditions_less _ q = omega arith
-
--- how much room a condition takes at most, of what all take
-pub ruling_room : (old mid : List sock_filter) (value : ℕ) (after t : Target) (q : List Condition) (k : ℕ) (c : Condition) (rest : List
-    Condition)
-    → drop k q ≡ c ∷ rest → IsRulingMet old rest value after t mid → length mid + condition_length c.arg_len c.operator ≤ length old +
-    conditions_length q
-ruling_room old mid value after t q k c rest cons h =
-    omega (arith, (grown_long h.grows).1, conditions_less k q, ap conditions_length cons)
 
 -- ---- what a condition alone is
 
@@ -130,6 +118,9 @@ rest_none old default fits =
     (Give default, refl, refl, own)
 
 -- ---- a ruling laid over steps
+
+run_many : (l : SeccompCmpArgLen) (n j : ℕ) → n ≤ 2 * (1 + j) + 1 → n ≤ (1 + j) * part_length l 3
+run_many l n j le = grind (arith, le)
 
 run_more : (l : SeccompCmpArgLen) (j : ℕ) → (1 + suc j) * part_length l 3 ≡ part_length l 3 + (1 + j) * part_length l 3
 run_more l j = grind arith
@@ -283,13 +274,12 @@ in_front old code new default d rulings like new_like steps laid h (afresh c t o
 in_front old code new default d rulings like new_like steps laid h (alone t u mid none s met is_one is) =
     rw is (u, is_one, none, rules_alone old mid new default d rulings t u none (settled old code mid default rulings like steps t h s) met)
 
--- how much room there is
-pub rest_room : (old code : List sock_filter) (default : ℕ) (rulings : List Ruling) (like : Option Condition) (steps : List Step)
-    → IsRest old default rulings like steps code → length code + rest_length like (length steps) ≤ length old + rules_length rulings
-rest_room old code default rulings None steps h = omega (arith, (grown_long h.3.grows).1)
-rest_room old code default rulings (Some c) steps h =
-    let room = run_room c.arg_len (length steps) (joined h.0.conditions h.1) h.3.few in
-    omega (arith, (grown_long h.3.grows).1, h.3.room, ap rules_length h.2, room)
+-- more steps than a program has instructions need more of them
+pub rest_many : (old code : List sock_filter) (default : ℕ) (rulings : List Ruling) (like : Option Condition) (steps : List Step)
+    → IsRest old default rulings like steps code → greatest_length < length steps → greatest_length < rules_length rulings
+rest_many old code default rulings None steps h many = absurd (omega (arith, ap (λ (l : List Step). length l) h.1))
+rest_many old code default rulings (Some c) steps h many =
+    omega (arith, many, run_many c.arg_len (length steps) (joined h.0.conditions h.1) h.3.few, h.3.room, ap rules_length h.2)
 
 pub rules_less : (n : ℕ) (rulings : List Ruling) → rules_length (drop n rulings) ≤ rules_length rulings
 rules_less (suc n) (d ∷ rulings) = omega (arith, rules_less n rulings)

@@ -1,8 +1,8 @@
 -- Code that grows: what starts at a place stays what it was, how long code is, and that it stays sound; and runs that begin at a target.
 use Rattle.seccomp_tree.proofs.Common.{◌≡◌, ℕ, suc, ◌+◌, ◌-◌, ◌<◌, List, [], ◌∷◌, ◌++◌, length, drop, get_or, length-append, zero-add, sym}
-use Rattle.seccomp_tree.proofs.Common.{ap, ◌∙◌, arith, ◌≤◌, append_assoc, refl, subst, zero, reverse, drop_more, drop-drop, get_or-reverse}
-use Rattle.seccomp_tree.proofs.Common.{length-reverse, sock_filter, tail_at, IsIn, Grows, Returns, gives, Starts, Leads, to_return}
-use Rattle.seccomp_tree.proofs.Common.{to_place, near, IsSound, Target, Give, At, IsFine, IsInRange, greatest_length}
+use Rattle.seccomp_tree.proofs.Common.{ap, ◌∙◌, arith, ◌≤◌, ◌^◌, append_assoc, refl, subst, zero, reverse, drop_more, drop-drop}
+use Rattle.seccomp_tree.proofs.Common.{get_or-reverse, length-reverse, sock_filter, tail_at, IsIn, Grows, Returns, gives, Starts, Leads}
+use Rattle.seccomp_tree.proofs.Common.{to_return, to_place, near, IsSound, Target, Give, At, IsFine, IsInRange}
 use Rattle.seccomp_tree.specs.Code.{goes_on}
 
 drop_behind : (front old : List sock_filter) (n : ℕ) → drop (length front + n) (front ++ old) ≡ drop n old
@@ -123,6 +123,6 @@ runs_last {code} {r} is some (to_place m w a n inside h) =
 runs_last {code} {r} is some (near m w a n inside close h) = subst (λ l. Returns r l a w n) (tail_whole code m (omega arith)) h
 
 pub sound_push : (code : List sock_filter) (i : sock_filter) → IsSound code → IsFine i 0 (length code + 1) → IsInRange i
-    → length code < greatest_length → IsSound (i ∷ code)
+    → length code + 1 < 2 ^ 32 → IsSound (i ∷ code)
 sound_push code i h fine range room =
     record { fine = (fine, (range, h.fine)); few = omega arith; front = i ∷ h.front; ends = ap (λ l. i ∷ l) h.ends }

@@ -1,22 +1,23 @@
 -- The theorem: what is written answers every record as is decided.
 use Rattle.seccomp_tree.proofs.Common.{◌≡◌, ℕ, ◌+◌, ◌-◌, ◌*◌, ◌≤◌, ◌^◌, List, [], ◌∷◌, length, Bool, true, false, Option, Some, None, refl}
 use Rattle.seccomp_tree.proofs.Common.{ap, inl, inr, arith, nat_eq, if◌then◌else◌, suc, zero, nat_tests, All-nil, sock_filter, IsRecord}
-use Rattle.seccomp_tree.proofs.Common.{word_at, audit_word, Condition, Holds, Target, Give, Step, found_in, AreIn, IsFullBy, StartsAlways}
-use Rattle.seccomp_tree.proofs.Common.{to_return, LeadsAlways, IsPart, IsSound, Returns, chosen, part_steps, Dword, Ruling, First, nothing}
-use Rattle.seccomp_tree.proofs.Common.{Takes, stops, passes, ends, Enters, begins, RunTakes, by_steps, by_conditions, only, joins, joined}
+use Rattle.seccomp_tree.proofs.Common.{word_at, audit_word, Condition, Holds, Target, Give, Step, AreIn, StartsAlways, to_return}
+use Rattle.seccomp_tree.proofs.Common.{LeadsAlways, IsPart, IsSound, Returns, chosen, part_steps, Dword, Ruling, First, nothing, Takes}
+use Rattle.seccomp_tree.proofs.Common.{stops, passes, ends, Enters, begins, RunTakes, by_steps, by_conditions, only, joins, joined}
 use Rattle.seccomp_tree.proofs.Common.{conditions_steps, DecisionSet, default_for, rulings_for, IsDecided, other_architecture, decided}
-use Rattle.seccomp_tree.proofs.Common.{one_value, value_for, calls_length, TakesOwn, other, one, own, EndsAsDecided, IsTreeProgram}
-use Rattle.seccomp_tree.proofs.Common.{TreeError, word_fits, pow-succ', one-le-pow, give}
+use Rattle.seccomp_tree.proofs.Common.{one_value, value_for, TakesOwn, other, one, own, EndsAsDecided, IsTreeProgram, AreRanges, IsTested}
+use Rattle.seccomp_tree.proofs.Common.{greatest_length, load, word_fits, pow-succ', one-le-pow, give}
 use Rattle.seccomp_tree.specs.Decisions.{goes_on as runs_on}
-use Rattle.seccomp_tree.specs.CallSteps.{IsAnswer, AreCallSteps, IsCallsTarget, IsTooFull, IsWritten}
+use Rattle.seccomp_tree.specs.CallSteps.{IsAnswer, AreCallSteps}
 use Rattle.seccomp_tree.proofs.Deciding.{first_here, decided_some}
 use Rattle.seccomp_tree.proofs.Begun.{are_in_below, not_none}
-use Rattle.seccomp_tree.proofs.Runs.{grows_on, grown_long, starts_more, returns_more}
+use Rattle.seccomp_tree.specs.TreeProgram.{length_by}
+use Rattle.seccomp_tree.proofs.Runs.{grown_long, returns_more}
 use Rattle.seccomp_tree.proofs.Trees.{load_run}
 use Rattle.seccomp_tree.proofs.FewestSteps.{fewest}
 use Rattle.seccomp_tree.specs.declared.code.Test.TheVariants.{Equal}
 use Rattle.seccomp_tree.proofs.Meeting.{rule_or_not}
-use Rattle.seccomp_tree.proofs.ProgramEnds.{program_ends, sound_checked}
+use Rattle.seccomp_tree.proofs.ProgramEnds.{program_ends, returns_short, sound_checked}
 
 -- the one value that answers is the word that is decided
 one_first : (default v w : ℕ) (rulings : List Ruling) (r : List ℕ) → one_value default rulings ≡ Some v → First default r rulings w → w ≡ v
@@ -42,31 +43,6 @@ answer_leads d code t r w n rec h arch first takes = go (value_for d (word_at r 
     go None is m (other not) = absurd (not arch)
     go None is m (one v some) = absurd (cc)
     go None is m (own k takes) = h.own is r rec w k first takes
-
--- what `word` needs
-pub calls_room : (d : DecisionSet) (old mid : List sock_filter) (steps : List Step) → AreCallSteps old d steps mid → AreIn mid steps
-calls_room d old mid steps h =
-    are_in_below mid (2 ^ 32) steps (omega arith) h.answers.are (λ a lt. (h.answers.each a lt).inside)
-
-pub calls_full : (d : DecisionSet) (old mid : List sock_filter) (steps : List Step) (e : TreeError) → AreCallSteps old d steps mid
-    → IsFullBy mid (3 * length steps - 2) e → IsTooFull d old 0 e
-calls_full d old mid steps e h full = λ is starts ranges.
-    let some = not_none (2 ^ 32) steps h.answers.are (omega arith) in
-    omega (arith, (grown_long h.grows).1, full is, fewest d mid steps starts h.answers ranges, some)
-
--- after the load of the number stands what answers all calls
-pub calls_target : (d : DecisionSet) (old mid new : List sock_filter) (steps : List Step) (t : Target) → AreCallSteps old d steps mid
-    → IsPart mid Dword (3 * length steps - 2) (λ r. word_at r 0) steps t new → IsCallsTarget old d t new
-calls_target d old mid new steps t h word = record {
-  ranges = length steps;
-  some = not_none (2 ^ 32) steps h.answers.are (omega arith);
-  few = λ starts ranges. fewest d mid steps starts h.answers ranges;
-  grows = grows_on (calls_length d.calls + (3 * length steps - 2)) h.grows word.grows (omega arith);
-  inside = word.inside;
-  enters = λ r rec w n k few arch first takes a small. starts_more (n + 2 + 2 * k) (omega arith) (word.leads r rec w (n + 1) k few
-      (answer_leads d mid (found_in steps (word_at r 0)) r w n rec (h.answers.each (word_at r 0) (word_fits r 0 rec)) arch first takes) a
-      small);
-}
 
 -- ---- what there is for every record
 
@@ -97,41 +73,63 @@ takes_some r first (d ∷ rest) = let e = enters_some first d rest in elim (rule
 
 -- ---- the whole
 
--- the test of the architecture's word, after its load
-chosen_runs : (d : DecisionSet) (old p : List sock_filter) (h : IsWritten old d p) (r : List ℕ) (u : Target) (w m : ℕ) → IsRecord r
-    → chosen Equal (audit_word d.target_arch) h.calls (Give 0x80000000) (word_at r 4) ≡ u → StartsAlways h.behind r u w m
-    → Returns r p 0 w (suc (suc m))
-chosen_runs d old p h r u w m rec is enters =
-    let small = word_fits r 4 rec in
-    rw h.whole (load_run r h.tested 4 0 w (suc m) rec (omega arith)
-    (h.tests.leads r (word_at r 4) w m small (rw is (enters (word_at r 4) small))))
+-- What is written: a load of the architecture's word, its test, and for the calls of the architecture a tree over numbers.
+pub record IsWritten (d : DecisionSet) (p : List sock_filter) : Type 0 where
+  pub mid : List sock_filter
+  pub steps : List Step
+  pub answers : AreCallSteps (give 0x80000000 ∷ []) d steps mid
+  pub calls : Target
+  pub behind : List sock_filter
+  pub word : IsPart mid Dword (3 * length steps - 2) (λ r. word_at r 0) steps calls behind
+  pub test : Target
+  pub tested : List sock_filter
+  pub tests : IsTested behind Equal (audit_word d.target_arch) calls (Give 0x80000000) test tested
+  pub whole : p ≡ load 4 ∷ tested
 
--- a program that is written returns what is decided
-written_returns : (d : DecisionSet) (old p : List sock_filter) (h : IsWritten old d p) (r : List ℕ) (w n k : ℕ) → IsRecord r
-    → h.answers.ranges ≤ 2 ^ k → IsDecided d r w → TakesOwn d r n → Returns r p 0 w (4 + 2 * k + n)
-written_returns d old p h r w n k rec few (other_architecture not is) takes = returns_more (4 + 2 * k + n) (omega arith)
-    (chosen_runs d old p h r (Give w) w 1 rec (grind (arith, nat_tests, not, is)) (λ a small. to_return w a 1 (omega arith)))
-written_returns d old p h r w n k rec few (decided arch first) takes = returns_more (4 + 2 * k + n) (omega arith)
-    (chosen_runs d old p h r h.calls w (n + 2 + 2 * k) rec (grind (arith, nat_tests, arch))
-    (h.answers.enters r rec w n k few arch first takes))
+module _ (d : DecisionSet) (p : List sock_filter) (h : IsWritten d p) where
+  -- the test of the architecture's word, after its load
+  chosen_runs : (r : List ℕ) (u : Target) (w m : ℕ) → IsRecord r
+      → chosen Equal (audit_word d.target_arch) h.calls (Give 0x80000000) (word_at r 4) ≡ u → StartsAlways h.behind r u w m
+      → Returns r p 0 w (suc (suc m))
+  chosen_runs r u w m rec is enters =
+      let small = word_fits r 4 rec in
+      rw h.whole (load_run r h.tested 4 0 w (suc m) rec (omega arith)
+      (h.tests.leads r (word_at r 4) w m small (rw is (enters (word_at r 4) small))))
 
-written_decides : (d : DecisionSet) (old p : List sock_filter) → IsWritten old d p → (r : List ℕ) → IsRecord r → EndsAsDecided d p r
-written_decides d old p h r rec =
-    let k = h.answers.ranges in
-    let x = decided_some d r in
-    let y = takes_some r [] (rulings_for d.calls (word_at r 0)) in
-    let end = program_ends p r x.0 (4 + 2 * k + y.0) (written_returns d old p h r x.0 y.0 k rec (power k) x.1 (own y.0 y.1)) in
-    record { word = x.0; decided = x.1; ends = record { steps = end.steps; few = end.short; ends = end.ends } }
+  -- a program that is written returns what is decided
+  written_returns : (r : List ℕ) (w n k : ℕ) → IsRecord r → length h.steps ≤ 2 ^ k → IsDecided d r w → TakesOwn d r n
+      → Returns r p 0 w (4 + 2 * k + n)
+  written_returns r w n k rec few (other_architecture not is) takes = returns_more (4 + 2 * k + n) (omega arith)
+      (chosen_runs r (Give w) w 1 rec (grind (arith, nat_tests, not, is)) (λ a small. to_return w a 1 (omega arith)))
+  written_returns r w n k rec few (decided arch first) takes = returns_more (4 + 2 * k + n) (omega arith)
+      (chosen_runs r h.calls w (n + 1 + (1 + 2 * k)) rec (grind (arith, nat_tests, arch))
+      (h.word.leads r rec w (n + 1) k few
+      (answer_leads d h.mid _ r w n rec (h.answers.answers.each (word_at r 0) (word_fits r 0 rec)) arch first takes)))
 
-pub written_program : (d : DecisionSet) (p : List sock_filter) → IsWritten (give 0x80000000 ∷ []) d p → IsSound p → IsTreeProgram d p
-written_program d p h sound = record {
-  checked = sound_checked p sound;
-  decides = λ r rec. written_decides d (give 0x80000000 ∷ []) p h r rec;
-  soon = λ r rec w n k decision takes starts ranges few.
-      let end = program_ends p r w (4 + 2 * k + n) (written_returns d (give 0x80000000 ∷ []) p h r w n k rec
-      (omega (arith, h.answers.few starts ranges)) decision takes) in
-      record { steps = end.steps; few = end.few; ends = end.ends };
-  short = λ starts ranges.
-      let one = (grown_long h.answers.grows).1 in
-      omega (arith, h.answers.few starts ranges, h.answers.some, one, (grown_long h.tests.grows).1, ap length h.whole);
-}
+  written_decides : (r : List ℕ) → IsRecord r → EndsAsDecided d p r
+  written_decides r rec =
+      let k = length h.steps in
+      let x = decided_some d r in
+      let y = takes_some r [] (rulings_for d.calls (word_at r 0)) in
+      let run = written_returns r x.0 y.0 k rec (power k) x.1 (own y.0 y.1) in
+      record { word = x.0; decided = x.1; ends = program_ends p r x.0 (length p) (returns_short p run) }
+
+  pub written_short : (starts : List ℕ) → AreRanges d starts → length p ≤ length_by d (length starts)
+  written_short starts ranges =
+      let some = not_none (2 ^ 32) h.steps h.answers.answers.are (omega arith) in
+      let few = fewest d h.mid h.steps starts h.answers.answers ranges in
+      omega (arith, some, few, (grown_long h.answers.grows).1, (grown_long h.word.grows).1, (grown_long h.tests.grows).1, ap length h.whole)
+
+  pub written_program : IsSound p → length p ≤ greatest_length → IsTreeProgram d p
+  written_program sound fits = record {
+    checked = sound_checked p sound fits;
+    decides = written_decides;
+    soon = λ r rec w n k decision takes starts ranges few.
+        let less = fewest d h.mid h.steps starts h.answers.answers ranges in
+        program_ends p r w (4 + 2 * k + n) (written_returns r w n k rec (omega (arith, less)) decision takes);
+    short = written_short;
+  }
+
+-- what answers all calls are targets of the code
+pub answers_in : (d : DecisionSet) (old mid : List sock_filter) (steps : List Step) → AreCallSteps old d steps mid → AreIn mid steps
+answers_in d old mid steps h = are_in_below mid (2 ^ 32) steps (omega arith) h.answers.are (λ a lt. (h.answers.each a lt).inside)

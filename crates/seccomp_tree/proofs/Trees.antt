@@ -71,9 +71,6 @@ rest_of code m n t steps some lt all_in up inside =
     let long = length-drop n steps in
     rw (all_behind steps n) (omega (arith, long), (omega (arith, long), (ascend_drop m 0 n steps up, in_drop code n steps inside)))
 
-pub rest_long : (n : ℕ) (steps : List Step) → length (take (length steps - n) (drop n steps)) ≡ length steps - n
-rest_long n steps = ap length (all_behind steps n) ∙ length-drop n steps
-
 -- the number of halvings of a half is one less
 pub halvings : (n m k : ℕ) → 2 ≤ n → n ≤ 2 ^ k → m ≤ n - n / 2 → (j : ℕ) × (k ≡ suc j) × (m ≤ 2 ^ j)
 halvings n m zero some le half = absurd (omega arith)

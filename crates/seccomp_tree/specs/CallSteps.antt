@@ -1,21 +1,16 @@
 -- Between layers: steps over call numbers.
-use Rattle.std.specs.Prelude.{◌≡◌, ℕ, ◌+◌, ◌-◌, ◌*◌, ◌∷◌, length, ◌<◌, ◌≤◌, ◌^◌, List, [], Some, None}
+use Rattle.std.specs.Prelude.{◌≡◌, ℕ, ◌+◌, ◌<◌, ◌≤◌, ◌^◌, List, [], Some, None}
 use Rattle.seccompiler.specs.declared.bpf.sock_filter.{sock_filter}
-use Rattle.seccompiler.specs.Machine.{IsRecord, word_at, greatest_length}
+use Rattle.seccompiler.specs.Machine.{IsRecord}
 use Rattle.seccomp_tree.specs.declared.steps.Target.{Target}
 use Rattle.seccomp_tree.specs.declared.steps.Target.TheVariants.{Give}
 use Rattle.seccomp_tree.specs.declared.steps.Step.{Step}
 use Rattle.seccomp_tree.specs.declared.decisions.DefaultValue.{DefaultValue}
 use Rattle.seccomp_tree.specs.Steps.{found_in, AreSteps}
-use Rattle.seccomp_tree.specs.Code.{IsIn, IsTested, Grows, LeadsAlways, StartsAlways}
+use Rattle.seccomp_tree.specs.Code.{IsIn, Grows, LeadsAlways}
 use Rattle.seccomp_tree.specs.Decisions.{Ruling, First, Takes, rules_length}
 use Rattle.seccomp_tree.specs.Decided.{DecisionSet, default_for, rulings_for}
-use Rattle.seccomp_tree.specs.TreeProgram.{one_value, calls_length, AreRanges, TakesOwn}
-use Rattle.seccompiler.specs.Architecture.{audit_word}
-use Rattle.seccompiler.specs.Code.{load}
-use Rattle.seccomp_tree.specs.declared.code.Test.TheVariants.{Equal}
-use Rattle.seccomp_tree.specs.declared.error.TreeError.{TreeError}
-use Rattle.seccomp_tree.specs.declared.error.TreeError.TheVariants.{TooLarge}
+use Rattle.seccomp_tree.specs.TreeProgram.{one_value, calls_length}
 
 -- The target answers calls as their rulings do, whatever the accumulator holds; if one value answers them, it returns
 -- that.
@@ -52,29 +47,3 @@ pub record AreAnswers (d : DecisionSet) (next : ℕ) (code : List sock_filter) (
 pub record AreCallSteps (old : List sock_filter) (d : DecisionSet) (steps : List Step) (new : List sock_filter) : Type 0 where
   pub grows : Grows old (calls_length d.calls) new
   pub answers : AreAnswers d (2 ^ 32) new steps
-
--- The target answers all calls of the architecture.
-pub record IsCallsTarget (old : List sock_filter) (d : DecisionSet) (t : Target) (new : List sock_filter) : Type 0 where
-  pub ranges : ℕ
-  pub some : 1 ≤ ranges
-  pub few : (starts : List ℕ) → AreRanges d starts → ranges ≤ length starts
-  pub grows : Grows old (calls_length d.calls + (3 * ranges - 2)) new
-  pub inside : IsIn new t
-  pub enters : (r : List ℕ) → IsRecord r → (w n k : ℕ) → ranges ≤ 2 ^ k → word_at r 4 ≡ audit_word d.target_arch
-      → First (default_for d.defaults (word_at r 0)) r (rulings_for d.calls (word_at r 0)) w → TakesOwn d r n
-      → StartsAlways new r t w (n + 2 + 2 * k)
-
--- After a load of the architecture's word and a test of it there is what answers calls.
-pub record IsWritten (old : List sock_filter) (d : DecisionSet) (new : List sock_filter) : Type 0 where
-  pub calls : Target
-  pub behind : List sock_filter
-  pub answers : IsCallsTarget old d calls behind
-  pub test : Target
-  pub tested : List sock_filter
-  pub tests : IsTested behind Equal (audit_word d.target_arch) calls (Give 0x80000000) test tested
-  pub whole : new ≡ load 4 ∷ tested
-
--- The code doesn't take what answers all calls, and so many more: this comes only if that is so, or of memory.
-abbrev pub IsTooFull : DecisionSet → List sock_filter → ℕ → TreeError → Type 0
-IsTooFull d code most e = e ≡ TooLarge → (starts : List ℕ) → AreRanges d starts
-    → greatest_length + 2 < length code + calls_length d.calls + 3 * length starts + most

@@ -2,12 +2,10 @@
 use Rattle.std.specs.Prelude.{◌≡◌, ℕ, suc, ◌+◌, ◌-◌, ◌*◌, ◌<◌, ◌≤◌, ◌^◌, List, [], ◌∷◌, ◌++◌, length, drop, ⊤, nat_eq, nat_le}
 use Rattle.std.specs.Prelude.{slice_index_or, if◌then◌else◌}
 use Rattle.seccompiler.specs.declared.bpf.sock_filter.{sock_filter}
-use Rattle.seccompiler.specs.Machine.{IsRecord, Does, IsFine, IsInRange, greatest_length}
+use Rattle.seccompiler.specs.Machine.{IsRecord, Does, IsFine, IsInRange}
 use Rattle.seccompiler.specs.declared.backend.SeccompCmpArgLen.{SeccompCmpArgLen}
 use Rattle.seccompiler.specs.declared.backend.SeccompCmpArgLen.TheVariants.{Dword, Qword}
 use Rattle.seccompiler.specs.Code.{give}
-use Rattle.seccomp_tree.specs.declared.error.TreeError.{TreeError}
-use Rattle.seccomp_tree.specs.declared.error.TreeError.TheVariants.{TooLarge}
 use Rattle.seccomp_tree.specs.declared.steps.Target.{Target}
 use Rattle.seccomp_tree.specs.declared.steps.Target.TheVariants.{Give, At}
 use Rattle.seccomp_tree.specs.declared.steps.Step.{Step}
@@ -20,10 +18,10 @@ abbrev pub AreFine : List sock_filter → Type 0
 AreFine [] = ⊤
 AreFine (i ∷ rest) = IsFine i 0 (length rest + 1) × (IsInRange i × AreFine rest)
 
--- Code that may be run: it is fine, fits a program, and ends in a return that kills the process.
+-- Code that may be run: it is fine, its places fit 32 bits, and it ends in a return that kills the process.
 pub record IsSound (code : List sock_filter) : Type 0 where
   pub fine : AreFine code
-  pub few : length code ≤ greatest_length
+  pub few : length code < 2 ^ 32
   pub front : List sock_filter
   pub ends : code ≡ front ++ give 0x80000000 ∷ []
 
@@ -69,10 +67,6 @@ pub record Grows (old : List sock_filter) (most : ℕ) (new : List sock_filter) 
   pub front : List sock_filter
   pub whole : new ≡ front ++ old
   pub few : length front ≤ most
-
--- The code doesn't take so many more: this comes only if that is so, or of memory.
-abbrev pub IsFullBy : List sock_filter → ℕ → TreeError → Type 0
-IsFullBy code most e = e ≡ TooLarge → greatest_length < length code + most
 
 -- An instruction at a place does what the target says: it returns the word, or jumps to the target's place.
 abbrev pub Says : Target → sock_filter → ℕ → Type 0

@@ -1,8 +1,10 @@
 -- Rulings as a target: what the first that holds says, or what comes after them.
 use Rattle.std.specs.Prelude.{◌≡◌, ℕ, ◌+◌, ◌<◌, ◌^◌, List, [], length, Option, Some, None, true, false}
 use Rattle.seccompiler.specs.declared.bpf.sock_filter.{sock_filter}
-use Rattle.seccompiler.specs.Machine.{IsRecord, argument_at}
+use Rattle.seccompiler.specs.Machine.{IsRecord, argument_at, greatest_length}
 use Rattle.seccompiler.specs.Policy.{Condition, RuleHolds, part_of}
+use Rattle.seccomp_tree.specs.declared.error.TreeError.{TreeError}
+use Rattle.seccomp_tree.specs.declared.error.TreeError.TheVariants.{TooLarge}
 use Rattle.seccomp_tree.specs.declared.steps.Target.{Target}
 use Rattle.seccomp_tree.specs.declared.steps.Target.TheVariants.{Give}
 use Rattle.seccomp_tree.specs.declared.steps.Step.{Step}
@@ -26,10 +28,9 @@ abbrev pub AreFit : List sock_filter → Option Condition → List Step → Type
 AreFit code None steps = (t : Target) × (steps ≡ single t) × IsIn code t
 AreFit code (Some c) steps = AreSteps (numbers_of c.arg_len) steps × AreIn code steps
 
--- How many instructions it takes to go on there.
-abbrev pub rest_length : Option Condition → ℕ → ℕ
-rest_length None n = 0
-rest_length (Some c) n = part_length c.arg_len n
+-- There are more rulings than a program has room for: this comes only if that is so, or of memory.
+abbrev pub IsTooMany : ℕ → TreeError → Type 0
+IsTooMany length e = e ≡ TooLarge → greatest_length < length
 
 -- The target goes on there.
 abbrev pub IsSettled : List sock_filter → Option Condition → List Step → Target → List sock_filter → Type 0

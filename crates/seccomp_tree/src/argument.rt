@@ -1,16 +1,15 @@
 // Arguments of 64 bits: steps over the high halves, whose targets are steps over the low halves.
 
-ghost use Rattle.std.specs.Prelude.{◌≤◌, ◌<◌, ◌-◌, ◌*◌, ◌^◌, IfOk, IfErr, length};
+ghost use Rattle.std.specs.Prelude.{◌≤◌, ◌<◌, ◌-◌, ◌*◌, ◌^◌, IfOk, length};
 ghost use Rattle.seccomp_tree.specs.Steps.{AreSteps};
 ghost use Rattle.seccompiler.specs.Machine.{argument_at};
 ghost use Rattle.seccompiler.specs.declared.backend.SeccompCmpArgLen.TheVariants.{Qword};
-ghost use Rattle.seccomp_tree.specs.Code.{AreIn, IsFullBy, IsPart};
+ghost use Rattle.seccomp_tree.specs.Code.{AreIn, IsPart};
 ghost use Rattle.seccomp_tree.specs.Arguments.{AreHighs, IsHalf, IsNext, half_length};
 
 use crate::code::Code;
-use crate::error::TreeError;
 use crate::steps::{Step, Target, push_part, push_step, until};
-use std::alloc::Global;
+use std::alloc::{AllocError, Global};
 
 // How many low halves there are, and the greatest.
 const HALVES: u64 = 0x1_0000_0000;
@@ -24,12 +23,11 @@ impl Code {
         alloc: Global,
         index: u8,
         steps: &[Step],
-    ) -> Result<Target, TreeError>
+    ) -> Result<Target, AllocError>
         requires index { index ≤ 5 }
         requires are { AreSteps (2 ^ 64) steps.now }
         requires inside { AreIn self.old steps.now }
-        ensures ok { IfOk result (λ t. IsPart self.old Qword (13 * length steps.now - 2) (λ r. argument_at r index) steps.now t self.new) }
-        ensures err { IfErr result (IsFullBy self.old (13 * length steps.now - 2)) }
+        ensures { IfOk result (λ t. IsPart self.old Qword (13 * length steps.now - 2) (λ r. argument_at r index) steps.now t self.new) }
     {
         let highs = self.high_halves(alloc, index, steps)?;
         self.word(20 + 8 * index, &highs)
@@ -41,12 +39,11 @@ impl Code {
         alloc: Global,
         index: u8,
         steps: &[Step],
-    ) -> Result<Vec<Step>, TreeError>
+    ) -> Result<Vec<Step>, AllocError>
         requires index { index ≤ 5 }
         requires are { AreSteps (2 ^ 64) steps.now }
         requires inside { AreIn self.old steps.now }
-        ensures ok { IfOk result (λ highs. AreHighs self.old index steps.now (2 ^ 32) highs.items self.new) }
-        ensures err { IfErr result (IsFullBy self.old (5 * length steps.now)) }
+        ensures { IfOk result (λ highs. AreHighs self.old index steps.now (2 ^ 32) highs.items self.new) }
     {
         let mut highs = Vec::new(alloc);
         let mut high = 0;
@@ -65,13 +62,12 @@ impl Code {
         index: u8,
         steps: &[Step],
         high: u64,
-    ) -> Result<Target, TreeError>
+    ) -> Result<Target, AllocError>
         requires index { index ≤ 5 }
         requires high { high < 2 ^ 32 }
         requires are { AreSteps (2 ^ 64) steps.now }
         requires inside { AreIn self.old steps.now }
-        ensures ok { IfOk result (λ t. IsHalf self.old index steps.now high t self.new) }
-        ensures err { IfErr result (IsFullBy self.old (half_length steps.now high)) }
+        ensures { IfOk result (λ t. IsHalf self.old index steps.now high t self.new) }
     {
         let first = high * HALVES;
         let mut lows = Vec::new(alloc);

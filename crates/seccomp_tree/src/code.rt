@@ -1,19 +1,18 @@
 // Code that is written from its end to its front.
 
-ghost use Rattle.std.specs.Prelude.{◌≡◌, ◌≤◌, ◌<◌, ◌+◌, ◌^◌, ◌∷◌, [], IsTrue, IfSome, IfOk, IfErr, OnOk, length};
+ghost use Rattle.std.specs.Prelude.{◌≡◌, ◌≤◌, ◌<◌, ◌+◌, ◌^◌, ◌∷◌, [], IsTrue, IfSome, IfOk, OnOk, length};
 ghost use Rattle.seccompiler.specs.Code.{give};
-ghost use Rattle.seccompiler.specs.Machine.{IsFine, IsInRange, greatest_length};
-ghost use Rattle.seccomp_tree.specs.declared.error.TreeError.TheVariants.{OutOfMemory};
-ghost use Rattle.seccomp_tree.specs.Code.{IsSound, IsFullBy, IsIn, IsFar, DoesAs, IsReached, IsTested, Says};
+ghost use Rattle.seccompiler.specs.Machine.{IsFine, IsInRange};
+ghost use Rattle.seccomp_tree.specs.Code.{IsSound, IsIn, IsFar, DoesAs, IsReached, IsTested, Says};
 
-use crate::error::TreeError;
 use crate::steps::Target;
 use seccompiler::BpfProgram;
-use seccompiler::bpf::{
-    BPF_MAX_LEN, JUMP, JUMP_AT_LEAST, JUMP_EQUAL, RETURN, bpf_jump, bpf_stmt, sock_filter,
-};
-use std::alloc::Global;
+use seccompiler::bpf::{JUMP, JUMP_AT_LEAST, JUMP_EQUAL, RETURN, bpf_jump, bpf_stmt, sock_filter};
+use std::alloc::{AllocError, Global};
 use std::marker::Model;
+
+// How many instructions there may be, so that 32 bits hold the distance of each jump. A program has far fewer.
+const MOST: usize = 0xffff_ffff;
 
 // How many instructions a jump may pass over if one more may still come between: 8 bits hold 255.
 const REACH: usize = 254;
@@ -49,9 +48,8 @@ impl Model for Code {
 
 impl Code {
     /// Code that kills the process.
-    pub(crate) fn new(alloc: Global) -> Result<Self, TreeError>
-        ensures ok { IfOk result (λ code. code ≡ give 0x80000000 ∷ []) }
-        ensures err { IfErr result (λ e. e ≡ OutOfMemory) }
+    pub(crate) fn new(alloc: Global) -> Result<Self, AllocError>
+        ensures { IfOk result (λ code. code ≡ give 0x80000000 ∷ []) }
     {
         let mut back = Vec::new(alloc);
         back.push(bpf_stmt(RETURN, 0x8000_0000))?;
@@ -62,20 +60,18 @@ impl Code {
     pub(crate) fn len(&self) -> usize
         ensures len { result ≡ length self.now }
         ensures some { 1 ≤ result }
-        ensures few { result ≤ greatest_length }
     {
         self.back.len()
     }
 
     /// Writes an instruction in front of the others.
-    pub(crate) fn push(&mut self, instruction: sock_filter) -> Result<(), TreeError>
+    pub(crate) fn push(&mut self, instruction: sock_filter) -> Result<(), AllocError>
         requires fine { IsFine instruction 0 (length self.old + 1) }
         requires range { IsInRange instruction }
-        ensures ok { OnOk result (self.new ≡ instruction ∷ self.old) }
-        ensures err { IfErr result (IsFullBy self.old 1) }
+        ensures { OnOk result (self.new ≡ instruction ∷ self.old) }
     {
-        if self.back.len() == BPF_MAX_LEN {
-            return Err(TreeError::TooLarge);
+        if self.back.len() == MOST {
+            return Err(AllocError);
         }
         self.back.push(instruction)?;
         Ok(())
@@ -85,7 +81,7 @@ impl Code {
     fn over(&self, place: usize) -> usize
         requires { place < length self.now }
         ensures over { result + place + 1 ≡ length self.now }
-        ensures few { result < greatest_length }
+        ensures few { result < 2 ^ 32 }
     {
         self.back.len() - 1 - place
     }
@@ -121,14 +117,13 @@ impl Code {
     }
 
     // The last near place of an instruction that does what the target says; or where this one is written, which does.
-    fn stand_in(&mut self, target: Target, instruction: sock_filter) -> Result<usize, TreeError>
+    fn stand_in(&mut self, target: Target, instruction: sock_filter) -> Result<usize, AllocError>
         requires target { IsIn self.old target }
         requires far { IsFar self.old target }
         requires fine { IsFine instruction 0 (length self.old + 1) }
         requires range { IsInRange instruction }
         requires does { Says target instruction (length self.old) }
-        ensures ok { IfOk result (λ place. IsReached self.old target place self.new) }
-        ensures err { IfErr result (IsFullBy self.old 1) }
+        ensures { IfOk result (λ place. IsReached self.old target place self.new) }
     {
         if let Some(place) = self.twin(target) {
             return Ok(place);
@@ -139,10 +134,9 @@ impl Code {
 
     /// A near place that does what the target says: its own, or that of a return or a jump, which is written if none
     /// is near.
-    pub(crate) fn reach(&mut self, target: Target) -> Result<usize, TreeError>
+    pub(crate) fn reach(&mut self, target: Target) -> Result<usize, AllocError>
         requires { IsIn self.old target }
-        ensures ok { IfOk result (λ place. IsReached self.old target place self.new) }
-        ensures err { IfErr result (IsFullBy self.old 1) }
+        ensures { IfOk result (λ place. IsReached self.old target place self.new) }
     {
         match target {
             Target::Give(word) => self.stand_in(target, bpf_stmt(RETURN, word)),
@@ -163,11 +157,10 @@ impl Code {
         k: u32,
         yes: Target,
         no: Target,
-    ) -> Result<Target, TreeError>
+    ) -> Result<Target, AllocError>
         requires yes { IsIn self.old yes }
         requires no { IsIn self.old no }
-        ensures ok { IfOk result (λ t. IsTested self.old test k yes no t self.new) }
-        ensures err { IfErr result (IsFullBy self.old 3) }
+        ensures { IfOk result (λ t. IsTested self.old test k yes no t self.new) }
     {
         let yes = self.reach(yes)?;
         let no = self.reach(no)?;

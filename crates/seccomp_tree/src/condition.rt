@@ -1,20 +1,19 @@
 // Conditions as targets: if one holds, the one target; else the other.
 
-ghost use Rattle.std.specs.Prelude.{◌≡◌, ◌≤◌, ◌%◌, IfOk, IfErr, length};
+ghost use Rattle.std.specs.Prelude.{◌≡◌, ◌≤◌, ◌%◌, IfOk, length};
 ghost use Rattle.seccompiler.specs.Machine.{argument_at};
 ghost use Rattle.seccompiler.specs.Policy.{part_of};
 ghost use Rattle.seccompiler.specs.declared.backend.SeccompCmpOp.TheVariants.{MaskedEq};
 ghost use Rattle.seccomp_tree.specs.Steps.{AreSteps};
-ghost use Rattle.seccomp_tree.specs.Code.{AreIn, IsIn, IsFullBy, IsPart, part_length};
+ghost use Rattle.seccomp_tree.specs.Code.{AreIn, IsIn, IsPart, part_length};
 ghost use Rattle.seccomp_tree.specs.Conditions.{HasBits, IsConditionMet, IsMet, condition_length, numbers_of};
 
 use crate::code::{Code, Test};
-use crate::error::TreeError;
 use crate::intervals::laid;
 use crate::steps::{Step, Target, one};
 use seccompiler::bpf::{LOAD, MASK, bpf_stmt};
 use seccompiler::{SeccompCmpArgLen, SeccompCmpOp, SeccompCondition};
-use std::alloc::Global;
+use std::alloc::{AllocError, Global};
 
 // How many low halves there are.
 const HALVES: u64 = 0x1_0000_0000;
@@ -27,11 +26,10 @@ impl Code {
         condition: &SeccompCondition,
         yes: Target,
         no: Target,
-    ) -> Result<Target, TreeError>
+    ) -> Result<Target, AllocError>
         requires yes { IsIn self.old yes }
         requires no { IsIn self.old no }
-        ensures ok { IfOk result (λ t. IsConditionMet self.old condition.now yes no t self.new) }
-        ensures err { IfErr result (IsFullBy self.old (condition_length condition.now.arg_len condition.now.operator)) }
+        ensures { IfOk result (λ t. IsConditionMet self.old condition.now yes no t self.new) }
     {
         if yes.is(no) {
             return Ok(yes);
@@ -51,12 +49,11 @@ impl Code {
         size: SeccompCmpArgLen,
         index: u8,
         steps: &[Step],
-    ) -> Result<Target, TreeError>
+    ) -> Result<Target, AllocError>
         requires index { index ≤ 5 }
         requires are { AreSteps (numbers_of size) steps.now }
         requires inside { AreIn self.old steps.now }
-        ensures ok { IfOk result (λ t. IsPart self.old size (part_length size (length steps.now)) (λ r. part_of size (argument_at r index)) steps.now t self.new) }
-        ensures err { IfErr result (IsFullBy self.old (part_length size (length steps.now))) }
+        ensures { IfOk result (λ t. IsPart self.old size (part_length size (length steps.now)) (λ r. part_of size (argument_at r index)) steps.now t self.new) }
     {
         match size {
             SeccompCmpArgLen::Dword => self.word(16 + 8 * index, steps),
@@ -71,12 +68,11 @@ impl Code {
         mask: u64,
         yes: Target,
         no: Target,
-    ) -> Result<Target, TreeError>
+    ) -> Result<Target, AllocError>
         requires masked { condition.now.operator ≡ MaskedEq mask }
         requires yes { IsIn self.old yes }
         requires no { IsIn self.old no }
-        ensures ok { IfOk result (λ t. IsConditionMet self.old condition.now yes no t self.new) }
-        ensures err { IfErr result (IsFullBy self.old (condition_length condition.now.arg_len condition.now.operator)) }
+        ensures { IfOk result (λ t. IsConditionMet self.old condition.now yes no t self.new) }
     {
         let index = condition.arg_index();
         let (high_value, low_value) = condition.split_value();
@@ -96,13 +92,12 @@ impl Code {
         value: u32,
         yes: Target,
         no: Target,
-    ) -> Result<Target, TreeError>
+    ) -> Result<Target, AllocError>
         requires aligned { byte % 4 ≡ 0 }
         requires inside_record { byte ≤ 60 }
         requires yes { IsIn self.old yes }
         requires no { IsIn self.old no }
-        ensures ok { IfOk result (λ t. IsMet (HasBits byte mask value) 5 4 self.old yes no t self.new) }
-        ensures err { IfErr result (IsFullBy self.old 5) }
+        ensures { IfOk result (λ t. IsMet (HasBits byte mask value) 5 4 self.old yes no t self.new) }
     {
         if mask == 0 {
             return Ok(yes);

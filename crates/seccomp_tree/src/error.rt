@@ -23,17 +23,6 @@ impl From<AllocError> for TreeError {
     }
 }
 
-impl<T: Drop> From<AllocFailed<T>> for TreeError {
-    ghost use Rattle.std.specs.Prelude.{◌≡◌};
-    ghost use Rattle.seccomp_tree.specs.declared.error.TreeError.TheVariants.{OutOfMemory};
-
-    ghost from_gives = { λ _ e. e ≡ OutOfMemory };
-
-    fn from(_: AllocFailed<T>) -> Self {
-        TreeError::OutOfMemory
-    }
-}
-
 /// Why a filter has no program in a layout.
 #[derive(Clone, Copy, Debug, PartialEq, Eq)]
 pub enum FilterError {

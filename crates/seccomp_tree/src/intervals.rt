@@ -1,15 +1,13 @@
 // Comparisons as steps: for each number what is so where a condition holds on it, and what is so elsewhere.
 
-ghost use Rattle.std.specs.Prelude.{◌≡◌, ◌≤◌, ◌<◌, ◌^◌, ◌↔◌, IsTrue, IfOk, IsOkUnless, None, Some, true};
+ghost use Rattle.std.specs.Prelude.{◌≡◌, ◌≤◌, ◌<◌, ◌^◌, ◌↔◌, IsTrue, IfOk, None, Some, true};
 ghost use Rattle.seccompiler.specs.Policy.{Compares, part_of};
 ghost use Rattle.seccomp_tree.specs.Steps.{AreSteps};
 ghost use Rattle.seccomp_tree.specs.Conditions.{AreLaid, IsChosen, IsOverPushed, is_plain, numbers_of};
-ghost use Rattle.seccomp_tree.specs.declared.error.TreeError.TheVariants.{OutOfMemory};
 
-use crate::error::TreeError;
 use crate::steps::{Step, Target, push_part, push_step};
 use seccompiler::{SeccompCmpArgLen, SeccompCmpOp, SeccompCondition};
-use std::alloc::Global;
+use std::alloc::{AllocError, Global};
 
 /// Steps that have the target if the condition's comparison holds, and else what others have.
 #[tactic(auto, using(crate::proofs::Choices::numbers_few))]
@@ -18,11 +16,10 @@ pub(crate) fn laid(
     condition: &SeccompCondition,
     target: Target,
     others: &[Step],
-) -> Result<Vec<Step>, TreeError>
+) -> Result<Vec<Step>, AllocError>
     requires plain { is_plain condition.now.operator ≡ true }
     requires others { AreSteps (numbers_of condition.now.arg_len) others.now }
-    ensures ok { IfOk result (λ steps. AreLaid condition.now target others.now steps.items) }
-    ensures memory { IsOkUnless result OutOfMemory }
+    ensures { IfOk result (λ steps. AreLaid condition.now target others.now steps.items) }
 {
     let value = u128::from(value_part(condition));
     let mut steps = Vec::new(alloc);
@@ -69,13 +66,12 @@ fn push_over(
     first: u128,
     end: u128,
     target: Option<Target>,
-) -> Result<(), TreeError>
+) -> Result<(), AllocError>
     requires others { AreSteps (2 ^ 64) others.now }
     requires order { first ≤ end }
     requires within { end ≤ 2 ^ 64 }
     requires below { AreSteps first steps.old.items }
-    ensures pushed { IfOk result (λ _. IsOverPushed steps.old.items others.now first end target steps.new.items) }
-    ensures memory { IsOkUnless result OutOfMemory }
+    ensures { IfOk result (λ _. IsOverPushed steps.old.items others.now first end target steps.new.items) }
 {
     if first == end {
         return Ok(());

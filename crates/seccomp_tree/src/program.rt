@@ -1,7 +1,7 @@
 // The program of decisions.
 
 ghost use Rattle.std.specs.Prelude.{◌≡◌, ℕ, ◌≤◌, ◌<◌, ◌^◌, [], IfOk, IfErr};
-ghost use Rattle.seccomp_tree.specs.Code.{IsFullBy};
+ghost use Rattle.seccomp_tree.specs.Rules.{IsTooMany};
 ghost use Rattle.seccomp_tree.specs.Decisions.{rules_length};
 ghost use Rattle.seccomp_tree.specs.Decided.{calls_of, rulings_for};
 ghost use Rattle.seccomp_tree.specs.TreeProgram.{one_value};
@@ -12,7 +12,9 @@ use crate::decisions::{Decision, Decisions, DefaultValue, KILL_PROCESS};
 use crate::error::TreeError;
 use crate::steps::{Step, Target, push_step};
 use seccompiler::BpfProgram;
-use seccompiler::bpf::{LOAD, SECCOMP_DATA_ARCH_OFFSET, SECCOMP_DATA_NR_OFFSET, bpf_stmt};
+use seccompiler::bpf::{
+    BPF_MAX_LEN, LOAD, SECCOMP_DATA_ARCH_OFFSET, SECCOMP_DATA_NR_OFFSET, bpf_stmt,
+};
 use std::alloc::Global;
 use std::collections::BTreeMap;
 use std::ops::Bound;
@@ -22,7 +24,7 @@ const NUMBERS: u64 = 0x1_0000_0000;
 
 impl Decisions {
     ghost use Rattle.seccomp_tree.specs.TreeProgram.{IsTreeProgram, IsTooLargeFor, calls_length};
-    ghost use Rattle.seccomp_tree.specs.CallSteps.{AreCallSteps, IsCallsTarget, IsNextNumber, IsTooFull, IsWritten};
+    ghost use Rattle.seccomp_tree.specs.CallSteps.{AreCallSteps, IsNextNumber};
 
     /// The program of these decisions: one tree of tests over call numbers, and after it the tests of their arguments.
     ///
@@ -34,34 +36,24 @@ impl Decisions {
         ensures large { IfErr result (IsTooLargeFor self.now) }
     {
         let mut code = Code::new(alloc)?;
-        self.write(alloc, &mut code)?;
-        Ok(code.into_program())
-    }
-
-    // Writes the whole program in front of its last return.
-    fn write(&self, alloc: Global, code: &mut Code) -> Result<(), TreeError>
-        ensures ok { IfOk result (λ _. IsWritten code.old self.now code.new) }
-        ensures err { IfErr result (IsTooFull self.now code.old 4) }
-    {
-        let calls = self.write_calls(alloc, code)?;
+        let steps = self.call_steps(alloc, &mut code)?;
+        let calls = code.word(SECCOMP_DATA_NR_OFFSET, &steps)?;
         let arch = self.target_arch.get_audit_value();
         code.test(Test::Equal, arch, calls, Target::Give(KILL_PROCESS))?;
-        code.push(bpf_stmt(LOAD, u32::from(SECCOMP_DATA_ARCH_OFFSET)))
-    }
-
-    // Answers the calls of the architecture.
-    fn write_calls(&self, alloc: Global, code: &mut Code) -> Result<Target, TreeError>
-        ensures ok { IfOk result (λ t. IsCallsTarget code.old self.now t code.new) }
-        ensures err { IfErr result (IsTooFull self.now code.old 0) }
-    {
-        let steps = self.call_steps(alloc, code)?;
-        code.word(SECCOMP_DATA_NR_OFFSET, &steps)
+        code.push(bpf_stmt(LOAD, u32::from(SECCOMP_DATA_ARCH_OFFSET)))?;
+        let program = code.into_program();
+        let is_large = program.len() > BPF_MAX_LEN;
+        if is_large {
+            return Err(TreeError::TooLarge);
+        }
+        Ok(program)
     }
 
     // The steps over call numbers.
+    #[tactic(auto, using(crate::proofs::CallsPushed::calls_end, crate::proofs::CallsPushed::calls_less))]
     fn call_steps(&self, alloc: Global, code: &mut Code) -> Result<Vec<Step>, TreeError>
         ensures ok { IfOk result (λ steps. AreCallSteps code.old self.now steps.items code.new) }
-        ensures err { IfErr result (IsFullBy code.old (calls_length self.now.calls)) }
+        ensures err { IfErr result (IsTooMany (calls_length self.now.calls)) }
     {
         let mut steps = Vec::new(alloc);
         let mut next: u64 = 0;
@@ -95,7 +87,7 @@ impl Code {
         default: u32,
     ) -> Result<Target, TreeError>
         ensures ok { IfOk result (λ t. IsAnswered self.old default rulings.now t self.new) }
-        ensures err { IfErr result (IsFullBy self.old (rules_length rulings.now)) }
+        ensures err { IfErr result (IsTooMany (rules_length rulings.now)) }
     {
         match one_value(rulings, default) {
             Some(value) => Ok(Target::Give(value)),

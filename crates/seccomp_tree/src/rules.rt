@@ -1,14 +1,9 @@
 // Rulings as a target: what the first that holds says.
 
-ghost use Rattle.std.specs.Prelude.{◌≡◌, ◌<◌, ◌+◌, IfOk, IfErr, Some, length, true};
-ghost use Rattle.seccompiler.specs.Machine.{greatest_length};
-ghost use Rattle.seccomp_tree.specs.Steps.{AreSteps};
-ghost use Rattle.seccomp_tree.specs.Code.{IsFullBy, IsIn};
-ghost use Rattle.seccomp_tree.specs.Conditions.{AreLaid, is_plain, numbers_of};
-ghost use Rattle.seccomp_tree.specs.Decisions.{alike, only, rules_length, conditions_length, same_length};
-ghost use Rattle.seccomp_tree.specs.Rules.{AreFit, AreRules, IsInFront, IsRulingMet, IsSettled, rest_length};
-ghost use Rattle.seccomp_tree.specs.declared.steps.Target.TheVariants.{Give};
-ghost use Rattle.seccomp_tree.specs.declared.error.TreeError.TheVariants.{TooLarge};
+ghost use Rattle.std.specs.Prelude.{◌≡◌, IfOk, IfErr, Some};
+ghost use Rattle.seccomp_tree.specs.Code.{IsIn};
+ghost use Rattle.seccomp_tree.specs.Decisions.{alike, only, rules_length, same_length};
+ghost use Rattle.seccomp_tree.specs.Rules.{AreFit, AreRules, IsInFront, IsRulingMet, IsSettled, IsTooMany};
 
 use crate::code::Code;
 use crate::decisions::Decision;
@@ -17,7 +12,7 @@ use crate::intervals::laid;
 use crate::steps::{Step, Target, one};
 use seccompiler::bpf::BPF_MAX_LEN;
 use seccompiler::{SeccompCmpArgLen, SeccompCmpOp, SeccompCondition};
-use std::alloc::Global;
+use std::alloc::{AllocError, Global};
 
 /// What comes after some rulings: steps over what a condition compares, or one target for all records, if there is
 /// none.
@@ -36,7 +31,7 @@ impl Code {
         default: u32,
     ) -> Result<Target, TreeError>
         ensures ok { IfOk result (λ t. AreRules self.old rulings.now default t self.new) }
-        ensures err { IfErr result (IsFullBy self.old (rules_length rulings.now)) }
+        ensures err { IfErr result (IsTooMany (rules_length rulings.now)) }
     {
         let steps = one(alloc, Target::Give(default))?;
         let mut rest = Rest { like: None, steps };
@@ -44,39 +39,46 @@ impl Code {
         while left > 0 {
             left -= 1;
             rest = self.ruling(alloc, &rulings[left], rest)?;
+            // A program has fewer tests than so many steps need.
+            if rest.steps.len() > BPF_MAX_LEN {
+                return Err(TreeError::TooLarge);
+            }
         }
-        self.settle(alloc, &rest)
+        let target = self.settle(alloc, &rest)?;
+        Ok(target)
     }
 
     // Puts a ruling in front of the rest. One that compares what the rest does is laid over its steps.
-    fn ruling(&mut self, alloc: Global, ruling: &Decision, rest: Rest) -> Result<Rest, TreeError>
+    fn ruling(&mut self, alloc: Global, ruling: &Decision, rest: Rest) -> Result<Rest, AllocError>
         requires fit { AreFit self.old rest.like rest.steps.items }
-        ensures ok { IfOk result (λ new. IsInFront self.old ruling.now rest.like rest.steps.items new.like new.steps.items self.new) }
-        ensures err { IfErr result (IsFullBy self.old (rest_length rest.like (length rest.steps.items) + conditions_length ruling.now.conditions)) }
+        ensures { IfOk result (λ new. IsInFront self.old ruling.now rest.like rest.steps.items new.like new.steps.items self.new) }
     {
-        match only(&ruling.conditions) {
+        let like = only(&ruling.conditions);
+        match like {
             Some(condition) => {
+                let target = Target::Give(ruling.value);
                 if is_alike(&condition, rest.like) {
-                    return laid_rest(alloc, condition, ruling.value, &rest.steps);
+                    let steps = laid(alloc, &condition, target, &rest.steps)?;
+                    return Ok(Rest { like, steps });
                 }
                 let after = self.settle(alloc, &rest)?;
                 let others = one(alloc, after)?;
-                laid_rest(alloc, condition, ruling.value, &others)
+                let steps = laid(alloc, &condition, target, &others)?;
+                Ok(Rest { like, steps })
             }
             None => {
                 let behind = self.settle(alloc, &rest)?;
                 let target = self.conditions(alloc, &ruling.conditions, ruling.value, behind)?;
                 let steps = one(alloc, target)?;
-                Ok(Rest { like: None, steps })
+                Ok(Rest { like, steps })
             }
         }
     }
 
     // Goes on as the rest says.
-    fn settle(&mut self, alloc: Global, rest: &Rest) -> Result<Target, TreeError>
+    fn settle(&mut self, alloc: Global, rest: &Rest) -> Result<Target, AllocError>
         requires fit { AreFit self.old rest.now.like rest.now.steps.items }
-        ensures ok { IfOk result (λ t. IsSettled self.old rest.now.like rest.now.steps.items t self.new) }
-        ensures err { IfErr result (IsFullBy self.old (rest_length rest.now.like (length rest.now.steps.items))) }
+        ensures { IfOk result (λ t. IsSettled self.old rest.now.like rest.now.steps.items t self.new) }
     {
         match rest.like {
             Some(condition) => {
@@ -95,10 +97,9 @@ impl Code {
         conditions: &[SeccompCondition],
         value: u32,
         after: Target,
-    ) -> Result<Target, TreeError>
+    ) -> Result<Target, AllocError>
         requires after { IsIn self.old after }
-        ensures ok { IfOk result (λ t. IsRulingMet self.old conditions.now value after t self.new) }
-        ensures err { IfErr result (IsFullBy self.old (conditions_length conditions.now)) }
+        ensures { IfOk result (λ t. IsRulingMet self.old conditions.now value after t self.new) }
     {
         let mut target = Target::Give(value);
         let mut left = conditions.len();
@@ -108,28 +109,6 @@ impl Code {
         }
         Ok(target)
     }
-}
-
-// The condition laid over steps, which return its value if it holds. (A program has fewer tests than so many steps
-// need.)
-#[tactic(auto, using(crate::proofs::Begun::begun_few))]
-fn laid_rest(
-    alloc: Global,
-    condition: SeccompCondition,
-    value: u32,
-    others: &[Step],
-) -> Result<Rest, TreeError>
-    requires plain { is_plain condition.operator ≡ true }
-    requires others { AreSteps (numbers_of condition.arg_len) others.now }
-    ensures ok { IfOk result (λ rest. (rest.like ≡ Some condition) × AreLaid condition (Give value) others.now rest.steps.items) }
-    ensures err { IfErr result (λ e. e ≡ TooLarge → greatest_length < length others.now + 2) }
-{
-    let steps = laid(alloc, &condition, Target::Give(value), others)?;
-    if steps.len() > BPF_MAX_LEN {
-        return Err(TreeError::TooLarge);
-    }
-    let like = Some(condition);
-    Ok(Rest { like, steps })
 }
 
 // Whether the condition compares what the other does.

@@ -1,11 +1,9 @@
 // What is looked up by a number: steps, each from its start up to the next one's.
 
-ghost use Rattle.std.specs.Prelude.{◌≡◌, ◌≤◌, ◌+◌, ◌-◌, ◌^◌, ◌↔◌, IsTrue, IfOk, IsOkUnless, length};
+ghost use Rattle.std.specs.Prelude.{◌≡◌, ◌≤◌, ◌+◌, ◌-◌, ◌^◌, ◌↔◌, IsTrue, IfOk, length};
 ghost use Rattle.seccomp_tree.specs.Steps.{AreSteps, IsPartPushed, IsPushed, begun, found_in, single};
-ghost use Rattle.seccomp_tree.specs.declared.error.TreeError.TheVariants.{OutOfMemory};
 
-use crate::error::TreeError;
-use std::alloc::Global;
+use std::alloc::{AllocError, Global};
 
 /// What a program does next.
 #[derive(Clone, Copy, Debug, PartialEq, Eq)]
@@ -37,18 +35,16 @@ pub(crate) struct Step {
 }
 
 /// One target for all numbers.
-pub(crate) fn one(alloc: Global, target: Target) -> Result<Vec<Step>, TreeError>
-    ensures ok { IfOk result (λ steps. steps.items ≡ single target) }
-    ensures memory { IsOkUnless result OutOfMemory }
+pub(crate) fn one(alloc: Global, target: Target) -> Result<Vec<Step>, AllocError>
+    ensures { IfOk result (λ steps. steps.items ≡ single target) }
 {
     Ok(vec![in alloc; Step { start: 0, target }]?)
 }
 
 /// Gives the numbers from `start` on this target. The steps are over the numbers below `start`.
-pub(crate) fn push_step(steps: &mut Vec<Step>, start: u64, target: Target) -> Result<(), TreeError>
+pub(crate) fn push_step(steps: &mut Vec<Step>, start: u64, target: Target) -> Result<(), AllocError>
     requires below { AreSteps start steps.old.items }
-    ensures pushed { IfOk result (λ _. IsPushed steps.old.items start target steps.new.items) }
-    ensures memory { IsOkUnless result OutOfMemory }
+    ensures { IfOk result (λ _. IsPushed steps.old.items start target steps.new.items) }
 {
     // Neighbours with one target are one step.
     if have(steps, start, target) {
@@ -65,13 +61,12 @@ pub(crate) fn push_part(
     first: u64,
     last: u64,
     base: u64,
-) -> Result<(), TreeError>
+) -> Result<(), AllocError>
     requires others { AreSteps (2 ^ 64) others.now }
     requires base { base ≤ first }
     requires order { first ≤ last }
     requires below { AreSteps (first - base) steps.old.items }
-    ensures part { IfOk result (λ _. IsPartPushed steps.old.items others.now first last base steps.new.items) }
-    ensures memory { IsOkUnless result OutOfMemory }
+    ensures { IfOk result (λ _. IsPartPushed steps.old.items others.now first last base steps.new.items) }
 {
     push_step(steps, first - base, found(others, first))?;
     let (begin, end) = (until(others, first), until(others, last));

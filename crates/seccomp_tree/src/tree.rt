@@ -1,15 +1,15 @@
 // The tree of tests of steps.
 
-ghost use Rattle.std.specs.Prelude.{◌≡◌, ◌≤◌, ◌-◌, ◌*◌, ◌%◌, ◌^◌, ◌↔◌, IsTrue, IfOk, IfErr, length};
+ghost use Rattle.std.specs.Prelude.{◌≡◌, ◌≤◌, ◌-◌, ◌*◌, ◌%◌, ◌^◌, ◌↔◌, IsTrue, IfOk, length};
 ghost use Rattle.seccomp_tree.specs.Steps.{AreSteps, AscendFrom, row, second_stands_out, settled};
 ghost use Rattle.seccompiler.specs.Machine.{word_at};
 ghost use Rattle.seccompiler.specs.declared.backend.SeccompCmpArgLen.TheVariants.{Dword};
-ghost use Rattle.seccomp_tree.specs.Code.{AreIn, IsFullBy, IsPart, IsTree};
+ghost use Rattle.seccomp_tree.specs.Code.{AreIn, IsPart, IsTree};
 
 use crate::code::{Code, Test};
-use crate::error::TreeError;
 use crate::steps::{Step, Target};
 use seccompiler::bpf::{LOAD, bpf_stmt};
+use std::alloc::AllocError;
 
 // The most tests of a row.
 const MOST: usize = 6;
@@ -45,12 +45,11 @@ fn is_row(steps: &[Step], tests: usize) -> bool
 
 impl Code {
     /// Goes on as the steps say for the accumulator. A row of few tests is written as it is, others are halved.
-    pub(crate) fn tree(&mut self, steps: &[Step]) -> Result<Target, TreeError>
+    pub(crate) fn tree(&mut self, steps: &[Step]) -> Result<Target, AllocError>
         requires some { 1 ≤ length steps.now }
         requires ascend { AscendFrom (2 ^ 32) 0 steps.now }
         requires inside { AreIn self.old steps.now }
-        ensures ok { IfOk result (λ t. IsTree self.old steps.now t self.new) }
-        ensures err { IfErr result (IsFullBy self.old (3 * (length steps.now - 1))) }
+        ensures { IfOk result (λ t. IsTree self.old steps.now t self.new) }
     {
         if steps.len() == 1 {
             return Ok(steps[0].target);
@@ -70,13 +69,12 @@ impl Code {
     }
 
     /// Goes on as the steps say for the 32 bits of the record from this byte on, whatever is in the accumulator.
-    pub(crate) fn word(&mut self, byte: u8, steps: &[Step]) -> Result<Target, TreeError>
+    pub(crate) fn word(&mut self, byte: u8, steps: &[Step]) -> Result<Target, AllocError>
         requires aligned { byte % 4 ≡ 0 }
         requires inside_record { byte ≤ 60 }
         requires are { AreSteps (2 ^ 32) steps.now }
         requires inside { AreIn self.old steps.now }
-        ensures ok { IfOk result (λ t. IsPart self.old Dword (3 * length steps.now - 2) (λ r. word_at r byte) steps.now t self.new) }
-        ensures err { IfErr result (IsFullBy self.old (3 * length steps.now - 2)) }
+        ensures { IfOk result (λ t. IsPart self.old Dword (3 * length steps.now - 2) (λ r. word_at r byte) steps.now t self.new) }
     {
         let tested = self.tree(steps)?;
         if steps.len() == 1 {

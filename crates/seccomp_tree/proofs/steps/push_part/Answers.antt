@@ -8,7 +8,7 @@ loop-i-init c =
     let first = c.found.ensures in
     let begin = c.until-begin.ensures.count in
     rw begin (part_begins a.steps.now.items a.others.now a.first a.last a.base c.requires.others c.requires.base c.requires.order
-    c.push_step.new.steps.items (rw first at c.in_ok-push_step.ensures.pushed))
+    c.push_step.new.steps.items (rw first at c.in_ok-push_step.ensures))
 
 pub overflow_sub-step : goal.overflow_sub-step
 overflow_sub-step c =
@@ -30,10 +30,10 @@ loop-i-preserved c =
     let a = c.args in
     part_turn a.steps.now.items a.others.now a.first a.last a.base c.requires.others c.requires.base c.requires.order c.loop-i.i _
     c.loop-i.steps.items c.push_step-in-loop-i.new.steps.items (omega (arith, c.until-end.ensures.count)) c.loop-i.invariant
-    c.in_ok-push_step-2.ensures.pushed
+    c.in_ok-push_step-2.ensures
 
-pub returns-clause-part : goal.returns-clause-part
-returns-clause-part c =
+pub returns : goal.returns
+returns c =
     let a = c.args in
     let more = begun_more a.others.now (a.first + 1) (a.last + 1) (omega (arith, c.requires.order)) in
     part_ends a.steps.now.items a.others.now a.first a.last a.base c.requires.others c.requires.base c.requires.order c.loop-i.i

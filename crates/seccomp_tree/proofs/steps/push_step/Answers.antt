@@ -2,13 +2,13 @@ use Rattle.seccomp_tree.proofs.Common.{sym, ◌∙◌, false≢true, Step}
 use Rattle.seccomp_tree.proofs.Begun.{pushed_same, pushed_more}
 use Rattle.seccomp_tree.proofs.steps.push_step.Goals as goal
 
-pub returns-then-have-clause-pushed : goal.returns-then-have-clause-pushed
-returns-then-have-clause-pushed c =
+pub returns-then-have : goal.returns-then-have
+returns-then-have c =
     let h = rw c.deref.ensures.value at (c.have.ensures.0 c.if-have.true) in
     pushed_same c.args.steps.now.items c.args.start c.args.target c.requires.below h.0 h.1
 
-pub returns-clause-pushed : goal.returns-clause-pushed
-returns-clause-pushed c =
+pub returns : goal.returns
+returns c =
     let x : Step = record { start = c.args.start; target = c.args.target } in
     let e = c.deref.ensures.value in
     rw c.in_ok-push.ensures.items (pushed_more c.args.steps.now.items x c.requires.below

@@ -1,23 +1,17 @@
-use Rattle.seccomp_tree.proofs.Common.{◌/◌, ◌^◌, length, refl, sym, ◌∙◌, arith, inl, inr, cases_lt, false≢true, row, err_from_is_err_and}
-use Rattle.seccomp_tree.proofs.Common.{IfOk-weaker, length-take-le, Give}
+use Rattle.seccomp_tree.proofs.Common.{◌/◌, ◌^◌, length, refl, sym, ◌∙◌, arith, inl, inr, cases_lt, false≢true, row, IfOk-weaker}
+use Rattle.seccomp_tree.proofs.Common.{length-take-le, Give}
 use Rattle.seccomp_tree.proofs.Runs.{is_in_grown}
 use Rattle.seccomp_tree.proofs.Begun.{starts_rise}
-use Rattle.seccomp_tree.proofs.Trees.{ascend_take, in_take, all_behind, rest_of, rest_long, out_long, tree_single, tree_out, tree_first}
-use Rattle.seccomp_tree.proofs.Trees.{tree_halves}
+use Rattle.seccomp_tree.proofs.Trees.{ascend_take, in_take, all_behind, rest_of, out_long, tree_single, tree_out, tree_first, tree_halves}
 use Rattle.seccomp_tree.proofs.code.Code.+tree.Goals as goal
 
-pub returns-then-steps-eq1-clause-ok : goal.returns-then-steps-eq1-clause-ok
-returns-then-steps-eq1-clause-ok t c = tree_single c.args.self.now c.args.steps.now _ c.if-steps-eq1.true c.requires.inside
+pub returns-then-steps-eq1 : goal.returns-then-steps-eq1
+returns-then-steps-eq1 t c = tree_single c.args.self.now c.args.steps.now _ c.if-steps-eq1.true c.requires.inside
 
 pub tree-requires : goal.tree-requires
 tree-requires t c =
     rest_of c.args.self.now (2 ^ 32) (length c.args.steps.now / 2) t c.args.steps.now (omega (arith, c.requires.some))
     (omega (arith, c.requires.some)) (omega (arith, c.decreases)) c.requires.ascend c.requires.inside
-
-pub returns-in_err-upper-clause-err : goal.returns-in_err-upper-clause-err
-returns-in_err-upper-clause-err t c =
-    let p = err_from_is_err_and c.from_residual.result c.from_residual.ensures.1 in
-    rw (p.1, p.2) (λ e. omega (arith, c.in_err-upper.ensures.err e, rest_long (length c.args.steps.now / 2) c.args.steps.now))
 
 pub tree-requires-then-not-is_row : goal.tree-requires-then-not-is_row
 tree-requires-then-not-is_row t c =
@@ -29,7 +23,7 @@ tree-requires-then-not-is_row t c =
         omega (arith, long, c.requires.some),
         (
           ascend_take (2 ^ 32) 0 n steps c.requires.ascend,
-          λ k d lt. is_in_grown _ c.in_ok-upper.ensures.ok.grows (in_take c.args.self.now n steps c.requires.inside k d lt),
+          λ k d lt. is_in_grown _ c.in_ok-upper.ensures.grows (in_take c.args.self.now n steps c.requires.inside k d lt),
         ),
       ),
     )
@@ -42,8 +36,8 @@ overflow_cast-steps t c =
           c.requires.ascend (omega (arith, c.requires.some))).1,
     )
 
-pub returns-then-not-is_row-clause-ok : goal.returns-then-not-is_row-clause-ok
-returns-then-not-is_row-clause-ok t c =
+pub returns-then-not-is_row : goal.returns-then-not-is_row
+returns-then-not-is_row t c =
     let steps = c.args.steps.now in
     let all = all_behind steps (length steps / 2) in
     IfOk-weaker c.test.result _ _
@@ -51,8 +45,8 @@ returns-then-not-is_row-clause-ok t c =
     tree_halves c.args.self.now c.tree.new.self c.tree-then-not-is_row.new.self c.test.new.self steps (length steps / 2) _
     c.in_ok-upper.upper c.in_ok-lower.lower u refl c.requires.ascend (omega (arith, c.requires.some))
     (elim (cases_lt 6 (row steps)) [ inl lt ↦ lt | inr le ↦ absurd (false≢true (c.if-not-is_row.ensures.1 le)) ])
-    (rw all at c.in_ok-upper.ensures.ok) c.in_ok-lower.ensures.ok h)
-    c.test.ensures.ok
+    (rw all at c.in_ok-upper.ensures) c.in_ok-lower.ensures h)
+    c.test.ensures
 
 pub tree-requires-then-stands_out : goal.tree-requires-then-stands_out
 tree-requires-then-stands_out t c =
@@ -61,28 +55,28 @@ tree-requires-then-stands_out t c =
     rest_of c.args.self.now (2 ^ 32) 2 t steps (omega arith) (omega (arith, long)) (omega (arith, c.decreases)) c.requires.ascend
     c.requires.inside
 
-pub returns-then-stands_out-clause-ok : goal.returns-then-stands_out-clause-ok
-returns-then-stands_out-clause-ok t c =
+pub returns-then-stands_out : goal.returns-then-stands_out
+returns-then-stands_out t c =
     let steps = c.args.steps.now in
     let all = all_behind steps 2 in
     IfOk-weaker c.test-then-stands_out.result _ _
     (λ u h.
     tree_out c.args.self.now c.tree-then-stands_out.new.self c.test-then-stands_out.new.self steps _ c.in_ok-rest.rest u c.requires.ascend
-    (sym c.stands_out.ensures ∙ c.if-stands_out.true) (c.is_row.ensures.0 c.if-not-is_row.false) (rw all at c.in_ok-rest.ensures.ok) h)
-    c.test-then-stands_out.ensures.ok
+    (sym c.stands_out.ensures ∙ c.if-stands_out.true) (c.is_row.ensures.0 c.if-not-is_row.false) (rw all at c.in_ok-rest.ensures) h)
+    c.test-then-stands_out.ensures
 
 pub tree-requires-2 : goal.tree-requires-2
 tree-requires-2 t c =
     rest_of c.args.self.now (2 ^ 32) 1 t c.args.steps.now (omega arith) (omega (arith, c.requires.some)) (omega (arith, c.decreases))
     c.requires.ascend c.requires.inside
 
-pub returns-clause-ok : goal.returns-clause-ok
-returns-clause-ok t c =
+pub returns : goal.returns
+returns t c =
     let steps = c.args.steps.now in
     let all = all_behind steps 1 in
     IfOk-weaker c.test-2.result _ _
     (λ u h.
     tree_first c.args.self.now c.tree-2.new.self c.test-2.new.self steps _ c.in_ok-rest-2.rest u
     (omega (arith, c.requires.some)) (sym c.stands_out.ensures ∙ c.if-stands_out.false) (c.is_row.ensures.0 c.if-not-is_row.false)
-    (rw all at c.in_ok-rest-2.ensures.ok) h)
-    c.test-2.ensures.ok
+    (rw all at c.in_ok-rest-2.ensures) h)
+    c.test-2.ensures

@@ -1,6 +1,6 @@
-use Rattle.seccomp_tree.proofs.Common.{◌≡◌, ◌∷◌, ◌-◌, drop, length, ap, ◌∙◌, arith, drop_all, err_from_is_err_and}
+use Rattle.seccomp_tree.proofs.Common.{◌≡◌, ◌∷◌, ◌-◌, drop, length, ap, ◌∙◌, arith, drop_all}
 use Rattle.seccomp_tree.proofs.Deciding.{drop_at}
-use Rattle.seccomp_tree.proofs.Ruled.{ruling_none, ruling_one, ruling_room}
+use Rattle.seccomp_tree.proofs.Ruled.{ruling_none, ruling_one}
 use Rattle.seccomp_tree.proofs.code.Code.conditions.Goals.{After-index-conditions-left}
 use Rattle.seccomp_tree.proofs.code.Code.conditions.Goals as goal
 
@@ -16,23 +16,14 @@ loop-left-init c =
     let none = drop_all (length q) q (omega arith) in
     (omega arith, ruling_none c.args.self.now c.args.value c.args.after (drop (length q) q) none c.ranges.value.fits)
 
-pub returns-in_err-target-clause-err : goal.returns-in_err-target-clause-err
-returns-in_err-target-clause-err c =
-    let p = err_from_is_err_and c.from_residual.result c.from_residual.ensures.1 in
-    let l = c.loop-left in
-    let room = ruling_room c.args.self.now l.self c.args.value c.args.after l.target c.args.conditions.now (l.left - 1) _
-    (drop l.left c.args.conditions.now) (from_here ((goal.at.returns-in_err-target-clause-err c).After-index-conditions-left))
-    l.invariant.1 in
-    rw (p.1, p.2) (λ is. let full = c.in_err-target.ensures.err is in omega (arith, full, room))
-
 pub loop-left-preserved : goal.loop-left-preserved
 loop-left-preserved c =
     let l = c.loop-left in
     let one = ruling_one c.args.self.now l.self c.condition.new.self c.args.value c.args.after l.target c.in_ok-target.target _
-    (drop l.left c.args.conditions.now) l.invariant.1 c.in_ok-target.ensures.ok in
+    (drop l.left c.args.conditions.now) l.invariant.1 c.in_ok-target.ensures in
     (omega (arith, l.invariant.0), rw (from_here ((goal.at.loop-left-preserved c).After-index-conditions-left)) one)
 
-pub returns-clause-ok : goal.returns-clause-ok
-returns-clause-ok c =
+pub returns : goal.returns
+returns c =
     let none : c.loop-left.left ≡ 0 = omega arith in
     rw none at c.loop-left.invariant.1

@@ -3,8 +3,8 @@ use Rattle.seccomp_tree.proofs.Reaching.{code_of, tested}
 use Rattle.seccomp_tree.proofs.code.Code.test.Goals.{in-Equal, in-AtLeast}
 use Rattle.seccomp_tree.proofs.code.Code.test.Goals as goal
 
-pub returns-clause-ok : goal.returns-clause-ok
-returns-clause-ok c =
+pub returns : goal.returns
+returns c =
     let code = c.reach-2.new.self in
     let i : sock_filter = record { code = c.match-test.code; jt = c.over.result; jf = c.over-2.result; k = c.args.k } in
     let is : c.match-test.code ≡ code_of c.args.test =
@@ -13,5 +13,5 @@ returns-clause-ok c =
       | in-AtLeast w ↦ w.code-is ∙ ap code_of (sym w.in-AtLeast.is)
     ] in
     tested c.args.self.now c.reach.new.self code c.args.test i c.args.yes c.args.no c.in_ok-yes.yes c.in_ok-no.no c.push.new.self _ is
-    c.over.ensures.over c.over-2.ensures.over c.in_ok-yes.ensures.ok c.in_ok-no.ensures.ok
-    (c.in_ok-push.ensures.ok ∙ ap (λ x. x ∷ code) c.bpf_jump.ensures) (ap (λ n. At (n - 1)) c.len.ensures.len)
+    c.over.ensures.over c.over-2.ensures.over c.in_ok-yes.ensures c.in_ok-no.ensures
+    (c.in_ok-push.ensures ∙ ap (λ x. x ∷ code) c.bpf_jump.ensures) (ap (λ n. At (n - 1)) c.len.ensures.len)

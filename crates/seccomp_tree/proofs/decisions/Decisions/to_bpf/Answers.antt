@@ -1,6 +1,34 @@
-use Rattle.seccomp_tree.proofs.Theorem.{written_program}
+use Rattle.seccomp_tree.proofs.Common.{◌∙◌, ◌∷◌, ap, arith, nat_tests, load, audit_word, DecisionSet}
+use Rattle.seccomp_tree.proofs.Theorem.{IsWritten, answers_in, written_program, written_short}
+use Rattle.seccomp_tree.proofs.decisions.Decisions.to_bpf.Goals.{After-len-is_large}
 use Rattle.seccomp_tree.proofs.decisions.Decisions.to_bpf.Goals as goal
 
+pub word-requires-clause-inside : goal.word-requires-clause-inside
+word-requires-clause-inside c = rw c.deref.ensures.value (answers_in c.args.self.now _ _ _ c.in_ok-steps.ensures.ok)
+
+written : (c : After-len-is_large) → IsWritten c.args.self.now c.into_program-program.result.items
+written c = record {
+  mid = c.call_steps.new.code;
+  steps = c.in_ok-steps.steps.items;
+  answers = rw c.in_ok-code.ensures at c.in_ok-steps.ensures.ok;
+  calls = c.in_ok-calls.calls;
+  behind = c.word.new.self;
+  word = rw c.deref.ensures.value at c.in_ok-calls.ensures;
+  test = c.in_ok-test.field-0;
+  tested = c.test.new.self;
+  tests =
+      let arch = c.get_audit_value-arch.ensures ∙ ap (λ (x : DecisionSet). audit_word x.target_arch) c.self.view_is in
+      rw (← arch) c.in_ok-test.ensures;
+  whole = c.into_program-program.ensures.program ∙ c.in_ok-push.ensures
+      ∙ ap (λ i. i ∷ c.test.new.self) (c.bpf_stmt.ensures ∙ ap load c.from.ensures);
+}
+
+pub returns-then-is_large-clause-large : goal.returns-then-is_large-clause-large
+returns-then-is_large-clause-large c = λ is starts ranges.
+    let h = written ((goal.at.returns-then-is_large-clause-large c).After-len-is_large) in
+    let short = written_short c.args.self.now _ h starts ranges in
+    grind (arith, nat_tests, short, c.len-is_large.ensures, c.if-is_large.true)
+
 pub returns-clause-program : goal.returns-clause-program
-returns-clause-program c = written_program c.args.self.now c.into_program.result.items
-    (rw c.into_program.ensures.program (rw c.in_ok-code.ensures.ok at c.in_ok-write.ensures.ok)) c.into_program.ensures.sound
+returns-clause-program c = written_program c.args.self.now _ (written ((goal.at.returns-clause-program c).After-len-is_large))
+    c.into_program-program.ensures.sound (grind (arith, nat_tests, c.len-is_large.ensures, c.if-is_large.false))

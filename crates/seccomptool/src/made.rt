@@ -300,7 +300,6 @@ pub(crate) fn diff_made<G: Progress>(
     let mut notes = side_counted(alloc, quiet, terms.target, inputs.first, old)?;
     let of_new = side_counted(alloc, quiet, terms.target, inputs.second, new)?;
     notes.extend_from_slice(&of_new)?;
-    progress.begin();
     let found = diff_of(alloc, terms, old, new, progress);
     progress.end();
     let found = found?;

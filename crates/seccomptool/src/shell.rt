@@ -7,7 +7,7 @@ ghost use Rattle.clap.specs.declared.error.kind.ErrorKind.TheVariants.{DisplayHe
 ghost use Rattle.seccomptool.specs.Commands.{EndWith, EndsWith, IsPerformed, verdict_status};
 
 use crate::check::format::CheckFormat;
-use crate::compile::text::ProgramFormat;
+use crate::compile::ProgramFormat;
 use crate::failure::{Failure, note, tell};
 use crate::findings::Verdict;
 use crate::json::list_text;

@@ -6,8 +6,7 @@ ghost use Rattle.seccomptool.specs.declared.findings.Verdict.TheVariants.{Same};
 ghost use Rattle.seccomptool.specs.declared.kind.Subject.TheVariants.{Policy};
 
 use crate::chosen::{chosen_of, refuse_name};
-use crate::compile::text::ProgramFormat;
-use crate::compile::{NamedProgram, program_text, too_large};
+use crate::compile::{NamedProgram, ProgramFormat, program_text, too_large};
 use crate::diff::diff_of;
 use crate::diff::text::diff_text;
 use crate::error::{FaultAt, ToolError};
@@ -129,7 +128,7 @@ fn profile_made(
     let arch = asked.arch;
     let compiled = match compiled_of(alloc, arch, container, asked.strict, profile) {
         Ok(compiled) => compiled,
-        Err(error) => return Err(uncompiled(alloc, arch, error).into()),
+        Err(error) => return Err(uncompiled(alloc, arch, error)?.into()),
     };
     let notes = if asked.quiet {
         Vec::new(alloc)
@@ -187,17 +186,17 @@ fn shown_text(
     match subject {
         Subject::Policy => {
             let programs = programs_in(alloc, arch, asked.layout, given)?;
-            show::programs_text(alloc, json, asked.filter, &programs)
+            show::programs_text(alloc, arch, json, asked.filter, &programs)
         }
         Subject::Profile(container) => {
             refuse_name(alloc, asked.filter)?;
             let compiled = compiled_of(alloc, arch, container, false, given)?;
-            Ok(show::program_text(alloc, json, "profile", Some(arch), &compiled.program)?)
+            Ok(show::program_text(alloc, json, "profile", arch, &compiled.program)?)
         }
         Subject::Program => {
             refuse_name(alloc, asked.filter)?;
             let program = program_of(alloc, given)?;
-            Ok(show::program_text(alloc, json, "program", Some(arch), &program)?)
+            Ok(show::program_text(alloc, json, "program", arch, &program)?)
         }
     }
 }

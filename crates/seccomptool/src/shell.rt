@@ -7,7 +7,7 @@ ghost use Rattle.clap.specs.declared.error.kind.ErrorKind.TheVariants.{DisplayHe
 ghost use Rattle.seccomptool.specs.Commands.{EndWith, EndsWith, IsPerformed, verdict_status};
 
 use crate::check::format::CheckFormat;
-use crate::compile::text::ProgramFormat;
+use crate::compile::ProgramFormat;
 use crate::error::FaultAt;
 use crate::files::{Source, is_same, open, push_whole, write_whole};
 use crate::findings::Verdict;

@@ -7,7 +7,7 @@ mod program;
 mod values;
 
 use crate::check::format::CheckFormat;
-use crate::compile::text::ProgramFormat;
+use crate::compile::ProgramFormat;
 use crate::diff::Scope;
 use crate::explain::lines::LineFormat;
 use crate::findings::Terms;

@@ -1,6 +1,5 @@
 -- What it means that a command is carried out on the texts that it is given, and with which status it ends.
 use Rattle.std.specs.Prelude.{◌≡◌, ◌≢◌, ◌≤◌, ◌⊎◌, ℕ, ◌/◌, All, Bool, true, false, Contains, List, length, Option, Some, None}
-use Rattle.std.specs.Prelude.{⊤}
 use Rattle.std.specs.Borrow.{Bor}
 use Rattle.std.specs.Simd.{first_chunks}
 use Rattle.std.specs.List.{AllZip}
@@ -23,8 +22,6 @@ use Rattle.seccomptool.specs.declared.diff.Diff.{Diff}
 use Rattle.seccomptool.specs.declared.error.ToolError.{ToolError}
 use Rattle.seccomptool.specs.declared.error.ToolError.TheVariants.{OutOfMemory}
 use Rattle.seccomptool.specs.declared.explain.Explanation.{Explanation}
-use Rattle.seccomptool.specs.declared.failure.Failure.{Failure}
-use Rattle.seccomptool.specs.declared.failure.Failure.TheVariants as failure
 use Rattle.seccomptool.specs.declared.findings.Verdict.{Verdict}
 use Rattle.seccomptool.specs.declared.findings.Verdict.TheVariants.{Same, Different, Undecided}
 use Rattle.seccomptool.specs.declared.kind.Reading.{Reading}
@@ -197,12 +194,6 @@ IsCarriedOut (Learn asked) trace policy v = IsLesson asked policy × (v ≡ Same
 -- It is carried out on some bytes.
 abbrev pub IsPerformed : Command → Verdict → Type 0
 IsPerformed command v = (first : List ℕ) × (second : List ℕ) × IsCarriedOut command first second v
-
--- What is written is as it was, unless it is writing that fails, or a rest of a record is told after what is written.
-abbrev pub KeepsOutput : {W : Type 0} → Failure → W → W → Type 0
-KeepsOutput (failure.Output e) old new = ⊤
-KeepsOutput (failure.ShortRecord rest) old new = ⊤
-KeepsOutput other old new = new ≡ old
 
 -- ---- statuses
 

@@ -8,7 +8,7 @@ ghost use Rattle.seccomptool.specs.Sides.{IsChosen};
 use crate::error::ToolError;
 use seccomp_command_line::readable::{TextKind, readable};
 use seccompiler::SeccompFilter;
-use std::alloc::{AllocError, Global};
+use std::alloc::Global;
 use std::collections::BTreeMap;
 
 // The name that is asked for, or that of the only filter.
@@ -27,7 +27,18 @@ pub(crate) fn chosen_name<V>(
             return Ok(name.clone()?);
         }
     }
-    Err(ToolError::Unchosen(names_of(alloc, filters)?))
+    // Their names, an empty one in quotes.
+    let mut names = String::new(alloc);
+    for (name, _) in filters {
+        if !names.is_empty() {
+            names.push_str(", ")?;
+        }
+        if name.is_empty() {
+            names.push_str("''")?;
+        }
+        names.push_str(readable(alloc, name.as_str(), TextKind::Name)?.as_str())?;
+    }
+    Err(ToolError::Unchosen(names))
 }
 
 // The filter that is asked for, or the only one.
@@ -72,23 +83,4 @@ pub(crate) fn some_text(
         }
         _ => Ok(text),
     }
-}
-
-// The names of filters, in byte order, an empty one in quotes.
-pub(crate) fn names_of<V>(
-    alloc: Global,
-    filters: &BTreeMap<String, V>,
-) -> Result<String, AllocError> {
-    let mut names = String::new(alloc);
-    for (name, _) in filters {
-        if !names.is_empty() {
-            names.push_str(", ")?;
-        }
-        if name.is_empty() {
-            names.push_str("''")?;
-        }
-        let shown = readable(alloc, name.as_str(), TextKind::Name)?;
-        names.push_str(shown.as_str())?;
-    }
-    Ok(names)
 }

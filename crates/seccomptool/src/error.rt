@@ -1,13 +1,15 @@
 // Why an engine of the program fails.
 
+use crate::notes::front_of;
 use crate::run::fault::ProgramFault;
 use seccomp_check::Fault;
 use seccomp_oci::CompileError;
 use seccomp_tree::FilterError;
 use seccompiler::json::JsonFrontendError;
 use seccompiler::{BackendError, TargetArch};
-use std::alloc::{AllocError, AllocFailed};
-use std::fmt;
+use std::alloc::{AllocError, AllocFailed, Global};
+use std::io::ErrorKind;
+use std::{fmt, io};
 
 /// Why an engine of the program fails.
 ///
@@ -24,7 +26,7 @@ pub enum ToolError {
     UnknownCall(String, TargetArch),
     /// No architecture has a call of this name or number.
     NoCall(String),
-    /// What is given has this fault.
+    /// What is given, read or written has this fault.
     Fault(String),
     /// The policy has this fault, which has a place; the text is the fault's.
     Placed(String, Fault),
@@ -46,33 +48,19 @@ impl ToolError {
     pub(crate) fn is_out_of_memory(&self) -> bool
         ensures { result ≡ false → self.now ≢ OutOfMemory }
     {
-        match self {
-            ToolError::OutOfMemory => true,
-            ToolError::Library(_)
-            | ToolError::NoFilter(_)
-            | ToolError::Unchosen(_)
-            | ToolError::UnknownCall(_, _)
-            | ToolError::NoCall(_)
-            | ToolError::Fault(_)
-            | ToolError::Placed(_, _)
-            | ToolError::TreeTooLarge
-            | ToolError::Program(_)
-            | ToolError::Profile(_) => false,
-        }
+        matches!(self, ToolError::OutOfMemory)
     }
 }
 
 /// Where a fault is.
 #[derive(Clone, Copy)]
 pub enum Place {
-    /// Nowhere in what is read or written.
+    /// Nowhere in what is read; the text of the error may begin with a path.
     Nowhere,
     /// In the first one of what is read.
     First,
     /// In the second one.
     Second,
-    /// In the output.
-    Output,
 }
 
 /// Why a command isn't carried out, and where that is.
@@ -93,6 +81,32 @@ impl FaultAt {
                 place: Place::Second,
                 error,
             },
+        }
+    }
+
+    // That what is at a path can't be opened, read or written.
+    pub(crate) fn of_io(alloc: Global, path: &str, error: io::Error) -> FaultAt {
+        if error.kind() == ErrorKind::OutOfMemory {
+            return ToolError::OutOfMemory.into();
+        }
+        match format!(in alloc; "{error}") {
+            Ok(told) => FaultAt::of_path(alloc, path, told.as_str()),
+            Err(error) => error.into(),
+        }
+    }
+
+    // What is wrong with what is at a path.
+    pub(crate) fn of_path(alloc: Global, path: &str, told: &str) -> FaultAt {
+        let line = match front_of(alloc, path) {
+            Ok(front) => format!(in alloc; "{front}{told}"),
+            Err(error) => Err(error),
+        };
+        match line {
+            Ok(line) => FaultAt {
+                place: Place::Nowhere,
+                error: ToolError::Fault(line),
+            },
+            Err(error) => error.into(),
         }
     }
 }

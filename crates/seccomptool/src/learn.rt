@@ -70,9 +70,7 @@ pub struct Learning<'a> {
 /// A filter that is learned, in the policy that it is of.
 #[derive(Drop)]
 pub(crate) struct LearnedFilter {
-    /// Its name.
     pub name: String,
-    /// The filter.
     pub lesson: Lesson,
     /// The policy's other filters.
     pub others: JsonFilterMap,
@@ -195,7 +193,7 @@ fn base_into(alloc: Global, asked: Option<&str>, policy: &[u8]) -> Result<Base, 
     }
 }
 
-// The usual ones, and those that are asked for.
+// The arguments whose values are kept: the usual ones, and those that are asked for.
 fn wanted_in(
     alloc: Global,
     learning: &Learning<'_>,
@@ -204,29 +202,15 @@ fn wanted_in(
     let arch = learning.arch;
     let mut wanted = usual_kept(alloc, arch)?;
     for asked in &learning.arguments {
-        push_asked(alloc, arch, &mut wanted, *asked, observed)?;
+        let Some(number) = call_number(arch, asked.call) else {
+            return Err(ToolError::UnknownCall(String::from_str(alloc, asked.call)?, arch));
+        };
+        for index in 0..6u8 {
+            let is_this = |each: &Kept| each.number == number && each.arg_index == index;
+            if asked.indices[index as usize] && !wanted.iter().any(is_this) {
+                wanted.push(asked_kept(observed, number, index))?;
+            }
+        }
     }
     Ok(wanted)
-}
-
-// Adds those of a call that is asked for.
-fn push_asked(
-    alloc: Global,
-    arch: TargetArch,
-    wanted: &mut Vec<Kept>,
-    asked: AskedArguments<'_>,
-    observed: &[Observation],
-) -> Result<(), ToolError> {
-    let Some(number) = call_number(arch, asked.call) else {
-        return Err(ToolError::UnknownCall(String::from_str(alloc, asked.call)?, arch));
-    };
-    let mut index: u8 = 0;
-    for is_asked in asked.indices {
-        let is_this = |each: &Kept| each.number == number && each.arg_index == index;
-        if is_asked && !wanted.iter().any(is_this) {
-            wanted.push(asked_kept(observed, number, index))?;
-        }
-        index = index.saturating_add(1);
-    }
-    Ok(())
 }

@@ -6,8 +6,7 @@ ghost use Rattle.seccomptool.specs.declared.findings.Verdict.TheVariants.{Same};
 ghost use Rattle.seccomptool.specs.declared.kind.Subject.TheVariants.{Policy};
 
 use crate::chosen::{chosen_of, refuse_name};
-use crate::compile::text::ProgramFormat;
-use crate::compile::{NamedProgram, program_text, too_large};
+use crate::compile::{NamedProgram, ProgramFormat, program_text, too_large};
 use crate::diff::diff_of;
 use crate::diff::text::diff_text;
 use crate::error::{FaultAt, ToolError};
@@ -28,8 +27,8 @@ use seccomp_check::policies_in;
 use seccomp_oci::Container;
 use seccomp_tree::to_bpf_in;
 use seccomp_warnings::Code;
+use seccompiler::TargetArch;
 use seccompiler::json::filters_of;
-use seccompiler::{JsonFrontendError, TargetArch};
 use serde_json::json;
 use std::alloc::{AllocError, Global};
 
@@ -113,11 +112,7 @@ fn policy_made(
         }
     };
     let text = program_text(alloc, asked.format, &program)?;
-    let notes = if asked.quiet {
-        Vec::new(alloc)
-    } else {
-        counted(alloc, arch, path, &filters)?
-    };
+    let notes = counted(alloc, asked.quiet, arch, path, policy)?;
     Ok(Made::noting(text, Verdict::Same, notes))
 }
 
@@ -133,7 +128,7 @@ fn profile_made(
     let arch = asked.arch;
     let compiled = match compiled_of(alloc, arch, container, asked.strict, profile) {
         Ok(compiled) => compiled,
-        Err(error) => return Err(uncompiled(alloc, arch, error).into()),
+        Err(error) => return Err(uncompiled(alloc, arch, error)?.into()),
     };
     let notes = if asked.quiet {
         Vec::new(alloc)
@@ -191,17 +186,17 @@ fn shown_text(
     match subject {
         Subject::Policy => {
             let programs = programs_in(alloc, arch, asked.layout, given)?;
-            show::programs_text(alloc, json, asked.filter, &programs)
+            show::programs_text(alloc, arch, json, asked.filter, &programs)
         }
         Subject::Profile(container) => {
             refuse_name(alloc, asked.filter)?;
             let compiled = compiled_of(alloc, arch, container, false, given)?;
-            Ok(show::program_text(alloc, json, "profile", Some(arch), &compiled.program)?)
+            Ok(show::program_text(alloc, json, "profile", arch, &compiled.program)?)
         }
         Subject::Program => {
             refuse_name(alloc, asked.filter)?;
             let program = program_of(alloc, given)?;
-            Ok(show::program_text(alloc, json, "program", Some(arch), &program)?)
+            Ok(show::program_text(alloc, json, "program", arch, &program)?)
         }
     }
 }
@@ -286,7 +281,7 @@ pub(crate) fn diff_made<G: Progress>(
 ) -> Result<Made, FaultAt>
     ensures { IfOk result (λ made. IsCompared asked.now old.now new.now made.verdict) }
 {
-    let (terms, quiet) = (asked.terms, asked.quiet);
+    let terms = asked.terms;
     let old = Side {
         kind: subject_of(alloc, &asked.reading, old)?,
         filter: asked.old,
@@ -297,10 +292,8 @@ pub(crate) fn diff_made<G: Progress>(
         filter: asked.new,
         given: new,
     };
-    let mut notes = side_counted(alloc, quiet, terms.target, inputs.first, old)?;
-    let of_new = side_counted(alloc, quiet, terms.target, inputs.second, new)?;
-    notes.extend_from_slice(&of_new)?;
-    progress.begin();
+    let mut notes = side_counted(alloc, asked, inputs.first, old)?;
+    notes.extend_from_slice(&side_counted(alloc, asked, inputs.second, new)?)?;
     let found = diff_of(alloc, terms, old, new, progress);
     progress.end();
     let found = found?;
@@ -308,20 +301,23 @@ pub(crate) fn diff_made<G: Progress>(
     Ok(Made::noting(text, found.verdict(asked.scope), notes))
 }
 
-// The note on how many warnings a side has, if it is a policy and the note isn't to be left out.
+// The note on how many warnings a side has, if it is a policy.
 fn side_counted(
     alloc: Global,
-    quiet: bool,
-    arch: TargetArch,
+    asked: &Comparing<'_>,
     path: Option<&str>,
     side: Side<'_>,
 ) -> Result<Vec<u8>, AllocError> {
     match side.kind {
-        Subject::Policy if !quiet => match filters_of(alloc, side.given) {
-            Ok(filters) => counted(alloc, arch, path.unwrap_or("-"), &filters),
-            Err(JsonFrontendError::OutOfMemory) => Err(AllocError),
-            Err(_) => Ok(Vec::new(alloc)),
-        },
+        Subject::Policy => {
+            counted(
+                alloc,
+                asked.quiet,
+                asked.terms.target,
+                path.unwrap_or("-"),
+                side.given,
+            )
+        }
         _ => Ok(Vec::new(alloc)),
     }
 }

@@ -1,30 +1,55 @@
-// Notes on what stands at a path, for standard error.
+// What the program tells on standard error: failures, and notes on what stands at a path.
 
 use crate::check::warnings_in;
-use seccomp_command_line::readable::{TextKind, push_readable, readable as readable_text};
-use seccompiler::{JsonFilterMap, JsonFrontendError, TargetArch};
+use crate::error::{FaultAt, Place};
+use crate::words::Inputs;
+use seccomp_command_line::readable::{TextKind, readable as readable_text};
+use seccompiler::json::filters_of;
+use seccompiler::{JsonFrontendError, TargetArch};
 use std::alloc::{AllocError, Global};
+
+// Tells a failure: the program, the file that it is in, and the error, in one line.
+pub(crate) fn tell(rt: &(impl Eprint + AllocGlobal), inputs: Inputs<'_>, fault: &FaultAt) {
+    let _ = match failure_line(rt.alloc(), inputs, fault) {
+        Ok(line) => eprintln!(rt; "{line}"),
+        Err(_) => eprintln!(rt; "seccomptool: Out of memory."),
+    };
+}
+
+// Tells notes: lines of text.
+pub(crate) fn tell_notes(rt: &(impl Eprint + AllocGlobal), notes: &[u8]) {
+    if let Ok(lines) = readable(rt.alloc(), notes, TextKind::Lines) {
+        let _ = eprint!(rt; "{lines}");
+    }
+}
+
+fn failure_line(alloc: Global, inputs: Inputs<'_>, fault: &FaultAt) -> Result<String, AllocError> {
+    let front = match fault.place {
+        Place::Nowhere => String::new(alloc),
+        Place::First => front_of(alloc, inputs.first.unwrap_or("-"))?,
+        Place::Second => front_of(alloc, inputs.second.unwrap_or("-"))?,
+    };
+    let error = &fault.error;
+    let line = format!(in alloc; "seccomptool: {front}{error}")?;
+    readable(alloc, line.as_bytes(), TextKind::Line)
+}
 
 // The line of a note on what stands at this path.
 pub(crate) fn note(alloc: Global, path: &str, text: &[u8]) -> Result<Vec<u8>, AllocError> {
-    let mut line = Vec::new(alloc);
-    line.extend_from_slice(b"seccomptool: ")?;
-    line.extend_from_slice(&front_of(alloc, path)?)?;
+    let front = front_of(alloc, path)?;
+    let mut line = format!(in alloc; "seccomptool: {front}")?.into_bytes();
     line.extend_from_slice(text)?;
     line.push(b'\n')?;
     Ok(line)
 }
 
 // What stands in front of each line about the policy of this path.
-pub(crate) fn front_of(alloc: Global, path: &str) -> Result<Vec<u8>, AllocError> {
-    let mut front = Vec::new(alloc);
+pub(crate) fn front_of(alloc: Global, path: &str) -> Result<String, AllocError> {
     if path == "-" {
-        front.extend_from_slice(b"standard input")?;
-    } else {
-        push_readable(&mut front, path, TextKind::Name)?;
+        return String::from_str(alloc, "standard input: ");
     }
-    front.extend_from_slice(b": ")?;
-    Ok(front)
+    let path = readable_text(alloc, path, TextKind::Name)?;
+    format!(in alloc; "{path}: ")
 }
 
 // The text as people read it, with bytes that aren't UTF-8 replaced. What the program reports of files goes through here; bytes of
@@ -34,15 +59,23 @@ pub(crate) fn readable(alloc: Global, text: &[u8], kind: TextKind) -> Result<Str
     readable_text(alloc, text.as_str(), kind)
 }
 
-// The note on how many warnings `check` has for the policy of this path, which has these filters. There is none where it has no
-// warning, and where a filter is refused, which is for the command to report.
+// The note on how many warnings `check` has for the policy of this path, with this text, unless it isn't to be told. There is none
+// where it has no warning, and where a filter is refused, which is for the command to report.
 pub(crate) fn counted(
     alloc: Global,
+    quiet: bool,
     arch: TargetArch,
     path: &str,
-    filters: &JsonFilterMap,
+    text: &[u8],
 ) -> Result<Vec<u8>, AllocError> {
-    match warnings_in(alloc, arch, &[], filters) {
+    if quiet {
+        return Ok(Vec::new(alloc));
+    }
+    let checked = match filters_of(alloc, text) {
+        Ok(filters) => warnings_in(alloc, arch, &[], &filters),
+        Err(error) => Err(error),
+    };
+    match checked {
         Err(JsonFrontendError::OutOfMemory) => Err(AllocError),
         Err(_) => Ok(Vec::new(alloc)),
         Ok(checked) => match checked.count {

@@ -13,10 +13,6 @@ use std::alloc::{AllocError, Global};
 use std::collections::BTreeMap;
 
 /// The program of a profile's text. If it isn't strict, names that no call of the architecture has are left out.
-///
-/// # Errors
-///
-/// `Profile` with what `compile_profile` gives; `OutOfMemory` in its place if memory runs out.
 pub(crate) fn compiled_of(
     alloc: Global,
     target: TargetArch,
@@ -35,17 +31,8 @@ pub(crate) fn compiled_of(
     }
 }
 
-/// The notes on the profile of a path.
-///
-/// One line notes the names that are left out: `seccomptool: `, the profile's file, `: `, how many there are, each counted once,
-/// and ` names that ARCH has no call for are left out`; and if they are to be listed, `: ` and the names, in the profile's order,
-/// separated by `, `. The file is `path`, or `standard input` if that is `-`. In it and in the names each byte of the control
-/// characters (U+0080 to U+009F too) and of the backslash is written as `\x` and two lower-case hexadecimal digits. If no
-/// name is left out, the line is missing.
-///
-/// A second line notes the profile's flags: the same prefix, `flags to set when the program is installed (N): `,
-/// and then the N flags, in the profile's order, separated by `, `. If the profile has no flags, the line is
-/// missing.
+/// The notes on the profile of a path: how many names are left out, each counted once, and the names in the profile's order if they
+/// are to be listed; and which flags are to be set when the program is installed.
 pub(crate) fn profile_notes(
     alloc: Global,
     arch: TargetArch,
@@ -73,29 +60,35 @@ pub(crate) fn profile_notes(
         notes.extend_from_slice(&note(alloc, path, told.as_bytes())?)?;
     }
     if !flags.is_empty() {
-        let told = flags_told(alloc, flags)?;
+        let count = flags.len();
+        let mut told = format!(in alloc; "flags to set when the program is installed ({count})")?;
+        let mut mark = ": ";
+        for flag in flags {
+            told.push_str(mark)?;
+            told.push_str(match flag {
+                Flag::Tsync => "SECCOMP_FILTER_FLAG_TSYNC",
+                Flag::Log => "SECCOMP_FILTER_FLAG_LOG",
+                Flag::SpecAllow => "SECCOMP_FILTER_FLAG_SPEC_ALLOW",
+            })?;
+            mark = ", ";
+        }
         notes.extend_from_slice(&note(alloc, path, told.as_bytes())?)?;
     }
     Ok(notes)
 }
 
 /// Why a profile isn't compiled: the error, or the names that no call of the architecture has.
-pub(crate) fn uncompiled(alloc: Global, arch: TargetArch, error: ToolError) -> ToolError {
-    match error {
-        ToolError::Profile(CompileError::UnknownNames(names)) => {
-            match unknown_told(alloc, arch, &names) {
-                Ok(told) => ToolError::Fault(told),
-                Err(_) => ToolError::OutOfMemory,
-            }
-        }
-        error => error,
-    }
-}
-
-// The error of names that are no calls.
-fn unknown_told(alloc: Global, arch: TargetArch, names: &[String]) -> Result<String, AllocError> {
+pub(crate) fn uncompiled(
+    alloc: Global,
+    arch: TargetArch,
+    error: ToolError,
+) -> Result<ToolError, AllocError> {
+    let ToolError::Profile(CompileError::UnknownNames(names)) = &error else {
+        return Ok(error);
+    };
     let (count, names) = each_once(alloc, names)?;
-    format!(in alloc; "not system calls of {arch} ({count}): {names}")
+    let told = format!(in alloc; "not system calls of {arch} ({count}): {names}")?;
+    Ok(ToolError::Fault(told))
 }
 
 // How many names these are, each counted once, and the names, each where it first stands.
@@ -110,21 +103,4 @@ fn each_once(alloc: Global, names: &[String]) -> Result<(usize, String), AllocEr
         }
     }
     Ok((told.len(), list))
-}
-
-// That no filter has the flags, with their number and their names, as a profile has them.
-fn flags_told(alloc: Global, flags: &[Flag]) -> Result<String, AllocError> {
-    let count = flags.len();
-    let mut told = format!(in alloc; "flags to set when the program is installed ({count})")?;
-    let mut mark = ": ";
-    for flag in flags {
-        told.push_str(mark)?;
-        told.push_str(match flag {
-            Flag::Tsync => "SECCOMP_FILTER_FLAG_TSYNC",
-            Flag::Log => "SECCOMP_FILTER_FLAG_LOG",
-            Flag::SpecAllow => "SECCOMP_FILTER_FLAG_SPEC_ALLOW",
-        })?;
-        mark = ", ";
-    }
-    Ok(told)
 }

@@ -5,7 +5,7 @@ use crate::findings::parts::name_of;
 use seccompiler::TargetArch;
 use std::time::{Clock, Instant};
 
-// Nothing is shown of a comparison before it took so many seconds.
+// Nothing is shown before the program ran for so many seconds.
 const SECONDS: u64 = 2;
 
 /// Who follows how far a comparison is. No answer depends on it.
@@ -13,23 +13,19 @@ pub trait Progress {
     /// Whether anything is shown.
     fn is_shown(&self) -> bool;
 
-    /// A comparison begins.
-    fn begin(&mut self);
-
     /// So many sets of calls of a part were looked at without an answer.
     fn looked_at(&mut self, target: TargetArch, part: Part, sets: usize);
 
-    /// It ended.
+    /// The comparison ended.
     fn end(&mut self);
 }
 
 /// One line of a terminal, on standard error, with how many sets of calls were looked at so far. It is written
-/// once a comparison took two seconds, anew in its place, and erased at the end.
+/// once the program ran for two seconds, anew in its place, and erased at the end.
 #[derive(Drop)]
 pub(crate) struct Watch<'a, R> {
     rt: &'a R,
-    to_terminal: bool,
-    // When the comparison began, where anything is to be shown of it and the clock can be read.
+    // When the program began, where anything is to be shown and the clock can be read.
     start: Option<Instant>,
     sets: usize,
     written: bool,
@@ -40,8 +36,11 @@ impl<'a, R: Eprint + Clock> Watch<'a, R> {
     pub(crate) fn new(rt: &'a R, to_terminal: bool) -> Self {
         Watch {
             rt,
-            to_terminal,
-            start: None,
+            start: if to_terminal {
+                Instant::now(rt).ok()
+            } else {
+                None
+            },
             sets: 0,
             written: false,
         }
@@ -50,16 +49,7 @@ impl<'a, R: Eprint + Clock> Watch<'a, R> {
 
 impl<R: Eprint + Clock> Progress for Watch<'_, R> {
     fn is_shown(&self) -> bool {
-        self.to_terminal
-    }
-
-    fn begin(&mut self) {
-        self.sets = 0;
-        self.start = if self.to_terminal {
-            Instant::now(self.rt).ok()
-        } else {
-            None
-        };
+        self.start.is_some()
     }
 
     fn looked_at(&mut self, target: TargetArch, part: Part, sets: usize) {
@@ -82,9 +72,7 @@ impl<R: Eprint + Clock> Progress for Watch<'_, R> {
     }
 
     fn end(&mut self) {
-        self.start = None;
         if self.written {
-            self.written = false;
             let _ = eprint!(self.rt; "\r\x1b[K");
         }
     }

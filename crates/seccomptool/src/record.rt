@@ -13,17 +13,10 @@ use seccompiler::{SyscallTable, TargetArch};
 use serde_json::json;
 use std::alloc::{AllocError, Global};
 
-/// The record of a call as the kernel hands it to a program: the 64 bytes of a
-/// `struct seccomp_data`, as `seccomp(2)` has it.
+/// The record of a call as the kernel hands it to a program: the 64 bytes of a `struct seccomp_data`, as `seccomp(2)` has it.
 ///
-/// They are the call number and the `AUDIT_ARCH_*` value, of 4 bytes each, the instruction pointer, which
-/// is 0, and the six arguments, of 8 bytes each, every number with its low byte first. `call` is the
-/// call's number, from 0 to 4294967295, in decimal digits, or in hexadecimal ones after `0x`; or, if
-/// it is no number that 64 bits hold, the name of a call of the architecture.
-///
-/// # Errors
-///
-/// `UnknownCall` with the text and the architecture if `call` is no call; `OutOfMemory` in its place if memory runs out.
+/// They are the call number and the `AUDIT_ARCH_*` value, of 4 bytes each, the instruction pointer, which is 0, and the six
+/// arguments, of 8 bytes each, every number with its low byte first. What is no call is an error.
 pub fn called_record(
     alloc: Global,
     target: TargetArch,
@@ -42,17 +35,11 @@ pub fn called_record(
 /// A call of an architecture.
 #[derive(Clone, Copy)]
 pub struct KnownCall {
-    /// The architecture.
     pub target: TargetArch,
-    /// Its number.
     pub number: u32,
 }
 
-/// The calls of this name or number on these architectures; of a number those alone that have a name.
-///
-/// # Errors
-///
-/// `NoCall` with the text if there is none; `OutOfMemory` in its place if memory runs out.
+/// The calls of this name or number on these architectures; of a number those alone that have a name. That there is none is an error.
 pub fn known_calls(
     alloc: Global,
     targets: &[TargetArch],

@@ -7,16 +7,18 @@ ghost use Rattle.clap.specs.declared.error.kind.ErrorKind.TheVariants.{DisplayHe
 ghost use Rattle.seccomptool.specs.Commands.{EndWith, EndsWith, IsPerformed, verdict_status};
 
 use crate::check::format::CheckFormat;
-use crate::compile::text::ProgramFormat;
-use crate::failure::{Failure, note, tell};
+use crate::compile::ProgramFormat;
+use crate::error::FaultAt;
+use crate::files::{Source, is_same, open, push_whole, write_whole};
 use crate::findings::Verdict;
 use crate::json::list_text;
-use crate::output::{is_same, write_whole};
-use crate::perform::{Done, perform};
+use crate::made::Made;
+use crate::notes::{tell, tell_notes};
+use crate::perform::perform;
 use crate::progress::Progress;
-use crate::source::{Source, open, open_all};
 use crate::words::{Asked, Command, Inputs, read};
 use clap::error::ErrorKind;
+use std::collections::VecDeque;
 use std::io;
 use std::io::Write;
 use std::process::ExitCode;
@@ -24,6 +26,9 @@ use std::rt::Files;
 
 // The status of a command that fails.
 const TROUBLE: u8 = 2;
+
+// What is written where no file is.
+const OUTPUT: &str = "standard output";
 
 /// Carries out what the arguments after the program's name ask for, or says what is wrong with
 /// them, or writes the help or the version that they ask for. `to_terminal` says whether standard output
@@ -72,7 +77,7 @@ fn misused(rt: &(impl Print + Eprint + AllocGlobal), error: &clap::Error) -> Exi
         }
         _ => {
             if let Ok(told) = format!(in rt.alloc(); "{error}") {
-                note(rt, told.as_bytes());
+                tell_notes(rt, told.as_bytes());
             }
             ExitCode::from(2)
         }
@@ -140,18 +145,17 @@ fn once_written(
     if left > 0 || !gathers(&asked.command) {
         return status;
     }
-    match write_gathered(rt, gathered) {
+    let written = match list_text(rt.alloc(), "diagnostics", gathered) {
+        Ok(text) => io::writer(rt).write_all(&text),
+        Err(error) => Err(error.into()),
+    };
+    match written {
         Ok(()) => status,
         Err(error) => {
-            tell(rt, asked, inputs, &Failure::Output(error));
+            tell(rt, inputs, &FaultAt::of_io(rt.alloc(), OUTPUT, error));
             TROUBLE
         }
     }
-}
-
-fn write_gathered(rt: &(impl Print + AllocGlobal), gathered: &[u8]) -> io::Result<()> {
-    let text = list_text(rt.alloc(), "diagnostics", gathered)?;
-    io::writer(rt).write_all(&text)
 }
 
 // Whether what a command makes is written at once, behind the last of what it is carried out on.
@@ -183,17 +187,19 @@ fn carry_out<G: Progress>(
     ensures performed { EndsWith asked.now.command result }
 {
     match carried_out(rt, asked, inputs, to_terminal, progress, gathered) {
-        Ok(done) => {
-            note(rt, &done.notes);
-            status_of(done.verdict)
+        Ok(made) => {
+            tell_notes(rt, &made.notes);
+            status_of(made.verdict)
         }
-        Err(failure) => {
-            tell(rt, asked, inputs, &failure);
+        Err(fault) => {
+            tell(rt, inputs, &fault);
             TROUBLE
         }
     }
 }
 
+// Carries out a command on what it reads, and writes what it makes of that, at once. On trouble nothing is written, unless it is
+// writing that fails, or records end inside of one, which is told once the whole ones are written.
 fn carried_out<G: Progress>(
     rt: &(impl Files + Input + Print + AllocGlobal),
     asked: &Asked<'_>,
@@ -201,48 +207,76 @@ fn carried_out<G: Progress>(
     to_terminal: bool,
     progress: &mut G,
     gathered: &mut Vec<u8>,
-) -> Result<Done, Failure>
-    ensures { IfOk result (λ done. IsPerformed asked.now.command done.verdict) }
+) -> Result<Made, FaultAt>
+    ensures { IfOk result (λ made. IsPerformed asked.now.command made.verdict) }
 {
-    let command = &asked.command;
-    if to_terminal && asked.output.is_none() && writes_bytes(command) {
-        return Err(Failure::Terminal);
-    }
-    if is_onto(rt, asked, inputs) {
-        return Err(Failure::Onto);
-    }
-    let first = first_of(rt, command, inputs)?;
-    let second = open(rt, inputs.second).map_err(Failure::Second)?;
     let alloc = rt.alloc();
-    if gathers(command) {
-        let held = perform(alloc, command, inputs, first, second, gathered, progress)?;
-        return Ok(held);
-    }
-    let Some(path) = asked.output else {
-        let mut out = io::writer(rt);
-        let shown = perform(alloc, command, inputs, first, second, &mut out, progress)?;
-        return Ok(shown);
-    };
-    let mut bytes = Vec::new(alloc);
-    let done = perform(alloc, command, inputs, first, second, &mut bytes, progress)?;
-    match write_whole(rt, path, &bytes) {
-        Ok(()) => Ok(done),
-        Err(error) => Err(Failure::Output(error)),
+    refuse_output(rt, asked, inputs, to_terminal)?;
+    let first = first_of(rt, &asked.command, inputs)?;
+    let second = open(rt, inputs.second)?;
+    let made = perform(alloc, &asked.command, inputs, first, second, progress)?;
+    match write_made(rt, asked, &made.text, gathered) {
+        Ok(()) if made.rest == 0 => Ok(made),
+        Ok(()) => {
+            let rest = made.rest;
+            let told = format!(in alloc;
+                "The input ends inside a record, after {rest} bytes of it."
+            )?;
+            Err(FaultAt::of_path(alloc, inputs.second.unwrap_or("-"), told.as_str()))
+        }
+        Err(error) => Err(FaultAt::of_io(alloc, asked.output.unwrap_or(OUTPUT), error)),
     }
 }
 
-// The first one of what a command reads: all traces of `learn`.
+// Refuses to write bytes to a terminal, and to write over what is read.
+fn refuse_output(
+    rt: &(impl Files + AllocGlobal),
+    asked: &Asked<'_>,
+    inputs: Inputs<'_>,
+    to_terminal: bool,
+) -> Result<(), FaultAt> {
+    let told = if to_terminal && asked.output.is_none() && writes_bytes(&asked.command) {
+        "bytes aren't written to a terminal; use a file or a pipe"
+    } else if is_onto(rt, asked, inputs) {
+        "the output would overwrite the input"
+    } else {
+        return Ok(());
+    };
+    Err(FaultAt::of_path(rt.alloc(), asked.output.unwrap_or(OUTPUT), told))
+}
+
+// Writes what is made where it is asked for, or gathers it.
+fn write_made(
+    rt: &(impl Files + Print + AllocGlobal),
+    asked: &Asked<'_>,
+    text: &[u8],
+    gathered: &mut Vec<u8>,
+) -> io::Result<()> {
+    if gathers(&asked.command) {
+        return Ok(gathered.extend_from_slice(text)?);
+    }
+    match asked.output {
+        Some(path) => write_whole(rt, path, text),
+        None => io::writer(rt).write_all(text),
+    }
+}
+
+// The first one of what a command reads: all traces of `learn`, one behind the other.
 fn first_of<R: Files + Input + AllocGlobal>(
     rt: &R,
     command: &Command<'_>,
     inputs: Inputs<'_>,
-) -> Result<Source<R::File, R::Reader>, Failure> {
+) -> Result<Source<R::File, R::Reader>, FaultAt> {
     match command {
         Command::Learn(learning) if !learning.further.is_empty() => {
-            let first = inputs.first.unwrap_or("-");
-            Ok(Source::Bytes(open_all(rt, first, &learning.further)?))
+            let mut traces = Vec::new(rt.alloc());
+            push_whole(rt, &mut traces, inputs.first.unwrap_or("-"))?;
+            for path in &learning.further {
+                push_whole(rt, &mut traces, path)?;
+            }
+            Ok(Source::Bytes(VecDeque::from(traces)))
         }
-        _ => open(rt, inputs.first).map_err(Failure::First),
+        _ => open(rt, inputs.first),
     }
 }
 
@@ -258,7 +292,10 @@ fn is_onto(rt: &(impl Files + AllocGlobal), asked: &Asked<'_>, inputs: Inputs<'_
             }
         }
     }
-    inputs.first.is_some_and(|first| is_same(rt, first, output))
+    match inputs.first {
+        Some(first) => is_same(rt, first, output),
+        None => false,
+    }
 }
 
 // Whether a command writes bytes that are no text.

@@ -1,6 +1,5 @@
 // The programs of a policy, for people.
 
-pub(crate) mod instruction;
 mod notes;
 
 ghost use Rattle.std.specs.Prelude.{IfOk, string_cmp};
@@ -11,24 +10,18 @@ ghost use Rattle.seccompiler.specs.JsonAnswers.{OfValue};
 ghost use Rattle.seccomptool.specs.Compile.{ArePrograms, IsCompiledAs};
 
 use crate::chosen::{is_asked, some_text};
-use crate::compile::NamedProgram;
-use crate::compile::text::program_value;
+use crate::compile::{NamedProgram, program_value};
 use crate::error::ToolError;
 use crate::json::push_item;
-use crate::show::instruction::words;
 use seccomp_command_line::readable::{TextKind, push_readable};
+use seccomp_compare::machine::JUMP_IF_SET;
 use seccomp_tree::{FilterError, Layout, to_bpf_in};
-use seccompiler::{BpfProgramRef, JsonCompiler, SeccompFilter, TargetArch};
+use seccompiler::bpf::{JUMP, JUMP_AT_LEAST, JUMP_EQUAL, JUMP_GREATER, LOAD, MASK, RETURN};
+use seccompiler::{BpfProgramRef, JsonCompiler, SeccompFilter, TargetArch, sock_filter};
 use std::alloc::{AllocError, Global};
 use std::collections::BTreeMap;
 
 /// The programs of all filters of a policy's text, in byte order of the filters' names.
-///
-/// # Errors
-///
-/// The first of these: `Library` with what `JsonCompiler::policies_of` rejects the text for; `Library` with `FilterTooLarge`, or
-/// `TreeTooLarge`, of the least name whose program would have more than 4096 instructions in this layout. `OutOfMemory`
-/// is returned instead of any of these if memory runs out.
 pub fn programs_in(
     alloc: Global,
     target: TargetArch,
@@ -58,21 +51,10 @@ fn compiled(
     Ok(programs)
 }
 
-/// The text of the programs of a policy's filters; as JSON the items of their list.
-///
-/// Each filter has a line `filter LENGTH NAME` and a line for each instruction. In NAME each byte of the
-/// control characters (U+0080 to U+009F too) and of the backslash is written as `\x` and two lower-case
-/// hexadecimal digits. An instruction's line is its place in decimal, padded on the left to 4 bytes; two
-/// spaces; and the instruction in `bpf_asm` syntax, in which jumps name the places that they lead to. If it has
-/// a note, the instruction is padded on the right to 28 bytes, and `; ` and the note follow. The notes are read
-/// from the program: what a load gets of the record, which call, calls, architecture or half of an argument is
-/// tested, and which action a returned value is.
-///
-/// # Errors
-///
-/// `NoFilter` with the name that is asked for, if no filter has it; `OutOfMemory` if memory runs out.
+/// The text of the programs of a policy's filters, each after a line `filter LENGTH NAME`; as JSON the items of their list.
 pub(crate) fn programs_text(
     alloc: Global,
+    target: TargetArch,
     json: bool,
     asked: Option<&str>,
     programs: &[NamedProgram],
@@ -87,34 +69,30 @@ pub(crate) fn programs_text(
                 push_readable(&mut text, name, TextKind::Name)?;
                 text.push(b'\n')?;
             }
-            text.extend_from_slice(&program_text(alloc, json, name, None, program)?)?;
+            text.extend_from_slice(&program_text(alloc, json, name, target, program)?)?;
         }
     }
     some_text(alloc, asked, text)
 }
 
-/// The text of a program by itself. Its calls have their names on the architecture that it tests for, and on this one if it
-/// tests for none. As JSON an item, with this name.
+/// The lines of a program, one for each instruction: its place, the instruction as `bpf_asm` has it, and the note on it. Calls
+/// have their names on the architecture that it tests for, and on this one if it tests for none. As JSON an item, with this name.
 pub(crate) fn program_text(
     alloc: Global,
     json: bool,
     name: &str,
-    arch: Option<TargetArch>,
+    target: TargetArch,
     program: BpfProgramRef<'_>,
 ) -> Result<Vec<u8>, AllocError> {
     let mut text = Vec::new(alloc);
-    let notes = notes::notes(alloc, arch, program)?;
+    let notes = notes::notes(alloc, target, program)?;
     if json {
         let value = program_value(alloc, name, program, Some(notes.as_slice()))?;
         push_item(&mut text, alloc, &value)?;
         return Ok(text);
     }
-    for (place, instruction) in program.iter().enumerate() {
+    for (place, (instruction, note)) in program.iter().zip(&notes).enumerate() {
         let words = words(alloc, place, instruction)?;
-        let note = match notes.get(place) {
-            Some(note) => note.as_str(),
-            None => "",
-        };
         let line = if note.is_empty() {
             format!(in alloc; "{place:4}  {words}\n")?
         } else {
@@ -123,4 +101,24 @@ pub(crate) fn program_text(
         text.extend_from_slice(line.as_bytes())?;
     }
     Ok(text)
+}
+
+// An instruction that stands at this place, in the words of bpf_asm. Jumps tell the places that they lead to.
+fn words(alloc: Global, place: usize, instruction: &sock_filter) -> Result<String, AllocError> {
+    let sock_filter { code, jt, jf, k } = *instruction;
+    let next = place.saturating_add(1);
+    let name = match code {
+        LOAD => return format!(in alloc; "ld [{k}]"),
+        MASK => return format!(in alloc; "and #0x{k:x}"),
+        JUMP => return format!(in alloc; "ja {}", next.saturating_add(k as usize)),
+        RETURN => return format!(in alloc; "ret #0x{k:x}"),
+        JUMP_EQUAL => "jeq",
+        JUMP_GREATER => "jgt",
+        JUMP_AT_LEAST => "jge",
+        JUMP_IF_SET => "jset",
+        _ => return String::from_str(alloc, "unknown"),
+    };
+    let met = next.saturating_add(jt as usize);
+    let unmet = next.saturating_add(jf as usize);
+    format!(in alloc; "{name} #0x{k:x}, {met}, {unmet}")
 }

@@ -38,7 +38,6 @@ pub struct Measure {
 /// The numbers of a filter's programs.
 #[derive(Drop)]
 pub struct FilterStats {
-    /// The filter's name.
     pub name: String,
     /// Those of its program in the linear layout.
     pub linear: Measure,
@@ -46,13 +45,8 @@ pub struct FilterStats {
     pub tree: Measure,
 }
 
-/// Measures the programs of all filters of a policy's text, in byte order of the filters' names.
-///
-/// # Errors
-///
-/// The first of these: `Library` with what `JsonCompiler::policies_of` rejects the text for; `Library` with `FilterTooLarge` of the
-/// least name whose program in the linear layout is too large, or else whose tree is. `OutOfMemory` is returned instead of any
-/// of these if memory runs out.
+/// Measures the programs of all filters of a policy's text, in byte order of the filters' names. That a program in the linear layout
+/// is too large is reported before that a tree is.
 pub fn stats_of(
     alloc: Global,
     target: TargetArch,
@@ -70,10 +64,6 @@ pub fn stats_of(
 }
 
 /// Measures the one program of a profile's text, in a container.
-///
-/// # Errors
-///
-/// Those of [`compiled_of`].
 pub fn profile_stats(
     alloc: Global,
     target: TargetArch,
@@ -158,24 +148,7 @@ fn passing_record(target: TargetArch) -> [u8; 64]
     record
 }
 
-/// The lines of filters' numbers, three for each filter; as JSON an item for each program:
-///
-/// ```text
-/// filter NAME
-/// linear: LENGTH instructions, at most MOST steps, PASSING passing
-/// tree: LENGTH instructions, at most MOST steps, PASSING passing
-/// ```
-///
-/// In NAME each byte of the control characters (U+0080 to U+009F too) and of the backslash is written as `\x`
-/// and two lower-case hexadecimal digits, all others as they are. The numbers are decimal. MOST is the length
-/// of the longest path through the program from its first instruction to a return; no record takes more steps,
-/// and perhaps none takes as many. PASSING is the number of steps on the record of call 4294967295, which no
-/// architecture has, with arguments that are 0. In the linear layout each call that the filter doesn't list
-/// takes exactly as many, if it lists any; in the tree another one may take more or fewer.
-///
-/// # Errors
-///
-/// `NoFilter` with the name that is asked for, if no filter has it; `OutOfMemory` if memory runs out.
+/// The lines of filters' numbers, three for each filter; as JSON an item for each program.
 pub(crate) fn filters_text(
     alloc: Global,
     json: bool,
@@ -206,11 +179,7 @@ pub(crate) fn measure_text(
     layout: Option<&str>,
     measure: Measure,
 ) -> Result<Vec<u8>, AllocError> {
-    let Measure {
-        length,
-        most,
-        passing,
-    } = measure;
+    let (length, most, passing) = (measure.length, measure.most, measure.passing);
     if json {
         let mut text = Vec::new(alloc);
         let layout = text_or_null(alloc, layout)?;

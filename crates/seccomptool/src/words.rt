@@ -3,12 +3,11 @@
 mod container;
 mod learning;
 mod matches;
-mod options;
 mod program;
 mod values;
 
 use crate::check::format::CheckFormat;
-use crate::compile::text::ProgramFormat;
+use crate::compile::ProgramFormat;
 use crate::diff::Scope;
 use crate::explain::lines::LineFormat;
 use crate::findings::Terms;
@@ -46,17 +45,13 @@ pub enum Command<'a> {
 /// How a program is written.
 #[derive(Drop)]
 pub struct Compiling<'a> {
-    /// The architecture.
     pub arch: TargetArch,
-    /// How what is given is read.
     pub reading: Reading,
     /// Whether names that no call of the architecture has are an error, in a profile.
     pub strict: bool,
     /// The filter's name; the policy's only filter if there is none.
     pub filter: Option<&'a str>,
-    /// The program's layout.
     pub layout: Layout,
-    /// How the program is written.
     pub format: ProgramFormat,
     /// Whether the number of warnings is left out.
     pub quiet: bool,
@@ -65,13 +60,10 @@ pub struct Compiling<'a> {
 /// What is printed of programs.
 #[derive(Drop)]
 pub struct Showing<'a> {
-    /// The architecture.
     pub arch: TargetArch,
-    /// How what is given is read.
     pub reading: Reading,
     /// The filter's name; all filters of a policy if there is none.
     pub filter: Option<&'a str>,
-    /// The programs' layout.
     pub layout: Layout,
     /// Whether they are measured.
     pub measured: bool,
@@ -80,9 +72,7 @@ pub struct Showing<'a> {
 /// How what is given is checked.
 #[derive(Drop)]
 pub struct Checking {
-    /// The architecture.
     pub arch: TargetArch,
-    /// How what is given is read.
     pub reading: Reading,
     /// Whether warnings count for the exit status.
     pub denied: bool,
@@ -95,9 +85,7 @@ pub struct Checking {
 /// What is explained.
 #[derive(Drop)]
 pub struct Explaining<'a> {
-    /// The architecture.
     pub arch: TargetArch,
-    /// How what is given is read.
     pub reading: Reading,
     /// The filter's name; the policy's only filter if there is none.
     pub filter: Option<&'a str>,

@@ -2,8 +2,6 @@
 
 use crate::check::outline::{Outline, Position};
 use seccomp_check::Step;
-use seccomp_command_line::readable::{TextKind, push_readable};
-use seccomp_warnings::Code;
 use std::alloc::{AllocError, Global};
 
 /// An error or a warning.
@@ -39,34 +37,16 @@ pub(crate) enum Place {
 }
 
 impl Diagnostic {
-    /// A warning of a value, and maybe of a call, at a place.
-    pub(crate) fn warning(
-        code: Code,
-        path: Vec<Step>,
-        call: Option<String>,
-        message: String,
-        place: Place,
-    ) -> Diagnostic {
-        Diagnostic {
-            severity: "warning",
-            code: code.name(),
-            path,
-            call,
-            message,
-            suggestion: None,
-            place,
-        }
-    }
-
-    /// An error at a place.
-    pub(crate) fn error(
+    /// What is said of a value at a place, with no call and no suggestion.
+    pub(crate) fn new(
+        severity: &'static str,
         code: &'static str,
         path: Vec<Step>,
         message: String,
         place: Place,
     ) -> Diagnostic {
         Diagnostic {
-            severity: "error",
+            severity,
             code,
             path,
             call: None,
@@ -82,16 +62,12 @@ impl Diagnostic {
         alloc: Global,
         outline: &Outline,
     ) -> Result<Option<Position>, AllocError> {
-        let is_key = match self.place {
-            Place::Value => false,
-            Place::Key => true,
-            Place::At(position) => return Ok(Some(position)),
-            Place::None => return Ok(None),
-        };
-        Ok(match outline.places_at(alloc, &self.path)? {
-            Some((value, key)) => Some(if is_key { key } else { value }),
-            None => None,
-        })
+        match (self.place, outline.places_at(alloc, &self.path)?) {
+            (Place::At(position), _) => Ok(Some(position)),
+            (Place::Value, Some((value, _))) => Ok(Some(value)),
+            (Place::Key, Some((_, key))) => Ok(Some(key)),
+            _ => Ok(None),
+        }
     }
 }
 
@@ -100,29 +76,17 @@ pub(crate) fn key(alloc: Global, name: &str) -> Result<Step, AllocError> {
     Ok(Step::Key(String::from_str(alloc, name)?))
 }
 
-/// Adds a path: its names as people read them, or as they are.
-pub(crate) fn push_path(
-    text: &mut Vec<u8>,
-    alloc: Global,
-    path: &[Step],
-    is_readable: bool,
-) -> Result<(), AllocError> {
+/// The text of a path.
+pub(crate) fn path_text(alloc: Global, path: &[Step]) -> Result<String, AllocError> {
+    let mut text = String::new(alloc);
     for (place, step) in path.iter().enumerate() {
         match step {
-            Step::Item(item) => {
-                text.extend_from_slice(format!(in alloc; "[{item}]")?.as_bytes())?;
-            }
+            Step::Item(item) => text.push_str(format!(in alloc; "[{item}]")?.as_str())?,
             Step::Key(name) => {
-                if place > 0 {
-                    text.extend_from_slice(b".")?;
-                }
-                if is_readable {
-                    push_readable(text, name.as_str(), TextKind::Name)?;
-                } else {
-                    text.extend_from_slice(name.as_bytes())?;
-                }
+                text.push_str(if place > 0 { "." } else { "" })?;
+                text.push_str(name.as_str())?;
             }
         }
     }
-    Ok(())
+    Ok(text)
 }

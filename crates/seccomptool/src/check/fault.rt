@@ -38,7 +38,7 @@ pub(crate) fn fault_diagnostic(
         ToolError::Program(_) => ("not-a-program", Place::None),
         _ => ("wrong-value", Place::None),
     };
-    Ok(Diagnostic::error(code, Vec::new(alloc), told, place))
+    Ok(Diagnostic::new("error", code, Vec::new(alloc), told, place))
 }
 
 // A fault of a policy. An unknown key is found where the key is.
@@ -67,20 +67,18 @@ fn of_fault(alloc: Global, text: &[u8], fault: Fault) -> Result<Diagnostic, Allo
         Problem::TooLong(_, _, _) => "program-too-large",
     };
     let message = String::from_utf8_lossy(alloc, &message)?;
-    let mut diagnostic = Diagnostic::error(code, path, message, place);
+    let mut diagnostic = Diagnostic::new("error", code, path, message, place);
     diagnostic.suggestion = suggestion;
     Ok(diagnostic)
 }
 
 // A key that is repeated, where it stands the second time.
 fn of_repeated(alloc: Global, text: &[u8], told: String) -> Result<Diagnostic, AllocError> {
-    let outline = Outline::of(alloc, text)?;
-    Ok(match outline.repeated(alloc)? {
-        Some((path, position)) => {
-            Diagnostic::error("repeated-key", path, told, Place::At(position))
-        }
-        None => Diagnostic::error("repeated-key", Vec::new(alloc), told, Place::None),
-    })
+    let (path, place) = match Outline::of(alloc, text)?.repeated.take() {
+        Some((path, position)) => (path, Place::At(position)),
+        None => (Vec::new(alloc), Place::None),
+    };
+    Ok(Diagnostic::new("error", "repeated-key", path, told, place))
 }
 
 // A fault of a profile, whose text has the path in front: of names without colons, and of places.
@@ -93,7 +91,7 @@ fn of_profile(alloc: Global, told: &str) -> Result<Diagnostic, AllocError> {
         }
     }
     let message = String::from_str(alloc, message)?;
-    Ok(Diagnostic::error("not-a-profile", path, message, Place::Value))
+    Ok(Diagnostic::new("error", "not-a-profile", path, message, Place::Value))
 }
 
 // Adds the steps of a name, with the places behind it.

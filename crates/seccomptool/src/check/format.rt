@@ -1,8 +1,9 @@
 // The forms of what `check` says.
 
-use crate::check::diagnostic::{Diagnostic, Place, push_path};
+use crate::check::diagnostic::{Diagnostic, Place, path_text};
 use crate::check::outline::{Outline, Position};
 use crate::json::{push_item, text_or_null};
+use crate::notes::front_of;
 use seccomp_command_line::readable::{TextKind, push_readable};
 use serde_json::{Value, json};
 use std::alloc::{AllocError, Global};
@@ -18,28 +19,12 @@ pub enum CheckFormat {
     Json,
 }
 
-/// A line for each warning, after this prefix.
-pub(crate) fn text_lines(
-    alloc: Global,
-    front: &[u8],
-    diagnostics: &[Diagnostic],
-) -> Result<Vec<u8>, AllocError> {
-    let mut text = Vec::new(alloc);
-    for diagnostic in diagnostics {
-        text.extend_from_slice(front)?;
-        push_subject(&mut text, alloc, diagnostic)?;
-        let (code, said) = (diagnostic.code, &diagnostic.message);
-        text.extend_from_slice(format!(in alloc; ": warning [{code}]: {said}\n")?.as_bytes())?;
-    }
-    Ok(text)
-}
-
-/// What is said of what stands at a path, with this text: as JSON an object for each diagnostic, in a line, with a comma behind it;
-/// else gcc's lines.
+/// What is said of the text at a path: lines for people or as gcc's; or JSON, an object for each diagnostic, in a line, with a comma
+/// behind it.
 pub(crate) fn lines_of(
     alloc: Global,
-    json: bool,
-    file: &str,
+    format: CheckFormat,
+    path: &str,
     text: &[u8],
     diagnostics: &[Diagnostic],
 ) -> Result<Vec<u8>, AllocError> {
@@ -47,20 +32,38 @@ pub(crate) fn lines_of(
     if diagnostics.is_empty() {
         return Ok(lines);
     }
-    let outline = Outline::of(alloc, text)?;
+    let outline = match format {
+        CheckFormat::Text => Outline::of(alloc, b"")?,
+        _ => Outline::of(alloc, text)?,
+    };
     for diagnostic in diagnostics {
         let position = diagnostic.position(alloc, &outline)?;
-        if json {
-            push_item(
-                &mut lines,
-                alloc,
-                &value_of(alloc, file, position, diagnostic)?,
-            )?;
-        } else {
-            push_line(&mut lines, alloc, file, position, diagnostic)?;
+        match format {
+            CheckFormat::Text => push_text(&mut lines, alloc, path, diagnostic)?,
+            CheckFormat::Gcc => push_line(&mut lines, alloc, path, position, diagnostic)?,
+            CheckFormat::Json => {
+                push_item(
+                    &mut lines,
+                    alloc,
+                    &value_of(alloc, path, position, diagnostic)?,
+                )?;
+            }
         }
     }
     Ok(lines)
+}
+
+// Adds the line of a warning for people.
+fn push_text(
+    lines: &mut Vec<u8>,
+    alloc: Global,
+    path: &str,
+    diagnostic: &Diagnostic,
+) -> Result<(), AllocError> {
+    lines.extend_from_slice(front_of(alloc, path)?.as_bytes())?;
+    push_subject(lines, alloc, diagnostic)?;
+    let (code, said) = (diagnostic.code, &diagnostic.message);
+    lines.extend_from_slice(format!(in alloc; ": warning [{code}]: {said}\n")?.as_bytes())
 }
 
 // Adds the line `FILE:LINE:COLUMN: SEVERITY: PATH: MESSAGE [CODE]`, without a place or path that there isn't. Standard input is `-`.
@@ -85,8 +88,8 @@ fn push_line(
     lines.extend_from_slice(format!(in alloc; " [{code}]\n")?.as_bytes())
 }
 
-/// Adds what a diagnostic is about: its path, and the call behind it. A key stands in quotes.
-pub(crate) fn push_subject(
+// Adds what a diagnostic is about: its path, and the call behind it. A key stands in quotes.
+fn push_subject(
     line: &mut Vec<u8>,
     alloc: Global,
     diagnostic: &Diagnostic,
@@ -96,7 +99,11 @@ pub(crate) fn push_subject(
         _ => b"",
     };
     line.extend_from_slice(quote)?;
-    push_path(line, alloc, &diagnostic.path, true)?;
+    push_readable(
+        line,
+        path_text(alloc, &diagnostic.path)?.as_str(),
+        TextKind::Name,
+    )?;
     line.extend_from_slice(quote)?;
     if let Some(call) = &diagnostic.call {
         line.extend_from_slice(b" (")?;
@@ -113,9 +120,7 @@ fn value_of(
     position: Option<Position>,
     diagnostic: &Diagnostic,
 ) -> Result<Value, AllocError> {
-    let mut path = Vec::new(alloc);
-    push_path(&mut path, alloc, &diagnostic.path, false)?;
-    let path = String::from_utf8_lossy(alloc, &path)?;
+    let path = path_text(alloc, &diagnostic.path)?;
     let (line, column) = match position {
         Some(Position { line, column }) => (Some(line), Some(column)),
         None => (None, None),

@@ -4,22 +4,21 @@ ghost use Rattle.std.specs.Prelude.{◌≡◌, IfErr, IfOk};
 ghost use Rattle.seccomptool.specs.Commands.{IsAccepted, IsCheck, IsRejectedFor};
 ghost use Rattle.seccomptool.specs.declared.findings.Verdict.TheVariants.{Different};
 
-use crate::check::diagnostic::Diagnostic;
 use crate::check::fault::fault_diagnostic;
-use crate::check::format::{CheckFormat, lines_of, text_lines};
+use crate::check::format::{CheckFormat, lines_of};
 use crate::check::policy::policy_diagnostics;
 use crate::check::profile::lines::profile_diagnostics;
 use crate::check::profile::profile_checked;
 use crate::check::{checked, verdict_where};
 use crate::error::{FaultAt, ToolError};
-use crate::failure::rejection;
 use crate::findings::Verdict;
 use crate::kind::{Subject, subject_of};
 use crate::made::Made;
-use crate::notes::front_of;
+use crate::notes::{note, readable};
 use crate::profile::profile_notes;
 use crate::run::program::program_of;
 use crate::words::Checking;
+use seccomp_command_line::readable::TextKind;
 use std::alloc::{AllocError, Global};
 
 pub(crate) fn check_made(
@@ -54,7 +53,7 @@ fn accepted(
         Subject::Policy => {
             let checked = checked(alloc, arch, &asked.allowed, given)?;
             let diagnostics = policy_diagnostics(alloc, &checked.filters)?;
-            let text = written(alloc, asked.format, path, given, &diagnostics)?;
+            let text = lines_of(alloc, asked.format, path, given, &diagnostics)?;
             let verdict = verdict_where(denied, checked.count);
             Ok(Made::noting(text, verdict, Vec::new(alloc)))
         }
@@ -63,7 +62,7 @@ fn accepted(
             let diagnostics = profile_diagnostics(alloc, arch, container, &checked)?;
             let (listed, left_out) = (asked.reading.listed, &checked.compiled.left_out);
             let notes = profile_notes(alloc, arch, path, listed, left_out, &[])?;
-            let text = written(alloc, asked.format, path, given, &diagnostics)?;
+            let text = lines_of(alloc, asked.format, path, given, &diagnostics)?;
             let verdict = verdict_where(denied, checked.warnings.len());
             Ok(Made::noting(text, verdict, notes))
         }
@@ -86,25 +85,12 @@ fn rejected(
 {
     let mut made = Made::noting(Vec::new(alloc), Verdict::Different, Vec::new(alloc));
     if let CheckFormat::Text = format {
-        made.notes = rejection(alloc, path, &error)?;
+        let told = format!(in alloc; "{error}")?;
+        let told = readable(alloc, told.as_bytes(), TextKind::Line)?;
+        made.notes = note(alloc, path, told.as_bytes())?;
         return Ok(made);
     }
     let diagnostics = vec![in alloc; fault_diagnostic(alloc, given, error)?]?;
-    made.text = written(alloc, format, path, given, &diagnostics)?;
+    made.text = lines_of(alloc, format, path, given, &diagnostics)?;
     Ok(made)
-}
-
-// What is said of a text, in this form.
-fn written(
-    alloc: Global,
-    format: CheckFormat,
-    path: &str,
-    given: &[u8],
-    diagnostics: &[Diagnostic],
-) -> Result<Vec<u8>, AllocError> {
-    match format {
-        CheckFormat::Text => text_lines(alloc, &front_of(alloc, path)?, diagnostics),
-        CheckFormat::Gcc => lines_of(alloc, false, path, given, diagnostics),
-        CheckFormat::Json => lines_of(alloc, true, path, given, diagnostics),
-    }
 }

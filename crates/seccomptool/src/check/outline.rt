@@ -2,7 +2,6 @@
 
 ghost use Rattle.std.specs.Prelude.{◌≤◌, length};
 
-use crate::check::diagnostic::key;
 use seccomp_check::Step;
 use serde_json::Value;
 use std::alloc::{AllocError, Global};
@@ -17,17 +16,11 @@ pub(crate) struct Position {
     pub column: usize,
 }
 
-// A value of a text.
+// An array or an object whose end isn't read: its number, the step to it, and how many values are read of it.
 #[derive(Drop)]
-struct Spot {
-    // Where it begins.
-    begins: Position,
-    // Where its key begins, if it has one.
-    key: Option<Position>,
-    // The place of the value that it is in, and the step from there: its own place if it is in none.
-    outer: usize,
+struct Open {
+    number: usize,
     step: Step,
-    // How many values are in it.
     count: usize,
     is_object: bool,
 }
@@ -35,14 +28,15 @@ struct Spot {
 /// The values of a JSON text.
 #[derive(Drop)]
 pub(crate) struct Outline {
-    spots: Vec<Spot>,
-    // The place of a value, by that of the value that it is in, and by its key or number there.
+    // Where each value begins, and where its key does, or itself if it has none.
+    places: Vec<(Position, Position)>,
+    // The number of a value, by that of the value that it is in, and by its key or place there.
     inner: BTreeMap<(usize, String), usize>,
-    // The place of the first value whose key its object has already.
-    repeated: Option<usize>,
+    /// The first key that its object has already: the way to its value, and where the key begins.
+    pub repeated: Option<(Vec<Step>, Position)>,
     // How far the text is read: where that is, the arrays and objects around, and the key in front of the next value.
     at: Position,
-    open: Vec<usize>,
+    open: Vec<Open>,
     key: Option<(Position, String)>,
 }
 
@@ -50,7 +44,7 @@ impl Outline {
     /// The values of a text, which is JSON.
     pub(crate) fn of(alloc: Global, text: &[u8]) -> Result<Outline, AllocError> {
         let mut outline = Outline {
-            spots: Vec::new(alloc),
+            places: Vec::new(alloc),
             inner: BTreeMap::new(alloc),
             repeated: None,
             at: Position { line: 1, column: 1 },
@@ -73,68 +67,22 @@ impl Outline {
         alloc: Global,
         path: &[Step],
     ) -> Result<Option<(Position, Position)>, AllocError> {
-        let mut place = 0;
+        let mut number = 0;
         for step in path {
-            match self.next_of(alloc, place, step)? {
-                Some(inner) => place = inner,
+            let label = label_of(alloc, step)?;
+            // A filter's actions have two names.
+            let other = match label.as_str() {
+                "mismatch_action" => "default_action",
+                "match_action" => "filter_action",
+                _ => "",
+            };
+            let other = (number, String::from_str(alloc, other)?);
+            match self.inner.get(&(number, label)).or(self.inner.get(&other)) {
+                Some(inner) => number = *inner,
                 None => break,
             }
         }
-        Ok(match self.spots.get(place) {
-            Some(spot) => Some((spot.begins, spot.key.unwrap_or(spot.begins))),
-            None => None,
-        })
-    }
-
-    // The place of the value in a value, one step further. A filter's actions have two names.
-    fn next_of(
-        &self,
-        alloc: Global,
-        place: usize,
-        step: &Step,
-    ) -> Result<Option<usize>, AllocError> {
-        let label = label_of(alloc, step)?;
-        let other = match label.as_str() {
-            "mismatch_action" => "default_action",
-            "match_action" => "filter_action",
-            _ => "",
-        };
-        if let Some(inner) = self.inner.get(&(place, label)) {
-            return Ok(Some(*inner));
-        }
-        let other = String::from_str(alloc, other)?;
-        Ok(self.inner.get(&(place, other)).copied())
-    }
-
-    /// The first key that its object has already: the way to its value, and where it begins.
-    pub(crate) fn repeated(
-        &self,
-        alloc: Global,
-    ) -> Result<Option<(Vec<Step>, Position)>, AllocError> {
-        let Some(mut place) = self.repeated else {
-            return Ok(None);
-        };
-        let mut begins = None;
-        let mut way = Vec::new(alloc);
-        for _ in 0..self.spots.len() {
-            let Some(spot) = self.spots.get(place) else {
-                break;
-            };
-            if spot.outer == place {
-                break;
-            }
-            begins = begins.or(spot.key);
-            let step = match &spot.step {
-                Step::Key(name) => key(alloc, name.as_str())?,
-                Step::Item(item) => Step::Item(*item),
-            };
-            way.insert(0, step)?;
-            place = spot.outer;
-        }
-        Ok(match begins {
-            Some(begins) => Some((way, begins)),
-            None => None,
-        })
+        Ok(self.places.get(number).copied())
     }
 
     // Takes the next piece of the text: a string is a key if it stands in an object and behind no other.
@@ -149,59 +97,65 @@ impl Outline {
                 };
             }
             [] | [b',' | b':' | b' ' | b'\t' | b'\r', ..] => {}
-            [b'{' | b'[', ..] => {
-                let place = self.spots.len();
-                self.push(alloc, begins, piece[0] == b'{')?;
-                self.open.push(place)?;
-            }
             [b'}' | b']', ..] => drop(self.open.pop()),
             [b'"', ..] if self.key.is_none() && self.is_in_object() => {
                 self.key = Some((begins, name_in(alloc, piece)?));
             }
-            _ => self.push(alloc, begins, false)?,
+            [first, ..] => self.push(alloc, begins, *first)?,
         }
         Ok(())
     }
 
     fn is_in_object(&self) -> bool {
-        match self.open.last() {
-            Some(outer) => match self.spots.get(*outer) {
-                Some(outer) => outer.is_object,
-                None => false,
-            },
-            None => false,
-        }
+        matches!(self.open.last(), Some(outer) if outer.is_object)
     }
 
-    // Adds the value that begins here.
-    fn push(&mut self, alloc: Global, begins: Position, is_object: bool) -> Result<(), AllocError> {
-        let own = self.spots.len();
-        let outer = self.open.last().copied().unwrap_or(own);
-        let mut item = 0;
-        if let Some(outer) = self.spots.get_mut(outer) {
-            item = outer.count;
-            outer.count = item.saturating_add(1);
+    // Adds the value that begins here, with this byte.
+    fn push(&mut self, alloc: Global, begins: Position, first: u8) -> Result<(), AllocError> {
+        let number = self.places.len();
+        let (mut outer, mut item) = (None, 0);
+        if let Some(open) = self.open.last_mut() {
+            outer = Some(open.number);
+            item = open.count;
+            open.count = item.saturating_add(1);
         }
         let (key, step) = match self.key.take() {
-            Some((position, name)) => (Some(position), Step::Key(name)),
-            None => (None, Step::Item(item)),
+            Some((key, name)) => (key, Step::Key(name)),
+            None => (begins, Step::Item(item)),
         };
-        let label = label_of(alloc, &step)?;
-        if outer != own
-            && self.inner.insert((outer, label), own)?.is_some()
-            && self.repeated.is_none()
-        {
-            self.repeated = Some(own);
+        self.places.push((begins, key))?;
+        if let Some(outer) = outer {
+            let label = label_of(alloc, &step)?;
+            if self.inner.insert((outer, label), number)?.is_some() && self.repeated.is_none() {
+                self.repeated = Some((self.way_to(alloc, &step)?, key));
+            }
         }
-        let spot = Spot {
-            begins,
-            key,
-            outer,
-            step,
-            count: 0,
-            is_object,
-        };
-        Ok(self.spots.push(spot)?)
+        if matches!(first, b'{' | b'[') {
+            self.open.push(Open {
+                number,
+                step,
+                count: 0,
+                is_object: first == b'{',
+            })?;
+        }
+        Ok(())
+    }
+
+    // The way to what is one step behind the arrays and objects around.
+    fn way_to(&self, alloc: Global, last: &Step) -> Result<Vec<Step>, AllocError> {
+        let mut way = Vec::new(alloc);
+        for open in self.open.iter().skip(1) {
+            way.push(copy_of(&open.step)?)?;
+        }
+        way.push(copy_of(last)?)?;
+        Ok(way)
+    }
+}
+
+fn copy_of(step: &Step) -> Result<Step, AllocError> {
+    match step {
+        Step::Key(name) => Ok(Step::Key(name.clone()?)),
+        Step::Item(item) => Ok(Step::Item(*item)),
     }
 }
 

@@ -58,5 +58,8 @@ fn diagnostic_of(
         path.push(key(alloc, part)?)?;
     }
     let message = String::from_str(alloc, said_text(warning.code))?;
-    Ok(Diagnostic::warning(warning.code, path, call, message, Place::Value))
+    let code = warning.code.name();
+    let mut diagnostic = Diagnostic::new("warning", code, path, message, Place::Value);
+    diagnostic.call = call;
+    Ok(diagnostic)
 }

@@ -287,7 +287,10 @@ fn push_of_filter(
 {
     let warnings = true_of(alloc, target, left_out, &filter.filter)?;
     for warning in &warnings {
-        push_parts(target, allowed, filter, *warning, all)?;
+        let parts = parts_of(alloc, filter, warning.subject)?;
+        for part in &parts {
+            push(all, allowed, ProfileWarning::OfEntries(*warning, *part))?;
+        }
     }
     Ok(())
 }
@@ -307,49 +310,29 @@ fn true_of(
     warnings_of(alloc, filter, &judgements, left_out)
 }
 
-// Adds a warning of a filter, for each part of the profile that it is about.
-fn push_parts(
-    target: TargetArch,
-    allowed: &[Code],
+// The parts of the profile that a warning of a filter is about.
+fn parts_of(
+    alloc: Global,
     filter: &EntryFilter,
-    warning: Warning,
-    all: &mut Vec<ProfileWarning>,
-) -> Result<(), AllocError>
-    ensures { IfOk result (λ _. IsTrueOf target filter.now.filter warning → (container : Container) (p : Profile) → All (IsTold target container p allowed.now) all.old.items → All (IsTold target container p allowed.now) all.new.items) }
-{
-    let place = match warning.subject {
+    subject: Subject,
+) -> Result<Vec<ProfilePart>, AllocError> {
+    let mut parts = Vec::new(alloc);
+    let place = match subject {
         Subject::MismatchAction(_) | Subject::MismatchCall(_) => {
-            let part = ProfilePart::Default;
-            return push(all, allowed, ProfileWarning::OfEntries(warning, part));
+            parts.push(ProfilePart::Default)?;
+            return Ok(parts);
         }
         Subject::MatchAction(_) => {
-            return push_actions(target, allowed, filter, warning, all);
+            for origin in &filter.origins {
+                parts.push(ProfilePart::Action(origin.entry))?;
+            }
+            return Ok(parts);
         }
         Subject::Entry(place) => place,
         Subject::Condition(comparison) => comparison.entry,
     };
-    match filter.origins.get(place) {
-        Some(origin) => {
-            let part = ProfilePart::Rule(*origin);
-            push(all, allowed, ProfileWarning::OfEntries(warning, part))
-        }
-        None => Ok(()),
+    if let Some(origin) = filter.origins.get(place) {
+        parts.push(ProfilePart::Rule(*origin))?;
     }
-}
-
-// Adds a warning of a filter's action, for each rule.
-fn push_actions(
-    target: TargetArch,
-    allowed: &[Code],
-    filter: &EntryFilter,
-    warning: Warning,
-    all: &mut Vec<ProfileWarning>,
-) -> Result<(), AllocError>
-    ensures { IfOk result (λ _. IsTrueOf target filter.now.filter warning → (container : Container) (p : Profile) → All (IsTold target container p allowed.now) all.old.items → All (IsTold target container p allowed.now) all.new.items) }
-{
-    for origin in &filter.origins {
-        let part = ProfilePart::Action(origin.entry);
-        push(all, allowed, ProfileWarning::OfEntries(warning, part))?;
-    }
-    Ok(())
+    Ok(parts)
 }

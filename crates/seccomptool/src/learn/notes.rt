@@ -5,7 +5,6 @@ use crate::error::ToolError;
 use crate::findings::parts::name_of;
 use crate::notes::note;
 use seccomp_learn::{Kept, Trace};
-use seccompiler::TargetArch;
 use std::alloc::{AllocError, Global};
 
 // That a trace has lines that aren't understood, if it has some, as an error.
@@ -36,7 +35,16 @@ pub(super) fn notes_of(
         };
         notes.extend_from_slice(&note(alloc, path, told.as_bytes())?)?;
     }
-    notes.extend_from_slice(&unnamed_note(alloc, arch, path, &trace.unnamed)?)?;
+    if !trace.unnamed.is_empty() {
+        let mut told = format!(in alloc; "{arch} has no call of these names or numbers")?;
+        let mut mark = ": ";
+        for name in &trace.unnamed {
+            told.push_str(mark)?;
+            told.push_str(name.as_str())?;
+            mark = ", ";
+        }
+        notes.extend_from_slice(&note(alloc, path, told.as_bytes())?)?;
+    }
     // The calls that are allowed with any arguments, since more values of them were seen than are kept.
     let mut before = None;
     for each in wanted {
@@ -77,24 +85,4 @@ fn behind_records(alloc: Global, bytes: usize) -> Result<String, AllocError> {
         return String::from_str(alloc, "1 byte follows the last record");
     }
     Ok(format!(in alloc; "{bytes} bytes follow the last record")?)
-}
-
-// The note on names and numbers that no call has, if there are some.
-fn unnamed_note(
-    alloc: Global,
-    arch: TargetArch,
-    path: &str,
-    unnamed: &[String],
-) -> Result<Vec<u8>, AllocError> {
-    if unnamed.is_empty() {
-        return Ok(Vec::new(alloc));
-    }
-    let mut told = format!(in alloc; "{arch} has no call of these names or numbers")?;
-    let mut mark = ": ";
-    for name in unnamed {
-        told.push_str(mark)?;
-        told.push_str(name.as_str())?;
-        mark = ", ";
-    }
-    note(alloc, path, told.as_bytes())
 }

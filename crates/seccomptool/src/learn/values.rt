@@ -18,9 +18,20 @@ pub(super) fn learned_json(
     text: &[u8],
 ) -> Result<Vec<u8>, AllocError> {
     let (mut kept, mut lines) = (Vec::new(alloc), Vec::new(alloc));
-    for each in all {
-        if observed.iter().any(|call| call.number == each.number) {
-            kept.push(kept_value(alloc, arch, *each)?)?;
+    for Kept {
+        number,
+        arg_index,
+        arg_len,
+    } in all {
+        if observed.iter().any(|call| call.number == *number) {
+            let length = match arg_len {
+                SeccompCmpArgLen::Dword => "dword",
+                SeccompCmpArgLen::Qword => "qword",
+            };
+            let call = call_or_null(alloc, arch, Some(*number))?;
+            kept.push(json!(in alloc;
+                { "call": call, "number": *number, "index": *arg_index, "type": length }
+            )?)?;
         }
     }
     for line in String::from_utf8_lossy(alloc, notes)?.as_str().lines() {
@@ -40,19 +51,4 @@ pub(super) fn learned_json(
     object.extend_from_slice(text.trim_ascii_end())?;
     object.extend_from_slice(b"}\n")?;
     Ok(object)
-}
-
-// An argument whose values are kept, as an object.
-fn kept_value(alloc: Global, arch: TargetArch, kept: Kept) -> Result<Value, AllocError> {
-    let Kept {
-        number,
-        arg_index,
-        arg_len,
-    } = kept;
-    let length = match arg_len {
-        SeccompCmpArgLen::Dword => "dword",
-        SeccompCmpArgLen::Qword => "qword",
-    };
-    let call = call_or_null(alloc, arch, Some(number))?;
-    json!(in alloc; { "call": call, "number": number, "index": arg_index, "type": length })
 }

@@ -53,10 +53,6 @@ fn behind_space(text: &[u8]) -> &[u8]
 
 /// The bytes of the instructions that a text initializes: four numbers each, decimal or hexadecimal, in braces. Braces may stand
 /// around all, a comma behind the last one, and comments anywhere.
-///
-/// # Errors
-///
-/// `Program` with the line of the first thing that isn't so; `OutOfMemory` if memory runs out.
 pub(crate) fn bytes_of_initializers(alloc: Global, text: &[u8]) -> Result<Vec<u8>, ToolError> {
     let mut reader = Reader {
         bytes: Vec::new(alloc),
@@ -98,18 +94,13 @@ fn piece_len(text: &[u8]) -> usize
 
 impl Reader {
     fn take(&mut self, piece: &[u8]) -> Result<(), ToolError> {
-        let Some(first) = piece.first() else {
-            return Ok(());
-        };
-        if first.is_ascii_whitespace() || (*first == b'/' && piece.len() > 1) {
-            for byte in piece {
-                if *byte == b'\n' {
-                    self.line = self.line.saturating_add(1);
-                }
-            }
+        let first = piece.first().copied().unwrap_or(b' ');
+        if first.is_ascii_whitespace() || (first == b'/' && piece.len() > 1) {
+            let breaks = piece.iter().filter(|byte| **byte == b'\n').count();
+            self.line = self.line.saturating_add(breaks);
             return Ok(());
         }
-        self.next = match (self.next, *first) {
+        self.next = match (self.next, first) {
             (1, b'{') if self.bytes.is_empty() && !self.is_braced => {
                 self.is_braced = true;
                 1
@@ -126,10 +117,7 @@ impl Reader {
 
     // Adds the bytes of a number, and gives the place behind it.
     fn number(&mut self, piece: &[u8]) -> Result<u8, ToolError> {
-        let number = match str::from_utf8(piece) {
-            Ok(digits) => read_number(digits),
-            Err(_) => None,
-        };
+        let number = read_number(str::from_utf8(piece).unwrap_or(""));
         let Ok(number) = u32::try_from(number.unwrap_or(u64::MAX)) else {
             return Err(self.fault());
         };

@@ -1,7 +1,7 @@
 // What the instructions of a program are for, read off the program itself, of whichever compiler it is.
 
-use crate::findings::parts::name_of;
-use crate::show::instruction::{load_meaning, word_meaning};
+use crate::findings::lines::Word as Action;
+use crate::findings::parts::{X32, name_of};
 use seccomp_compare::machine::JUMP_IF_SET;
 use seccompiler::bpf::{
     AUDIT_ARCH_X86_64, JUMP, JUMP_AT_LEAST, JUMP_EQUAL, JUMP_GREATER, LOAD, MASK, RETURN,
@@ -9,15 +9,11 @@ use seccompiler::bpf::{
 use seccompiler::{BpfProgramRef, TargetArch, sock_filter};
 use std::alloc::{AllocError, Global};
 
-// The bit that numbers of calls of x32 have, as `asm/unistd.h` has it.
-const X32_BIT: u32 = 0x4000_0000;
-
-// What the accumulator holds: the word of the record that begins at this byte, as far as the mask keeps it.
+// What the accumulator holds: the word of the record that begins at this byte, as far as this mask keeps it.
 #[derive(Clone, Copy, PartialEq, Eq)]
-struct Word {
-    byte: u32,
-    mask: u32,
-}
+struct Word(u32, u32);
+
+const WHOLE: u32 = u32::MAX;
 
 // What is known at an instruction on whichever way a run comes there.
 #[derive(Clone, Copy)]
@@ -29,16 +25,13 @@ struct Known {
 
 // The notes on a program's instructions, one for each, which is empty where there is nothing to say. Call numbers are those of
 // the architecture that the program tests for, and those of the one given where it tests for none.
-pub(crate) fn notes(
+pub(super) fn notes(
     alloc: Global,
-    arch: Option<TargetArch>,
+    target: TargetArch,
     program: BpfProgramRef<'_>,
 ) -> Result<Vec<String>, AllocError> {
     let mut known = vec![in alloc; None; program.len()]?;
-    let arch = match arch {
-        Some(target) => Some(target.get_audit_value()),
-        None => None,
-    };
+    let arch = Some(target.get_audit_value());
     lead(&mut known, 0, Known { word: None, arch });
     let mut notes = Vec::new(alloc);
     for (place, instruction) in program.iter().enumerate() {
@@ -60,27 +53,27 @@ pub(crate) fn notes(
 fn go_on(known: &mut [Option<Known>], place: usize, here: Known, instruction: &sock_filter) {
     let sock_filter { code, jt, jf, k } = *instruction;
     let next = place.saturating_add(1);
+    let (mut met, mut unmet) = (here, here);
     match code {
         LOAD => {
-            let word = Some(Word {
-                byte: k,
-                mask: u32::MAX,
-            });
-            lead(known, next, Known { word, ..here });
+            met.word = Some(Word(k, WHOLE));
+            lead(known, next, met);
         }
         MASK => {
-            let word = match here.word {
-                Some(Word { byte, mask }) => Some(Word {
-                    byte,
-                    mask: mask & k,
-                }),
-                None => None,
-            };
-            lead(known, next, Known { word, ..here });
+            if let Some(Word(byte, mask)) = here.word {
+                met.word = Some(Word(byte, mask & k));
+            }
+            lead(known, next, met);
         }
         JUMP => lead(known, next.saturating_add(k as usize), here),
         JUMP_EQUAL | JUMP_GREATER | JUMP_AT_LEAST | JUMP_IF_SET => {
-            let (met, unmet) = tested(here, code, k);
+            // A test of the architecture tells it.
+            if code == JUMP_EQUAL && here.word == Some(Word(4, WHOLE)) {
+                met.arch = Some(k);
+                if here.arch == met.arch {
+                    unmet.arch = None;
+                }
+            }
             lead(known, next.saturating_add(jt as usize), met);
             lead(known, next.saturating_add(jf as usize), unmet);
         }
@@ -88,94 +81,49 @@ fn go_on(known: &mut [Option<Known>], place: usize, here: Known, instruction: &s
     }
 }
 
-// What is known where a test is met, and where it isn't: a test of the architecture tells it.
-fn tested(here: Known, code: u16, k: u32) -> (Known, Known) {
-    let of_arch = Some(Word {
-        byte: 4,
-        mask: u32::MAX,
-    });
-    if code != JUMP_EQUAL || here.word != of_arch {
-        return (here, here);
-    }
-    let others = if here.arch == Some(k) {
-        None
-    } else {
-        here.arch
-    };
-    (
-        Known {
-            arch: Some(k),
-            ..here
-        },
-        Known {
-            arch: others,
-            ..here
-        },
-    )
-}
-
 // Adds a way to a place: what differs from what is known on the others isn't known any more.
-fn lead(known: &mut [Option<Known>], place: usize, here: Known) {
+fn lead(known: &mut [Option<Known>], place: usize, mut here: Known) {
     if place >= known.len() {
         return;
     }
-    known[place] = Some(match known[place] {
-        Some(other) => Known {
-            word: if other.word == here.word {
-                here.word
-            } else {
-                None
-            },
-            arch: if other.arch == here.arch {
-                here.arch
-            } else {
-                None
-            },
-        },
-        None => here,
-    });
+    if let Some(other) = known[place] {
+        if other.word != here.word {
+            here.word = None;
+        }
+        if other.arch != here.arch {
+            here.arch = None;
+        }
+    }
+    known[place] = Some(here);
 }
 
 // The note on an instruction.
 fn note(alloc: Global, here: Known, instruction: &sock_filter) -> Result<String, AllocError> {
     let sock_filter { code, k, .. } = *instruction;
-    match code {
-        LOAD => return load_meaning(alloc, k),
-        RETURN => return word_meaning(alloc, k),
-        _ => {}
-    }
-    let Some(word) = here.word else {
-        return Ok(String::new(alloc));
+    let Word(byte, mask) = match (code, here.word) {
+        (LOAD, _) => return load_meaning(alloc, k),
+        (RETURN, _) => return word_meaning(alloc, k),
+        (_, None) => return Ok(String::new(alloc)),
+        (_, Some(word)) => word,
     };
-    let Word { byte, mask } = word;
     match (code, byte, mask) {
-        (JUMP_EQUAL, 0, u32::MAX) => call(alloc, here.arch, k),
-        (JUMP_AT_LEAST, 0, u32::MAX) => format!(in alloc; "calls from {k} on"),
-        (JUMP_GREATER, 0, u32::MAX) => format!(in alloc; "calls above {k}"),
-        (JUMP_IF_SET, 0, u32::MAX) if k == X32_BIT && here.arch == Some(AUDIT_ARCH_X86_64) => {
+        (JUMP_EQUAL, 0, WHOLE) => match name_on(here.arch, k) {
+            Some(name) => String::from_str(alloc, name),
+            None => format!(in alloc; "call {k}"),
+        },
+        (JUMP_AT_LEAST, 0, WHOLE) => format!(in alloc; "calls from {k} on"),
+        (JUMP_GREATER, 0, WHOLE) => format!(in alloc; "calls above {k}"),
+        (JUMP_IF_SET, 0, WHOLE) if k == X32 && here.arch == Some(AUDIT_ARCH_X86_64) => {
             String::from_str(alloc, "calls of x32")
         }
-        (JUMP_IF_SET, _, _) => {
-            let mask = mask & k;
-            part(alloc, Word { byte, mask })
-        }
-        (JUMP_EQUAL, 4, u32::MAX) => match arch_of(k) {
+        (JUMP_IF_SET, _, _) => part(alloc, byte, mask & k),
+        (JUMP_EQUAL, 4, WHOLE) => match arch_of(k) {
             Some(target) => target.to_string(alloc),
-            None => part(alloc, word),
+            None => part(alloc, byte, mask),
         },
-        (MASK | JUMP_EQUAL | JUMP_GREATER | JUMP_AT_LEAST, _, _) => part(alloc, word),
+        (MASK | JUMP_EQUAL | JUMP_GREATER | JUMP_AT_LEAST, _, _) => part(alloc, byte, mask),
         _ => Ok(String::new(alloc)),
     }
-}
-
-// A call: its name on the architecture of this value, or its number.
-fn call(alloc: Global, arch: Option<u32>, number: u32) -> Result<String, AllocError> {
-    if let Some(target) = arch_of(arch.unwrap_or(0)) {
-        if let Some(name) = name_of(target, number) {
-            return String::from_str(alloc, name);
-        }
-    }
-    format!(in alloc; "call {number}")
 }
 
 // The architecture of an `AUDIT_ARCH_*` value.
@@ -188,16 +136,45 @@ fn arch_of(value: u32) -> Option<TargetArch> {
     None
 }
 
+// The name of a call on the architecture of this value.
+fn name_on(arch: Option<u32>, number: u32) -> Option<&'static str> {
+    name_of(arch_of(arch?)?, number)
+}
+
+// What a load gets that begins at this byte of a record.
+fn load_meaning(alloc: Global, byte: u32) -> Result<String, AllocError> {
+    match byte {
+        0 => String::from_str(alloc, "the call number"),
+        4 => String::from_str(alloc, "the architecture"),
+        0..16 => String::from_str(alloc, "the instruction pointer"),
+        _ => {
+            let half = if byte % 8 == 0 { "low" } else { "high" };
+            format!(in alloc; "the {half} half of argument {}", (byte - 16) / 8)
+        }
+    }
+}
+
+// The action that a returned word stands for, in words; nothing where it stands for none.
+fn word_meaning(alloc: Global, word: u32) -> Result<String, AllocError> {
+    let action = Action(word);
+    match action.action().0 {
+        None => Ok(String::new(alloc)),
+        Some("kill_thread") => String::from_str(alloc, "kill the thread"),
+        Some("kill_process") => String::from_str(alloc, "kill the process"),
+        Some("user_notif") => String::from_str(alloc, "notify the supervisor"),
+        Some(_) => format!(in alloc; "{action}"),
+    }
+}
+
 // The part of a record that a word is.
-fn part(alloc: Global, word: Word) -> Result<String, AllocError> {
-    let Word { byte, mask } = word;
+fn part(alloc: Global, byte: u32, mask: u32) -> Result<String, AllocError> {
     let text = if byte < 16 {
         load_meaning(alloc, byte)?
     } else {
         let half = if byte % 8 == 0 { "low" } else { "high" };
         format!(in alloc; "argument {}, {half} half", (byte - 16) / 8)?
     };
-    if mask == u32::MAX {
+    if mask == WHOLE {
         return Ok(text);
     }
     format!(in alloc; "{text} & 0x{mask:x}")

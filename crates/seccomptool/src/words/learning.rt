@@ -1,7 +1,8 @@
 // What `learn` is asked for.
 
-use super::values::{arch_in, output_in};
-use super::{Asked, Command, Inputs, Misuse};
+use super::matches::{Read, on};
+use super::values::{arch_in, number_in};
+use super::{Command, Misuse};
 use crate::learn::{AskedArguments, Learning, Start};
 use crate::numbers::read_number;
 use clap::ArgMatches;
@@ -14,56 +15,42 @@ const NO_ACTION: &str =
 const NO_ARGUMENTS: &str =
     "the value of --args isn't CALL or CALL:INDEX,.. with indices from 0 to 5";
 
-const NO_VALUES: &str =
-    "the value of --values isn't a number from 0 to 18446744073709551615, decimal or hexadecimal after 0x";
-
 // What the matches of `learn` ask for.
-pub(super) fn learn_in<'a>(alloc: Global, found: &ArgMatches<'a>) -> Result<Asked<'a>, Misuse> {
+pub(super) fn learn_in<'a>(alloc: Global, found: &ArgMatches<'a>) -> Read<'a> {
     if let Some(told) = refusal(found) {
         return Err(Misuse::Told(told));
     }
-    let Some(most) = read_number(found.get_str("values").unwrap_or("")) else {
-        return Err(Misuse::Told(NO_VALUES));
-    };
+    let most = number_in(alloc, found, "values")?;
+    let into = found.get_str("into");
     let start = match (
-        found.get_str("into"),
+        into,
         action_of(found.get_str("otherwise").unwrap_or("kill_process")),
     ) {
         (Some(_), _) => Start::Into,
         (None, Some(action)) => Start::Otherwise(action),
         (None, None) => return Err(Misuse::Told(NO_ACTION)),
     };
-    let traces = found.get_strs("trace").unwrap_or(&["-"]);
+    let traces = found.get_strs("TRACE").unwrap_or(&["-"]);
     let mut further = Vec::new(alloc);
     for path in traces.iter().skip(1) {
         further.push(*path)?;
     }
-    let learning = Learning {
+    let command = Command::Learn(Learning {
         arch: arch_in(found),
         start,
         name: found.get_str("name"),
         arguments: arguments_in(alloc, found)?,
-        most: most as usize,
+        most,
         runnable: found.get_flag("runnable"),
         strict: found.get_flag("strict"),
         as_profile: found.get_flag("profile"),
         further,
-    };
-    let inputs = Inputs {
-        first: traces.first().copied(),
-        second: found.get_str("into"),
-        json: found.get_flag("json"),
-    };
-    Ok(Asked {
-        command: Command::Learn(learning),
-        inputs: vec![in alloc; inputs]?,
-        output: output_in(found),
-    })
+    });
+    on(alloc, found, command, traces.first().copied(), into)
 }
 
 // Why options can't be given together, if two can't.
 fn refusal(found: &ArgMatches<'_>) -> Option<&'static str> {
-    let is_named = found.get_str("name").is_some();
     let is_profile = found.get_flag("profile");
     let into = found.get_str("into");
     if into.is_some() && found.get_str("otherwise").is_some() {
@@ -72,11 +59,10 @@ fn refusal(found: &ArgMatches<'_>) -> Option<&'static str> {
     if into.is_some() && is_profile {
         return Some("--profile can't be given with --into");
     }
-    if is_named && is_profile {
+    if is_profile && found.get_str("name").is_some() {
         return Some("--profile can't be given with --name");
     }
-    let traces = found.get_strs("trace").unwrap_or(&[]);
-    if into == Some("-") && traces.iter().any(|path| *path == "-") {
+    if into == Some("-") && found.get_strs("TRACE").unwrap_or(&[]).contains(&"-") {
         return Some("TRACE and POLICY can't both be read from standard input");
     }
     None

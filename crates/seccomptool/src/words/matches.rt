@@ -1,30 +1,27 @@
 // What clap's matches ask for.
+//
+// Where an option takes some names alone, clap lets no other pass. One that a command doesn't have isn't given.
 
 use super::container::reading_in;
 use super::learning::learn_in;
 use super::values::{
-    TWO_FORMATS, arch_in, arguments_in, calls_in, check_format_in, given_arch, layout_in,
-    output_in, path_in,
+    arch_in, arguments_in, calls_in, format_in, given_arch, layout_in, number_in, path_in,
 };
 use super::{
     Asked, Call, Calling, Checking, Command, Comparing, Compiling, Explaining, Inputs, Misuse,
     Showing,
 };
 use crate::check::format::CheckFormat;
-use crate::compile::text::ProgramFormat;
+use crate::compile::ProgramFormat;
 use crate::diff::Scope;
 use crate::explain::lines::LineFormat;
 use crate::findings::Terms;
-use crate::numbers::read_number;
 use clap::ArgMatches;
 use seccomp_compare::Relation;
 use seccomp_warnings::Code;
 use std::alloc::Global;
 
-const NO_MOST: &str =
-    "the value of --most isn't a number from 0 to 18446744073709551615, decimal or hexadecimal after 0x";
-
-type Read<'a> = Result<Asked<'a>, Misuse>;
+pub(super) type Read<'a> = Result<Asked<'a>, Misuse>;
 
 // What the matches of the subcommand of this name ask for.
 pub(super) fn asked_in<'a>(alloc: Global, name: &str, found: &ArgMatches<'a>) -> Read<'a> {
@@ -40,19 +37,22 @@ pub(super) fn asked_in<'a>(alloc: Global, name: &str, found: &ArgMatches<'a>) ->
     }
 }
 
-// A command that is carried out once, on what it reads at these paths, and writes this file.
-fn on<'a>(
+// A command that is carried out once, on what it reads at these paths. It writes standard output where the file is `-`.
+pub(super) fn on<'a>(
     alloc: Global,
+    found: &ArgMatches<'a>,
     command: Command<'a>,
     first: Option<&'a str>,
     second: Option<&'a str>,
-    json: bool,
-    output: Option<&'a str>,
 ) -> Read<'a> {
     let inputs = Inputs {
         first,
         second,
-        json,
+        json: format_in(found)? == "json",
+    };
+    let output = match found.get_str("output") {
+        Some("-") => None,
+        output => output,
     };
     Ok(Asked {
         command,
@@ -62,16 +62,18 @@ fn on<'a>(
 }
 
 fn check_in<'a>(alloc: Global, found: &ArgMatches<'a>) -> Read<'a> {
-    let format = check_format_in(found)?;
     if found.get_flag("list") {
-        let json = matches!(format, CheckFormat::Json);
-        return on(alloc, Command::Codes, None, None, json, None);
+        return on(alloc, found, Command::Codes, None, None);
     }
+    let format = match format_in(found)? {
+        "gcc" => CheckFormat::Gcc,
+        "json" => CheckFormat::Json,
+        _ => CheckFormat::Text,
+    };
     let mut inputs = Vec::new(alloc);
-    for path in found.get_strs("subject").unwrap_or(&[]) {
-        let first = Some(*path);
+    for path in found.get_strs("SUBJECT").unwrap_or(&[]) {
         inputs.push(Inputs {
-            first,
+            first: Some(*path),
             second: None,
             json: false,
         })?;
@@ -97,24 +99,21 @@ fn check_in<'a>(alloc: Global, found: &ArgMatches<'a>) -> Read<'a> {
 }
 
 fn compile_in<'a>(alloc: Global, found: &ArgMatches<'a>) -> Read<'a> {
-    let json = found.get_flag("json");
     let command = Command::Compile(Compiling {
         arch: arch_in(found),
         reading: reading_in(alloc, found)?,
         strict: found.get_flag("strict"),
         filter: found.get_str("filter"),
         layout: layout_in(found),
-        format: match (found.get_str("format"), json) {
-            (Some("listing" | "c"), true) => return Err(Misuse::Told(TWO_FORMATS)),
-            (_, true) => ProgramFormat::Json,
-            (Some("listing"), _) => ProgramFormat::Listing,
-            (Some("c"), _) => ProgramFormat::C,
+        format: match format_in(found)? {
+            "listing" => ProgramFormat::Listing,
+            "c" => ProgramFormat::C,
+            "json" => ProgramFormat::Json,
             _ => ProgramFormat::Raw,
         },
         quiet: found.get_flag("quiet"),
     });
-    let subject = Some(path_in(found, "subject"));
-    on(alloc, command, subject, None, json, output_in(found))
+    on(alloc, found, command, Some(path_in(found, "SUBJECT")), None)
 }
 
 fn show_in<'a>(alloc: Global, found: &ArgMatches<'a>) -> Read<'a> {
@@ -125,38 +124,32 @@ fn show_in<'a>(alloc: Global, found: &ArgMatches<'a>) -> Read<'a> {
         layout: layout_in(found),
         measured: found.get_flag("stats"),
     });
-    let subject = Some(path_in(found, "subject"));
-    on(alloc, command, subject, None, found.get_flag("json"), None)
+    on(alloc, found, command, Some(path_in(found, "SUBJECT")), None)
 }
 
 fn explain_in<'a>(alloc: Global, found: &ArgMatches<'a>) -> Read<'a> {
-    let subject = path_in(found, "subject");
+    let subject = path_in(found, "SUBJECT");
     let (calls, second) = calls_in(found, subject)?;
-    let json = found.get_flag("json");
     let command = Command::Explain(Explaining {
         arch: arch_in(found),
         reading: reading_in(alloc, found)?,
         filter: found.get_str("filter"),
-        format: match (found.get_str("format"), json) {
-            (Some("word"), true) => return Err(Misuse::Told(TWO_FORMATS)),
-            (_, true) => LineFormat::Json,
-            (Some("word"), _) => LineFormat::Word,
+        format: match format_in(found)? {
+            "word" => LineFormat::Word,
+            "json" => LineFormat::Json,
             _ => LineFormat::Path,
         },
         calls,
     });
-    on(alloc, command, Some(subject), second, json, None)
+    on(alloc, found, command, Some(subject), second)
 }
 
 fn diff_in<'a>(alloc: Global, found: &ArgMatches<'a>) -> Read<'a> {
-    let (old, of_old) = named_in(path_in(found, "old"));
-    let (new, of_new) = named_in(path_in(found, "new"));
+    let (old, of_old) = named_in(path_in(found, "OLD"));
+    let (new, of_new) = named_in(path_in(found, "NEW"));
     if old == "-" && new == "-" {
         return Err(Misuse::Told("OLD and NEW can't both be read from standard input"));
     }
-    let Some(most) = read_number(found.get_str("most").unwrap_or("")) else {
-        return Err(Misuse::Told(NO_MOST));
-    };
     let command = Command::Diff(Comparing {
         terms: Terms {
             target: arch_in(found),
@@ -165,7 +158,7 @@ fn diff_in<'a>(alloc: Global, found: &ArgMatches<'a>) -> Read<'a> {
             } else {
                 Relation::Alike
             },
-            most: most as usize,
+            most: number_in(alloc, found, "most")?,
         },
         reading: reading_in(alloc, found)?,
         old: of_old,
@@ -177,8 +170,7 @@ fn diff_in<'a>(alloc: Global, found: &ArgMatches<'a>) -> Read<'a> {
         },
         quiet: found.get_flag("quiet"),
     });
-    let json = found.get_flag("json");
-    on(alloc, command, Some(old), Some(new), json, None)
+    on(alloc, found, command, Some(old), Some(new))
 }
 
 // A path, and the name of a filter, where one stands behind the last colon: none where nothing does.
@@ -192,16 +184,14 @@ fn named_in(text: &str) -> (&str, Option<&str>) {
 
 fn call_of<'a>(alloc: Global, found: &ArgMatches<'a>) -> Read<'a> {
     let recorded = found.get_flag("record");
-    let output = output_in(found);
-    if output.is_some() && !recorded {
+    if !recorded && !matches!(found.get_str("output"), None | Some("-")) {
         return Err(Misuse::Told("--output needs --record"));
     }
-    let json = found.get_flag("json");
-    if json && recorded {
+    if recorded && found.get_flag("json") {
         return Err(Misuse::Told("--json and --record can't both be given"));
     }
     let call = Call {
-        name: path_in(found, "call"),
+        name: path_in(found, "CALL"),
         arguments: arguments_in(found)?,
     };
     let command = Command::Call(Calling {
@@ -209,5 +199,5 @@ fn call_of<'a>(alloc: Global, found: &ArgMatches<'a>) -> Read<'a> {
         call,
         recorded,
     });
-    on(alloc, command, None, None, json, output)
+    on(alloc, found, command, None, None)
 }

@@ -1,29 +1,17 @@
 // The values of options and arguments, in clap's matches.
-//
-// Where an option takes some names alone, clap lets no other pass, and one that isn't given has a name of its own.
 
 use super::{Call, Calls, Misuse};
-use crate::check::format::CheckFormat;
 use crate::numbers::read_number;
 use clap::ArgMatches;
 use seccomp_tree::Layout;
 use seccompiler::TargetArch;
+use std::alloc::Global;
 
 const NO_ARGUMENT: &str =
     "an ARG isn't a number from -9223372036854775808 to 18446744073709551615, decimal or hexadecimal after 0x";
 
-pub(super) const TWO_FORMATS: &str = "--json and another --format can't both be given";
-
 const BOTH: &str =
     "SUBJECT and records can't both be read from standard input: give CALL, --records or --log";
-
-// The file that is written, which is standard output where it is `-`.
-pub(super) fn output_in<'a>(found: &ArgMatches<'a>) -> Option<&'a str> {
-    match found.get_str("output") {
-        Some("-") => None,
-        output => output,
-    }
-}
 
 // The path that is given, or standard input.
 pub(super) fn path_in<'a>(found: &ArgMatches<'a>, id: &str) -> &'a str {
@@ -36,11 +24,10 @@ pub(super) fn arch_in(found: &ArgMatches<'_>) -> TargetArch {
 
 // The architecture that is given, or is one where none is.
 pub(super) fn given_arch(found: &ArgMatches<'_>) -> Option<TargetArch> {
-    match found.get_str("arch") {
-        Some("x86_64" | "amd64") => Some(TargetArch::x86_64),
-        Some("aarch64" | "arm64") => Some(TargetArch::aarch64),
-        Some("riscv64") => Some(TargetArch::riscv64),
-        _ => None,
+    match found.get_str("arch")? {
+        "aarch64" | "arm64" => Some(TargetArch::aarch64),
+        "riscv64" => Some(TargetArch::riscv64),
+        _ => Some(TargetArch::x86_64),
     }
 }
 
@@ -51,15 +38,26 @@ pub(super) fn layout_in(found: &ArgMatches<'_>) -> Layout {
     }
 }
 
-// How `check` writes what it says: with --json as JSON, which nothing else may be asked for then.
-pub(super) fn check_format_in(found: &ArgMatches<'_>) -> Result<CheckFormat, Misuse> {
-    let json = found.get_flag("json");
-    match found.get_str("format") {
-        Some("json") => Ok(CheckFormat::Json),
-        None if json => Ok(CheckFormat::Json),
-        Some(_) if json => Err(Misuse::Told(TWO_FORMATS)),
-        Some("gcc") => Ok(CheckFormat::Gcc),
-        _ => Ok(CheckFormat::Text),
+// The format that is asked for: `json` with --json, beside which none but that and the usual one may be given.
+pub(super) fn format_in<'a>(found: &ArgMatches<'a>) -> Result<&'a str, Misuse> {
+    match found.get_str("format").unwrap_or("") {
+        format if !found.get_flag("json") => Ok(format),
+        "" | "json" | "raw" | "path" => Ok("json"),
+        _ => Err(Misuse::Told("--json and another --format can't both be given")),
+    }
+}
+
+// The number that an option gives.
+pub(super) fn number_in(
+    alloc: Global,
+    found: &ArgMatches<'_>,
+    option: &str,
+) -> Result<usize, Misuse> {
+    match read_number(found.get_str(option).unwrap_or("")) {
+        Some(number) => Ok(number as usize),
+        None => Err(Misuse::Named(format!(in alloc;
+            "the value of --{option} isn't a number from 0 to 18446744073709551615, decimal or hexadecimal after 0x"
+        )?)),
     }
 }
 
@@ -70,7 +68,7 @@ pub(super) fn calls_in<'a>(
 ) -> Result<(Calls<'a>, Option<&'a str>), Misuse> {
     let arguments = arguments_in(found)?;
     let (log, records) = (found.get_str("log"), found.get_str("records"));
-    let (calls, path) = match (found.get_str("call"), records, log) {
+    let (calls, path) = match (found.get_str("CALL"), records, log) {
         (Some(_), Some(_), _) => return Err(Misuse::Told("CALL and --records can't both be given")),
         (Some(_), None, Some(_)) => return Err(Misuse::Told("CALL and --log can't both be given")),
         (Some(name), None, None) => return Ok((Calls::One(Call { name, arguments }), None)),
@@ -89,7 +87,7 @@ pub(super) fn calls_in<'a>(
 // The arguments of a call, with zeros behind them.
 pub(super) fn arguments_in(found: &ArgMatches<'_>) -> Result<[u64; 6], Misuse> {
     let mut arguments = [0; 6];
-    let texts = found.get_strs("arguments").unwrap_or(&[]);
+    let texts = found.get_strs("ARG").unwrap_or(&[]);
     if texts.len() > 6 {
         return Err(Misuse::Told("a call has at most 6 arguments"));
     }
@@ -107,9 +105,8 @@ fn argument_of(text: &str) -> Option<u64> {
     let Some(digits) = text.strip_prefix("-") else {
         return read_number(text);
     };
-    let number = read_number(digits)?;
-    if number == 0 || number > 1 << 63 {
-        return None;
+    match read_number(digits)? {
+        number @ 1..=0x8000_0000_0000_0000 => Some(u64::MAX - number + 1),
+        _ => None,
     }
-    Some(u64::MAX - number + 1)
 }

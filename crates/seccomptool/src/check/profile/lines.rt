@@ -5,6 +5,7 @@ use crate::check::profile::{CheckedProfile, ProfilePart, ProfileWarning, code_of
 use crate::explain::search::word_at;
 use crate::findings::lines::{CallName, Example, Shown};
 use crate::findings::parts::name_of;
+use crate::record::call_number;
 use seccomp_check::Step;
 use seccomp_oci::{Container, Profile, applies};
 use seccomp_profile_checks::Doubt;
@@ -36,7 +37,7 @@ pub(crate) fn profile_diagnostics(
     };
     let mut ordered = BTreeMap::new(alloc);
     for (nth, warning) in checked.warnings.iter().enumerate() {
-        let spot = spot_of(warning, nth);
+        let spot = spot_of(target, warning, nth);
         let entry = match spot.entry {
             Some(entry) => entry.saturating_add(1),
             None => 0,
@@ -66,8 +67,6 @@ struct Spot<'a> {
     condition: Option<usize>,
     // The number of the call, if it is one of several.
     number: Option<u32>,
-    // The name of the call, if it is one that the profile doesn't list.
-    unlisted: Option<&'a str>,
 }
 
 fn of_key<'a>(entry: Option<usize>, key: &'a str, rank: (usize, usize)) -> Spot<'a> {
@@ -77,7 +76,6 @@ fn of_key<'a>(entry: Option<usize>, key: &'a str, rank: (usize, usize)) -> Spot<
         key: Some(key),
         condition: None,
         number: None,
-        unlisted: None,
     }
 }
 
@@ -88,12 +86,11 @@ fn of_call<'a>(entry: usize, number: u32, rank: (usize, usize)) -> Spot<'a> {
         key: None,
         condition: None,
         number: Some(number),
-        unlisted: None,
     }
 }
 
 // What a warning is about, which is the one at this place among all.
-fn spot_of(warning: &ProfileWarning, nth: usize) -> Spot<'_> {
+fn spot_of(target: TargetArch, warning: &ProfileWarning, nth: usize) -> Spot<'_> {
     match warning {
         ProfileWarning::Doubtful(doubt) => match *doubt {
             Doubt::LargeDefaultErrno => of_key(None, "defaultAction", (0, 0)),
@@ -115,15 +112,15 @@ fn spot_of(warning: &ProfileWarning, nth: usize) -> Spot<'_> {
         },
         ProfileWarning::Flags => of_key(None, "flags", (2, 0)),
         ProfileWarning::UnknownKey(name) => of_key(None, name.as_str(), (3, nth)),
-        ProfileWarning::OfEntries(warning, part) => spot_of_part(warning.subject, *part),
+        ProfileWarning::OfEntries(warning, part) => spot_of_part(target, warning.subject, *part),
     }
 }
 
 // What a warning of a filter is about, in the profile.
-fn spot_of_part<'a>(subject: Subject, part: ProfilePart) -> Spot<'a> {
+fn spot_of_part<'a>(target: TargetArch, subject: Subject, part: ProfilePart) -> Spot<'a> {
     let origin = match (part, subject) {
         (ProfilePart::Default, Subject::MismatchCall(call)) => return Spot {
-            unlisted: Some(call.name()),
+            number: call_number(target, call.name()),
             ..of_key(None, "defaultAction", (1, call as usize))
         },
         (ProfilePart::Default, _) => return of_key(None, "defaultAction", (0, 0)),
@@ -170,33 +167,32 @@ fn diagnostic_of(
     spot: Spot<'_>,
 ) -> Result<Diagnostic, AllocError> {
     let code = code_of(warning);
-    let said = match warning {
-        ProfileWarning::Doubtful(doubt) => said_of_doubt(alloc, told, *doubt)?,
-        ProfileWarning::Flags => String::from_str(
-            alloc,
-            "crun sets them, and runc 1.1 starts no container with them; leave them out for runc",
-        )?,
-        ProfileWarning::UnknownKey(_) => String::from_str(
-            alloc,
-            "the key is passed over; leave it out, or correct it, also its letter case",
-        )?,
-        ProfileWarning::OfEntries(_, _) => String::from_str(alloc, said_of_entries(code))?,
-    };
-    let call = match (spot.number, spot.unlisted) {
-        (Some(number), _) => {
-            let target = told.target;
-            let name = CallName { target, number };
-            Some(format!(in alloc; "{name}")?)
+    let (said, place) = match warning {
+        ProfileWarning::Doubtful(doubt) => (said_of_doubt(alloc, told, *doubt)?, Place::Value),
+        ProfileWarning::Flags => {
+            let said =
+                "crun sets them, and runc 1.1 starts no container with them; leave them out for runc";
+            (String::from_str(alloc, said)?, Place::Value)
         }
-        (None, Some(name)) => Some(String::from_str(alloc, name)?),
-        (None, None) => None,
-    };
-    let place = match warning {
-        ProfileWarning::UnknownKey(_) => Place::Key,
-        _ => Place::Value,
+        ProfileWarning::UnknownKey(_) => {
+            let said = "the key is passed over; leave it out, or correct it, also its letter case";
+            (String::from_str(alloc, said)?, Place::Key)
+        }
+        ProfileWarning::OfEntries(_, _) => {
+            (
+                String::from_str(alloc, said_of_entries(code))?,
+                Place::Value,
+            )
+        }
     };
     let path = path_of(alloc, spot, code)?;
-    Ok(Diagnostic::warning(code, path, call, said, place))
+    let mut diagnostic = Diagnostic::new("warning", code.name(), path, said, place);
+    if let Some(number) = spot.number {
+        let target = told.target;
+        let name = CallName { target, number };
+        diagnostic.call = Some(format!(in alloc; "{name}")?);
+    }
+    Ok(diagnostic)
 }
 
 // What is doubtful, and what to write instead.

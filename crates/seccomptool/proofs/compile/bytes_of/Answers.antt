@@ -1,7 +1,7 @@
 use Rattle.std.proofs.Common.{[]}
 use Rattle.seccomptool.specs.Compile.{instruction_bytes}
 use Rattle.seccomp_command_line.proofs.Joined.{joined_more}
-use Rattle.seccomptool.proofs.compile.text.bytes_of.Goals as goal
+use Rattle.seccomptool.proofs.compile.bytes_of.Goals as goal
 
 pub loop-instruction-preserved : goal.loop-instruction-preserved
 loop-instruction-preserved c =

@@ -1,9 +1,68 @@
-// The file that a command writes.
+// The files that a command reads, and the one that it writes.
 
+use crate::error::FaultAt;
+use std::collections::VecDeque;
 use std::fs::File;
-use std::io::ErrorKind;
+use std::io::{ErrorKind, Read};
 use std::rt::Files;
 use std::{fs, io};
+
+/// What a command reads: a policy, records or traces.
+#[derive(Drop)]
+pub(crate) enum Source<F, I> {
+    /// No bytes.
+    Nothing,
+    /// The bytes of a file.
+    File(F),
+    /// The bytes of standard input.
+    Input(I),
+    /// These bytes.
+    Bytes(VecDeque<u8>),
+}
+
+impl<F: Read, I: Read> Read for Source<F, I> {
+    fn read(&mut self, buf: &mut [u8]) -> io::Result<usize> {
+        match self {
+            Source::Nothing => Ok(0),
+            Source::File(file) => file.read(buf),
+            Source::Input(input) => input.read(buf),
+            Source::Bytes(bytes) => bytes.read(buf),
+        }
+    }
+}
+
+// What stands at a path, or on standard input where it is `-`.
+pub(crate) fn open<R: Files + Input + AllocGlobal>(
+    rt: &R,
+    path: Option<&str>,
+) -> Result<Source<R::File, R::Reader>, FaultAt> {
+    match path {
+        None => Ok(Source::Nothing),
+        Some("-") => Ok(Source::Input(rt.reader())),
+        Some(path) => match fs::open(rt, path) {
+            Ok(file) => Ok(Source::File(file)),
+            Err(error) => Err(FaultAt::of_io(rt.alloc(), path, error)),
+        },
+    }
+}
+
+// Adds what stands at a path. A text that doesn't end with a line feed gets one, unless a byte of it is 0, as in records.
+pub(crate) fn push_whole(
+    rt: &(impl Files + Input + AllocGlobal),
+    bytes: &mut Vec<u8>,
+    path: &str,
+) -> Result<(), FaultAt> {
+    let mut text = Vec::new(rt.alloc());
+    if let Err(error) = open(rt, Some(path))?.read_to_end(&mut text) {
+        return Err(FaultAt::of_io(rt.alloc(), path, error));
+    }
+    bytes.extend_from_slice(&text)?;
+    let is_cut = matches!(text.last(), Some(byte) if *byte != b'\n');
+    if is_cut && !text.contains(&0) {
+        bytes.push(b'\n')?;
+    }
+    Ok(())
+}
 
 // Whether both paths lead to one file; the first one leads to standard input if it is `-`.
 pub(crate) fn is_same(rt: &(impl Files + AllocGlobal), first: &str, second: &str) -> bool {

@@ -1,14 +1,19 @@
 -- What is gathered of the entries of a JSON filter on the way to its policy: what the private steps promise each other.
-use Rattle.std.specs.Prelude.{◌≡◌, ℤ, pos, negsuc, get_or, Bool, true, false, ◌||◌, List, [], ◌∷◌, ◌++◌, Option, Some, None, Vec, unwrap_or}
+use Rattle.std.specs.Prelude.{◌≡◌, ℕ, ℤ, pos, negsuc, get_or, Bool, true, false, ◌||◌, List, [], ◌∷◌, ◌++◌, Option, Some, None, Vec, unwrap_or, option_map}
 use Rattle.std.specs.BTreeMap.{BTreeMap, IsOrdered}
 use Rattle.std.specs.List.{flat_map, list_any}
 use Rattle.std.specs.Ordering.{int_cmp}
 use Rattle.std.specs.declared.alloc.Global.{Global}
 use Rattle.seccompiler.specs.declared.backend.TargetArch.{TargetArch}
+use Rattle.seccompiler.specs.declared.json.types.JsonCondition.{JsonCondition}
 use Rattle.seccompiler.specs.declared.json.policy.Gathered.{Gathered}
 use Rattle.seccompiler.specs.JsonTypes.{JsonRule}
 use Rattle.seccompiler.specs.JsonPolicyOf.{chain_at, is_always, rules_for}
 use Rattle.seccompiler.specs.Policy.{Rule, Chain, chains_of}
+
+-- The entry of these parts.
+abbrev pub entry_of : List ℕ → Option (Vec JsonCondition Global) → JsonRule
+entry_of name conditions = record { syscall = name; conditions = option_map (λ all. all.items) conditions }
 
 -- What a number has, with these items at its end. It has nothing before its first item.
 abbrev pub added : {X : Type 0} → List X → Option (List X) → Option (List X)

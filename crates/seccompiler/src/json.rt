@@ -9,6 +9,7 @@
 mod compiler;
 mod error;
 mod filter_map;
+mod lent;
 mod members;
 mod parts;
 mod policy;

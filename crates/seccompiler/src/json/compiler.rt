@@ -9,7 +9,9 @@ ghost use Rattle.serde_json.specs.Data.{Data};
 ghost use Rattle.seccompiler.specs.Errors.{IsNoMemoryInFrontend};
 ghost use Rattle.seccompiler.specs.JsonAnswers.{IsLeastRefused, OfValue, ArePoliciesOf, TellsFrontendFault};
 ghost use Rattle.seccompiler.specs.JsonEntries.{PoliciesMatchEntries};
-ghost use Rattle.seccompiler.specs.JsonSteps.{AreFilters, IsNoFailedRead, IsPolicyRefusal, Tells};
+ghost use Rattle.seccompiler.specs.JsonFilters.{AreFound};
+ghost use Rattle.seccompiler.specs.JsonShape.{IsFilter};
+ghost use Rattle.seccompiler.specs.JsonSteps.{IsNoFailedRead, IsPolicyRefusal, Tells};
 ghost use Rattle.seccompiler.specs.Reads.{Reads};
 ghost use Rattle.seccompiler.specs.Policy.{Filter};
 ghost use Rattle.seccompiler.specs.Compiled.{numbers_of};
@@ -20,10 +22,11 @@ ghost use Rattle.seccompiler.specs.JsonWidened.{DecideAlikeOff, KeepsMatches, Ma
 use crate::backend::TargetArch;
 use crate::filter::SeccompFilter;
 use crate::json::error::JsonFrontendError;
-use crate::json::filter_map::filters_in;
-use crate::json::policy::{seccomp_filter, widened_numbers};
+use crate::json::filter_map::lent_filters;
+use crate::json::lent::LentFilter;
+use crate::json::policy::{lent_seccomp_filter, seccomp_filter, widened_numbers};
 use crate::json::texts::{text_of, value_of};
-use crate::json::types::{JsonFilter, JsonFilterMap};
+use crate::json::types::JsonFilter;
 use serde_json::Value;
 use std::alloc::Global;
 use std::collections::{BTreeMap, HashMap};
@@ -212,7 +215,6 @@ impl JsonCompiler {
 #[derive(Drop)]
 pub(crate) struct Source {
     value: Value,
-    filters: JsonFilterMap,
 }
 
 /// The policies of a text under their names, and what they were read from.
@@ -226,16 +228,12 @@ pub(crate) fn read_policies(
     ensures no_reader { IfErr result IsNoFailedRead }
     ensures memory { IfErr result IsNoMemoryInFrontend }
 {
-    let mut value = value_of(alloc, text)?;
-    let filters = match filters_in(alloc, &mut value) {
-        Ok(filters) => filters,
-        Err(error) => {
-            drop(value);
-            return Err(error);
-        }
+    let source = Source {
+        value: value_of(alloc, text)?,
     };
-    let source = Source { value, filters };
-    let policies = policies_under(alloc, arch, &source.filters)?;
+    let filters = lent_filters(alloc, &source.value)?;
+    let policies = policies_under(alloc, arch, &filters)?;
+    drop(filters);
     Ok((source, policies))
 }
 
@@ -243,14 +241,14 @@ pub(crate) fn read_policies(
 fn policies_under(
     alloc: Global,
     arch: TargetArch,
-    filters: &JsonFilterMap,
+    filters: &BTreeMap<String, LentFilter<'_>>,
 ) -> Result<BTreeMap<String, SeccompFilter>, JsonFrontendError>
-    ensures policies { IfOk result (λ m. (d : Data) → AreFilters d filters.now → ArePoliciesOf arch (tree.get_by_text m) d) }
-    ensures refused { IfErr result (λ e. (d : Data) → AreFilters d filters.now → Tells (λ fault. IsLeastRefused arch fault d) e) }
+    ensures policies { IfOk result (λ m. (d : Data) → AreFound IsFilter (tree.get_by_text filters.now) d → ArePoliciesOf arch (tree.get_by_text m) d) }
+    ensures refused { IfErr result (λ e. (d : Data) → AreFound IsFilter (tree.get_by_text filters.now) d → Tells (λ fault. IsLeastRefused arch fault d) e) }
 {
     let mut found = Vec::new(alloc);
-    for (name, filter) in filters.0.iter() {
-        let policy = seccomp_filter(alloc, arch, filter)?;
+    for (name, filter) in filters.iter() {
+        let policy = lent_seccomp_filter(alloc, arch, filter)?;
         found.push((name.clone()?, policy))?;
     }
     Ok(found.into_iter().collect(alloc)?)

@@ -1,23 +1,26 @@
 // The filters of a JSON value. docs/JSON.md has the format.
 
 ghost use Rattle.std.specs.Prelude.{◌≡◌, IfOk, IfErr};
+ghost use Rattle.std.specs.BTreeMap.{get_by_text};
 ghost use Rattle.serde_json.specs.Data.{Data};
 ghost use Rattle.serde_json.specs.View.{view};
+ghost use Rattle.seccompiler.specs.JsonFilters.{AreFound};
 ghost use Rattle.seccompiler.specs.JsonSteps.{AreFilters, IsShapeRefusal};
 ghost use Rattle.seccompiler.specs.JsonShape.{IsFilter};
 ghost use Rattle.seccompiler.specs.JsonTypes.{JsonFilter};
 
 use crate::json::error::JsonFrontendError;
+use crate::json::lent::{LentFilter, owned};
 use crate::json::parts::read_filter;
 use crate::json::types::JsonFilterMap;
 use serde_json::Value;
 use std::alloc::Global;
+use std::collections::BTreeMap;
 
 /// Reads a JSON value as filters under their names.
 ///
 /// The value has to be an object. Each of its names is a filter's name, whichever text it is, and
-/// each of its values a filter. On `Ok` the map has exactly these names, each with its filter. It reads a
-/// copy of the value; [`filters_of`](crate::json::filters_of) reads a text without one.
+/// each of its values a filter. On `Ok` the map has exactly these names, each with its filter.
 ///
 /// # Errors
 ///
@@ -40,25 +43,31 @@ pub fn read_filters(alloc: Global, value: &Value) -> Result<JsonFilterMap, JsonF
     // A value is at most one filter.
     ensures one_filter { (d : Data) (f g : JsonFilter) → IsFilter d f → IsFilter d g → f ≡ g }
 {
-    let mut copy = value.clone()?;
-    filters_in(alloc, &mut copy)
+    let mut found = Vec::new(alloc);
+    for (name, filter) in lent_filters(alloc, value)? {
+        found.push((name, owned(alloc, filter)?))?;
+    }
+    Ok(JsonFilterMap(found.into_iter().collect(alloc)?))
 }
 
-/// The same of a value that is no longer needed as it is: the names of calls are taken out of it.
-pub fn filters_in(alloc: Global, value: &mut Value) -> Result<JsonFilterMap, JsonFrontendError>
-    ensures filters { IfOk result (AreFilters (view value.old)) }
-    ensures refusal { IfErr result (IsShapeRefusal (view value.old)) }
+/// The same, with the names of calls that the value has.
+pub fn lent_filters(
+    alloc: Global,
+    value: &Value,
+) -> Result<BTreeMap<String, LentFilter<'_>>, JsonFrontendError>
+    ensures filters { IfOk result (λ filters. AreFound IsFilter (get_by_text filters) (view value.now)) }
+    ensures refusal { IfErr result (IsShapeRefusal (view value.now)) }
 {
     let Value::Object(members) = value else {
         return Err(JsonFrontendError::NotAnObject);
     };
     let mut found = Vec::new(alloc);
-    for (key, member) in members.iter_mut() {
+    for (key, member) in members.iter() {
         let name = key.clone()?;
         match read_filter(alloc, member)? {
             Some(filter) => found.push((name, filter))?,
             None => return Err(JsonFrontendError::Shape(name)),
         }
     }
-    Ok(JsonFilterMap(found.into_iter().collect(alloc)?))
+    Ok(found.into_iter().collect(alloc)?)
 }

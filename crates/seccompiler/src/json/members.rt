@@ -29,31 +29,31 @@ fn place_among(name: &str, names: (&str, &str, &str, &str, &str)) -> usize
     }
 }
 
-type Found<'v> = Option<&'v mut Value>;
+type Found<'v> = Option<&'v Value>;
 
 /// What an object has under five names, if each name that it has is one of the first `count`. It goes
 /// through the members once.
 #[inline(always)]
 pub fn members_under<'v>(
-    value: &'v mut Value,
+    value: &'v Value,
     names: (&str, &str, &str, &str, &str),
     count: usize,
 ) -> Option<(Found<'v>, Found<'v>, Found<'v>, Found<'v>, Found<'v>)>
     requires count { count ≤ 5 }
     requires apart { AreApart (names.0.now ∷ names.1.now ∷ names.2.now ∷ names.3.now ∷ names.4.now ∷ []) }
-    ensures names { IsSome result → HasOnly (view value.old) (take count (names.entry.0.now ∷ names.entry.1.now ∷ names.entry.2.now ∷ names.entry.3.now ∷ names.entry.4.now ∷ [])) }
-    ensures first { IfSome result (λ found. option_map (λ v. view v.now) found.0 ≡ get names.entry.0.now (view value.old)) }
-    ensures second { IfSome result (λ found. option_map (λ v. view v.now) found.1 ≡ get names.entry.1.now (view value.old)) }
-    ensures third { IfSome result (λ found. option_map (λ v. view v.now) found.2 ≡ get names.entry.2.now (view value.old)) }
-    ensures fourth { IfSome result (λ found. option_map (λ v. view v.now) found.3 ≡ get names.entry.3.now (view value.old)) }
-    ensures fifth { IfSome result (λ found. option_map (λ v. view v.now) found.4 ≡ get names.entry.4.now (view value.old)) }
-    ensures none { IfNone result (HasOnly (view value.old) (take count (names.entry.0.now ∷ names.entry.1.now ∷ names.entry.2.now ∷ names.entry.3.now ∷ names.entry.4.now ∷ [])) → ⊥) }
+    ensures names { IsSome result → HasOnly (view value.now) (take count (names.entry.0.now ∷ names.entry.1.now ∷ names.entry.2.now ∷ names.entry.3.now ∷ names.entry.4.now ∷ [])) }
+    ensures first { IfSome result (λ found. option_map (λ v. view v.now) found.0 ≡ get names.entry.0.now (view value.now)) }
+    ensures second { IfSome result (λ found. option_map (λ v. view v.now) found.1 ≡ get names.entry.1.now (view value.now)) }
+    ensures third { IfSome result (λ found. option_map (λ v. view v.now) found.2 ≡ get names.entry.2.now (view value.now)) }
+    ensures fourth { IfSome result (λ found. option_map (λ v. view v.now) found.3 ≡ get names.entry.3.now (view value.now)) }
+    ensures fifth { IfSome result (λ found. option_map (λ v. view v.now) found.4 ≡ get names.entry.4.now (view value.now)) }
+    ensures none { IfNone result (HasOnly (view value.now) (take count (names.entry.0.now ∷ names.entry.1.now ∷ names.entry.2.now ∷ names.entry.3.now ∷ names.entry.4.now ∷ [])) → ⊥) }
 {
     let Value::Object(members) = value else {
         return None;
     };
     let (mut first, mut second, mut third, mut fourth, mut fifth) = (None, None, None, None, None);
-    for (name, member) in members.iter_mut() {
+    for (name, member) in members.iter() {
         let place = place_among(name.as_str(), names);
         if place >= count {
             return None;
@@ -70,7 +70,7 @@ pub fn members_under<'v>(
 }
 
 /// Whether this is what an object may have under `comment`.
-pub fn is_comment(found: Option<&mut Value>) -> bool
+pub fn is_comment(found: Option<&Value>) -> bool
     ensures { IsTrue result ↔ IsComment (option_map (λ v. view v.now) found.entry) }
 {
     matches!(found, None | Some(Value::Null | Value::String(_)))

@@ -14,11 +14,11 @@ ghost use Rattle.seccompiler.specs.declared.json.types.JsonCondition.{JsonCondit
 ghost use Rattle.seccompiler.specs.JsonTypes.{JsonRule, JsonFilter};
 
 use crate::backend::{SeccompAction, SeccompCmpArgLen, SeccompCmpOp};
+use crate::json::lent::{LentFilter, LentRule};
 use crate::json::members::{is_comment, members_under, number_alone, whole_number};
-use crate::json::types::{JsonCondition, JsonFilter, JsonRule};
+use crate::json::types::JsonCondition;
 use serde_json::Value;
 use std::alloc::{AllocError, Global};
-use std::mem;
 
 // The greatest number of an action, and of an argument's index.
 const GREATEST_DATA: u64 = 0xffff_ffff;
@@ -111,40 +111,21 @@ pub fn read_operator(value: &Value) -> Option<SeccompCmpOp>
     }
 }
 
-fn read_condition(value: &mut Value) -> Option<JsonCondition>
-    ensures found { IfSome result (IsCondition (view value.old)) }
-    ensures none { IfNone result ((c : JsonCondition) → IsCondition (view value.old) c → ⊥) }
+fn read_condition(value: &Value) -> Option<JsonCondition>
+    ensures found { IfSome result (IsCondition (view value.now)) }
+    ensures none { IfNone result ((c : JsonCondition) → IsCondition (view value.now) c → ⊥) }
 {
     let names = ("index", "type", "op", "val", "comment");
-    let Some((index, arg_len, operator, value, comment)) = members_under(value, names, 5) else {
-        return None;
-    };
+    let (index, arg_len, operator, value, comment) = members_under(value, names, 5)?;
     if !is_comment(comment) {
         return None;
     }
-    let (Some(operator), Some(value)) = (operator, value) else {
-        return None;
-    };
-    let Some(index) = index else {
-        return None;
-    };
-    let Some(arg_len) = arg_len else {
-        return None;
-    };
-    let Some(arg_index) = whole_number(index, GREATEST_INDEX) else {
-        return None;
-    };
-    let Some(arg_len) = read_arg_len(arg_len) else {
-        return None;
-    };
-    let Some(operator) = read_operator(operator) else {
-        return None;
-    };
-    let Some(value) = whole_number(value, u64::MAX) else {
-        return None;
-    };
+    let arg_index = whole_number(index?, GREATEST_INDEX)? as u8;
+    let arg_len = read_arg_len(arg_len?)?;
+    let operator = read_operator(operator?)?;
+    let value = whole_number(value?, u64::MAX)?;
     Some(JsonCondition {
-        arg_index: arg_index as u8,
+        arg_index,
         arg_len,
         operator,
         value,
@@ -153,15 +134,15 @@ fn read_condition(value: &mut Value) -> Option<JsonCondition>
 
 fn read_conditions(
     alloc: Global,
-    items: &mut Vec<Value>,
+    items: &Vec<Value>,
 ) -> Result<Option<Vec<JsonCondition>>, AllocError>
     ensures found { IfOk result
-        (λ o. IfSome o (λ all. OneByOne IsCondition (items_view items.old.items) all.items)) }
+        (λ o. IfSome o (λ all. OneByOne IsCondition (items_view items.now.items) all.items)) }
     ensures none { IfOk result (λ o. IfNone o
-        ((all : List JsonCondition) → OneByOne IsCondition (items_view items.old.items) all → ⊥)) }
+        ((all : List JsonCondition) → OneByOne IsCondition (items_view items.now.items) all → ⊥)) }
 {
     let mut found = Vec::with_capacity(alloc, items.len())?;
-    for item in items.iter_mut() {
+    for item in items {
         match read_condition(item) {
             Some(condition) => found.push(condition)?,
             None => return Ok(None),
@@ -173,30 +154,26 @@ fn read_conditions(
 // What stands under `args`: no conditions where it is absent or null.
 fn read_args(
     alloc: Global,
-    args: Option<&mut Value>,
+    args: Option<&Value>,
 ) -> Result<Option<Option<Vec<JsonCondition>>>, AllocError>
     ensures found { IfOk result (λ o. IfSome o
         (λ c. IsArgs (option_map (λ v. view v.now) args.entry) (option_map (λ v. v.items) c))) }
     ensures none { IfOk result (λ o. IfNone o
         ((c : Option (List JsonCondition)) → IsArgs (option_map (λ v. view v.now) args.entry) c → ⊥)) }
 {
-    let Some(args) = args else {
-        return Ok(Some(None));
-    };
     match args {
-        Value::Null => return Ok(Some(None)),
-        Value::Array(items) => match read_conditions(alloc, items)? {
-            Some(conditions) => return Ok(Some(Some(conditions))),
-            None => return Ok(None),
+        None | Some(Value::Null) => Ok(Some(None)),
+        Some(Value::Array(items)) => match read_conditions(alloc, items)? {
+            Some(conditions) => Ok(Some(Some(conditions))),
+            None => Ok(None),
         },
-        _ => return Ok(None),
+        Some(_) => Ok(None),
     }
 }
 
-// The entry that the value is. The name of its call is taken out of it.
-fn read_entry(alloc: Global, value: &mut Value) -> Result<Option<JsonRule>, AllocError>
-    ensures found { IfOk result (λ o. IfSome o (IsEntry (view value.old))) }
-    ensures none { IfOk result (λ o. IfNone o ((r : JsonRule) → IsEntry (view value.old) r → ⊥)) }
+fn read_entry(alloc: Global, value: &Value) -> Result<Option<LentRule<'_>>, AllocError>
+    ensures found { IfOk result (λ o. IfSome o (IsEntry (view value.now))) }
+    ensures none { IfOk result (λ o. IfNone o ((r : JsonRule) → IsEntry (view value.now) r → ⊥)) }
 {
     // An entry has the first three.
     let names = ("syscall", "args", "comment", "op", "val");
@@ -206,30 +183,27 @@ fn read_entry(alloc: Global, value: &mut Value) -> Result<Option<JsonRule>, Allo
     if !is_comment(comment) {
         return Ok(None);
     }
-    let Some(syscall) = syscall else {
-        return Ok(None);
-    };
-    let Value::String(syscall) = syscall else {
+    let Some(Value::String(syscall)) = syscall else {
         return Ok(None);
     };
     let Some(conditions) = read_args(alloc, args)? else {
         return Ok(None);
     };
-    Ok(Some(JsonRule {
-        syscall: mem::replace(syscall, String::new(alloc)),
+    Ok(Some(LentRule {
+        syscall: syscall.as_str(),
         conditions,
     }))
 }
 
-fn read_rules(alloc: Global, value: &mut Value) -> Result<Option<Vec<JsonRule>>, AllocError>
-    ensures found { IfOk result (λ o. IfSome o (λ all. IsListOf IsEntry (view value.old) all.items)) }
-    ensures none { IfOk result (λ o. IfNone o ((all : List JsonRule) → IsListOf IsEntry (view value.old) all → ⊥)) }
+fn read_rules(alloc: Global, value: &Value) -> Result<Option<Vec<LentRule<'_>>>, AllocError>
+    ensures found { IfOk result (λ o. IfSome o (λ all. IsListOf IsEntry (view value.now) all.items)) }
+    ensures none { IfOk result (λ o. IfNone o ((all : List JsonRule) → IsListOf IsEntry (view value.now) all → ⊥)) }
 {
     let Value::Array(items) = value else {
         return Ok(None);
     };
     let mut found = Vec::with_capacity(alloc, items.len())?;
-    for item in items.iter_mut() {
+    for item in items {
         match read_entry(alloc, item)? {
             Some(rule) => found.push(rule)?,
             None => return Ok(None),
@@ -239,30 +213,23 @@ fn read_rules(alloc: Global, value: &mut Value) -> Result<Option<Vec<JsonRule>>,
 }
 
 // The action under the one of two names that is there. Both together are a fault.
-fn read_one_action(first: Option<&mut Value>, second: Option<&mut Value>) -> Option<SeccompAction>
+fn read_one_action(first: Option<&Value>, second: Option<&Value>) -> Option<SeccompAction>
     ensures found { IfSome result (IsOneAction (option_map (λ v. view v.now) first.entry)
         (option_map (λ v. view v.now) second.entry)) }
     ensures none { IfNone result ((a : SeccompAction) →
         IsOneAction (option_map (λ v. view v.now) first.entry)
         (option_map (λ v. view v.now) second.entry) a → ⊥) }
 {
-    let Some(first) = first else {
-        let Some(second) = second else {
-            return None;
-        };
-        return read_action(second);
-    };
-    if second.is_some() {
-        return None;
+    match (first, second) {
+        (Some(value), None) | (None, Some(value)) => read_action(value),
+        _ => None,
     }
-    read_action(first)
 }
 
-/// The filter that the value is, or `None` if it is none; an error only if memory runs out. The entries are
-/// taken out of it.
-pub fn read_filter(alloc: Global, value: &mut Value) -> Result<Option<JsonFilter>, AllocError>
-    ensures found { IfOk result (λ o. IfSome o (IsFilter (view value.old))) }
-    ensures none { IfOk result (λ o. IfNone o ((f : JsonFilter) → IsFilter (view value.old) f → ⊥)) }
+/// The filter that the value is, or `None` if it is none; an error only if memory runs out.
+pub fn read_filter(alloc: Global, value: &Value) -> Result<Option<LentFilter<'_>>, AllocError>
+    ensures found { IfOk result (λ o. IfSome o (IsFilter (view value.now))) }
+    ensures none { IfOk result (λ o. IfNone o ((f : JsonFilter) → IsFilter (view value.now) f → ⊥)) }
 {
     let names = (
         "mismatch_action",
@@ -286,7 +253,7 @@ pub fn read_filter(alloc: Global, value: &mut Value) -> Result<Option<JsonFilter
     let Some(rules) = read_rules(alloc, rules)? else {
         return Ok(None);
     };
-    Ok(Some(JsonFilter {
+    Ok(Some(LentFilter {
         mismatch_action,
         match_action,
         rules,

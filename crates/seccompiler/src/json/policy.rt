@@ -7,7 +7,7 @@ ghost use Rattle.std.specs.Option.{is_some};
 ghost use Rattle.std.specs.Ordering.{int_cmp, int_eq};
 ghost use Rattle.seccompiler.specs.Policy.{chains_of};
 ghost use Rattle.seccompiler.specs.JsonPolicyOf.{chain_at, condition_of, AreFineArgs, IsFaultIn, IsFaultOf, IsFineEntry, IsFirstOf, IsPolicyOf};
-ghost use Rattle.seccompiler.specs.JsonGathered.{added, AreGathered, HasAdded, HasChains, is_always_at, rules_at};
+ghost use Rattle.seccompiler.specs.JsonGathered.{added, entry_of, AreGathered, HasAdded, HasChains, is_always_at, rules_at};
 ghost use Rattle.seccompiler.specs.JsonWidened.{IsWidened};
 ghost use Rattle.seccompiler.specs.JsonSteps.{IsPolicyRefusal, Tells};
 
@@ -15,6 +15,7 @@ use crate::backend::{BackendError, TargetArch};
 use crate::condition::SeccompCondition;
 use crate::filter::SeccompFilter;
 use crate::json::error::JsonFrontendError;
+use crate::json::lent::{LentFilter, LentRule};
 use crate::json::types::{JsonCondition, JsonFilter, JsonRule};
 use crate::rule::SeccompRule;
 use crate::syscall_table::SyscallTable;
@@ -91,24 +92,24 @@ fn add_rule(
 }
 
 // Adds what the entry stands for: its rule at the end of those of its call's number, or that number.
-#[tactic(auto, using(crate::proofs::json::policy::EntryFaults::wrong_entry, crate::proofs::json::policy::EntryFaults::unknown_entry))]
+#[tactic(auto, using(crate::proofs::json::policy::EntryFaults::unknown_entry))]
 fn add_entry(
     alloc: Global,
     arch: TargetArch,
     gathered: &mut Gathered,
-    entry: &JsonRule,
+    name: &str,
+    conditions: &Option<Vec<JsonCondition>>,
 ) -> Result<(), JsonFrontendError>
-    ensures fine { OnOk result (IsFineEntry arch entry.now) }
-    ensures added { OnOk result (HasAdded arch entry.now gathered.old gathered.new) }
-    ensures refused { IfErr result (Tells (IsFaultOf arch entry.now)) }
+    ensures fine { OnOk result (IsFineEntry arch (entry_of name.now conditions.now)) }
+    ensures added { OnOk result (HasAdded arch (entry_of name.now conditions.now) gathered.old gathered.new) }
+    ensures refused { IfErr result (Tells (IsFaultOf arch (entry_of name.now conditions.now))) }
 {
-    let name = entry.syscall.as_str();
     let table = SyscallTable::new(arch);
     let Some(number) = table.number_near(&mut gathered.near, name) else {
         let name = String::from_str(alloc, name)?;
         return Err(JsonFrontendError::SyscallName(name, arch));
     };
-    match &entry.conditions {
+    match conditions {
         Some(conditions) => {
             let rule = rule_of(alloc, conditions.as_slice())?;
             add_rule(alloc, &mut gathered.rules, number, rule)?;
@@ -118,6 +119,17 @@ fn add_entry(
             gathered.always[number as usize] = true;
             Ok(())
         }
+    }
+}
+
+// What no entries stand for.
+fn nothing(alloc: Global) -> Gathered
+    ensures { (arch : TargetArch) → AreGathered arch [] result }
+{
+    Gathered {
+        rules: BTreeMap::new(alloc),
+        always: [false; NUMBERS],
+        near: 0,
     }
 }
 
@@ -131,13 +143,27 @@ fn gather(
     ensures gathered { IfOk result (AreGathered arch entries.now) }
     ensures refused { IfErr result (Tells (IsFirstOf arch entries.now)) }
 {
-    let mut gathered = Gathered {
-        rules: BTreeMap::new(alloc),
-        always: [false; NUMBERS],
-        near: 0,
-    };
+    let mut gathered = nothing(alloc);
     for entry in entries {
-        add_entry(alloc, arch, &mut gathered, entry)?;
+        let name = entry.syscall.as_str();
+        add_entry(alloc, arch, &mut gathered, name, &entry.conditions)?;
+    }
+    Ok(gathered)
+}
+
+// The same of entries whose names are lent.
+fn gather_lent(
+    alloc: Global,
+    arch: TargetArch,
+    entries: &[LentRule<'_>],
+) -> Result<Gathered, JsonFrontendError>
+    ensures fine { OnOk result (All (IsFineEntry arch) entries.now) }
+    ensures gathered { IfOk result (AreGathered arch entries.now) }
+    ensures refused { IfErr result (Tells (IsFirstOf arch entries.now)) }
+{
+    let mut gathered = nothing(alloc);
+    for entry in entries {
+        add_entry(alloc, arch, &mut gathered, entry.syscall, &entry.conditions)?;
     }
     Ok(gathered)
 }
@@ -197,6 +223,20 @@ pub fn seccomp_filter(
     ensures refused { IfErr result (IsPolicyRefusal arch filter.now) }
 {
     let gathered = gather(alloc, arch, filter.rules.as_slice())?;
+    let chains = chains_of_numbers(alloc, gathered)?;
+    Ok(SeccompFilter::new(chains, filter.mismatch_action, filter.match_action, arch)?)
+}
+
+/// The same of a filter whose names are lent.
+pub fn lent_seccomp_filter(
+    alloc: Global,
+    arch: TargetArch,
+    filter: &LentFilter<'_>,
+) -> Result<SeccompFilter, JsonFrontendError>
+    ensures policy { IfOk result (IsPolicyOf arch filter.now) }
+    ensures refused { IfErr result (IsPolicyRefusal arch filter.now) }
+{
+    let gathered = gather_lent(alloc, arch, filter.rules.as_slice())?;
     let chains = chains_of_numbers(alloc, gathered)?;
     Ok(SeccompFilter::new(chains, filter.mismatch_action, filter.match_action, arch)?)
 }

@@ -11,7 +11,7 @@ ghost use Rattle.seccompiler.specs.JsonTypes.{JsonFilter};
 ghost use Rattle.seccompiler.specs.declared.backend.TargetArch.{TargetArch};
 
 use crate::json::error::JsonFrontendError;
-use crate::json::filter_map::filters_in;
+use crate::json::filter_map::read_filters;
 use crate::json::repeats::repeats_key;
 use crate::json::types::JsonFilterMap;
 use serde_json::Value;
@@ -79,8 +79,8 @@ pub fn filters_of(alloc: Global, text: &[u8]) -> Result<JsonFilterMap, JsonFront
     // A value is at most one filter.
     ensures one_filter { (d : Data) (f g : JsonFilter) → IsFilter d f → IsFilter d g → f ≡ g }
 {
-    let mut value = value_of(alloc, text)?;
-    let filters = filters_in(alloc, &mut value);
+    let value = value_of(alloc, text)?;
+    let filters = read_filters(alloc, &value);
     drop(value);
     filters
 }

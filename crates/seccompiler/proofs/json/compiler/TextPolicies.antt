@@ -1,11 +1,13 @@
 -- For `policies_under` and `policies_of`: the policies of a value's filters, and the refusal of the least name's.
 use Rattle.std.proofs.Common.{◌≡◌, ℕ, ◌++◌, List, ◌∷◌, Option, Some, None, String, Global, IfSome, All, string_bytes, refl}
+use Rattle.std.specs.BTreeMap.{BTreeMap, get_by_text}
 use Rattle.serde_json.specs.Data.{Data}
 use Rattle.seccompiler.proofs.ByName.{ByName, AreInOrder, AreMade, under}
 use Rattle.seccompiler.specs.Errors.{IsNoMemoryInFrontend}
 use Rattle.seccompiler.specs.JsonAnswers.{IsValueOf, HasPolicy, HasSomePolicy, ArePoliciesOf, IsLeastRefused, TellsFrontendFault}
+use Rattle.seccompiler.specs.JsonFilters.{AreFound}
 use Rattle.seccompiler.specs.JsonPolicyOf.{Fault, IsPolicyOf, IsFirstFault}
-use Rattle.seccompiler.specs.JsonSteps.{AreFilters, IsNoFailedRead, Tells}
+use Rattle.seccompiler.specs.JsonSteps.{IsNoFailedRead, Tells}
 use Rattle.seccompiler.specs.JsonShape.{IsFilter}
 use Rattle.seccompiler.specs.Policy.{Filter}
 use Rattle.seccompiler.specs.Compiled.{numbers_of}
@@ -14,26 +16,25 @@ use Rattle.seccompiler.specs.declared.backend.TargetArch.{TargetArch}
 use Rattle.seccompiler.specs.declared.json.error.JsonFrontendError.{JsonFrontendError}
 use Rattle.seccompiler.specs.declared.json.error.JsonFrontendError.TheVariants as e
 use Rattle.seccompiler.specs.JsonTypes.{JsonFilter}
-use Rattle.seccompiler.specs.declared.json.types.JsonFilterMap.{JsonFilterMap}
 use Rattle.seccompiler.proofs.TextFilters.{all_made, least_wrong, value_under}
 use Rattle.seccompiler.proofs.json.policy.Policies.{numbers_in_range}
 
 module _ (arch : TargetArch) (d : Data) where
-  module _ (m : JsonFilterMap) (are : AreFilters d m) where
+  module _ (m : BTreeMap (String Global) JsonFilter) (are : AreFound IsFilter (get_by_text m) d) where
     -- The policies of the value's filters are the value's.
-    pub are_policies : (made : ByName Filter) → AreMade (IsPolicyOf arch) m.0.entries made → (find : List ℕ → Option Filter)
+    pub are_policies : (made : ByName Filter) → AreMade (IsPolicyOf arch) m.entries made → (find : List ℕ → Option Filter)
         → ((name : List ℕ) → find name ≡ under made name) → ArePoliciesOf arch find d
-    are_policies made h find same = all_made IsFilter (IsPolicyOf arch) m.0 d are made h find same
+    are_policies made h find same = all_made IsFilter (IsPolicyOf arch) m d are made h find same
         (HasPolicy arch) (λ value f policy is own. (f, is, own))
 
     -- Behind filters that have policies, the first fault of one that has none is that of the least name.
     pub least_refused : (front : ByName JsonFilter) (entry : String Global × JsonFilter) (back : ByName JsonFilter)
-        → m.0.entries ≡ front ++ entry ∷ back → AreInOrder m.0.entries → (made : ByName Filter)
+        → m.entries ≡ front ++ entry ∷ back → AreInOrder m.entries → (made : ByName Filter)
         → AreMade (IsPolicyOf arch) front made → (fault : Fault) → IsFirstFault arch entry.1 fault → IsLeastRefused arch fault d
     least_refused front entry back whole order made h fault first = (
       record { is_object = are.is_object; each = λ name value there. let known = are.each name value there in (known.found, known.own) },
       string_bytes entry.0,
-      least_wrong IsFilter (IsPolicyOf arch) m.0 d are front entry back whole order made h (λ f. IsFirstFault arch f fault) first
+      least_wrong IsFilter (IsPolicyOf arch) m d are front entry back whole order made h (λ f. IsFirstFault arch f fault) first
           (HasSomePolicy arch) (λ value f policy is own. (policy, (f, is, own))),
     )
 

@@ -7,8 +7,7 @@ use Rattle.serde_json.specs.Find.{get_member}
 use Rattle.serde_json.specs.View.{view, members_view}
 use Rattle.serde_json.specs.declared.value.Value.{Value}
 use Rattle.serde_json.proofs.Views.{Entry, view-lookup}
-use Rattle.seccompiler.specs.JsonFilters.{IsLeastFault}
-use Rattle.seccompiler.specs.JsonSteps.{AreFilters}
+use Rattle.seccompiler.specs.JsonFilters.{AreFound, IsLeastFault}
 use Rattle.seccompiler.specs.JsonShape.{IsFilter}
 use Rattle.seccompiler.specs.JsonTypes.{JsonFilter}
 use Rattle.seccompiler.proofs.ByName.{ByName, AreInOrder, AreMade, under, by_text, found_there, found_in_front, made_under}
@@ -31,7 +30,7 @@ not_viewed (Some v) h = cc
 
 -- The map of what the members are has the object's filters.
 pub are_filters : (entries : List Entry) (made : ByName JsonFilter) (m : BTreeMap (String Global) JsonFilter) → AreMade IsRead entries made
-    → ((name : List ℕ) → get_by_text m name ≡ under made name) → AreFilters (object (members_view entries)) (record { 0 = m })
+    → ((name : List ℕ) → get_by_text m name ≡ under made name) → AreFound IsFilter (get_by_text m) (object (members_view entries))
 are_filters entries made m are same = record {
   is_object = (members_view entries, refl);
   each = λ name d there.

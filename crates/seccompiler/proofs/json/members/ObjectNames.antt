@@ -2,7 +2,7 @@
 use Rattle.std.proofs.Common.{◌≡◌, ℕ, zero, suc, ◌≤◌, ◌<◌, List, [], ◌∷◌, length, take, true, false, nat_lt, Option, Some, None, option_map}
 use Rattle.std.proofs.Common.{refl, sym, ap, ◌∙◌, subst, arith, bytes_eq, ◌↔◌, ◌⊎◌, inl, inr, Contains, string_bytes, string_cmp}
 use Rattle.std.specs.Bool.{⊤}
-use Rattle.std.specs.Borrow.{MutBor}
+use Rattle.std.specs.Borrow.{Bor}
 use Rattle.std.specs.List.{list_any, position_or_len, AllZip}
 use Rattle.std.specs.Option.{option_or}
 use Rattle.std.specs.List.Sorted.{IsStrictlySortedBy}
@@ -23,7 +23,7 @@ use Rattle.serde_json.proofs.Views.{Entry, member_here, member_later}
 use Rattle.seccompiler.specs.JsonShape.{HasOnly, AreApart}
 
 -- What is found, as the data that it is.
-abbrev pub data_of : Option (MutBor Value) → Option Data
+abbrev pub data_of : Option (Bor Value) → Option Data
 data_of found = option_map (λ v. view v.now) found
 
 -- What an object has under each of some names is what was found of it, or else what is under it among the members that
@@ -175,7 +175,7 @@ at_end d left names count all none so_far =
     )
 
 -- What is found, or else a member.
-pub found_or : (o : Option (MutBor Value)) (v : MutBor Value) → data_of (option_or o (Some v)) ≡ option_or (data_of o) (Some (view v.now))
+pub found_or : (o : Option (Bor Value)) (v : Bor Value) → data_of (option_or o (Some v)) ≡ option_or (data_of o) (Some (view v.now))
 found_or None v = refl
 found_or (Some x) v = refl
 

@@ -1,7 +1,6 @@
 -- For `read_conditions` and `read_rules`: how far a loop has read the values of an array, one by one.
-use Rattle.std.proofs.Common.{◌≡◌, ℕ, ◌+◌, ◌<◌, ◌≤◌, arith, List, [], ◌∷◌, ◌++◌, length, get_or, drop, sym, subst, append_assoc}
-use Rattle.std.specs.Prelude.{slice_set}
-use Rattle.std.proofs.lemmas.List.{append-nil, drop_all, drop_more, drop-set-lt}
+use Rattle.std.proofs.Common.{◌≡◌, ℕ, ◌+◌, ◌<◌, ◌≤◌, List, [], ◌∷◌, ◌++◌, length, get_or, drop, sym, subst, append_assoc}
+use Rattle.std.proofs.lemmas.List.{append-nil, drop_all, drop_more}
 use Rattle.serde_json.specs.Data.{Data, Items, item}
 use Rattle.serde_json.specs.View.{view, items_view}
 use Rattle.serde_json.specs.declared.value.Value.{Value}
@@ -35,16 +34,17 @@ module _ {X : Type 0} (P : Data → X → Type 0) where
     fails none xs h = let parts = rest xs h in none parts.0 parts.2
 
   -- The values are read by an index, which has come so far.
-  module _ (all now : List Value) (i : ℕ) (done : List X) (so_far : IsRead P all (drop i now) done) (long : length now ≡ length all) where
-    pub next_read : (v after : Value) (x : X) → i < length all → P (view (get_or now i v)) x
-        → IsRead P all (drop (i + 1) (slice_set now i after)) (done ++ x ∷ [])
-    next_read v after x within read = rw (drop-set-lt (i + 1) now i after (omega arith))
-        (goes_on all _ _ done _ so_far (drop_more now i v (omega (arith, long, within))) x read)
+  module _ (all : List Value) (i : ℕ) (done : List X) (so_far : IsRead P all (drop i all) done) where
+    module _ (v : Value) (within : i < length all) (is : v ≡ get_or all i v) where
+      left : drop i all ≡ v ∷ drop (i + 1) all
+      left = subst (λ w. drop i all ≡ w ∷ drop (i + 1) all) (sym is) (drop_more all i v within)
 
-    pub next_fails : (v : Value) → i < length all → ((x : X) → P (view (get_or now i v)) x → ⊥) → (xs : List X)
-        → OneByOne P (items_view all) xs → ⊥
-    next_fails v within = fails all _ _ done _ so_far (drop_more now i v (omega (arith, long, within)))
+      pub next_read : (x : X) → P (view v) x → IsRead P all (drop (i + 1) all) (done ++ x ∷ [])
+      next_read = goes_on all _ _ done v so_far left
+
+      pub next_fails : ((x : X) → P (view v) x → ⊥) → (xs : List X) → OneByOne P (items_view all) xs → ⊥
+      next_fails = fails all _ _ done v so_far left
 
     pub all_read : length all ≤ i → OneByOne P (items_view all) done
     all_read past = subst (OneByOne P (items_view all)) (append-nil done)
-        (so_far.joined [] (rw (drop_all i now (omega (arith, long, past))) tt))
+        (so_far.joined [] (rw (drop_all i all past) tt))

@@ -46,11 +46,8 @@ done_more arch entries entry old new so_far fine more = record {
 }
 
 -- Nothing is gathered of no entries.
-pub none_done : (arch : TargetArch) (made : Gathered) → made.rules.entries ≡ [] → made.always ≡ replicate 463 false → AreDone arch [] made
-none_done arch made no_rules nothing = record {
-  fine = All-nil (IsFineEntry arch);
-  gathered = record {
-    rules = λ number. ap (λ (entries : Pairs). chain_at (chains_of entries) number) no_rules;
-    always = λ number. ap (λ told. told_of told number) nothing ∙ told_none 463 number;
-  };
+pub none_gathered : (arch : TargetArch) (made : Gathered) → made.rules.entries ≡ [] → made.always ≡ replicate 463 false → AreGathered arch [] made
+none_gathered arch made no_rules nothing = record {
+  rules = λ number. ap (λ (entries : Pairs). chain_at (chains_of entries) number) no_rules;
+  always = λ number. ap (λ told. told_of told number) nothing ∙ told_none 463 number;
 }

@@ -1,11 +1,10 @@
-use Rattle.std.proofs.Common.{◌≡◌, String, Global, string_cmp, refl, rules, ◌∙◌, sym, ap, ◌∷◌, ◌++◌}
+use Rattle.std.proofs.Common.{◌≡◌, String, Global, string_cmp, refl, rules, ◌∙◌, sym, ◌∷◌, ◌++◌}
 use Rattle.std.specs.BTreeMap.{IsFromIterResult}
-use Rattle.std.specs.BTreeMap.IterMut.{iter_mut_rest}
 use Rattle.serde_json.proofs.Views.{Entry, view-Object}
 use Rattle.seccompiler.specs.JsonTypes.{JsonFilter}
 use Rattle.seccompiler.proofs.ByName.{at_next, making_none, making_more, making_done}
 use Rattle.seccompiler.proofs.json.filter_map.FilterMaps.{IsRead, are_filters, least_fault}
-use Rattle.seccompiler.proofs.json.filter_map.filters_in.Goals as goal
+use Rattle.seccompiler.proofs.json.filter_map.lent_filters.Goals as goal
 
 pub loop-key-init : goal.loop-key-init
 loop-key-init c = making_none IsRead _ _ _ refl c.new-found.ensures.items
@@ -21,25 +20,19 @@ pub returns-in-None-2-clause-refusal : goal.returns-in-None-2-clause-refusal
 returns-in-None-2-clause-refusal c =
     let so_far = c.loop-key.invariant in
     let e : Entry = (c.in-Some.key.now, c.in-Some.member.now) in
-    let rest = iter_mut_rest c.next.new.self in
-    let lent = c.iter_mut-key-items.ensures in
-    let given : iter_mut_rest c.into_iter-key-iterator.result ≡ c.in-Object.members.entries =
-    ap iter_mut_rest c.into_iter-key-iterator.ensures.into_iter_gives ∙ lent.rest
-    ∙ ap (λ m. m.entries) c.in-Object.members-is in
+    let rest = c.next.new.self in
+    let given = c.into_iter-key-iterator.ensures.into_iter_gives ∙ c.iter-key-items.ensures.rest in
     let all : c.in-Object.members.entries ≡ so_far.done ++ e ∷ rest = sym given
     ∙ at_next IsRead so_far e rest c.in-Some.ensures.steps in
     rw (c.in-Object.is, view-Object c.in-Object.members, all, c.in_ok-name.ensures.cases) (least_fault so_far.done e rest
-    c.loop-key.found.items (rw (c.in-Object.members-is, all) at lent.ordered)
+    c.loop-key.found.items (rw all at c.iter-key-items.ensures.ordered)
     so_far.made (rw c.in-None-2.is at c.in_ok-filter.ensures.none))
 
 pub returns-clause-filters : goal.returns-clause-filters
 returns-clause-filters c =
     let so_far = c.loop-key.invariant in
     let m = c.in_ok-collect.field-0 in
-    let lent = c.iter_mut-key-items.ensures in
-    let given : iter_mut_rest c.into_iter-key-iterator.result ≡ c.in-Object.members.entries =
-    ap iter_mut_rest c.into_iter-key-iterator.ensures.into_iter_gives ∙ lent.rest
-    ∙ ap (λ m. m.entries) c.in-Object.members-is in
+    let given = c.into_iter-key-iterator.ensures.into_iter_gives ∙ c.iter-key-items.ensures.rest in
     let collected : IsFromIterResult string_cmp c.loop-key.found.items m = search rules in
-    let all = making_done IsRead so_far m c.in-None.ensures.steps.0 (rw given (rw c.in-Object.members-is at lent.ordered)) collected in
+    let all = making_done IsRead so_far m c.in-None.ensures.steps.0 (rw given c.iter-key-items.ensures.ordered) collected in
     rw (c.in-Object.is, view-Object c.in-Object.members, ← given) (are_filters _ c.loop-key.found.items m all.0 all.1)

@@ -1,0 +1,65 @@
+// JSON filters as a value has them: the names of their calls are the value's own. In a contract they are those
+// that they stand for.
+
+ghost use Rattle.std.specs.Prelude.{◌≡◌, IfOk};
+
+use crate::backend::SeccompAction;
+use crate::json::types::{JsonCondition, JsonFilter, JsonRule};
+use std::alloc::{AllocError, Global};
+use std::marker::Model;
+
+/// An entry, as [`JsonRule`].
+#[derive(Drop)]
+pub struct LentRule<'v> {
+    pub syscall: &'v str,
+    pub conditions: Option<Vec<JsonCondition>>,
+}
+
+impl<'v> Model for LentRule<'v> {
+    ghost use Rattle.std.specs.Prelude.{option_map};
+    ghost use Rattle.seccompiler.specs.JsonTypes.{JsonRule};
+
+    ghost Value = { JsonRule };
+
+    ghost view = { λ entry. record { syscall = entry.syscall.now; conditions = option_map (λ all. all.items) entry.conditions } };
+}
+
+/// A filter, as [`JsonFilter`].
+#[derive(Drop)]
+pub struct LentFilter<'v> {
+    pub mismatch_action: SeccompAction,
+    pub match_action: SeccompAction,
+    pub rules: Vec<LentRule<'v>>,
+}
+
+impl<'v> Model for LentFilter<'v> {
+    ghost use Rattle.seccompiler.specs.JsonTypes.{JsonFilter};
+
+    ghost Value = { JsonFilter };
+
+    ghost view = { λ f. record { mismatch_action = f.mismatch_action; match_action = f.match_action; rules = f.rules.items } };
+}
+
+/// The same filter, with names of its own.
+pub fn owned(alloc: Global, filter: LentFilter<'_>) -> Result<JsonFilter, AllocError>
+    ensures { IfOk result (λ f. f ≡ filter.entry) }
+{
+    let LentFilter {
+        mismatch_action,
+        match_action,
+        rules: lent,
+    } = filter;
+    let mut rules = Vec::with_capacity(alloc, lent.len())?;
+    for rule in lent {
+        let syscall = String::from_str(alloc, rule.syscall)?;
+        rules.push(JsonRule {
+            syscall,
+            conditions: rule.conditions,
+        })?;
+    }
+    Ok(JsonFilter {
+        mismatch_action,
+        match_action,
+        rules,
+    })
+}

@@ -60,7 +60,7 @@ pub fn compile_from_json<R: Read + Drop>(
 {
     let text = text_of(alloc, reader)?;
     let (_source, policies) = read_policies(alloc, arch, text.as_slice())?;
-    let programs = programs_under(alloc, &policies)?;
+    let programs = programs_under(alloc, policies)?;
     Ok(programs.into_iter().collect(alloc)?)
 }
 
@@ -90,21 +90,21 @@ pub fn programs_of(
     ensures memory { IfErr result IsNoMemoryInside }
 {
     let (_source, policies) = read_policies(alloc, arch, text)?;
-    Ok(programs_under(alloc, &policies)?)
+    Ok(programs_under(alloc, policies)?)
 }
 
 // The programs of policies, under their names.
 fn programs_under(
     alloc: Global,
-    policies: &BTreeMap<String, SeccompFilter>,
+    policies: BTreeMap<String, SeccompFilter>,
 ) -> std::result::Result<BTreeMap<String, BpfProgram>, BackendError>
-    ensures programs { IfOk result (λ m. (arch : TargetArch) (d : Data) → ArePoliciesOf arch (tree.get_by_text policies.now) d → AreProgramsOf arch (tree.get_by_text m) d) }
-    ensures refused { IfErr result (λ e. (arch : TargetArch) (d : Data) → ArePoliciesOf arch (tree.get_by_text policies.now) d → TellsTooLarge arch d e) }
+    ensures programs { IfOk result (λ m. (arch : TargetArch) (d : Data) → ArePoliciesOf arch (tree.get_by_text policies) d → AreProgramsOf arch (tree.get_by_text m) d) }
+    ensures refused { IfErr result (λ e. (arch : TargetArch) (d : Data) → ArePoliciesOf arch (tree.get_by_text policies) d → TellsTooLarge arch d e) }
 {
     let mut found = Vec::new(alloc);
-    for (name, policy) in policies.iter() {
+    for (name, policy) in policies {
         let program = policy.to_bpf(alloc)?;
-        found.push((name.clone()?, program))?;
+        found.push((name, program))?;
     }
     Ok(found.into_iter().collect(alloc)?)
 }

@@ -232,8 +232,7 @@ pub(crate) fn read_policies(
         value: value_of(alloc, text)?,
     };
     let filters = lent_filters(alloc, &source.value)?;
-    let policies = policies_under(alloc, arch, &filters)?;
-    drop(filters);
+    let policies = policies_under(alloc, arch, filters)?;
     Ok((source, policies))
 }
 
@@ -241,15 +240,15 @@ pub(crate) fn read_policies(
 fn policies_under(
     alloc: Global,
     arch: TargetArch,
-    filters: &BTreeMap<String, LentFilter<'_>>,
+    filters: BTreeMap<String, LentFilter<'_>>,
 ) -> Result<BTreeMap<String, SeccompFilter>, JsonFrontendError>
-    ensures policies { IfOk result (λ m. (d : Data) → AreFound IsFilter (tree.get_by_text filters.now) d → ArePoliciesOf arch (tree.get_by_text m) d) }
-    ensures refused { IfErr result (λ e. (d : Data) → AreFound IsFilter (tree.get_by_text filters.now) d → Tells (λ fault. IsLeastRefused arch fault d) e) }
+    ensures policies { IfOk result (λ m. (d : Data) → AreFound IsFilter (tree.get_by_text filters.entry) d → ArePoliciesOf arch (tree.get_by_text m) d) }
+    ensures refused { IfErr result (λ e. (d : Data) → AreFound IsFilter (tree.get_by_text filters.entry) d → Tells (λ fault. IsLeastRefused arch fault d) e) }
 {
     let mut found = Vec::new(alloc);
-    for (name, filter) in filters.iter() {
-        let policy = lent_seccomp_filter(alloc, arch, filter)?;
-        found.push((name.clone()?, policy))?;
+    for (name, filter) in filters {
+        let policy = lent_seccomp_filter(alloc, arch, &filter)?;
+        found.push((name, policy))?;
     }
     Ok(found.into_iter().collect(alloc)?)
 }

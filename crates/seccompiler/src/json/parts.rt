@@ -241,13 +241,9 @@ pub fn read_filter(alloc: Global, value: &Value) -> Result<Option<LentFilter<'_>
     let Some((mismatch, default, matched, filter, rules)) = members_under(value, names, 5) else {
         return Ok(None);
     };
-    let Some(mismatch_action) = read_one_action(mismatch, default) else {
-        return Ok(None);
-    };
-    let Some(match_action) = read_one_action(matched, filter) else {
-        return Ok(None);
-    };
-    let Some(rules) = rules else {
+    let mismatch = read_one_action(mismatch, default);
+    let matched = read_one_action(matched, filter);
+    let (Some(mismatch_action), Some(match_action), Some(rules)) = (mismatch, matched, rules) else {
         return Ok(None);
     };
     let Some(rules) = read_rules(alloc, rules)? else {

@@ -122,17 +122,6 @@ fn add_entry(
     }
 }
 
-// What no entries stand for.
-fn nothing(alloc: Global) -> Gathered
-    ensures { (arch : TargetArch) → AreGathered arch [] result }
-{
-    Gathered {
-        rules: BTreeMap::new(alloc),
-        always: [false; NUMBERS],
-        near: 0,
-    }
-}
-
 // What the entries stand for.
 fn gather(
     alloc: Global,
@@ -143,7 +132,11 @@ fn gather(
     ensures gathered { IfOk result (AreGathered arch entries.now) }
     ensures refused { IfErr result (Tells (IsFirstOf arch entries.now)) }
 {
-    let mut gathered = nothing(alloc);
+    let mut gathered = Gathered {
+        rules: BTreeMap::new(alloc),
+        always: [false; NUMBERS],
+        near: 0,
+    };
     for entry in entries {
         let name = entry.syscall.as_str();
         add_entry(alloc, arch, &mut gathered, name, &entry.conditions)?;
@@ -161,7 +154,11 @@ fn gather_lent(
     ensures gathered { IfOk result (AreGathered arch entries.now) }
     ensures refused { IfErr result (Tells (IsFirstOf arch entries.now)) }
 {
-    let mut gathered = nothing(alloc);
+    let mut gathered = Gathered {
+        rules: BTreeMap::new(alloc),
+        always: [false; NUMBERS],
+        near: 0,
+    };
     for entry in entries {
         add_entry(alloc, arch, &mut gathered, entry.syscall, &entry.conditions)?;
     }
@@ -192,25 +189,6 @@ fn chains_of_numbers(
     let mut empty: BTreeMap<i64, Vec<SeccompRule>> = found.into_iter().collect(alloc)?;
     rules.append(&mut empty)?;
     Ok(rules)
-}
-
-// The numbers under which rules were gathered, of those that match always.
-fn both_kinds(alloc: Global, gathered: Gathered) -> Result<Vec<i64>, AllocError>
-    ensures numbers { IfOk result (λ numbers. (number : ℤ) → list_any (int_eq number) numbers.items ≡ (is_always_at gathered number && is_some (rules_at gathered number))) }
-    ensures ascending { IfOk result (λ numbers. IsStrictlySortedBy int_cmp numbers.items) }
-{
-    let Gathered { rules, always, .. } = gathered;
-    let mut numbers = Vec::new(alloc);
-    for number in 0..NUMBERS {
-        if !always[number] {
-            continue;
-        }
-        if !rules.contains_key(&(number as i64)) {
-            continue;
-        }
-        numbers.push(number as i64)?;
-    }
-    Ok(numbers)
 }
 
 /// The filter of a JSON filter on an architecture.
@@ -256,5 +234,16 @@ pub fn widened_numbers(
     if filter.mismatch_action == filter.match_action {
         return Err(JsonFrontendError::Backend(BackendError::IdenticalActions));
     }
-    Ok(both_kinds(alloc, gathered)?)
+    let Gathered { rules, always, .. } = gathered;
+    let mut numbers = Vec::new(alloc);
+    for number in 0..NUMBERS {
+        if !always[number] {
+            continue;
+        }
+        if !rules.contains_key(&(number as i64)) {
+            continue;
+        }
+        numbers.push(number as i64)?;
+    }
+    Ok(numbers)
 }

@@ -49,13 +49,12 @@ fn after_names(value: &Value, mut left: usize) -> usize
             }
         }
         Value::Object(members) => {
+            left = left.saturating_sub(members.len());
             for (_, member) in members.iter() {
                 // Most members have no names of their own.
                 match member {
-                    Value::Array(_) | Value::Object(_) => {
-                        left = after_names(member, left).saturating_sub(1);
-                    }
-                    _ => left = left.saturating_sub(1),
+                    Value::Array(_) | Value::Object(_) => left = after_names(member, left),
+                    _ => {}
                 }
             }
         }

@@ -1,4 +1,4 @@
-use Rattle.std.proofs.Common.{◌++◌, ◌∷◌, [], List, take, sym, ap, ◌∙◌, subst}
+use Rattle.std.proofs.Common.{◌++◌, ◌∷◌, [], List, take, sym, ap, ◌∙◌, subst, refl}
 use Rattle.std.proofs.lemmas.List.{take_more}
 use Rattle.std.proofs.lemmas.Result.{err_from_is_err_and}
 use Rattle.std.proofs.lemmas.List.Elements.{All-nil}
@@ -8,7 +8,7 @@ use Rattle.seccompiler.specs.JsonSteps.{Tells}
 use Rattle.seccompiler.specs.JsonTypes.{JsonRule}
 use Rattle.seccompiler.proofs.Parts.{around}
 use Rattle.seccompiler.proofs.json.policy.EntryFaults.{first_wrong}
-use Rattle.seccompiler.proofs.json.policy.GatheredEntries.{AreDone, done_more}
+use Rattle.seccompiler.proofs.json.policy.GatheredEntries.{AreDone, done_more, none_gathered}
 use Rattle.seccompiler.proofs.json.policy.gather_lent.Goals as goal
 
 pub loop-entry-preserved : goal.loop-entry-preserved
@@ -33,4 +33,4 @@ returns-in_err-add_entry-clause-refused c =
     (subst (λ (e : JsonRule). Tells (IsFaultOf c.args.arch e) c.in_err-add_entry.field-0.0) is c.in_err-add_entry.ensures.refused))
 
 pub loop-entry-init : goal.loop-entry-init
-loop-entry-init c = record { fine = All-nil (IsFineEntry c.args.arch); gathered = c.nothing-gathered.ensures c.args.arch }
+loop-entry-init c = record { fine = All-nil (IsFineEntry c.args.arch); gathered = none_gathered c.args.arch _ c.new.ensures.empty refl }

@@ -1,7 +1,39 @@
-use Rattle.std.proofs.Common.{rules}
+use Rattle.std.proofs.Common.{◌≡◌, ◌&&◌, Bool, pos, ap, ◌∙◌, sym, rules, refl, arith, length}
+use Rattle.std.specs.Option.{is_some}
+use Rattle.seccompiler.specs.JsonGathered.{rules_at}
+use Rattle.seccompiler.proofs.json.policy.EntryChains.{some_held}
+use Rattle.seccompiler.proofs.json.policy.ToldNumbers.{signed, told_all, none_listed, next_listed, next_not_listed}
 use Rattle.seccompiler.proofs.json.policy.WidenedNumbers.{both_gathered}
 use Rattle.seccompiler.proofs.json.policy.widened_numbers.Goals as goal
 
+pub loop-number-init : goal.loop-number-init
+loop-number-init c = rw c.new-numbers.ensures.items (none_listed _ _)
+
+pub loop-number-preserved-then-not-always-number : goal.loop-number-preserved-then-not-always-number
+loop-number-preserved-then-not-always-number c = next_not_listed _ _ c.loop-number.number _ (rw c.if-not-always-number.true refl)
+    c.loop-number.invariant
+
+pub loop-number-preserved-then-not-contains_key : goal.loop-number-preserved-then-not-contains_key
+loop-number-preserved-then-not-contains_key c =
+    let number = c.loop-number.number in
+    next_not_listed _ _ number _ (rw c.if-not-always-number.false (some_held c.in_ok-gathered.gathered.rules.entries (pos number)
+    ∙ sym (rw (signed number c.loop-number-test.true) at c.contains_key.ensures) ∙ c.if-not-contains_key.true)) c.loop-number.invariant
+
+pub loop-number-preserved : goal.loop-number-preserved
+loop-number-preserved c =
+    let number = c.loop-number.number in
+    rw (c.in_ok-push.ensures.items, signed number c.loop-number-test.true)
+    (next_listed _ _ number _ (rw c.if-not-always-number.false (some_held c.in_ok-gathered.gathered.rules.entries (pos number)
+    ∙ sym (rw (signed number c.loop-number-test.true) at c.contains_key.ensures) ∙ c.if-not-contains_key.false)) c.loop-number.invariant)
+
+pub returns-clause-ascending : goal.returns-clause-ascending
+returns-clause-ascending c = c.loop-number.invariant.ascending
+
 pub returns-clause-numbers : goal.returns-clause-numbers
-returns-clause-numbers c = both_gathered c.args.arch c.args.filter.now c.as_slice.result.now c.in_ok-gathered.gathered _
-    (search rules) c.in_ok-gathered.ensures.gathered c.in_ok-both_kinds.ensures.numbers
+returns-clause-numbers c =
+    let gathered = c.in_ok-gathered.gathered in
+    let told = gathered.always in
+    let long : length told ≡ 463 = search rules in
+    both_gathered c.args.arch c.args.filter.now c.as_slice.result.now gathered _ (search rules) c.in_ok-gathered.ensures.gathered
+    (λ q. c.loop-number.invariant.listed q ∙ ap (λ (b : Bool). b && is_some (rules_at gathered q))
+    (told_all told _ q (omega (arith, long, c.loop-number-test.false))))

@@ -1,5 +1,5 @@
 -- Steps: what is looked up by a number, from a start on, up to the next one.
-use Rattle.std.specs.Prelude.{◌≡◌, ◌≢◌, ℕ, ◌+◌, ◌-◌, ◌<◌, ◌≤◌, List, [], ◌∷◌, nat_le, nat_lt, if◌then◌else◌, ⊤, length, Bool, false, ◌&&◌}
+use Rattle.std.specs.Prelude.{◌≡◌, ◌≢◌, ℕ, ◌+◌, ◌-◌, ◌<◌, ◌≤◌, ◌^◌, List, [], ◌∷◌, nat_le, nat_lt, if◌then◌else◌, ⊤, length, Bool, false, ◌&&◌}
 use Rattle.std.specs.Prelude.{nat_eq}
 use Rattle.seccomp_tree.specs.declared.steps.Target.{Target}
 use Rattle.seccomp_tree.specs.declared.steps.Target.TheVariants.{Give, At}
@@ -24,6 +24,11 @@ abbrev pub AscendFrom : ℕ → ℕ → List Step → Type 0
 AscendFrom size start [] = ⊤
 AscendFrom size start (x ∷ steps) = (start ≤ x.start) × ((x.start < size) × AscendFrom size (x.start + 1) steps)
 
+-- The steps but the first start above a base, within 2 ^ 32 numbers of it, each above the one before it.
+abbrev pub AreOver : ℕ → List Step → Type 0
+AreOver base [] = ⊤
+AreOver base (x ∷ steps) = AscendFrom (base + 2 ^ 32) (base + 1) steps
+
 -- The first step starts at 0.
 abbrev pub StartsAtZero : List Step → Type 0
 StartsAtZero [] = ⊥
@@ -44,6 +49,11 @@ pub record AreSteps (size : ℕ) (steps : List Step) : Type 0 where
   pub ascend : AscendFrom size 0 steps
   pub tight : AreTight steps
 
+-- Where the first of the steps starts, or the size.
+abbrev pub first_start : ℕ → List Step → ℕ
+first_start size [] = size
+first_start size (x ∷ steps) = x.start
+
 -- How many of the steps start below a number.
 abbrev pub begun : List Step → ℕ → ℕ
 begun [] number = 0
@@ -57,13 +67,6 @@ pub record IsPushed (old : List Step) (start : ℕ) (target : Target) (new : Lis
   pub from : (a : ℕ) → start ≤ a → found_in new a ≡ target
   pub below : (a : ℕ) → a < start → found_in new a ≡ found_in old a
   pub few : length new ≤ length old + 1
-
--- The numbers from the first to the last have what others have for them, less the base each.
-pub record IsPartPushed (old others : List Step) (first last base : ℕ) (new : List Step) : Type 0 where
-  pub are : AreSteps (last + 1 - base) new
-  pub inside : (a : ℕ) → first ≤ base + a → base + a ≤ last → found_in new a ≡ found_in others (base + a)
-  pub below : (a : ℕ) → base + a < first → found_in new a ≡ found_in old a
-  pub few : length new + begun others (first + 1) ≤ length old + 1 + begun others (last + 1)
 
 -- ---- rows: how many tests tell steps apart, one after the other
 

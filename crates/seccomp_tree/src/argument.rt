@@ -8,7 +8,7 @@ ghost use Rattle.seccomp_tree.specs.Code.{AreIn, IsPart};
 ghost use Rattle.seccomp_tree.specs.Arguments.{AreHighs, IsHalf, IsNext, half_length};
 
 use crate::code::Code;
-use crate::steps::{Step, Target, push_part, push_step, until};
+use crate::steps::{Step, Target, push_step, until};
 use std::alloc::{AllocError, Global};
 
 // How many low halves there are, and the greatest.
@@ -29,40 +29,18 @@ impl Code {
         requires inside { AreIn self.old steps.now }
         ensures { IfOk result (λ t. IsPart self.old Qword (13 * length steps.now - 2) (λ r. argument_at r index) steps.now t self.new) }
     {
-        let highs = self.high_halves(alloc, index, steps)?;
-        self.word(20 + 8 * index, &highs)
-    }
-
-    // The steps over the high halves.
-    fn high_halves(
-        &mut self,
-        alloc: Global,
-        index: u8,
-        steps: &[Step],
-    ) -> Result<Vec<Step>, AllocError>
-        requires index { index ≤ 5 }
-        requires are { AreSteps (2 ^ 64) steps.now }
-        requires inside { AreIn self.old steps.now }
-        ensures { IfOk result (λ highs. AreHighs self.old index steps.now (2 ^ 32) highs.items self.new) }
-    {
         let mut highs = Vec::new(alloc);
         let mut high = 0;
         while high < HALVES {
-            let target = self.half(alloc, index, steps, high)?;
+            let target = self.half(index, steps, high)?;
             push_step(&mut highs, high, target)?;
             high = next_half(steps, high);
         }
-        Ok(highs)
+        self.word(20 + 8 * index, 0, &highs)
     }
 
     // Goes on as the steps say for an argument of this high half.
-    fn half(
-        &mut self,
-        alloc: Global,
-        index: u8,
-        steps: &[Step],
-        high: u64,
-    ) -> Result<Target, AllocError>
+    fn half(&mut self, index: u8, steps: &[Step], high: u64) -> Result<Target, AllocError>
         requires index { index ≤ 5 }
         requires high { high < 2 ^ 32 }
         requires are { AreSteps (2 ^ 64) steps.now }
@@ -70,9 +48,9 @@ impl Code {
         ensures { IfOk result (λ t. IsHalf self.old index steps.now high t self.new) }
     {
         let first = high * HALVES;
-        let mut lows = Vec::new(alloc);
-        push_part(&mut lows, steps, first, first + GREATEST_HALF, first)?;
-        self.word(16 + 8 * index, &lows)
+        let begin = until(steps, first) - 1;
+        let end = until(steps, first + GREATEST_HALF);
+        self.word(16 + 8 * index, first, &steps[begin..end])
     }
 }
 

@@ -56,7 +56,7 @@ impl Code {
         ensures { IfOk result (λ t. IsPart self.old size (part_length size (length steps.now)) (λ r. part_of size (argument_at r index)) steps.now t self.new) }
     {
         match size {
-            SeccompCmpArgLen::Dword => self.word(16 + 8 * index, steps),
+            SeccompCmpArgLen::Dword => self.word(16 + 8 * index, 0, steps),
             SeccompCmpArgLen::Qword => self.argument(alloc, index, steps),
         }
     }

@@ -1,10 +1,45 @@
-use Rattle.seccomp_tree.proofs.Common.{◌∙◌}
-use Rattle.seccomp_tree.proofs.Choices.{laid_whole}
+use Rattle.seccomp_tree.proofs.Common.{◌≡◌, ◌-◌, ap, ◌∙◌, inl, inr, drop, length, refl, take}
+use Rattle.seccomp_tree.specs.Steps.{first_start}
+use Rattle.seccomp_tree.specs.Conditions.{numbers_of}
+use Rattle.seccomp_tree.proofs.Trees.{all_behind}
+use Rattle.seccomp_tree.proofs.Choices.{laying_begins, laying_on, laying_ends}
+use Rattle.seccomp_tree.proofs.intervals.laid.Goals.{After-turn-number}
 use Rattle.seccomp_tree.proofs.intervals.laid.Goals as goal
+
+pub loop-number-init : goal.loop-number-init
+loop-number-init c =
+    rw c.new-steps.ensures.items (laying_begins c.args.condition.now c.args.target c.args.others.now c.requires.others)
+
+-- where the next of the others starts
+end_is : (c : After-turn-number) → c.first_start-end.result
+    ≡ first_start (numbers_of c.args.condition.now.arg_len) (drop 1 c.loop-number.rest.now)
+end_is c = c.first_start-end.ensures
+    ∙ ap (λ n. first_start n (take (length c.loop-number.rest.now - 1) (drop 1 c.loop-number.rest.now)))
+    (c.numbers-size.ensures.numbers ∙ ap numbers_of c.arg_len.ensures)
+    ∙ ap (first_start (numbers_of c.args.condition.now.arg_len)) (all_behind c.loop-number.rest.now 1)
+
+pub loop-number-preserved-then-number-end : goal.loop-number-preserved-then-number-end
+loop-number-preserved-then-number-end c =
+    let l = c.loop-number in
+    laying_on c.args.condition.now c.args.target c.args.others.now l.rest.now _ l.steps.items c.push_step.new.steps.items _ _ l.number
+    c.turn-number.result _ _ c.requires.plain l.invariant
+    (rw (c.numbers-size.ensures.numbers, c.arg_len.ensures) at c.loop-number-test.true)
+    (c.from.ensures ∙ c.value_part.ensures.part) (end_is ((goal.at.loop-number-preserved-then-number-end c).After-turn-number))
+    c.turn-number.ensures c.choice-chosen.ensures c.in_ok-push_step.ensures
+    (inl (c.if-number-end.true, all_behind l.rest.now 1))
+
+pub loop-number-preserved : goal.loop-number-preserved
+loop-number-preserved c =
+    let l = c.loop-number in
+    laying_on c.args.condition.now c.args.target c.args.others.now l.rest.now _ l.steps.items c.push_step.new.steps.items _ _ l.number
+    c.turn-number.result _ _ c.requires.plain l.invariant
+    (rw (c.numbers-size.ensures.numbers, c.arg_len.ensures) at c.loop-number-test.true)
+    (c.from.ensures ∙ c.value_part.ensures.part) (end_is ((goal.at.loop-number-preserved c).After-turn-number))
+    c.turn-number.ensures c.choice-chosen.ensures c.in_ok-push_step.ensures
+    (inr (c.if-number-end.false, refl))
 
 pub returns : goal.returns
 returns c =
-    laid_whole c.args.condition.now c.args.target c.args.others.now _ _ _ c.from-value.result _ _ _
-    (c.from-value.ensures ∙ c.value_part.ensures.part) c.requires.plain c.requires.others c.side.ensures
-    (rw c.new-steps.ensures.items at c.in_ok-push_over.ensures) c.side-at.ensures c.in_ok-push_over-2.ensures c.side-2.ensures
-    (rw (c.numbers-end.ensures, c.arg_len.ensures) at c.in_ok-push_over-3.ensures)
+    laying_ends c.args.condition.now c.args.target c.args.others.now c.loop-number.rest.now c.loop-number.steps.items
+    c.loop-number.number c.requires.plain c.loop-number.invariant
+    (rw (c.numbers-size.ensures.numbers, c.arg_len.ensures) at c.loop-number-test.false)

@@ -134,6 +134,14 @@ found_same m [] a b h some same = absurd (h.first some)
 found_same m (x ∷ steps) a b h some same =
     found_begun m (x ∷ steps) a x h some ∙ ap (λ n. (get_or (x ∷ steps) (n - 1) x).target) same ∙ sym (found_begun m (x ∷ steps) b x h some)
 
+-- the last step decides from all starts on
+pub found_last : (m n : ℕ) (steps : List Step) (x : Step) → AreSteps m steps → 1 ≤ length steps → n ≡ length steps - 1
+    → x ≡ get_or steps n x → found_in steps m ≡ x.target
+found_last m n steps x h some last is =
+    let all : begun steps (m + 1) - 1 ≡ n = omega (arith, begun_all m 0 steps (m + 1) h.ascend (omega arith), last) in
+    found_begun m steps m x h (above_none m 0 steps h.ascend some) ∙ ap (λ k. (get_or steps k x).target) all
+    ∙ ap (λ (y : Step). y.target) (sym is)
+
 -- targets for all numbers below the size are all targets, and the other way round
 pub are_in_below : (code : List sock_filter) (m : ℕ) (steps : List Step) → 0 < m → AreSteps m steps
     → ((a : ℕ) → a < m → IsIn code (found_in steps a)) → AreIn code steps

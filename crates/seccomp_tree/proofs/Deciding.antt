@@ -11,10 +11,6 @@ use Rattle.seccomp_tree.proofs.Meeting.{rule_or_not}
 pub drop_at : {A : Type 0} (l : List A) (i : ℕ) (x : A) → i < length l → x ≡ get_or l i x → drop i l ≡ x ∷ drop (i + 1) l
 drop_at l i x lt is = drop_more l i x lt ∙ ap (λ y. y ∷ drop (i + 1) l) (sym is)
 
-pub all_at : {A : Type 0} (P : A → Type 0) (l : List A) (i : ℕ) (x : A) → i < length l → x ≡ get_or l i x → P x → All P (drop (i + 1) l)
-    → All P (drop i l)
-all_at P l i x lt is h rest = rw (drop_at l i x lt is) (All-cons P x (drop (i + 1) l) h rest)
-
 -- ---- the first ruling that holds
 
 pub first_here : {default w : ℕ} {r : List ℕ} (d : Ruling) (rest : List Ruling) → RuleHolds d.conditions r → First default r (d ∷ rest) w

@@ -81,10 +81,6 @@ abbrev pub second_stands_out : List Step → Bool
 second_stands_out (x ∷ y ∷ z ∷ steps) = same x.target z.target && nat_eq (z.start - y.start) 1
 second_stands_out _ = false
 
--- How many of two steps or more the first test of a row leaves to no other test.
-abbrev pub settled : List Step → ℕ
-settled steps = if second_stands_out steps then 2 else 1
-
 -- How many tests tell steps apart: each settles a step that stands out, and the one in front of it is answered as the one
 -- after it; or else it settles the first step.
 abbrev pub row : List Step → ℕ

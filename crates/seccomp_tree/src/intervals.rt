@@ -3,7 +3,7 @@
 ghost use Rattle.std.specs.Prelude.{◌≡◌, ◌≤◌, ◌<◌, ◌^◌, ◌↔◌, IsTrue, IfOk, true};
 ghost use Rattle.seccompiler.specs.Policy.{Compares, part_of};
 ghost use Rattle.seccomp_tree.specs.Steps.{AreSteps, first_start};
-ghost use Rattle.seccomp_tree.specs.Conditions.{AreLaid, IsChosen, IsTurn, is_plain, numbers_of};
+ghost use Rattle.seccomp_tree.specs.Conditions.{AreLaid, IsTurn, is_plain, numbers_of};
 
 use crate::steps::{Step, Target, push_step};
 use seccompiler::{SeccompCmpArgLen, SeccompCmpOp, SeccompCondition};
@@ -20,32 +20,21 @@ pub(crate) fn laid(
     requires others { AreSteps (numbers_of condition.now.arg_len) others.now }
     ensures { IfOk result (λ steps. AreLaid condition.now target others.now steps.items) }
 {
-    let size = numbers(condition.arg_len());
+    let (value, size) = (u128::from(value_part(condition)), numbers(condition.arg_len()));
     let mut steps = Vec::new(alloc);
     let mut number = 0;
     let mut rest = others;
     while number < size {
-        let chosen = choice(condition, number, target, rest[0].target);
+        let is_met = compares(condition.operator(), number, value);
+        let chosen = if is_met { target } else { rest[0].target };
         push_step(&mut steps, number as u64, chosen)?;
         let end = first_start(&rest[1..], size);
-        number = turn(u128::from(value_part(condition)), number, end);
+        number = turn(value, number, end);
         if number == end {
             rest = &rest[1..];
         }
     }
     Ok(steps)
-}
-
-// The target if the condition's comparison holds on the number, and else the other.
-fn choice(condition: &SeccompCondition, number: u128, target: Target, other: Target) -> Target
-    ensures { IsChosen (Compares condition.now.operator number (part_of condition.now.arg_len condition.now.value)) target other result }
-{
-    let value = u128::from(value_part(condition));
-    if compares(condition.operator(), number, value) {
-        target
-    } else {
-        other
-    }
 }
 
 // Up to where the numbers from this one on compare with the value as it does, or the end if that comes before.

@@ -8,7 +8,7 @@ ghost use Rattle.seccomp_tree.specs.TreeProgram.{one_value};
 ghost use Rattle.seccomp_tree.specs.CallSteps.{IsAnswered, IsNextDefault};
 
 use crate::code::{Code, Test};
-use crate::decisions::{Decision, Decisions, DefaultValue, KILL_PROCESS};
+use crate::decisions::{Decision, Decisions, DefaultValue, KILL_PROCESS, default_for};
 use crate::error::TreeError;
 use crate::steps::{Step, Target, push_step};
 use seccompiler::BpfProgram;
@@ -60,7 +60,7 @@ impl Decisions {
         while next < NUMBERS {
             let number = next as u32;
             let rulings = self.rulings_for(number);
-            let target = code.answer(alloc, rulings, self.default_for(number))?;
+            let target = code.answer(alloc, rulings, default_for(&self.defaults, number))?;
             push_step(&mut steps, next, target)?;
             next = self.next_number(number);
         }

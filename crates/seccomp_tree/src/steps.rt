@@ -47,22 +47,11 @@ pub(crate) fn push_step(steps: &mut Vec<Step>, start: u64, target: Target) -> Re
     ensures { IfOk result (λ _. IsPushed steps.old.items start target steps.new.items) }
 {
     // Neighbours with one target are one step.
-    if have(steps, start, target) {
+    if !steps.is_empty() && steps[steps.len() - 1].target.is(target) {
         return Ok(());
     }
     steps.push(Step { start, target })?;
     Ok(())
-}
-
-// Whether there are steps, and they have this target for the number.
-fn have(steps: &[Step], number: u64, target: Target) -> bool
-    requires { AreSteps number steps.now }
-    ensures { IsTrue result ↔ ((1 ≤ length steps.now) × (found_in steps.now number ≡ target)) }
-{
-    if steps.is_empty() {
-        return false;
-    }
-    steps[steps.len() - 1].target.is(target)
 }
 
 /// How many of the steps start at or below the number.

@@ -1,7 +1,7 @@
 // The tree of tests of steps.
 
 ghost use Rattle.std.specs.Prelude.{◌≡◌, ◌≤◌, ◌+◌, ◌-◌, ◌*◌, ◌%◌, ◌↔◌, IsTrue, IfOk, length};
-ghost use Rattle.seccomp_tree.specs.Steps.{AreOver, row, second_stands_out, settled};
+ghost use Rattle.seccomp_tree.specs.Steps.{AreOver, row, second_stands_out};
 ghost use Rattle.seccompiler.specs.Machine.{word_at};
 ghost use Rattle.seccompiler.specs.declared.backend.SeccompCmpArgLen.TheVariants.{Dword};
 ghost use Rattle.seccomp_tree.specs.Code.{AreIn, IsPart, IsTree};
@@ -23,13 +23,6 @@ fn stands_out(steps: &[Step]) -> bool
         && steps[2].start.saturating_sub(steps[1].start) == 1
 }
 
-// How many of the steps the first test of a row leaves to no other test.
-fn settled(steps: &[Step]) -> usize
-    ensures { result ≡ settled steps.now }
-{
-    if stands_out(steps) { 2 } else { 1 }
-}
-
 // Whether at most so many tests tell the steps apart, one after the other.
 fn is_row(steps: &[Step], tests: usize) -> bool
     ensures { IsTrue result ↔ (row steps.now ≤ tests) }
@@ -40,7 +33,8 @@ fn is_row(steps: &[Step], tests: usize) -> bool
     if tests == 0 {
         return false;
     }
-    is_row(&steps[settled(steps)..], tests - 1)
+    let settled = if stands_out(steps) { 2 } else { 1 };
+    is_row(&steps[settled..], tests - 1)
 }
 
 impl Code {

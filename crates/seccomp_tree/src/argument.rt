@@ -1,14 +1,16 @@
-// Arguments of 64 bits: steps over the high halves, whose targets are steps over the low halves.
+// Arguments: those of 64 bits as steps over the high halves, whose targets are steps over the low halves.
 
-ghost use Rattle.std.specs.Prelude.{◌≤◌, ◌<◌, ◌-◌, ◌*◌, ◌^◌, IfOk, length};
-ghost use Rattle.seccomp_tree.specs.Steps.{AreSteps};
+ghost use Rattle.std.specs.Prelude.{◌≤◌, ◌<◌, ◌^◌, IfOk, length};
 ghost use Rattle.seccompiler.specs.Machine.{argument_at};
-ghost use Rattle.seccompiler.specs.declared.backend.SeccompCmpArgLen.TheVariants.{Qword};
-ghost use Rattle.seccomp_tree.specs.Code.{AreIn, IsPart};
-ghost use Rattle.seccomp_tree.specs.Arguments.{AreHighs, IsHalf, IsNext, half_length};
+ghost use Rattle.seccompiler.specs.Policy.{part_of};
+ghost use Rattle.seccomp_tree.specs.Steps.{AreSteps};
+ghost use Rattle.seccomp_tree.specs.Code.{AreIn, IsPart, part_length};
+ghost use Rattle.seccomp_tree.specs.Conditions.{numbers_of};
+ghost use Rattle.seccomp_tree.specs.Arguments.{IsHalf, IsNext};
 
 use crate::code::Code;
 use crate::steps::{Step, Target, push_step, until};
+use seccompiler::SeccompCmpArgLen;
 use std::alloc::{AllocError, Global};
 
 // How many low halves there are, and the greatest.
@@ -17,18 +19,22 @@ const HALVES: u64 = 0x1_0000_0000;
 const GREATEST_HALF: u64 = 0xffff_ffff;
 
 impl Code {
-    /// Goes on as the steps say for the argument, whatever the accumulator holds.
+    /// Goes on as the steps say for what is compared of the argument, whatever the accumulator holds.
     pub(crate) fn argument(
         &mut self,
         alloc: Global,
+        size: SeccompCmpArgLen,
         index: u8,
         steps: &[Step],
     ) -> Result<Target, AllocError>
         requires index { index ≤ 5 }
-        requires are { AreSteps (2 ^ 64) steps.now }
+        requires are { AreSteps (numbers_of size) steps.now }
         requires inside { AreIn self.old steps.now }
-        ensures { IfOk result (λ t. IsPart self.old Qword (13 * length steps.now - 2) (λ r. argument_at r index) steps.now t self.new) }
+        ensures { IfOk result (λ t. IsPart self.old size (part_length size (length steps.now)) (λ r. part_of size (argument_at r index)) steps.now t self.new) }
     {
+        if let SeccompCmpArgLen::Dword = size {
+            return self.word(16 + 8 * index, 0, steps);
+        }
         let mut highs = Vec::new(alloc);
         let mut high = 0;
         while high < HALVES {

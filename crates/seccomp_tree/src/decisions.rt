@@ -95,7 +95,11 @@ impl Decisions {
             return KILL_PROCESS;
         }
         let number = word_at(call, 0);
-        first_value(self.rulings_for(number), default_for(&self.defaults, number), call)
+        first_value(
+            self.rulings_for(number),
+            default_for(&self.defaults, number),
+            call,
+        )
     }
 
     /// The rulings of a number, or none.

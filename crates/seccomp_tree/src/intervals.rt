@@ -20,7 +20,10 @@ pub(crate) fn laid(
     requires others { AreSteps (numbers_of condition.now.arg_len) others.now }
     ensures { IfOk result (λ steps. AreLaid condition.now target others.now steps.items) }
 {
-    let (value, size) = (u128::from(value_part(condition)), numbers(condition.arg_len()));
+    let (value, size) = (
+        u128::from(value_part(condition)),
+        numbers(condition.arg_len()),
+    );
     let mut steps = Vec::new(alloc);
     let mut number = 0;
     let mut rest = others;

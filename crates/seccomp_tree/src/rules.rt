@@ -2,7 +2,7 @@
 
 ghost use Rattle.std.specs.Prelude.{◌≡◌, IfOk, IfErr, Some};
 ghost use Rattle.seccomp_tree.specs.Code.{IsIn};
-ghost use Rattle.seccomp_tree.specs.Decisions.{alike, only, rules_length, same_length};
+ghost use Rattle.seccomp_tree.specs.Decisions.{alike, only, rules_length};
 ghost use Rattle.seccomp_tree.specs.Rules.{AreFit, AreRules, IsInFront, IsRulingMet, IsSettled, IsTooMany};
 
 use crate::code::Code;
@@ -11,7 +11,7 @@ use crate::error::TreeError;
 use crate::intervals::laid;
 use crate::steps::{Step, Target, one};
 use seccompiler::bpf::BPF_MAX_LEN;
-use seccompiler::{SeccompCmpArgLen, SeccompCmpOp, SeccompCondition};
+use seccompiler::{SeccompCmpOp, SeccompCondition};
 use std::alloc::{AllocError, Global};
 
 /// What comes after some rulings: steps over what a condition compares, or one target for all records, if there is
@@ -83,7 +83,7 @@ impl Code {
         match rest.like {
             Some(condition) => {
                 let (size, index) = (condition.arg_len(), condition.arg_index());
-                self.part(alloc, size, index, &rest.steps)
+                self.argument(alloc, size, index, &rest.steps)
             }
             None => Ok(rest.steps[0].target),
         }
@@ -117,21 +117,9 @@ fn is_alike(condition: &SeccompCondition, other: Option<SeccompCondition>) -> bo
 {
     match other {
         Some(other) => {
-            condition.arg_index() == other.arg_index()
-                && is_same_length(condition.arg_len(), other.arg_len())
+            condition.arg_index() == other.arg_index() && condition.arg_len() == other.arg_len()
         }
         None => false,
-    }
-}
-
-// Whether two lengths are one.
-fn is_same_length(first: SeccompCmpArgLen, second: SeccompCmpArgLen) -> bool
-    ensures { result ≡ same_length first second }
-{
-    match (first, second) {
-        (SeccompCmpArgLen::Dword, SeccompCmpArgLen::Dword) => true,
-        (SeccompCmpArgLen::Qword, SeccompCmpArgLen::Qword) => true,
-        _ => false,
     }
 }
 

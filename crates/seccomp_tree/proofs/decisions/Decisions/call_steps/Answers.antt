@@ -1,9 +1,23 @@
-use Rattle.seccomp_tree.proofs.CallsPushed.{calls_on}
+use Rattle.seccomp_tree.proofs.Common.{◌≡◌, ap, sym, ◌∙◌, DecisionSet, default_for, rulings_for}
+use Rattle.seccomp_tree.proofs.CallsPushed.{IsAnswered, answered_one, answered_rules, calls_on}
+use Rattle.seccomp_tree.proofs.decisions.Decisions.call_steps.Goals.{After-push_step, in-Some, in-None+in_ok-target-in-None}
 use Rattle.seccomp_tree.proofs.decisions.Decisions.call_steps.Goals as goal
+
+default : (c : After-push_step) → c.default_for-default.result ≡ default_for c.args.self.now.defaults c.loop-next.next
+default c = c.default_for-default.ensures
+    ∙ ap (λ l. default_for l c.loop-next.next) (c.deref.ensures.value ∙ ap (λ (x : DecisionSet). x.defaults) c.self.view_is)
+
+answered : (c : After-push_step) → IsAnswered c.loop-next.code (default_for c.args.self.now.defaults c.loop-next.next)
+    (rulings_for c.args.self.now.calls c.loop-next.next) c.match-one_value.target c.match-one_value.code
+answered c = rw (← default c, ← c.rulings_for-rulings.ensures) (elim c.match-one_value.branch [
+  | in-Some w ↦ rw (w.target-is, w.code-is) (answered_one c.loop-next.code c.default_for-default.result w.in-Some.value c.rulings_for-rulings.result.now w.in-Some.ensures.fits
+      (sym c.one_value.ensures.value ∙ w.in-Some.is))
+  | in-None+in_ok-target-in-None w ↦ rw (w.target-is, w.code-is) (answered_rules c.loop-next.code w.rules.new.self c.default_for-default.result
+      c.rulings_for-rulings.result.now w.in_ok-target-in-None.target (sym c.one_value.ensures.value ∙ w.in-None.is) w.in_ok-target-in-None.ensures.ok)
+])
 
 pub loop-next-preserved : goal.loop-next-preserved
 loop-next-preserved c =
-    calls_on c.args.self.now c.args.code.now c.loop-next.code c.answer.new.self c.loop-next.steps.items c.push_step.new.steps.items
-    c.loop-next.next c.next_number-next.result c.in_ok-target.target c.loop-next.invariant
-    (rw (← c.default_for.ensures, ← c.rulings_for-rulings.ensures) c.in_ok-target.ensures.ok) c.in_ok-push_step.ensures
-    c.next_number-next.ensures
+    calls_on c.args.self.now c.args.code.now c.loop-next.code c.match-one_value.code c.loop-next.steps.items c.push_step.new.steps.items
+    c.loop-next.next c.next_number-next.result c.match-one_value.target c.loop-next.invariant
+    (answered ((goal.at.loop-next-preserved c).After-push_step)) c.in_ok-push_step.ensures c.next_number-next.ensures

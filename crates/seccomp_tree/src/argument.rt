@@ -6,7 +6,6 @@ ghost use Rattle.seccompiler.specs.Policy.{part_of};
 ghost use Rattle.seccomp_tree.specs.Steps.{AreSteps};
 ghost use Rattle.seccomp_tree.specs.Code.{AreIn, IsPart, part_length};
 ghost use Rattle.seccomp_tree.specs.Conditions.{numbers_of};
-ghost use Rattle.seccomp_tree.specs.Arguments.{IsHalf, IsNext};
 
 use crate::code::Code;
 use crate::steps::{Step, Target, push_step, until};
@@ -38,38 +37,18 @@ impl Code {
         let mut highs = Vec::new(alloc);
         let mut high = 0;
         while high < HALVES {
-            let target = self.half(index, steps, high)?;
+            let first = high * HALVES;
+            let begin = until(steps, first);
+            let own = &steps[begin - 1..until(steps, first + GREATEST_HALF)];
+            let target = self.word(16 + 8 * index, first, own)?;
             push_step(&mut highs, high, target)?;
-            high = next_half(steps, high);
+            // The next half that may go on otherwise: after this if a step starts inside it, or else that of the next step.
+            high = if begin < steps.len() {
+                (steps[begin].start / HALVES).max(high + 1)
+            } else {
+                HALVES
+            };
         }
         self.word(20 + 8 * index, 0, &highs)
     }
-
-    // Goes on as the steps say for an argument of this high half.
-    fn half(&mut self, index: u8, steps: &[Step], high: u64) -> Result<Target, AllocError>
-        requires index { index ≤ 5 }
-        requires high { high < 2 ^ 32 }
-        requires are { AreSteps (2 ^ 64) steps.now }
-        requires inside { AreIn self.old steps.now }
-        ensures { IfOk result (λ t. IsHalf self.old index steps.now high t self.new) }
-    {
-        let first = high * HALVES;
-        let begin = until(steps, first) - 1;
-        let end = until(steps, first + GREATEST_HALF);
-        self.word(16 + 8 * index, first, &steps[begin..end])
-    }
-}
-
-// The next high half that may go on otherwise than this one: after this one if a step starts inside it, or else that
-// of the next step; 2^32 if there is none.
-fn next_half(steps: &[Step], high: u64) -> u64
-    requires high { high < 2 ^ 32 }
-    requires are { AreSteps (2 ^ 64) steps.now }
-    ensures { IsNext steps.now high result }
-{
-    let end = until(steps, high * HALVES);
-    if end == steps.len() {
-        return HALVES;
-    }
-    (steps[end].start / HALVES).max(high + 1)
 }

@@ -1,4 +1,5 @@
-use Rattle.seccomp_tree.proofs.Common.{◌-◌, ◌^◌, AreHighs}
+use Rattle.seccomp_tree.proofs.Common.{◌-◌, ◌^◌}
+use Rattle.seccomp_tree.proofs.Halves.{AreHighs}
 use Rattle.seccomp_tree.proofs.code.Code.argument.Given as goal
 
 abbrev pub invariant-loop-high : goal.invariant-loop-high

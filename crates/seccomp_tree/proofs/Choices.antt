@@ -1,7 +1,7 @@
 -- Comparisons as steps, laid over others.
 use Rattle.seccomp_tree.proofs.Common.{◌≡◌, ◌≢◌, ℕ, ◌+◌, ◌^◌, ◌<◌, ◌≤◌, List, [], ◌∷◌, length, drop, get_or, true, ◌⊎◌, inl, inr, ◌∙◌}
 use Rattle.seccomp_tree.proofs.Common.{arith, refl, nat_tests, nat_eq, nat_lt, if◌then◌else◌, cases_lt, cases_eq, bit_and, sock_filter}
-use Rattle.seccomp_tree.proofs.Common.{SeccompCmpArgLen, SeccompCmpOp, MaskedEq, Condition, Compares, part_of, Target, Step, found_from}
+use Rattle.seccomp_tree.proofs.Common.{SeccompCmpArgLen, SeccompCmpOp, Dword, Qword, ◌%◌, MaskedEq, Condition, Compares, part_of, Target, Step, found_from}
 use Rattle.seccomp_tree.proofs.Common.{found_in, AscendFrom, AreSteps, IsPushed, IsIn, AreIn, is_plain, IsChosen, AreLaid}
 use Rattle.seccomp_tree.specs.Steps.{first_start}
 use Rattle.seccomp_tree.specs.Conditions.{IsTurn, numbers_of}
@@ -18,6 +18,11 @@ alike_on : (o : SeccompCmpOp) (a b v : ℕ) → is_plain o ≡ true
     → ((a < v) × (b < v)) ⊎ (((a ≡ v) × (b ≡ v)) ⊎ ((v < a) × (v < b))) → Compares o a v → Compares o b v
 alike_on (MaskedEq m) a b v plain side h = absurd (cc)
 alike_on _ a b v plain side h = grind (arith, side)
+
+-- what counts of a value is what is left of it
+pub part_left : (l : SeccompCmpArgLen) (v : ℕ) → v < 2 ^ 64 → v % numbers_of l ≡ part_of l v
+part_left Dword v fits = refl
+part_left Qword v fits = omega arith
 
 pub numbers_many : (l : SeccompCmpArgLen) → 2 ^ 32 ≤ numbers_of l
 numbers_many l = grind arith

@@ -3,11 +3,15 @@ use Rattle.seccomp_tree.proofs.Common.{◌≡◌, ℕ, zero, suc, ◌+◌, ◌<�
 use Rattle.seccomp_tree.proofs.Common.{length-reverse, subst, arith, ◌⊎◌, inl, inr, ⊎_elim, nat_tests, cases_eq, cases_lt, sock_filter}
 use Rattle.seccomp_tree.proofs.Common.{Does, jumps, is_equal, is_not_equal, is_at_least, is_less, Target, Give, At, Test, tail_at, Returns, gives, IsFine, IsInRange}
 use Rattle.seccomp_tree.proofs.Common.{give, fine_return, fine_jump}
-use Rattle.seccomp_tree.proofs.Common.{Starts, Leads, to_return, to_place, near, DoesAs, Says, IsFar, Grows, IsReached, chosen, IsTested}
+use Rattle.seccomp_tree.proofs.Common.{Starts, Leads, to_return, to_place, near, DoesAs, Says, Grows, IsReached, chosen, IsTested}
 use Rattle.seccomp_tree.specs.declared.code.Test.TheVariants.{Equal, AtLeast}
 use Rattle.seccomp_tree.specs.Code.{goes_on}
 use Rattle.seccomp_tree.proofs.Runs.{tail_whole, tail_written, jump_to, jump_from, grows_not, grows_one, grows_on, grown_long, returns_more}
 use Rattle.seccomp_tree.proofs.Runs.{returns_grown, starts_grown}
+
+-- The target is no place that a jump reaches.
+abbrev pub IsFar : List sock_filter → Target → Type 0
+IsFar code t = (m : ℕ) → t ≡ At m → m + 255 < length code
 
 -- what was written at a place, as the code has it
 pub written_does : (back code : List sock_filter) (place : ℕ) (t : Target) (i : sock_filter) → reverse back ≡ code → place < length code

@@ -81,10 +81,6 @@ pub record DoesAs (code : List sock_filter) (t : Target) (place : ℕ) : Type 0 
   pub here : tail_at code place ≡ instruction ∷ rest
   pub says : Says t instruction place
 
--- The target is no place that a jump reaches.
-abbrev pub IsFar : List sock_filter → Target → Type 0
-IsFar code t = (m : ℕ) → t ≡ At m → m + 255 < length code
-
 -- The place does what the target says, and is so near that a jump to it fits 8 bits though one more instruction may come
 -- between. A place that is near is taken as it is.
 pub record IsReached (old : List sock_filter) (t : Target) (place : ℕ) (new : List sock_filter) : Type 0 where

@@ -51,8 +51,7 @@ impl Code {
     pub(crate) fn new(alloc: Global) -> Result<Self, AllocError>
         ensures { IfOk result (λ code. code ≡ give 0x80000000 ∷ []) }
     {
-        let mut back = Vec::new(alloc);
-        back.push(bpf_stmt(RETURN, 0x8000_0000))?;
+        let back = vec![in alloc; bpf_stmt(RETURN, 0x8000_0000)]?;
         Ok(Code { back })
     }
 

@@ -1,7 +1,7 @@
 // Comparisons as steps: for each number what is so where a condition holds on it, and what is so elsewhere.
 
 ghost use Rattle.std.specs.Prelude.{◌≡◌, ◌≤◌, ◌<◌, ◌^◌, ◌↔◌, IsTrue, IfOk, true};
-ghost use Rattle.seccompiler.specs.Policy.{Compares, part_of};
+ghost use Rattle.seccompiler.specs.Policy.{Compares};
 ghost use Rattle.seccomp_tree.specs.Steps.{AreSteps, first_start};
 ghost use Rattle.seccomp_tree.specs.Conditions.{AreLaid, IsTurn, is_plain, numbers_of};
 
@@ -20,10 +20,8 @@ pub(crate) fn laid(
     requires others { AreSteps (numbers_of condition.now.arg_len) others.now }
     ensures { IfOk result (λ steps. AreLaid condition.now target others.now steps.items) }
 {
-    let (value, size) = (
-        u128::from(value_part(condition)),
-        numbers(condition.arg_len()),
-    );
+    let size = numbers(condition.arg_len());
+    let value = u128::from(condition.value()) % size;
     let mut steps = Vec::new(alloc);
     let mut number = 0;
     let mut rest = others;
@@ -46,23 +44,15 @@ fn turn(value: u128, number: u128, end: u128) -> u128
     requires fits { value < 2 ^ 64 }
     ensures { IsTurn value number end result }
 {
-    if number < value {
-        return value.min(end);
-    }
-    if number == value {
-        return end.min(value + 1);
-    }
-    end
+    let turn = if number == value { value + 1 } else { value };
+    if number <= value { turn.min(end) } else { end }
 }
 
 // Where the first of the steps starts, or the size.
 fn first_start(steps: &[Step], size: u128) -> u128
     ensures { result ≡ first_start size steps.now }
 {
-    if steps.is_empty() {
-        return size;
-    }
-    u128::from(steps[0].start)
+    steps.first().map_or(size, |step| u128::from(step.start))
 }
 
 // Whether the comparison holds.
@@ -83,21 +73,11 @@ fn compares(operator: SeccompCmpOp, number: u128, value: u128) -> bool
 // How many numbers a length has.
 fn numbers(length: SeccompCmpArgLen) -> u128
     ensures numbers { result ≡ numbers_of length }
+    ensures some { 1 ≤ result }
     ensures few { result ≤ 2 ^ 64 }
 {
     match length {
         SeccompCmpArgLen::Dword => 0x1_0000_0000,
         SeccompCmpArgLen::Qword => 0x1_0000_0000_0000_0000,
-    }
-}
-
-// What counts of the condition's value.
-fn value_part(condition: &SeccompCondition) -> u64
-    ensures part { result ≡ part_of condition.now.arg_len condition.now.value }
-    ensures inside { result < numbers_of condition.now.arg_len }
-{
-    match condition.arg_len() {
-        SeccompCmpArgLen::Dword => condition.value() & 0xffff_ffff,
-        SeccompCmpArgLen::Qword => condition.value(),
     }
 }

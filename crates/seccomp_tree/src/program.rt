@@ -87,14 +87,11 @@ fn one_value(rulings: &[Decision], default: u32) -> Option<u32>
     ensures value { result ≡ one_value default rulings.now }
     ensures fits { IfSome result (λ v. v < 2 ^ 32) }
 {
-    if rulings.is_empty() {
-        return Some(default);
+    match rulings.first() {
+        None => Some(default),
+        Some(first) if first.conditions.is_empty() => Some(first.value),
+        _ => None,
     }
-    let first = &rulings[0];
-    if first.conditions.len() == 0 {
-        return Some(first.value);
-    }
-    None
 }
 
 // The number of the next default after this number, or 2^32.

@@ -44,8 +44,7 @@ impl Code {
                 return Err(TreeError::TooLarge);
             }
         }
-        let target = self.settle(alloc, &rest)?;
-        Ok(target)
+        Ok(self.settle(alloc, &rest)?)
     }
 
     // Puts a ruling in front of the rest. One that compares what the rest does is laid over its steps.
@@ -115,23 +114,20 @@ impl Code {
 fn is_alike(condition: &SeccompCondition, other: Option<SeccompCondition>) -> bool
     ensures { result ≡ alike (Some condition.now) other }
 {
-    match other {
-        Some(other) => {
-            condition.arg_index() == other.arg_index() && condition.arg_len() == other.arg_len()
-        }
-        None => false,
-    }
+    other.is_some_and(|other| {
+        condition.arg_index() == other.arg_index() && condition.arg_len() == other.arg_len()
+    })
 }
 
 // The condition, if there is one without a mask.
 fn only(conditions: &[SeccompCondition]) -> Option<SeccompCondition>
     ensures { result ≡ only conditions.now }
 {
-    if conditions.len() != 1 {
+    let [condition] = conditions else {
         return None;
-    }
-    match conditions[0].operator() {
+    };
+    match condition.operator() {
         SeccompCmpOp::MaskedEq(_) => None,
-        _ => Some(conditions[0]),
+        _ => Some(*condition),
     }
 }

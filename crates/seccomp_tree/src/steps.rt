@@ -19,11 +19,7 @@ impl Target {
     pub(crate) fn is(self, other: Target) -> bool
         ensures { IsTrue result ↔ (self ≡ other) }
     {
-        match (self, other) {
-            (Target::Give(word), Target::Give(other)) => word == other,
-            (Target::At(place), Target::At(other)) => place == other,
-            _ => false,
-        }
+        self == other
     }
 }
 

@@ -27,14 +27,8 @@ fn stands_out(steps: &[Step]) -> bool
 fn is_row(steps: &[Step], tests: usize) -> bool
     ensures { IsTrue result ↔ (row steps.now ≤ tests) }
 {
-    if steps.len() < 2 {
-        return true;
-    }
-    if tests == 0 {
-        return false;
-    }
     let settled = if stands_out(steps) { 2 } else { 1 };
-    is_row(&steps[settled..], tests - 1)
+    steps.len() < 2 || tests > 0 && is_row(&steps[settled..], tests - 1)
 }
 
 impl Code {

@@ -1,8 +1,8 @@
-use Rattle.seccomp_tree.proofs.Common.{◌≡◌, ◌-◌, ap, ◌∙◌, inl, inr, drop, length, refl, take, sym, false≢true, get_or, Give, Compares, part_of}
+use Rattle.seccomp_tree.proofs.Common.{◌≡◌, ◌-◌, ◌%◌, ap, ◌∙◌, inl, inr, drop, length, refl, take, sym, false≢true, get_or, Give, Compares, part_of}
 use Rattle.seccomp_tree.specs.Steps.{first_start}
 use Rattle.seccomp_tree.specs.Conditions.{IsChosen, numbers_of}
 use Rattle.seccomp_tree.proofs.Trees.{all_behind}
-use Rattle.seccomp_tree.proofs.Choices.{laying_begins, laying_on, laying_ends}
+use Rattle.seccomp_tree.proofs.Choices.{laying_begins, laying_on, laying_ends, part_left}
 use Rattle.seccomp_tree.proofs.intervals.laid.Goals.{After-turn-number, then-is_met, else-is_met}
 use Rattle.seccomp_tree.proofs.intervals.laid.Goals as goal
 
@@ -18,12 +18,19 @@ end_is c = c.first_start-end.ensures
     (c.numbers-size.ensures.numbers ∙ ap numbers_of c.arg_len.ensures)
     ∙ ap (first_start (numbers_of c.args.condition.now.arg_len)) (all_behind c.loop-number.rest.now 1)
 
+-- what counts of the value
+value_is : (c : After-turn-number) → c.from.result % c.numbers-size.result
+    ≡ part_of c.args.condition.now.arg_len c.args.condition.now.value
+value_is c =
+    rw (c.from.ensures, c.value.ensures, c.numbers-size.ensures.numbers, c.arg_len.ensures)
+    (part_left c.args.condition.now.arg_len c.args.condition.now.value (rw c.value.ensures at c.value.type_inv))
+
 -- what is chosen for the number
 chosen : (c : After-turn-number) → IsChosen (Compares c.args.condition.now.operator c.loop-number.number
     (part_of c.args.condition.now.arg_len c.args.condition.now.value)) c.args.target
     (get_or c.loop-number.rest.now 0 (record { start = 0; target = Give 0 })).target c.if-is_met.chosen
 chosen c =
-    let both = rw (c.operator.ensures, c.from-value.ensures, c.value_part.ensures.part) at c.compares-is_met.ensures in
+    let both = rw (c.operator.ensures, value_is c) at c.compares-is_met.ensures in
     elim c.if-is_met.branch [
       | then-is_met w ↦ record { met = λ is. w.chosen-is; unmet = λ not. absurd (not (both.0 w.if-is_met.true)) }
       | else-is_met w ↦ record { met = λ is. absurd (false≢true (sym w.if-is_met.false ∙ both.1 is)); unmet = λ not. w.chosen-is }
@@ -35,7 +42,7 @@ loop-number-preserved-then-number-end c =
     laying_on c.args.condition.now c.args.target c.args.others.now l.rest.now _ l.steps.items c.push_step.new.steps.items _ _ l.number
     c.turn-number.result _ _ c.requires.plain l.invariant
     (rw (c.numbers-size.ensures.numbers, c.arg_len.ensures) at c.loop-number-test.true)
-    (c.from-value.ensures ∙ c.value_part.ensures.part) (end_is ((goal.at.loop-number-preserved-then-number-end c).After-turn-number))
+    (value_is ((goal.at.loop-number-preserved-then-number-end c).After-turn-number)) (end_is ((goal.at.loop-number-preserved-then-number-end c).After-turn-number))
     c.turn-number.ensures (chosen ((goal.at.loop-number-preserved-then-number-end c).After-turn-number)) c.in_ok-push_step.ensures
     (inl (c.if-number-end.true, all_behind l.rest.now 1))
 
@@ -45,7 +52,7 @@ loop-number-preserved c =
     laying_on c.args.condition.now c.args.target c.args.others.now l.rest.now _ l.steps.items c.push_step.new.steps.items _ _ l.number
     c.turn-number.result _ _ c.requires.plain l.invariant
     (rw (c.numbers-size.ensures.numbers, c.arg_len.ensures) at c.loop-number-test.true)
-    (c.from-value.ensures ∙ c.value_part.ensures.part) (end_is ((goal.at.loop-number-preserved c).After-turn-number))
+    (value_is ((goal.at.loop-number-preserved c).After-turn-number)) (end_is ((goal.at.loop-number-preserved c).After-turn-number))
     c.turn-number.ensures (chosen ((goal.at.loop-number-preserved c).After-turn-number)) c.in_ok-push_step.ensures
     (inr (c.if-number-end.false, refl))
 

@@ -3,8 +3,8 @@ use Rattle.seccomp_tree.proofs.Common.{◌≡◌, ℕ, ◌+◌, ◌<◌, ◌≤�
 use Rattle.seccomp_tree.proofs.Common.{if◌then◌else◌, refl, suc, get_or, ◌⊎◌, inl, inr, nat_lt, IsSome, nat_tests, cases_lt, is_at, lookup}
 use Rattle.seccomp_tree.proofs.Common.{nat_cmp, Global, sock_filter, Target, Step, IsPushed, Grows, Ruling, rules_length, DecisionSet}
 use Rattle.seccomp_tree.proofs.Common.{default_for, rulings_for, calls_of, default_from, calls_length, DefaultValue, Give, AreRules}
-use Rattle.seccomp_tree.proofs.Common.{ap, one_value}
-use Rattle.seccomp_tree.specs.CallSteps.{IsAnswer, AreAnswers, AreCallSteps, IsNextNumber, IsNextDefault}
+use Rattle.seccomp_tree.proofs.Common.{ap, min, one_value}
+use Rattle.seccomp_tree.specs.CallSteps.{IsAnswer, AreAnswers, AreCallSteps, IsNextDefault}
 use Rattle.seccomp_tree.proofs.Runs.{grows_not, grows_on, is_in_grown, leads_grown}
 use Rattle.seccomp_tree.proofs.Begun.{steps_more}
 use Rattle.seccomp_tree.proofs.Deciding.{items_of, rulings_under}
@@ -76,6 +76,34 @@ below_one [] n m lt = omega arith
 below_one (e ∷ calls) n m lt = grind (arith, nat_tests, below_one calls n m lt, below_more calls n m (omega arith))
 
 -- ---- the loop of `call_steps`
+
+-- A number after this one, up to which calls are answered as those of this one.
+pub record IsNextNumber (d : DecisionSet) (number next : ℕ) : Type 0 where
+  pub above : number < next
+  pub within : next ≤ 2 ^ 32
+  pub default : (n : ℕ) → number ≤ n → n < next → default_for d.defaults n ≡ default_for d.defaults number
+  pub rulings : (n : ℕ) → number ≤ n → n < next → rulings_for d.calls n ≡ rulings_for d.calls number
+
+pub next_alone : (d : DecisionSet) (number : ℕ) → number < 2 ^ 32 → IsNextNumber d number (number + 1)
+next_alone d number fits = record {
+  above = omega arith;
+  within = omega arith;
+  default = λ n le lt. let same : n ≡ number = omega arith in rw same refl;
+  rulings = λ n le lt. let same : n ≡ number = omega arith in rw same refl;
+}
+
+pub next_both : (d : DecisionSet) (number default call next : ℕ) → IsNextDefault d.defaults number default → number < call → call ≤ 2 ^ 32
+    → ((n : ℕ) → number < n → n < call → rulings_for d.calls n ≡ []) → rulings_for d.calls number ≡ [] → next ≡ min default call
+    → IsNextNumber d number next
+next_both d number default call next h above within none own is = record {
+  above = omega (arith, is, h.above);
+  within = omega (arith, is);
+  default = λ n le lt. h.same n le (omega (arith, is));
+  rulings = λ n le lt. elim (cases_lt number n) [
+    | inl more ↦ none n more (omega (arith, is)) ∙ sym own
+    | inr less ↦ let same : n ≡ number = omega arith in rw same refl
+  ];
+}
 
 pub record CallsOn (d : DecisionSet) (old : List sock_filter) (next : ℕ) (steps : List Step) (code : List sock_filter) : Type 0 where
   pub within : next ≤ 2 ^ 32

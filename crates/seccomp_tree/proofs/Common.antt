@@ -62,5 +62,5 @@ pub use Rattle.std.specs.Int.Bits.{and_lt, and_zero_r}
 pub use Rattle.std.specs.List.Sorted.{IsPartitionPoint}
 pub use Rattle.std.specs.Map.{keys_of, lookup}
 pub use Rattle.std.specs.Ordering.{MatchOrdering, int_cmp, is_eq, nat_cmp, ordering_reverse}
-pub use Rattle.std.specs.Prelude.{IfOk, IsSome, bit_and, max, nat_lt, slice_get, unsigned_abs}
+pub use Rattle.std.specs.Prelude.{IfOk, IsSome, bit_and, max, min, nat_lt, slice_get, unsigned_abs}
 pub use Rattle.std.specs.Set.{is_member}

@@ -26,13 +26,6 @@ pub record IsNextDefault (defaults : List DefaultValue) (number next : ℕ) : Ty
   pub within : next ≤ 2 ^ 32
   pub same : (n : ℕ) → number ≤ n → n < next → default_for defaults n ≡ default_for defaults number
 
--- A number after this one, up to which calls are answered as those of this one.
-pub record IsNextNumber (d : DecisionSet) (number next : ℕ) : Type 0 where
-  pub above : number < next
-  pub within : next ≤ 2 ^ 32
-  pub default : (n : ℕ) → number ≤ n → n < next → default_for d.defaults n ≡ default_for d.defaults number
-  pub rulings : (n : ℕ) → number ≤ n → n < next → rulings_for d.calls n ≡ rulings_for d.calls number
-
 -- The steps over the numbers below one answer each of them.
 pub record AreAnswers (d : DecisionSet) (next : ℕ) (code : List sock_filter) (steps : List Step) : Type 0 where
   pub are : AreSteps next steps

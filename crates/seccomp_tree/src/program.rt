@@ -23,7 +23,7 @@ const NUMBERS: u64 = 0x1_0000_0000;
 
 impl Decisions {
     ghost use Rattle.seccomp_tree.specs.TreeProgram.{IsTreeProgram, IsTooLargeFor, calls_length};
-    ghost use Rattle.seccomp_tree.specs.CallSteps.{AreCallSteps, IsNextNumber};
+    ghost use Rattle.seccomp_tree.specs.CallSteps.{AreCallSteps};
 
     /// The program of these decisions: one tree of tests over call numbers, and after it the tests of their arguments.
     ///
@@ -65,20 +65,14 @@ impl Decisions {
                 None => code.rules(alloc, rulings, default)?,
             };
             push_step(&mut steps, next, target)?;
-            next = self.next_number(number, rulings);
+            // The next number that may be answered otherwise.
+            next = if rulings.is_empty() {
+                next_default(&self.defaults, number).min(next_call(&self.calls, number))
+            } else {
+                next + 1
+            };
         }
         Ok(steps)
-    }
-
-    // The next number that may be answered otherwise than this one, or 2^32.
-    fn next_number(&self, number: u32, rulings: &[Decision]) -> u64
-        requires { rulings.now ≡ rulings_for self.now.calls number }
-        ensures { IsNextNumber self.now number result }
-    {
-        if !rulings.is_empty() {
-            return u64::from(number) + 1;
-        }
-        next_default(&self.defaults, number).min(next_call(&self.calls, number))
     }
 }
 

@@ -80,10 +80,7 @@ impl Code {
         ensures { IfOk result (λ t. IsSettled self.old rest.now.like rest.now.steps.items t self.new) }
     {
         match rest.like {
-            Some(condition) => {
-                let (size, index) = (condition.arg_len(), condition.arg_index());
-                self.argument(alloc, size, index, &rest.steps)
-            }
+            Some(c) => self.argument(alloc, c.arg_len(), c.arg_index(), &rest.steps),
             None => Ok(rest.steps[0].target),
         }
     }

@@ -1,8 +1,8 @@
-use Rattle.seccomp_tree.proofs.Common.{◌≡◌, ◌-◌, ◌%◌, ap, ◌∙◌, inl, inr, drop, length, refl, take, sym, false≢true, get_or, Give, Compares, part_of}
+use Rattle.seccomp_tree.proofs.Common.{◌≡◌, ◌≢◌, ◌⊎◌, List, Step, ◌-◌, ◌%◌, ap, ◌∙◌, inl, inr, drop, length, refl, take, sym, false≢true, get_or, Give, Compares, part_of}
 use Rattle.seccomp_tree.specs.Steps.{first_start}
 use Rattle.seccomp_tree.specs.Conditions.{IsChosen, numbers_of}
 use Rattle.seccomp_tree.proofs.Trees.{all_behind}
-use Rattle.seccomp_tree.proofs.Choices.{laying_begins, laying_on, laying_ends, part_left}
+use Rattle.seccomp_tree.proofs.Choices.{Laying, laying_begins, laying_on, laying_ends, part_left}
 use Rattle.seccomp_tree.proofs.intervals.laid.Goals.{After-turn-number, then-is_met, else-is_met}
 use Rattle.seccomp_tree.proofs.intervals.laid.Goals as goal
 
@@ -36,25 +36,23 @@ chosen c =
       | else-is_met w ↦ record { met = λ is. absurd (false≢true (sym w.if-is_met.false ∙ both.1 is)); unmet = λ not. w.chosen-is }
     ]
 
+-- a step more
+on : (c : After-turn-number) (back : List Step)
+    → ((c.turn-number.result ≡ c.first_start-end.result) × (back ≡ drop 1 c.loop-number.rest.now))
+    ⊎ ((c.turn-number.result ≢ c.first_start-end.result) × (back ≡ c.loop-number.rest.now))
+    → Laying c.args.condition.now c.args.target c.args.others.now c.turn-number.result back c.push_step.new.steps.items
+on c back moved = laying_on c.args.condition.now c.args.target c.args.others.now c.loop-number.rest.now back c.loop-number.steps.items
+    c.push_step.new.steps.items _ _ c.loop-number.number c.turn-number.result _ _ c.requires.plain c.loop-number.invariant
+    (rw (c.numbers-size.ensures.numbers, c.arg_len.ensures) at c.loop-number-test.true) (value_is c) (end_is c) c.turn-number.ensures
+    (chosen c) c.in_ok-push_step.ensures moved
+
 pub loop-number-preserved-then-number-end : goal.loop-number-preserved-then-number-end
 loop-number-preserved-then-number-end c =
-    let l = c.loop-number in
-    laying_on c.args.condition.now c.args.target c.args.others.now l.rest.now _ l.steps.items c.push_step.new.steps.items _ _ l.number
-    c.turn-number.result _ _ c.requires.plain l.invariant
-    (rw (c.numbers-size.ensures.numbers, c.arg_len.ensures) at c.loop-number-test.true)
-    (value_is ((goal.at.loop-number-preserved-then-number-end c).After-turn-number)) (end_is ((goal.at.loop-number-preserved-then-number-end c).After-turn-number))
-    c.turn-number.ensures (chosen ((goal.at.loop-number-preserved-then-number-end c).After-turn-number)) c.in_ok-push_step.ensures
-    (inl (c.if-number-end.true, all_behind l.rest.now 1))
+    on ((goal.at.loop-number-preserved-then-number-end c).After-turn-number) _
+    (inl (c.if-number-end.true, all_behind c.loop-number.rest.now 1))
 
 pub loop-number-preserved : goal.loop-number-preserved
-loop-number-preserved c =
-    let l = c.loop-number in
-    laying_on c.args.condition.now c.args.target c.args.others.now l.rest.now _ l.steps.items c.push_step.new.steps.items _ _ l.number
-    c.turn-number.result _ _ c.requires.plain l.invariant
-    (rw (c.numbers-size.ensures.numbers, c.arg_len.ensures) at c.loop-number-test.true)
-    (value_is ((goal.at.loop-number-preserved c).After-turn-number)) (end_is ((goal.at.loop-number-preserved c).After-turn-number))
-    c.turn-number.ensures (chosen ((goal.at.loop-number-preserved c).After-turn-number)) c.in_ok-push_step.ensures
-    (inr (c.if-number-end.false, refl))
+loop-number-preserved c = on ((goal.at.loop-number-preserved c).After-turn-number) _ (inr (c.if-number-end.false, refl))
 
 pub returns : goal.returns
 returns c =

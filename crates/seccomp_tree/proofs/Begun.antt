@@ -1,7 +1,8 @@
 -- How many steps start below a number, and what that says of their targets.
 use Rattle.seccomp_tree.proofs.Common.{◌≡◌, ℕ, zero, suc, ◌+◌, ◌-◌, ◌^◌, ◌<◌, ◌≤◌, ◌≢◌, List, [], ◌∷◌, ◌++◌, length, get_or, true, false}
 use Rattle.seccomp_tree.proofs.Common.{refl, sym, ap, ◌∙◌, nat_le, if◌then◌else◌, leb, arith, inl, inr, length-append, nat_tests, cases_lt}
-use Rattle.seccomp_tree.proofs.Common.{leb-true, leb-false, IsPartitionPoint, sock_filter, Target, Step, found_from, found_in, AreOver, AscendFrom}
+use Rattle.seccomp_tree.proofs.Common.{leb-true, leb-false, IsPartitionPoint, sock_filter, Target, Step, found_from, found_in, AreOver}
+use Rattle.seccomp_tree.proofs.Common.{AscendFrom}
 use Rattle.seccomp_tree.proofs.Common.{AreSteps, begun, TightFrom, IsPushed, IsIn, AreIn}
 
 -- ---- ascending

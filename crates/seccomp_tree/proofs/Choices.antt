@@ -1,7 +1,8 @@
 -- Comparisons as steps, laid over others.
 use Rattle.seccomp_tree.proofs.Common.{◌≡◌, ◌≢◌, ℕ, ◌+◌, ◌^◌, ◌<◌, ◌≤◌, List, [], ◌∷◌, length, drop, get_or, true, ◌⊎◌, inl, inr, ◌∙◌}
 use Rattle.seccomp_tree.proofs.Common.{arith, refl, nat_tests, nat_eq, nat_lt, if◌then◌else◌, cases_lt, cases_eq, bit_and, sock_filter}
-use Rattle.seccomp_tree.proofs.Common.{SeccompCmpArgLen, SeccompCmpOp, Dword, Qword, ◌%◌, MaskedEq, Condition, Compares, part_of, Target, Step, found_from}
+use Rattle.seccomp_tree.proofs.Common.{SeccompCmpArgLen, SeccompCmpOp, Dword, Qword, ◌%◌, MaskedEq, Condition, Compares, part_of, Target}
+use Rattle.seccomp_tree.proofs.Common.{Step, found_from}
 use Rattle.seccomp_tree.proofs.Common.{found_in, AscendFrom, AreSteps, IsPushed, IsIn, AreIn, is_plain, IsChosen, AreLaid}
 use Rattle.seccomp_tree.specs.Steps.{first_start}
 use Rattle.seccomp_tree.specs.Conditions.{IsTurn, numbers_of}
@@ -43,7 +44,8 @@ pub record Laying (c : Condition) (target : Target) (others : List Step) (number
   pub from : number < numbers_of c.arg_len → IsFrom (numbers_of c.arg_len) number rest
   pub same : (a : ℕ) → number ≤ a → a < numbers_of c.arg_len → found_in others a ≡ found_in rest a
   pub are : AreSteps number steps
-  pub each : (a : ℕ) → a < number → IsChosen (Compares c.operator a (part_of c.arg_len c.value)) target (found_in others a) (found_in steps a)
+  pub each : (a : ℕ) → a < number → IsChosen (Compares c.operator a (part_of c.arg_len c.value)) target (found_in others a)
+      (found_in steps a)
   pub few : length steps + length rest + parts_left (part_of c.arg_len c.value) number ≤ length others + 2
 
 pub laying_begins : (c : Condition) (target : Target) (others : List Step) → AreSteps (numbers_of c.arg_len) others
@@ -61,7 +63,8 @@ laying_begins c target (x ∷ others) h =
     }
 
 -- a step more: numbers that compare alike, and have one of the others' targets
-pub laying_on : (c : Condition) (target : Target) (others rest back steps more : List Step) (value end number next : ℕ) (d : Step) (t : Target)
+pub laying_on : (c : Condition) (target : Target) (others rest back steps more : List Step) (value end number next : ℕ) (d : Step)
+    (t : Target)
     → is_plain c.operator ≡ true → Laying c target others number rest steps → number < numbers_of c.arg_len
     → value ≡ part_of c.arg_len c.value → end ≡ first_start (numbers_of c.arg_len) (drop 1 rest) → IsTurn value number end next
     → IsChosen (Compares c.operator number (part_of c.arg_len c.value)) target (get_or rest 0 d).target t → IsPushed steps number t more
@@ -87,7 +90,8 @@ laying_on c target others (x ∷ rest) back steps more value end number next d t
         let side = rw part at (turn.alike a le lt) in
         rw (pushed.from a le, other) record {
           met = λ is. chosen.met (alike_on c.operator a number (part_of c.arg_len c.value) plain (grind (arith, side, le)) is);
-          unmet = λ not. chosen.unmet (λ is. not (alike_on c.operator number a (part_of c.arg_len c.value) plain (grind (arith, side, le)) is));
+          unmet = λ not. chosen.unmet (λ is. not (alike_on c.operator number a (part_of c.arg_len c.value) plain (grind
+              (arith, side, le)) is));
         }
   ];
   few = elim moved [
@@ -102,7 +106,8 @@ laying_on c target others (x ∷ rest) back steps more value end number next d t
     last : end ≤ numbers_of c.arg_len
     last = rw ends (inside rest up)
       where
-        inside : (l : List Step) → AscendFrom (numbers_of c.arg_len) (number + 1) l → first_start (numbers_of c.arg_len) l ≤ numbers_of c.arg_len
+        inside : (l : List Step) → AscendFrom (numbers_of c.arg_len) (number + 1) l
+            → first_start (numbers_of c.arg_len) l ≤ numbers_of c.arg_len
         inside [] up = omega arith
         inside (y ∷ l) up = omega (arith, up.1.0)
 

@@ -1,6 +1,7 @@
 -- Arguments of 64 bits: steps by their high and their low halves.
 use Rattle.seccomp_tree.proofs.Common.{◌≡◌, ℕ, suc, ◌+◌, ◌-◌, ◌*◌, ◌/◌, ◌^◌, ◌<◌, ◌≤◌, List, [], length, get_or, sym, ap, subst, arith, inl}
-use Rattle.seccomp_tree.proofs.Common.{inr, max, cases_lt, cases_eq, pow-succ', sock_filter, word_at, argument_at, zero, Grows, LeadsAlways, IsRecord, ◌∷◌, take, drop}
+use Rattle.seccomp_tree.proofs.Common.{inr, max, cases_lt, cases_eq, pow-succ', sock_filter, word_at, argument_at, zero, Grows, LeadsAlways}
+use Rattle.seccomp_tree.proofs.Common.{IsRecord, ◌∷◌, take, drop}
 use Rattle.seccomp_tree.proofs.Common.{refl, ◌∙◌, nat_tests, length-drop, length-take, take_all, get_or-drop, AscendFrom, AreOver}
 use Rattle.seccomp_tree.proofs.Common.{word_fits, number_halves, Target, Step, found_in, AreSteps, begun, IsPushed}
 use Rattle.seccomp_tree.proofs.Common.{Dword, Qword, AreIn, IsPart, IsIn}
@@ -59,10 +60,17 @@ take_below m n from _ steps is h = tt
 pub own_over : (m from base begin end : ℕ) (steps : List Step) → AscendFrom m from steps → begin + 1 ≡ begun steps (base + 1)
     → end ≡ begun steps (base + 2 ^ 32) → AreOver base (own_steps steps begin end)
 own_over m from base begin end [] h is is' = absurd (omega (arith, is))
-own_over m from base zero zero (x ∷ steps) h is is' = absurd (omega (arith, is, is', begun_more (x ∷ steps) (base + 1) (base + 2 ^ 32) (omega arith)))
+own_over m from base zero zero (x ∷ steps) h is is' = absurd (omega (
+  arith,
+  is,
+  is',
+  begun_more (x ∷ steps) (base + 1) (base + 2 ^ 32)
+      (omega arith),
+))
 own_over m from base zero (suc k) (x ∷ steps) h is is' =
     let whole : suc k - 0 ≡ suc k = omega arith in
-    rw whole (take_below m (base + 2 ^ 32) (base + 1) k steps (grind (arith, nat_tests, is, is')) (raise steps (grind (arith, nat_tests, is)) h.1.1))
+    rw whole (take_below m (base + 2 ^ 32) (base + 1) k steps (grind (arith, nat_tests, is, is')) (raise steps (grind
+    (arith, nat_tests, is)) h.1.1))
   where
     raise : (l : List Step) → begun l (base + 1) ≡ 0 → AscendFrom m (x.start + 1) l → AscendFrom m (base + 1) l
     raise [] none up = tt
@@ -97,7 +105,11 @@ own_found (x ∷ l) begin end base a are is is' small =
       | inl lt ↦
           found_take (drop begin (x ∷ l)) (end - begin) (base + a) x (omega (arith, more)) (omega (arith, length-drop begin (x ∷ l), more))
           (above lt)
-      | inr le ↦ ap (λ s. found_in s (base + a)) (sym (take_all (end - begin) (drop begin (x ∷ l)) (omega (arith, length-drop begin (x ∷ l)))))
+      | inr le ↦ ap (λ s. found_in s (base + a)) (sym (take_all (end - begin) (drop begin (x ∷ l)) (omega (
+        arith,
+        length-drop begin
+            (x ∷ l),
+      ))))
     ]
       where
         at : begin + (end - begin) ≡ end
@@ -115,7 +127,12 @@ pub half_of_word : (old new : List sock_filter) (index : ℕ) (steps : List Step
     (own_steps steps begin end) t new
     → IsHalf old index steps high t new
 half_of_word old new index steps high begin end t are is is' word = record {
-  grows = record { front = word.grows.front; whole = word.grows.whole; few = omega (arith, word.grows.few, own_long steps begin end, up, up') };
+  grows = record {
+    front = word.grows.front;
+    whole = word.grows.whole;
+    few = omega
+        (arith, word.grows.few, own_long steps begin end, up, up');
+  };
   inside = word.inside;
   leads = λ r rec w n k few lead.
       word.leads r rec w n k (omega (arith, own_long steps begin end, begun_few steps (high * 2 ^ 32 + 2 ^ 32)))

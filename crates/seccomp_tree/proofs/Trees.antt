@@ -2,7 +2,8 @@
 use Rattle.seccomp_tree.proofs.Common.{◌≡◌, ℕ, zero, suc, ◌+◌, ◌-◌, ◌*◌, ◌/◌, ◌^◌, ◌<◌, ◌≤◌, List, [], ◌∷◌, length, take, drop, get_or}
 use Rattle.seccomp_tree.proofs.Common.{true, false, refl, sym, ap, ◌∙◌, subst, nat_le, if◌then◌else◌, arith, length-drop, Bool, nat_eq, ◌⊎◌}
 use Rattle.seccomp_tree.proofs.Common.{inl, inr, get_or-drop, get_or-take, length-take, length-take-le, take_all, nat_tests, pow-succ'}
-use Rattle.seccomp_tree.proofs.Common.{sock_filter, Target, Step, found_from, found_in, AscendFrom, AreOver, single, same, second_stands_out, row}
+use Rattle.seccomp_tree.proofs.Common.{sock_filter, Target, Step, found_from, found_in, AscendFrom, AreOver, single, same}
+use Rattle.seccomp_tree.proofs.Common.{second_stands_out, row}
 use Rattle.seccomp_tree.proofs.Common.{AreIn, Grows, GoesOn, chosen, IsTested, IsTree, Returns, IsPart, and_parts, At, Test, Dword}
 use Rattle.seccomp_tree.proofs.Common.{IsRecord, word_at, loads, load, word_fits}
 use Rattle.seccomp_tree.specs.Code.{goes_on}
@@ -164,7 +165,8 @@ test_goes old both new base steps high low test k u v t m is above below h r a w
     ])))
 
 -- a test of a row, and the rest of it
-row_tree : (old mid new : List sock_filter) (base : ℕ) (steps rest : List Step) (test : Test) (k : ℕ) (u v x t : Target) → IsTree old base rest x mid
+row_tree : (old mid new : List sock_filter) (base : ℕ) (steps rest : List Step) (test : Test) (k : ℕ) (u v x t : Target)
+    → IsTree old base rest x mid
     → IsTested mid test k u v t new → row steps ≡ suc (row rest) → row steps ≤ 6 → 1 ≤ length rest → length rest < length steps
     → GoesOn old base steps (suc (row rest)) t new → IsTree old base steps t new
 row_tree old mid new base steps rest test k u v x t tree h one six some less run = record {
@@ -182,7 +184,8 @@ pub tree_out : (old mid new : List sock_filter) (base : ℕ) (steps : List Step)
     → IsTested mid Equal ((get_or steps 1 d).start - base) (get_or steps 1 d).target x t new → IsTree old base steps t new
 tree_out old mid new base (a ∷ b ∷ c ∷ steps) d x t over out six tree h =
     let one : row (a ∷ b ∷ c ∷ steps) ≡ suc (row (c ∷ steps)) = grind (arith, out) in
-    row_tree old mid new base (a ∷ b ∷ c ∷ steps) (c ∷ steps) Equal (b.start - base) b.target x x t tree h one six (omega arith) (omega arith)
+    row_tree old mid new base (a ∷ b ∷ c ∷ steps) (c ∷ steps) Equal (b.start - base) b.target x x t tree h one six (omega arith)
+    (omega arith)
     (test_goes old mid new base (a ∷ b ∷ c ∷ steps) (single b.target) (c ∷ steps) Equal (b.start - base) b.target x t (row (c ∷ steps))
     (λ i small. stands_beside base i a b c steps over out) (plain_goes old mid base b.target (row (c ∷ steps)) tree.grows)
     (tree.soon (omega (arith, one))) h)
@@ -192,7 +195,8 @@ pub tree_first : (old mid new : List sock_filter) (base : ℕ) (steps : List Ste
     → AreOver base steps → second_stands_out steps ≡ false → row steps ≤ 6 → IsTree old base (drop 1 steps) x mid
     → IsTested mid AtLeast ((get_or steps 1 d).start - base) x (get_or steps 0 d).target t new → IsTree old base steps t new
 tree_first old mid new base (a ∷ b ∷ steps) d x t some over out six tree h =
-    row_tree old mid new base (a ∷ b ∷ steps) (b ∷ steps) AtLeast (b.start - base) x a.target x t tree h (one steps out) six (omega arith) (omega arith)
+    row_tree old mid new base (a ∷ b ∷ steps) (b ∷ steps) AtLeast (b.start - base) x a.target x t tree h (one steps out) six
+    (omega arith) (omega arith)
     (test_goes old mid new base (a ∷ b ∷ steps) (b ∷ steps) (single a.target) AtLeast (b.start - base) x a.target t (row (b ∷ steps))
     (λ i small. grind (arith, nat_tests, over.0))
     (tree.soon (omega (arith, one steps out))) (plain_goes old mid base a.target (row (b ∷ steps)) tree.grows) h)
@@ -202,7 +206,8 @@ tree_first old mid new base (a ∷ b ∷ steps) d x t some over out six tree h =
 tree_first old mid new base _ d x t some over out six tree h = absurd (omega arith)
 
 -- a test in front of two halves
-pub tree_halves : (old mid both new : List sock_filter) (base : ℕ) (steps : List Step) (n : ℕ) (d : Step) (u v t : Target) → n ≡ length steps / 2
+pub tree_halves : (old mid both new : List sock_filter) (base : ℕ) (steps : List Step) (n : ℕ) (d : Step) (u v t : Target)
+    → n ≡ length steps / 2
     → AreOver base steps → 2 ≤ length steps → 6 < row steps → IsTree old base (drop n steps) u mid → IsTree mid base (take n steps) v both
     → IsTested both AtLeast ((get_or steps n d).start - base) u v t new → IsTree old base steps t new
 tree_halves old mid both new base steps n d u v t half over some long upper lower h = record {
@@ -245,7 +250,8 @@ found_one (x ∷ y ∷ steps) a b few = absurd (omega arith)
 found_one _ a b few = refl
 
 -- one step needs no load
-pub word_one : (old new : List sock_filter) (byte base : ℕ) (steps : List Step) (t : Target) → length steps ≡ 1 → IsTree old base steps t new
+pub word_one : (old new : List sock_filter) (byte base : ℕ) (steps : List Step) (t : Target) → length steps ≡ 1
+    → IsTree old base steps t new
     → IsPart old Dword (3 * length steps - 2) (λ r. word_at r byte + base) steps t new
 word_one old new byte base steps t one h = record {
   grows = grows_on _ h.grows (grows_not new 0) (omega arith);

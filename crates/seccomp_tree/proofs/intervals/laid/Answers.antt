@@ -1,4 +1,5 @@
-use Rattle.seccomp_tree.proofs.Common.{◌≡◌, ◌≢◌, ◌⊎◌, List, Step, ◌-◌, ◌%◌, ap, ◌∙◌, inl, inr, drop, length, refl, take, sym, false≢true, get_or, Give, Compares, part_of}
+use Rattle.seccomp_tree.proofs.Common.{◌≡◌, ◌≢◌, ◌⊎◌, List, Step, ◌-◌, ◌%◌, ap, ◌∙◌, inl, inr, drop, length, refl, take, sym, false≢true}
+use Rattle.seccomp_tree.proofs.Common.{get_or, Give, Compares, part_of}
 use Rattle.seccomp_tree.specs.Steps.{first_start}
 use Rattle.seccomp_tree.specs.Conditions.{IsChosen, numbers_of}
 use Rattle.seccomp_tree.proofs.Trees.{all_behind}

@@ -1,6 +1,7 @@
 use Rattle.seccomp_tree.proofs.Common.{◌≤◌, length, sym, ◌∙◌, arith, nat_tests, false≢true, Step}
 use Rattle.seccomp_tree.proofs.Begun.{found_last, pushed_same, pushed_more}
-use Rattle.seccomp_tree.proofs.steps.push_step.Goals.{else-not-is_empty-via-then-not-is_empty+else-is, else-not-is_empty-via-else-not-is_empty}
+use Rattle.seccomp_tree.proofs.steps.push_step.Goals.{else-not-is_empty-via-then-not-is_empty+else-is}
+use Rattle.seccomp_tree.proofs.steps.push_step.Goals.{else-not-is_empty-via-else-not-is_empty}
 use Rattle.seccomp_tree.proofs.steps.push_step.Goals as goal
 
 pub returns-then-is : goal.returns-then-is

@@ -1,7 +1,8 @@
 use Rattle.seccomp_tree.proofs.Common.{◌/◌, length, refl, sym, ◌∙◌, arith, inl, inr, cases_lt, false≢true, row, IfOk-weaker}
 use Rattle.seccomp_tree.proofs.Common.{length-take-le, Give, Step}
 use Rattle.seccomp_tree.proofs.Runs.{is_in_grown}
-use Rattle.seccomp_tree.proofs.Trees.{over_starts, over_take, in_take, all_behind, rest_of, out_long, tree_single, tree_out, tree_first, tree_halves}
+use Rattle.seccomp_tree.proofs.Trees.{over_starts, over_take, in_take, all_behind, rest_of, out_long, tree_single, tree_out, tree_first}
+use Rattle.seccomp_tree.proofs.Trees.{tree_halves}
 use Rattle.seccomp_tree.proofs.code.Code.+tree.Goals as goal
 
 pub returns-then-steps-eq1 : goal.returns-then-steps-eq1
@@ -69,7 +70,8 @@ returns-then-stands_out t c =
     let all = all_behind steps 2 in
     IfOk-weaker c.test-then-stands_out.result _ _
     (λ u h.
-    tree_out c.args.self.now c.tree-then-stands_out.new.self c.test-then-stands_out.new.self c.args.base steps _ c.in_ok-rest.rest u c.requires.over
+    tree_out c.args.self.now c.tree-then-stands_out.new.self c.test-then-stands_out.new.self c.args.base steps _ c.in_ok-rest.rest u
+    c.requires.over
     (sym c.stands_out.ensures ∙ c.if-stands_out.true) (c.is_row.ensures.0 c.if-not-is_row.false) (rw all at c.in_ok-rest.ensures) h)
     c.test-then-stands_out.ensures
 
@@ -85,6 +87,7 @@ returns t c =
     IfOk-weaker c.test-2.result _ _
     (λ u h.
     tree_first c.args.self.now c.tree-2.new.self c.test-2.new.self c.args.base steps _ c.in_ok-rest-2.rest u
-    (omega (arith, c.requires.some)) c.requires.over (sym c.stands_out.ensures ∙ c.if-stands_out.false) (c.is_row.ensures.0 c.if-not-is_row.false)
+    (omega (arith, c.requires.some)) c.requires.over (sym c.stands_out.ensures
+    ∙ c.if-stands_out.false) (c.is_row.ensures.0 c.if-not-is_row.false)
     (rw all at c.in_ok-rest-2.ensures) h)
     c.test-2.ensures

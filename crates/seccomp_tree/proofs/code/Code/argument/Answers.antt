@@ -82,7 +82,8 @@ half c = half_of_word c.loop-high.self c.word-in-loop-high.new.self c.args.index
 pub loop-high-preserved-then-begin-steps : goal.loop-high-preserved-then-begin-steps
 loop-high-preserved-then-begin-steps c =
     let l = c.loop-high in
-    highs_one c.args.self.now l.self c.word-in-loop-high.new.self c.args.index c.args.steps.now l.highs.items c.push_step.new.steps.items l.high
+    highs_one c.args.self.now l.self c.word-in-loop-high.new.self c.args.index c.args.steps.now l.highs.items c.push_step.new.steps.items
+    l.high
     _ c.in_ok-target.target l.invariant c.loop-high-test.true (half ((goal.at.loop-high-preserved-then-begin-steps c).After-push_step))
     (next_some c.args.steps.now l.high c.until-begin.result _ _ (rw c.in_default.is at c.requires.are) c.loop-high-test.true
     c.until-begin.ensures.count c.if-begin-steps.true c.max-high.ensures)

@@ -11,9 +11,11 @@ returns-then-over-le-REACH c =
 
 stands : (c : After-twin) → StandsIn c.args.self.now c.args.target c.match-target.instruction
 stands c = elim c.match-target.branch [
-  | in-Give w ↦ rw (w.instruction-is, w.bpf_stmt-instruction.ensures) (return_stands c.args.self.now c.args.target w.in-Give.word w.in-Give.is (rw w.in-Give.is at c.requires))
+  | in-Give w ↦ rw (w.instruction-is, w.bpf_stmt-instruction.ensures)
+      (return_stands c.args.self.now c.args.target w.in-Give.word w.in-Give.is (rw w.in-Give.is at c.requires))
   | in-At+else-over-le-REACH w ↦ rw (w.instruction-is, w.bpf_stmt-instruction-in-At.ensures)
-      (jump_stands c.args.self.now c.args.target w.in-At.place w.over-over.result w.in-At.is w.over-over.ensures.over w.if-over-le-REACH.false
+      (jump_stands c.args.self.now c.args.target w.in-At.place w.over-over.result w.in-At.is w.over-over.ensures.over
+      w.if-over-le-REACH.false
       w.over-over.ensures.few)
 ]
 

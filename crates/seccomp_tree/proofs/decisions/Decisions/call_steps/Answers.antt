@@ -1,4 +1,5 @@
-use Rattle.seccomp_tree.proofs.Common.{◌≡◌, ◌+◌, ◌∷◌, [], List, Ruling, length, refl, arith, nat_tests, ap, sym, ◌∙◌, DecisionSet, default_for, rulings_for}
+use Rattle.seccomp_tree.proofs.Common.{◌≡◌, ◌+◌, ◌∷◌, [], List, Ruling, length, refl, arith, nat_tests, ap, sym, ◌∙◌, DecisionSet}
+use Rattle.seccomp_tree.proofs.Common.{default_for, rulings_for}
 use Rattle.seccomp_tree.proofs.CallsPushed.{IsAnswered, answered_one, answered_rules, calls_on, next_alone, next_both}
 use Rattle.seccomp_tree.proofs.decisions.Decisions.call_steps.Goals.{After-push_step, in-Some, in-None+in_ok-target-in-None}
 use Rattle.seccomp_tree.proofs.decisions.Decisions.call_steps.Goals as goal
@@ -10,10 +11,13 @@ default c = c.default_for-default.ensures
 answered : (c : After-push_step) → IsAnswered c.loop-next.code (default_for c.args.self.now.defaults c.loop-next.next)
     (rulings_for c.args.self.now.calls c.loop-next.next) c.match-one_value.target c.match-one_value.code
 answered c = rw (← default c, ← c.rulings_for-rulings.ensures) (elim c.match-one_value.branch [
-  | in-Some w ↦ rw (w.target-is, w.code-is) (answered_one c.loop-next.code c.default_for-default.result w.in-Some.value c.rulings_for-rulings.result.now w.in-Some.ensures.fits
+  | in-Some w ↦ rw (w.target-is, w.code-is)
+      (answered_one c.loop-next.code c.default_for-default.result w.in-Some.value c.rulings_for-rulings.result.now w.in-Some.ensures.fits
       (sym c.one_value.ensures.value ∙ w.in-Some.is))
-  | in-None+in_ok-target-in-None w ↦ rw (w.target-is, w.code-is) (answered_rules c.loop-next.code w.rules.new.self c.default_for-default.result
-      c.rulings_for-rulings.result.now w.in_ok-target-in-None.target (sym c.one_value.ensures.value ∙ w.in-None.is) w.in_ok-target-in-None.ensures.ok)
+  | in-None+in_ok-target-in-None w ↦ rw (w.target-is, w.code-is)
+      (answered_rules c.loop-next.code w.rules.new.self c.default_for-default.result
+      c.rulings_for-rulings.result.now w.in_ok-target-in-None.target (sym c.one_value.ensures.value
+      ∙ w.in-None.is) w.in_ok-target-in-None.ensures.ok)
 ])
 
 none : (rulings : List Ruling) → length rulings ≡ 0 → rulings ≡ []

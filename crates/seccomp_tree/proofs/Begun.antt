@@ -27,7 +27,7 @@ steps_more m n steps some le h =
 
 -- and are over all numbers of 32 bits
 pub over_zero : (steps : List Step) → AreSteps (2 ^ 32) steps → AreOver 0 steps
-over_zero [] h = tt
+over_zero [] h = absurd (h.first (omega arith))
 over_zero (x ∷ steps) h =
     ascend_more (2 ^ 32) (0 + 2 ^ 32) (x.start + 1) (0 + 1) steps (omega arith) (omega (arith, h.first (omega arith))) h.ascend.1.1
 

@@ -135,8 +135,8 @@ module _ (d : DecisionSet) (p : List sock_filter) (h : IsWritten d p) where
 
 -- the steps over all numbers may be looked up in the code
 pub answers_in : (d : DecisionSet) (old mid : List sock_filter) (steps : List Step) → AreCallSteps old d steps mid
-    → (1 ≤ length steps) × (AreOver 0 steps × AreIn mid steps)
+    → AreOver 0 steps × AreIn mid steps
 answers_in d old mid steps h = (
-  not_none (2 ^ 32) steps h.answers.are (omega arith),
-  (over_zero steps h.answers.are, are_in_below mid (2 ^ 32) steps (omega arith) h.answers.are (λ a lt. (h.answers.each a lt).inside)),
+  over_zero steps h.answers.are,
+  are_in_below mid (2 ^ 32) steps (omega arith) h.answers.are (λ a lt. (h.answers.each a lt).inside),
 )

@@ -17,9 +17,14 @@ ascend_take : (m from n : ℕ) (steps : List Step) → AscendFrom m from steps �
 ascend_take m from (suc n) (x ∷ steps) h = (h.0, (h.1.0, ascend_take m (x.start + 1) n steps h.1.1))
 ascend_take m from _ steps h = tt
 
-pub over_take : (base n : ℕ) (steps : List Step) → AreOver base steps → AreOver base (take n steps)
-over_take base (suc n) (x ∷ steps) h = ascend_take (base + 2 ^ 32) (base + 1) n steps h
-over_take base _ steps h = tt
+pub over_some : (base : ℕ) (steps : List Step) → AreOver base steps → 1 ≤ length steps
+over_some base [] h = absurd h
+over_some base (x ∷ steps) h = omega arith
+
+pub over_take : (base n : ℕ) (steps : List Step) → 1 ≤ n → AreOver base steps → AreOver base (take n steps)
+over_take base (suc n) (x ∷ steps) some h = ascend_take (base + 2 ^ 32) (base + 1) n steps h
+over_take base zero steps some h = absurd (omega arith)
+over_take base (suc n) [] some h = absurd h
 
 pub in_take : (code : List sock_filter) (n : ℕ) (steps : List Step) → AreIn code steps → AreIn code (take n steps)
 in_take code n steps h k d lt =
@@ -41,17 +46,18 @@ found_take (x ∷ steps) (suc n) a d some lt below = from_take x.target steps n 
 
 -- ---- the others
 
-over_behind : (base from n : ℕ) (steps : List Step) → base < from → AscendFrom (base + 2 ^ 32) from steps → AreOver base (drop n steps)
-over_behind base from zero [] lt h = tt
-over_behind base from (suc n) [] lt h = tt
-over_behind base from zero (x ∷ steps) lt h =
+over_behind : (base from n : ℕ) (steps : List Step) → base < from → n < length steps → AscendFrom (base + 2 ^ 32) from steps
+    → AreOver base (drop n steps)
+over_behind base from n [] above lt h = absurd (omega arith)
+over_behind base from zero (x ∷ steps) above lt h =
     ascend_more (base + 2 ^ 32) (base + 2 ^ 32) (x.start + 1) (base + 1) steps (omega arith) (omega (arith, h.0)) h.1.1
-over_behind base from (suc n) (x ∷ steps) lt h = over_behind base (x.start + 1) n steps (omega (arith, h.0)) h.1.1
+over_behind base from (suc n) (x ∷ steps) above lt h =
+    over_behind base (x.start + 1) n steps (omega (arith, h.0)) (omega arith) h.1.1
 
-over_drop : (base n : ℕ) (steps : List Step) → AreOver base steps → AreOver base (drop n steps)
-over_drop base zero steps h = h
-over_drop base (suc n) [] h = tt
-over_drop base (suc n) (x ∷ steps) h = over_behind base (base + 1) n steps (omega arith) h
+over_drop : (base n : ℕ) (steps : List Step) → n < length steps → AreOver base steps → AreOver base (drop n steps)
+over_drop base zero steps lt h = h
+over_drop base (suc n) [] lt h = absurd h
+over_drop base (suc n) (x ∷ steps) lt h = over_behind base (base + 1) n steps (omega arith) (omega arith) h
 
 -- the starts of all but the first
 pub over_starts : (base k : ℕ) (steps : List Step) (d : Step) → AreOver base steps → 1 ≤ k → k < length steps
@@ -87,7 +93,7 @@ pub rest_of : (code : List sock_filter) (base n t : ℕ) (steps : List Step) →
     × (AreOver base (take (length steps - n) (drop n steps)) × AreIn code (take (length steps - n) (drop n steps))))
 rest_of code base n t steps some lt all_in over inside =
     let long = length-drop n steps in
-    rw (all_behind steps n) (omega (arith, long), (omega (arith, long), (over_drop base n steps over, in_drop code n steps inside)))
+    rw (all_behind steps n) (omega (arith, long), (omega (arith, long), (over_drop base n steps lt over, in_drop code n steps inside)))
 
 -- the number of halvings of a half is one less
 pub halvings : (n m k : ℕ) → 2 ≤ n → n ≤ 2 ^ k → m ≤ n - n / 2 → (j : ℕ) × (k ≡ suc j) × (m ≤ 2 ^ j)

@@ -25,9 +25,9 @@ abbrev pub AscendFrom : ℕ → ℕ → List Step → Type 0
 AscendFrom size start [] = ⊤
 AscendFrom size start (x ∷ steps) = (start ≤ x.start) × ((x.start < size) × AscendFrom size (x.start + 1) steps)
 
--- The steps but the first start above a base, within 2 ^ 32 numbers of it, each above the one before it.
+-- There are steps, and all but the first start above a base, within 2 ^ 32 numbers of it, each above the one before it.
 abbrev pub AreOver : ℕ → List Step → Type 0
-AreOver base [] = ⊤
+AreOver base [] = ⊥
 AreOver base (x ∷ steps) = AscendFrom (base + 2 ^ 32) (base + 1) steps
 
 -- The first step starts at 0.

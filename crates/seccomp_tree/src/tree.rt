@@ -63,7 +63,6 @@ impl Code {
     pub(crate) fn word(&mut self, byte: u8, base: u64, steps: &[Step]) -> Result<Target, AllocError>
         requires aligned { byte % 4 ≡ 0 }
         requires inside_record { byte ≤ 60 }
-        requires some { 1 ≤ length steps.now }
         requires over { AreOver base steps.now }
         requires inside { AreIn self.old steps.now }
         ensures { IfOk result (λ t. IsPart self.old Dword (3 * length steps.now - 2) (λ r. word_at r byte + base) steps.now t self.new) }

@@ -22,7 +22,7 @@ tree-requires-then-not-is_row t c =
       (
         omega (arith, long, c.requires.some),
         (
-          over_take c.args.base n steps c.requires.over,
+          over_take c.args.base n steps (omega (arith, c.requires.some)) c.requires.over,
           λ k d lt. is_in_grown _ c.in_ok-upper.ensures.grows (in_take c.args.self.now n steps c.requires.inside k d lt),
         ),
       ),

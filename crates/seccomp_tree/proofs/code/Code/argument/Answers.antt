@@ -1,7 +1,7 @@
-use Rattle.seccomp_tree.proofs.Common.{◌≡◌, ◌≤◌, ◌+◌, ◌-◌, ◌*◌, ◌^◌, drop, ap, ◌∙◌, arith, begun, length-take, length-drop}
+use Rattle.seccomp_tree.proofs.Common.{◌≡◌, ◌≤◌, ◌+◌, ◌-◌, ◌*◌, ◌^◌, ap, ◌∙◌, arith, begun}
 use Rattle.seccomp_tree.proofs.Common.{IfOk-weaker}
 use Rattle.seccomp_tree.proofs.Runs.{is_in_grown}
-use Rattle.seccomp_tree.proofs.Begun.{begun_few, begun_more, not_none, over_zero}
+use Rattle.seccomp_tree.proofs.Begun.{begun_few, begun_more, over_zero}
 use Rattle.seccomp_tree.proofs.Meeting.{part_of_word}
 use Rattle.seccomp_tree.proofs.Halves.{IsHalf, half_of_word, highs_one, highs_are, is_argument, next_is, next_some, own_in, own_over}
 use Rattle.seccomp_tree.proofs.code.Code.argument.Goals.{After-until, After-push_step}
@@ -13,7 +13,6 @@ word-requires c =
     record {
       aligned = omega arith;
       inside_record = omega (arith, c.requires.index);
-      some = not_none (2 ^ 32) c.args.steps.now are (omega arith);
       over = over_zero c.args.steps.now are;
       inside = c.requires.inside;
     }
@@ -46,19 +45,6 @@ slice_bounds-own-count c = omega (arith, some ((goal.at.slice_bounds-own-count c
 
 pub slice_bounds-own-start : goal.slice_bounds-own-start
 slice_bounds-own-start c = omega (arith, some ((goal.at.slice_bounds-own-start c).After-until))
-
-pub word-requires-in-loop-high-clause-some : goal.word-requires-in-loop-high-clause-some
-word-requires-in-loop-high-clause-some c =
-    let steps = c.args.steps.now in
-    let begin = c.until-begin.result - 1 in
-    omega (
-      arith,
-      some ((goal.at.word-requires-in-loop-high-clause-some c).After-until),
-      length-take (c.until.result - begin) (drop begin steps),
-      length-drop begin steps,
-      c.until-begin.ensures.some,
-      c.until.ensures.few,
-    )
 
 pub word-requires-in-loop-high-clause-over : goal.word-requires-in-loop-high-clause-over
 word-requires-in-loop-high-clause-over c =
@@ -107,7 +93,6 @@ word-requires-2 c =
     rw c.deref.ensures.value record {
       aligned = omega arith;
       inside_record = omega (arith, c.requires.index);
-      some = not_none (2 ^ 32) l.highs.items h.0 (omega arith);
       over = over_zero l.highs.items h.0;
       inside = h.1;
     }

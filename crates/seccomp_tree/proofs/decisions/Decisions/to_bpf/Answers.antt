@@ -6,7 +6,7 @@ use Rattle.seccomp_tree.proofs.decisions.Decisions.to_bpf.Goals as goal
 pub word-requires : goal.word-requires
 word-requires c =
     let h = answers_in c.args.self.now _ _ _ c.in_ok-steps.ensures.ok in
-    rw c.deref.ensures.value record { aligned = refl; inside_record = omega arith; some = h.0; over = h.1.0; inside = h.1.1 }
+    rw c.deref.ensures.value record { aligned = refl; inside_record = omega arith; over = h.0; inside = h.1 }
 
 written : (c : After-len-is_large) → IsWritten c.args.self.now c.into_program-program.result.items
 written c = record {

@@ -1,8 +1,9 @@
 -- How many steps start below a number, and what that says of their targets.
 use Rattle.seccomp_tree.proofs.Common.{◌≡◌, ℕ, zero, suc, ◌+◌, ◌-◌, ◌^◌, ◌<◌, ◌≤◌, ◌≢◌, List, [], ◌∷◌, ◌++◌, length, get_or, true, false}
 use Rattle.seccomp_tree.proofs.Common.{refl, sym, ap, ◌∙◌, nat_le, if◌then◌else◌, leb, arith, inl, inr, length-append, nat_tests, cases_lt}
-use Rattle.seccomp_tree.proofs.Common.{leb-true, leb-false, IsPartitionPoint, sock_filter, Target, Step, found_from, found_in, AscendFrom}
-use Rattle.seccomp_tree.proofs.Common.{AreSteps, begun, TightFrom, IsPushed, IsPartPushed, IsIn, AreIn}
+use Rattle.seccomp_tree.proofs.Common.{leb-true, leb-false, IsPartitionPoint, sock_filter, Target, Step, found_from, found_in, AreOver}
+use Rattle.seccomp_tree.proofs.Common.{AscendFrom}
+use Rattle.seccomp_tree.proofs.Common.{AreSteps, begun, TightFrom, IsPushed, IsIn, AreIn}
 
 -- ---- ascending
 
@@ -23,6 +24,12 @@ above_none m from (x ∷ steps) h some = omega (arith, h.1.0)
 pub steps_more : (m n : ℕ) (steps : List Step) → 0 < m → m ≤ n → AreSteps m steps → AreSteps n steps
 steps_more m n steps some le h =
     record { first = λ _. h.first some; ascend = ascend_more m n 0 0 steps le (omega arith) h.ascend; tight = h.tight }
+
+-- and are over all numbers of 32 bits
+pub over_zero : (steps : List Step) → AreSteps (2 ^ 32) steps → AreOver 0 steps
+over_zero [] h = absurd (h.first (omega arith))
+over_zero (x ∷ steps) h =
+    ascend_more (2 ^ 32) (0 + 2 ^ 32) (x.start + 1) (0 + 1) steps (omega arith) (omega (arith, h.first (omega arith))) h.ascend.1.1
 
 -- starts rise
 pub starts_rise : (m from : ℕ) (steps : List Step) (k : ℕ) (d : Step) → AscendFrom m from steps → k < length steps
@@ -128,6 +135,14 @@ found_same m [] a b h some same = absurd (h.first some)
 found_same m (x ∷ steps) a b h some same =
     found_begun m (x ∷ steps) a x h some ∙ ap (λ n. (get_or (x ∷ steps) (n - 1) x).target) same ∙ sym (found_begun m (x ∷ steps) b x h some)
 
+-- the last step decides from all starts on
+pub found_last : (m n : ℕ) (steps : List Step) (x : Step) → AreSteps m steps → 1 ≤ length steps → n ≡ length steps - 1
+    → x ≡ get_or steps n x → found_in steps m ≡ x.target
+found_last m n steps x h some last is =
+    let all : begun steps (m + 1) - 1 ≡ n = omega (arith, begun_all m 0 steps (m + 1) h.ascend (omega arith), last) in
+    found_begun m steps m x h (above_none m 0 steps h.ascend some) ∙ ap (λ k. (get_or steps k x).target) all
+    ∙ ap (λ (y : Step). y.target) (sym is)
+
 -- targets for all numbers below the size are all targets, and the other way round
 pub are_in_below : (code : List sock_filter) (m : ℕ) (steps : List Step) → 0 < m → AreSteps m steps
     → ((a : ℕ) → a < m → IsIn code (found_in steps a)) → AreIn code steps
@@ -195,79 +210,3 @@ pushed_same old start target h some same = record {
   below = λ a lt. refl;
   few = omega arith;
 }
-
--- ---- the loop of `push_part`
-
-pub record PartOn (old others : List Step) (first last base i : ℕ) (new : List Step) : Type 0 where
-  pub at : ℕ
-  pub are : AreSteps (at + 1) new
-  pub low : first ≤ base + at
-  pub high : base + at ≤ last
-  pub done : begun others (base + at + 1) ≤ i
-  pub found : (a : ℕ) → first ≤ base + a → begun others (base + a + 1) ≤ i → found_in new a ≡ found_in others (base + a)
-  pub below : (a : ℕ) → base + a < first → found_in new a ≡ found_in old a
-  pub few : length new + begun others (first + 1) ≤ length old + 1 + i
-
-module _ (old others : List Step) (first last base : ℕ) (are : AreSteps (2 ^ 64) others) (order : base ≤ first) (some : first ≤ last) where
-  pub part_begins : (new : List Step) → IsPushed old (first - base) (found_in others first) new
-      → PartOn old others first last base (begun others (first + 1)) new
-  part_begins new pushed =
-      record {
-        at = first - base;
-        are = pushed.are;
-        low = omega arith;
-        high = omega arith;
-        done = begun_more others (base + (first - base) + 1) (first + 1) (omega arith);
-        found = λ a le few.
-            let more = begun_more others (first + 1) (base + a + 1) (omega arith) in
-            pushed.from a (omega arith) ∙ found_same (2 ^ 64) others first (base + a) are (omega arith) (omega (arith, more));
-        below = λ a lt. pushed.below a (omega arith);
-        few = omega (arith, pushed.few);
-      }
-
-  -- the next of the others starts after what is pushed, and within the part
-  pub part_room : (i : ℕ) (d : Step) (new : List Step) → i < begun others (last + 1) → PartOn old others first last base i new
-      → (base ≤ (get_or others i d).start) × (first ≤ (get_or others i d).start) × AreSteps ((get_or others i d).start - base) new
-  part_room i d new lt h =
-      let s = (get_or others i d).start in
-      let within = begun_few others (last + 1) in
-      let above : base + h.at < s = grind (arith, begun_counts (2 ^ 64) 0 others (base + h.at + 1) i d are.ascend (omega arith), h.done) in
-      (omega arith, omega (arith, h.low), steps_more (h.at + 1) (s - base) new (omega arith) (omega arith) h.are)
-
-  pub part_turn : (i : ℕ) (d : Step) (mid new : List Step) → i < begun others (last + 1) → PartOn old others first last base i mid
-      → IsPushed mid ((get_or others i d).start - base) ((get_or others i d).target) new
-      → PartOn old others first last base (i + 1) new
-  part_turn i d mid new lt h pushed =
-      let s = (get_or others i d).start in
-      let room = part_room i d mid lt h in
-      let within = begun_few others (last + 1) in
-      let inside = begun_below others (last + 1) i d lt in
-      let here : begun others (s + 1) ≡ i + 1 = begun_at (2 ^ 64) 0 others i d are.ascend (omega arith) in
-      record {
-        at = s - base;
-        are = pushed.are;
-        low = omega (arith, room.0, room.1);
-        high = omega (arith, inside);
-        done = omega (arith, here, begun_more others (base + (s - base) + 1) (s + 1) (omega (arith, room.0)));
-        found = λ a le few. elim (cases_lt (base + a) s) [
-          | inl lower ↦
-              let less : begun others (base + a + 1) ≤ i = grind (arith, begun_below others (base + a + 1) i d) in
-              pushed.below a (omega arith) ∙ h.found a le less
-          | inr upper ↦
-              let more = begun_more others (s + 1) (base + a + 1) (omega arith) in
-              let same : begun others (base + a + 1) - 1 ≡ i = omega (arith, here, more) in
-              pushed.from a (omega arith) ∙ sym (ap (λ n. (get_or others n d).target) same)
-              ∙ sym (found_begun (2 ^ 64) others (base + a) d are (omega arith))
-        ];
-        below = λ a less. pushed.below a (omega (arith, room.1)) ∙ h.below a less;
-        few = omega (arith, h.few, pushed.few);
-      }
-
-  pub part_ends : (i : ℕ) (new : List Step) → begun others (last + 1) ≡ i → PartOn old others first last base i new
-      → IsPartPushed old others first last base new
-  part_ends i new end h = record {
-    are = steps_more (h.at + 1) (last + 1 - base) new (omega arith) (omega (arith, h.high)) h.are;
-    inside = λ a from to. h.found a from (omega (arith, begun_more others (base + a + 1) (last + 1) (omega arith)));
-    below = h.below;
-    few = omega (arith, h.few);
-  }

@@ -2,8 +2,9 @@
 use Rattle.seccomp_tree.proofs.Common.{◌≡◌, ℕ, ◌+◌, ◌<◌, ◌≤◌, ◌^◌, List, [], ◌∷◌, length, Option, Some, None, Vec, sym, ◌∙◌, arith}
 use Rattle.seccomp_tree.proofs.Common.{if◌then◌else◌, refl, suc, get_or, ◌⊎◌, inl, inr, nat_lt, IsSome, nat_tests, cases_lt, is_at, lookup}
 use Rattle.seccomp_tree.proofs.Common.{nat_cmp, Global, sock_filter, Target, Step, IsPushed, Grows, Ruling, rules_length, DecisionSet}
-use Rattle.seccomp_tree.proofs.Common.{default_for, rulings_for, calls_of, default_from, calls_length, DefaultValue}
-use Rattle.seccomp_tree.specs.CallSteps.{IsAnswer, IsAnswered, AreAnswers, AreCallSteps, IsNextNumber, IsNextDefault}
+use Rattle.seccomp_tree.proofs.Common.{default_for, rulings_for, calls_of, default_from, calls_length, DefaultValue, Give, AreRules}
+use Rattle.seccomp_tree.proofs.Common.{ap, min, one_value}
+use Rattle.seccomp_tree.specs.CallSteps.{IsAnswer, AreAnswers, AreCallSteps, IsNextDefault}
 use Rattle.seccomp_tree.proofs.Runs.{grows_not, grows_on, is_in_grown, leads_grown}
 use Rattle.seccomp_tree.proofs.Begun.{steps_more}
 use Rattle.seccomp_tree.proofs.Deciding.{items_of, rulings_under}
@@ -76,10 +77,57 @@ below_one (e ∷ calls) n m lt = grind (arith, nat_tests, below_one calls n m lt
 
 -- ---- the loop of `call_steps`
 
+-- A number after this one, up to which calls are answered as those of this one.
+pub record IsNextNumber (d : DecisionSet) (number next : ℕ) : Type 0 where
+  pub above : number < next
+  pub within : next ≤ 2 ^ 32
+  pub default : (n : ℕ) → number ≤ n → n < next → default_for d.defaults n ≡ default_for d.defaults number
+  pub rulings : (n : ℕ) → number ≤ n → n < next → rulings_for d.calls n ≡ rulings_for d.calls number
+
+pub next_alone : (d : DecisionSet) (number : ℕ) → number < 2 ^ 32 → IsNextNumber d number (number + 1)
+next_alone d number fits = record {
+  above = omega arith;
+  within = omega arith;
+  default = λ n le lt. let same : n ≡ number = omega arith in rw same refl;
+  rulings = λ n le lt. let same : n ≡ number = omega arith in rw same refl;
+}
+
+pub next_both : (d : DecisionSet) (number default call next : ℕ) → IsNextDefault d.defaults number default → number < call → call ≤ 2 ^ 32
+    → ((n : ℕ) → number < n → n < call → rulings_for d.calls n ≡ []) → rulings_for d.calls number ≡ [] → next ≡ min default call
+    → IsNextNumber d number next
+next_both d number default call next h above within none own is = record {
+  above = omega (arith, is, h.above);
+  within = omega (arith, is);
+  default = λ n le lt. h.same n le (omega (arith, is));
+  rulings = λ n le lt. elim (cases_lt number n) [
+    | inl more ↦ none n more (omega (arith, is)) ∙ sym own
+    | inr less ↦ let same : n ≡ number = omega arith in rw same refl
+  ];
+}
+
 pub record CallsOn (d : DecisionSet) (old : List sock_filter) (next : ℕ) (steps : List Step) (code : List sock_filter) : Type 0 where
   pub within : next ≤ 2 ^ 32
   pub grows : Grows old (below_length d.calls next) code
   pub answers : AreAnswers d next code steps
+
+-- Code was put in front, and the target answers calls.
+pub record IsAnswered (old : List sock_filter) (default : ℕ) (rulings : List Ruling) (t : Target) (new : List sock_filter) : Type 0 where
+  pub grows : Grows old (rules_length rulings) new
+  pub answer : IsAnswer new default rulings t
+
+pub answered_one : (code : List sock_filter) (default v : ℕ) (rulings : List Ruling) → v < 2 ^ 32 → one_value default rulings ≡ Some v
+    → IsAnswered code default rulings (Give v) code
+answered_one code default v rulings fits is = record {
+  grows = grows_not code (rules_length rulings);
+  answer = record { inside = fits; one = λ w is'. ap Give (cc); own = λ none. absurd (cc) };
+}
+
+pub answered_rules : (old new : List sock_filter) (default : ℕ) (rulings : List Ruling) (t : Target) → one_value default rulings ≡ None
+    → AreRules old rulings default t new → IsAnswered old default rulings t new
+answered_rules old new default rulings t none h = record {
+  grows = h.grows;
+  answer = record { inside = h.inside; one = λ v is. absurd (cc); own = λ _ r rec w n first takes. h.leads r rec w n first takes };
+}
 
 pub calls_on : (d : DecisionSet) (old mid new : List sock_filter) (steps more : List Step) (number next : ℕ) (t : Target)
     → CallsOn d old number steps mid → IsAnswered mid (default_for d.defaults number) (rulings_for d.calls number) t new

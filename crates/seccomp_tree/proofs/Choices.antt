@@ -1,10 +1,12 @@
 -- Comparisons as steps, laid over others.
-use Rattle.seccomp_tree.proofs.Common.{◌≡◌, ℕ, ◌+◌, ◌^◌, ◌<◌, ◌≤◌, List, [], length, true, ap, ◌↔◌, Option, Some, None, ◌⊎◌, inl, inr}
-use Rattle.seccomp_tree.proofs.Common.{arith, refl, cases_lt, cases_eq, bit_and, sock_filter, SeccompCmpArgLen, SeccompCmpOp}
-use Rattle.seccomp_tree.proofs.Common.{MaskedEq, Condition, Compares, part_of, Target, Step, found_in, AreSteps, begun, IsPushed, IsIn}
-use Rattle.seccomp_tree.proofs.Common.{AreIn, is_plain, IsChosen, over, IsOverPushed, AreLaidTo, AreLaid}
-use Rattle.seccomp_tree.specs.Conditions.{numbers_of}
-use Rattle.seccomp_tree.proofs.Begun.{steps_more, begun_more, begun_next, begun_some, are_in_below}
+use Rattle.seccomp_tree.proofs.Common.{◌≡◌, ◌≢◌, ℕ, ◌+◌, ◌^◌, ◌<◌, ◌≤◌, List, [], ◌∷◌, length, drop, get_or, true, ◌⊎◌, inl, inr, ◌∙◌}
+use Rattle.seccomp_tree.proofs.Common.{arith, refl, nat_tests, nat_eq, nat_lt, if◌then◌else◌, cases_lt, cases_eq, bit_and, sock_filter}
+use Rattle.seccomp_tree.proofs.Common.{SeccompCmpArgLen, SeccompCmpOp, Dword, Qword, ◌%◌, MaskedEq, Condition, Compares, part_of, Target}
+use Rattle.seccomp_tree.proofs.Common.{Step, found_from}
+use Rattle.seccomp_tree.proofs.Common.{found_in, AscendFrom, AreSteps, IsPushed, IsIn, AreIn, is_plain, IsChosen, AreLaid}
+use Rattle.seccomp_tree.specs.Steps.{first_start}
+use Rattle.seccomp_tree.specs.Conditions.{IsTurn, numbers_of}
+use Rattle.seccomp_tree.proofs.Begun.{steps_more, are_in_below}
 
 -- ---- comparing
 
@@ -12,70 +14,128 @@ pub compares_or_not : (o : SeccompCmpOp) (a v : ℕ) → Compares o a v ⊎ (Com
 compares_or_not (MaskedEq m) a v = cases_eq (bit_and a m) (bit_and v m)
 compares_or_not _ a v = grind arith
 
--- numbers on one side of a value compare alike
-side_alike : (o : SeccompCmpOp) (a b v : ℕ) → is_plain o ≡ true → ((a < v) × (b < v)) ⊎ ((v < a) × (v < b)) → Compares o a v
-    → Compares o b v
-side_alike (MaskedEq m) a b v plain side h = absurd (cc)
-side_alike _ a b v plain side h = grind (arith, side)
+-- numbers that lie alike to a value compare alike
+alike_on : (o : SeccompCmpOp) (a b v : ℕ) → is_plain o ≡ true
+    → ((a < v) × (b < v)) ⊎ (((a ≡ v) × (b ≡ v)) ⊎ ((v < a) × (v < b))) → Compares o a v → Compares o b v
+alike_on (MaskedEq m) a b v plain side h = absurd (cc)
+alike_on _ a b v plain side h = grind (arith, side)
+
+-- what counts of a value is what is left of it
+pub part_left : (l : SeccompCmpArgLen) (v : ℕ) → v < 2 ^ 64 → v % numbers_of l ≡ part_of l v
+part_left Dword v fits = refl
+part_left Qword v fits = omega arith
 
 pub numbers_many : (l : SeccompCmpArgLen) → 2 ^ 32 ≤ numbers_of l
 numbers_many l = grind arith
 
-pub numbers_few : (l : SeccompCmpArgLen) (steps : List Step) → AreSteps (numbers_of l) steps → AreSteps (2 ^ 64) steps
-numbers_few l steps h = steps_more (numbers_of l) (2 ^ 64) steps (grind arith) (grind arith) h
+-- ---- the loop of `laid`
 
--- ---- laying
+-- Steps that begin with what a number has.
+abbrev pub IsFrom : ℕ → ℕ → List Step → Type 0
+IsFrom size number [] = ⊥
+IsFrom size number (x ∷ rest) = AscendFrom size (number + 1) rest
 
--- one part more: numbers that compare alike
-pub laid_on : (c : Condition) (target : Target) (others old new : List Step) (first end n more : ℕ) (side : Option Target)
-    → is_plain c.operator ≡ true → IsChosen (Compares c.operator n (part_of c.arg_len c.value)) (Some target) None side
-    → ((a : ℕ) → first ≤ a → a < end
-    → Compares c.operator a (part_of c.arg_len c.value) ↔ Compares c.operator n (part_of c.arg_len c.value))
-    → ((a : ℕ) → a < first → IsChosen (Compares c.operator a (part_of c.arg_len c.value)) target (found_in others a) (found_in old a))
-    → length old + 1 ≤ begun others (first + 1) + more → IsOverPushed old others first end side new
-    → AreLaidTo c target others end more new
-laid_on c target others old new first end n more side plain at alike under few h = record {
-  are = h.are;
-  each = λ a lt. elim (cases_lt a first) [
-    | inl below ↦ rw (h.below a below) (under a below)
-    | inr from ↦ rw (h.inside a from lt) record {
-      met = λ is. ap (λ o. over o (found_in others a)) (at.met ((alike a from lt).0 is));
-      unmet = λ not. ap (λ o. over o (found_in others a)) (at.unmet (λ is. not ((alike a from lt).1 is)));
+-- How many further parts of numbers that compare alike there are.
+abbrev pub parts_left : ℕ → ℕ → ℕ
+parts_left value number = if nat_lt number value then 2 else if nat_eq number value then 1 else 0
+
+pub record Laying (c : Condition) (target : Target) (others : List Step) (number : ℕ) (rest steps : List Step) : Type 0 where
+  pub within : number ≤ numbers_of c.arg_len
+  pub from : number < numbers_of c.arg_len → IsFrom (numbers_of c.arg_len) number rest
+  pub same : (a : ℕ) → number ≤ a → a < numbers_of c.arg_len → found_in others a ≡ found_in rest a
+  pub are : AreSteps number steps
+  pub each : (a : ℕ) → a < number → IsChosen (Compares c.operator a (part_of c.arg_len c.value)) target (found_in others a)
+      (found_in steps a)
+  pub few : length steps + length rest + parts_left (part_of c.arg_len c.value) number ≤ length others + 2
+
+pub laying_begins : (c : Condition) (target : Target) (others : List Step) → AreSteps (numbers_of c.arg_len) others
+    → Laying c target others 0 others []
+laying_begins c target [] h = absurd (h.first (omega (arith, numbers_many c.arg_len)))
+laying_begins c target (x ∷ others) h =
+    let zero : x.start ≡ 0 = h.first (omega (arith, numbers_many c.arg_len)) in
+    record {
+      within = omega arith;
+      from = λ some. rw zero at h.ascend.1.1;
+      same = λ a le lt. refl;
+      are = record { first = λ some. absurd (omega arith); ascend = tt; tight = tt };
+      each = λ a lt. absurd (omega arith);
+      few = grind arith;
     }
+
+-- a step more: numbers that compare alike, and have one of the others' targets
+pub laying_on : (c : Condition) (target : Target) (others rest back steps more : List Step) (value end number next : ℕ) (d : Step)
+    (t : Target)
+    → is_plain c.operator ≡ true → Laying c target others number rest steps → number < numbers_of c.arg_len
+    → value ≡ part_of c.arg_len c.value → end ≡ first_start (numbers_of c.arg_len) (drop 1 rest) → IsTurn value number end next
+    → IsChosen (Compares c.operator number (part_of c.arg_len c.value)) target (get_or rest 0 d).target t → IsPushed steps number t more
+    → ((next ≡ end) × (back ≡ drop 1 rest)) ⊎ ((next ≢ end) × (back ≡ rest)) → Laying c target others next back more
+laying_on c target others [] back steps more value end number next d t plain h some part ends turn chosen pushed moved =
+    absurd (h.from some)
+laying_on c target others (x ∷ rest) back steps more value end number next d t plain h some part ends turn chosen pushed moved = record {
+  within = omega (arith, last, turn.within);
+  from = λ less. elim moved [
+    | inl on ↦ rw on.1 (begins rest (on.0 ∙ ends) up less)
+    | inr not ↦ rw not.1 (later rest (omega (arith, ends, not.0, turn.within)) up)
   ];
-  few = omega (arith, h.few, few);
-  plain = plain;
+  same = λ a le lt. elim moved [
+    | inl on ↦ rw on.1 (h.same a (omega (arith, turn.above)) lt ∙ behind rest a (omega (arith, ends, on.0)) lt)
+    | inr not ↦ rw not.1 (h.same a (omega (arith, turn.above)) lt)
+  ];
+  are = steps_more (number + 1) next more (omega arith) (omega (arith, turn.above)) pushed.are;
+  each = λ a lt. elim (cases_lt a number) [
+    | inl below ↦ rw (pushed.below a below) (h.each a below)
+    | inr le ↦
+        let other : found_in others a ≡ x.target =
+        h.same a le (omega (arith, last, turn.within)) ∙ before rest a (omega (arith, ends, turn.within)) up in
+        let side = rw part at (turn.alike a le lt) in
+        rw (pushed.from a le, other) record {
+          met = λ is. chosen.met (alike_on c.operator a number (part_of c.arg_len c.value) plain (grind (arith, side, le)) is);
+          unmet = λ not. chosen.unmet (λ is. not (alike_on c.operator number a (part_of c.arg_len c.value) plain (grind
+              (arith, side, le)) is));
+        }
+  ];
+  few = elim moved [
+    | inl on ↦ rw on.1 (grind (arith, nat_tests, h.few, pushed.few, turn.above))
+    | inr not ↦ rw not.1 (grind (arith, nat_tests, h.few, pushed.few, turn.cut, turn.within, not.0, part))
+  ];
 }
-
--- the numbers below the value, it, and those above it
-pub laid_whole : (c : Condition) (target : Target) (others low mid new : List Step) (value : ℕ) (one two three : Option Target)
-    → value ≡ part_of c.arg_len c.value → is_plain c.operator ≡ true → AreSteps (numbers_of c.arg_len) others
-    → IsChosen (Compares c.operator 0 (part_of c.arg_len c.value)) (Some target) None one → IsOverPushed [] others 0 value one low
-    → IsChosen (Compares c.operator value (part_of c.arg_len c.value)) (Some target) None two
-    → IsOverPushed low others value (value + 1) two mid
-    → IsChosen (Compares c.operator (value + 1) (part_of c.arg_len c.value)) (Some target) None three
-    → IsOverPushed mid others (value + 1) (numbers_of c.arg_len) three new → AreLaid c target others new
-laid_whole c target others low mid new value one two three part plain are first lower at own third upper =
-    laid_on c target others mid new (value + 1) (numbers_of c.arg_len) (value + 1) 2 three plain third
-    (λ a from lt. beside a (value + 1) (inr (omega arith, omega arith))) until.each
-    (omega (arith, until.few, begun_more others (value + 1) (value + 1 + 1) (omega arith))) upper
   where
-    beside : (a b : ℕ) → ((a < value) × (b < value)) ⊎ ((value < a) × (value < b))
-        → Compares c.operator a (part_of c.arg_len c.value) ↔ Compares c.operator b (part_of c.arg_len c.value)
-    beside a b side = (
-      side_alike c.operator a b (part_of c.arg_len c.value) plain (rw (← part) side),
-      side_alike c.operator b a (part_of c.arg_len c.value) plain (grind (arith, side, part)),
-    )
+    up : AscendFrom (numbers_of c.arg_len) (number + 1) rest
+    up = h.from some
 
-    below : AreLaidTo c target others value 0 low
-    below = laid_on c target others [] low 0 value 0 0 one plain first
-        (λ a from lt. beside a 0 (inl (omega arith, omega arith))) (λ a lt. absurd (omega arith))
-        (omega (arith, begun_some (numbers_of c.arg_len) others 0 are (omega (arith, numbers_many c.arg_len)))) lower
+    last : end ≤ numbers_of c.arg_len
+    last = rw ends (inside rest up)
+      where
+        inside : (l : List Step) → AscendFrom (numbers_of c.arg_len) (number + 1) l
+            → first_start (numbers_of c.arg_len) l ≤ numbers_of c.arg_len
+        inside [] up = omega arith
+        inside (y ∷ l) up = omega (arith, up.1.0)
 
-    until : AreLaidTo c target others (value + 1) 1 mid
-    until = laid_on c target others low mid value (value + 1) value 1 two plain at
-        (λ a from lt. let same : a ≡ value = omega arith in rw same (λ is. is, λ is. is)) below.each
-        (omega (arith, below.few, begun_more others value (value + 1) (omega arith))) own
+    begins : (l : List Step) → next ≡ first_start (numbers_of c.arg_len) l → AscendFrom (numbers_of c.arg_len) (number + 1) l
+        → next < numbers_of c.arg_len → IsFrom (numbers_of c.arg_len) next l
+    begins [] is up less = absurd (omega arith)
+    begins (y ∷ l) is up less = rw is up.1.1
+
+    later : (l : List Step) → next < first_start (numbers_of c.arg_len) l → AscendFrom (numbers_of c.arg_len) (number + 1) l
+        → AscendFrom (numbers_of c.arg_len) (next + 1) l
+    later [] lt up = tt
+    later (y ∷ l) lt up = (omega arith, up.1)
+
+    behind : (l : List Step) (a : ℕ) → first_start (numbers_of c.arg_len) l ≤ a → a < numbers_of c.arg_len
+        → found_from x.target l a ≡ found_in l a
+    behind [] a le lt = absurd (omega arith)
+    behind (y ∷ l) a le lt = grind (arith, nat_tests)
+
+    before : (l : List Step) (a : ℕ) → a < first_start (numbers_of c.arg_len) l → AscendFrom (numbers_of c.arg_len) (number + 1) l
+        → found_from x.target l a ≡ x.target
+    before [] a lt up = refl
+    before (y ∷ l) a lt up = grind (arith, nat_tests)
+
+pub laying_ends : (c : Condition) (target : Target) (others rest steps : List Step) (number : ℕ) → is_plain c.operator ≡ true
+    → Laying c target others number rest steps → numbers_of c.arg_len ≤ number → AreLaid c target others steps
+laying_ends c target others rest steps number plain h all =
+    let end : number ≡ numbers_of c.arg_len = omega (arith, h.within) in
+    record { are = rw end at h.are; each = λ a lt. h.each a (omega arith); few = omega (arith, h.few); plain = plain }
 
 -- what is laid over targets of the code are targets of the code
 pub laid_in : (code : List sock_filter) (c : Condition) (target : Target) (others new : List Step) → AreLaid c target others new
@@ -86,23 +146,3 @@ laid_in code c target others new h own inside =
       | inl met ↦ rw ((h.each a lt).met met) own
       | inr not ↦ rw ((h.each a lt).unmet not) (inside a)
     ])
-
--- ---- pushing
-
-pub over_none : (others old : List Step) (first end : ℕ) (target : Option Target) → first ≡ end → AreSteps (2 ^ 64) others
-    → AreSteps first old → IsOverPushed old others first end target old
-over_none others old first end target none all h = rw (← none) record {
-  are = h;
-  inside = λ a from lt. absurd (omega arith);
-  below = λ a lt. refl;
-  few = omega (arith, begun_next (2 ^ 64) 0 others first all.ascend);
-}
-
-pub over_step : (old others new : List Step) (first end : ℕ) (t : Target) (target : Option Target) → first < end → Some t ≡ target
-    → IsPushed old first t new → IsOverPushed old others first end target new
-over_step old others new first end t target order is h = rw (← is) record {
-  are = steps_more (first + 1) end new (omega arith) (omega arith) h.are;
-  inside = λ a from lt. h.from a from;
-  below = h.below;
-  few = omega (arith, h.few, begun_more others (first + 1) end (omega arith));
-}

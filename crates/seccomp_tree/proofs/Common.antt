@@ -1,10 +1,9 @@
 -- The names that the proofs share, of std, of the library and of the definitions.
-pub use Rattle.seccomp_tree.specs.Arguments.{AreHighs, IsHalf, IsNext, half_length}
-pub use Rattle.seccomp_tree.specs.Code.{AreFine, AreIn, DoesAs, GoesOn, Grows, IsFar, IsIn, IsPart, IsReached, IsSound, IsTested}
+pub use Rattle.seccomp_tree.specs.Code.{AreFine, AreIn, DoesAs, GoesOn, Grows, IsIn, IsPart, IsReached, IsSound, IsTested}
 pub use Rattle.seccomp_tree.specs.Code.{IsTree, Leads, LeadsAlways, Returns, Says, Starts, StartsAlways, chosen, gives, near, part_length}
 pub use Rattle.seccomp_tree.specs.Code.{part_steps, tail_at, to_place, to_return}
-pub use Rattle.seccomp_tree.specs.Conditions.{AreLaid, AreLaidTo, HasBits, IsChosen, IsConditionMet, IsMet, IsOverPushed, condition_length}
-pub use Rattle.seccomp_tree.specs.Conditions.{condition_steps, is_plain, over}
+pub use Rattle.seccomp_tree.specs.Conditions.{AreLaid, HasBits, IsChosen, IsConditionMet, IsMet, condition_length}
+pub use Rattle.seccomp_tree.specs.Conditions.{condition_steps, is_plain}
 pub use Rattle.seccomp_tree.specs.Decided.{DecisionSet, IsDecided, StartAbove, calls_of, decided, default_for, default_from}
 pub use Rattle.seccomp_tree.specs.Decided.{other_architecture, rulings_for}
 pub use Rattle.seccomp_tree.specs.Decisions.{Enters, First, Ruling, RunTakes, Takes, alike, begins, behind, by_conditions, by_steps}
@@ -13,7 +12,7 @@ pub use Rattle.seccomp_tree.specs.Decisions.{rules_length, same_length, stops}
 pub use Rattle.seccomp_tree.specs.FilterDecisions.{DecideAs, call_of, decisions_of, rulings_of}
 pub use Rattle.seccomp_tree.specs.Layouts.{AgreesInAll, IsCompiledIn}
 pub use Rattle.seccomp_tree.specs.Rules.{AreRules, IsInFront, IsRulingMet, IsSettled, afresh, alone, along}
-pub use Rattle.seccomp_tree.specs.Steps.{AreSteps, AscendFrom, IsPartPushed, IsPushed, TightFrom, begun, found_from, found_in, row, same}
+pub use Rattle.seccomp_tree.specs.Steps.{AreOver, AreSteps, AscendFrom, IsPushed, TightFrom, begun, found_from, found_in, row, same}
 pub use Rattle.seccomp_tree.specs.Steps.{second_stands_out, single}
 pub use Rattle.seccomp_tree.specs.TreeProgram.{AreRanges, EndsAsDecided, IsTreeProgram, TakesOwn, calls_length, one, one_value, other, own}
 pub use Rattle.seccomp_tree.specs.TreeProgram.{value_for}
@@ -63,5 +62,5 @@ pub use Rattle.std.specs.Int.Bits.{and_lt, and_zero_r}
 pub use Rattle.std.specs.List.Sorted.{IsPartitionPoint}
 pub use Rattle.std.specs.Map.{keys_of, lookup}
 pub use Rattle.std.specs.Ordering.{MatchOrdering, int_cmp, is_eq, nat_cmp, ordering_reverse}
-pub use Rattle.std.specs.Prelude.{IfOk, IsSome, bit_and, max, nat_lt, slice_get, unsigned_abs}
+pub use Rattle.std.specs.Prelude.{IfOk, IsSome, bit_and, max, min, nat_lt, slice_get, unsigned_abs}
 pub use Rattle.std.specs.Set.{is_member}

@@ -1,6 +1,6 @@
 -- What decisions decide: the first ruling that holds, the rulings of a number, the default.
 use Rattle.seccomp_tree.proofs.Common.{◌≡◌, ℕ, ◌+◌, ◌<◌, List, [], ◌∷◌, length, drop, get_or, refl, sym, ap, ◌∙◌, Option, Some, None, Vec}
-use Rattle.seccomp_tree.proofs.Common.{inl, inr, arith, All, drop_more, All-cons, nat_tests, is_at, lookup, nat_cmp, Global, RuleHolds}
+use Rattle.seccomp_tree.proofs.Common.{inl, inr, arith, drop_more, nat_tests, is_at, lookup, nat_cmp, Global, RuleHolds}
 use Rattle.seccomp_tree.proofs.Common.{Ruling, First, here, behind, nothing, word_at, cases_eq, audit_word, DecisionSet, default_for}
 use Rattle.seccomp_tree.proofs.Common.{calls_of, rulings_for, IsDecided, other_architecture, decided}
 use Rattle.seccomp_tree.proofs.Meeting.{rule_or_not}
@@ -10,10 +10,6 @@ use Rattle.seccomp_tree.proofs.Meeting.{rule_or_not}
 -- at an element there is it, and what is after
 pub drop_at : {A : Type 0} (l : List A) (i : ℕ) (x : A) → i < length l → x ≡ get_or l i x → drop i l ≡ x ∷ drop (i + 1) l
 drop_at l i x lt is = drop_more l i x lt ∙ ap (λ y. y ∷ drop (i + 1) l) (sym is)
-
-pub all_at : {A : Type 0} (P : A → Type 0) (l : List A) (i : ℕ) (x : A) → i < length l → x ≡ get_or l i x → P x → All P (drop (i + 1) l)
-    → All P (drop i l)
-all_at P l i x lt is h rest = rw (drop_at l i x lt is) (All-cons P x (drop (i + 1) l) h rest)
 
 -- ---- the first ruling that holds
 

@@ -11,7 +11,6 @@ use Rattle.seccomp_tree.specs.Conditions.{numbers_of}
 use Rattle.seccomp_tree.specs.Code.{goes_on}
 use Rattle.seccomp_tree.proofs.Runs.{grows_not, grows_one, grows_on, starts_more, leads_by, leads_grown, starts_last}
 use Rattle.seccomp_tree.proofs.Trees.{load_run}
-use Rattle.seccomp_tree.proofs.Begun.{begun_few}
 use Rattle.seccomp_tree.proofs.Choices.{compares_or_not}
 
 -- ---- numbers of an argument
@@ -47,12 +46,14 @@ rule_or_not (c ∷ q) r = elim (holds_or_not c r) [
 -- ---- parts
 
 pub part_of_word : (old new : List sock_filter) (index : ℕ) (steps : List Step) (t : Target)
-    → IsPart old Dword (3 * length steps - 2) (λ r. word_at r (16 + 8 * index)) steps t new
+    → IsPart old Dword (3 * length steps - 2) (λ r. word_at r (16 + 8 * index) + 0) steps t new
     → IsPart old Dword (part_length Dword (length steps)) (λ r. part_of Dword (argument_at r index)) steps t new
 part_of_word old new index steps t word = record {
   grows = word.grows;
   inside = word.inside;
-  leads = λ r rec w n k few lead. word.leads r rec w n k few (rw (← low_word r index rec) lead);
+  leads = λ r rec w n k few lead.
+      let same : word_at r (16 + 8 * index) + 0 ≡ argument_at r index % 2 ^ 32 = omega (arith, low_word r index rec) in
+      word.leads r rec w n k few (rw same lead);
 }
 
 -- ---- conditions without a mask
@@ -90,7 +91,7 @@ met_by_steps old new c fit unfit t steps h part = record {
     cost = plain_cost c.arg_len c.operator h.plain
 
     few : length steps ≤ 3
-    few = omega (arith, h.few, begun_few (single unfit) (numbers_of c.arg_len))
+    few = omega (arith, h.few)
 
     own : (r : List ℕ) → IsRecord r → IsChosen (Holds c r) fit unfit (found_in steps (part_of c.arg_len (argument_at r c.arg_index)))
     own r rec = chosen_plain c r fit unfit _ h.plain

@@ -1,12 +1,18 @@
 -- For `does`, `reach` and `test`: the places that do what a target says, and what a test does whose targets are reached.
 use Rattle.seccomp_tree.proofs.Common.{◌≡◌, ℕ, zero, suc, ◌+◌, ◌<◌, ◌≤◌, ◌^◌, List, ◌∷◌, ◌-◌, length, reverse, get_or, refl, sym, ap, ◌∙◌}
 use Rattle.seccomp_tree.proofs.Common.{length-reverse, subst, arith, ◌⊎◌, inl, inr, ⊎_elim, nat_tests, cases_eq, cases_lt, sock_filter}
-use Rattle.seccomp_tree.proofs.Common.{Does, jumps, is_equal, is_not_equal, is_at_least, is_less, Target, At, Test, tail_at, Returns, gives}
-use Rattle.seccomp_tree.proofs.Common.{Starts, Leads, to_return, to_place, near, DoesAs, Says, IsFar, Grows, IsReached, chosen, IsTested}
+use Rattle.seccomp_tree.proofs.Common.{Does, jumps, is_equal, is_not_equal, is_at_least, is_less, Target, Give, At, Test, tail_at, Returns}
+use Rattle.seccomp_tree.proofs.Common.{gives, IsFine, IsInRange}
+use Rattle.seccomp_tree.proofs.Common.{give, fine_return, fine_jump}
+use Rattle.seccomp_tree.proofs.Common.{Starts, Leads, to_return, to_place, near, DoesAs, Says, Grows, IsReached, chosen, IsTested}
 use Rattle.seccomp_tree.specs.declared.code.Test.TheVariants.{Equal, AtLeast}
 use Rattle.seccomp_tree.specs.Code.{goes_on}
 use Rattle.seccomp_tree.proofs.Runs.{tail_whole, tail_written, jump_to, jump_from, grows_not, grows_one, grows_on, grown_long, returns_more}
 use Rattle.seccomp_tree.proofs.Runs.{returns_grown, starts_grown}
+
+-- The target is no place that a jump reaches.
+abbrev pub IsFar : List sock_filter → Target → Type 0
+IsFar code t = (m : ℕ) → t ≡ At m → m + 255 < length code
 
 -- what was written at a place, as the code has it
 pub written_does : (back code : List sock_filter) (place : ℕ) (t : Target) (i : sock_filter) → reverse back ≡ code → place < length code
@@ -56,6 +62,30 @@ reached_new code t i new place far written last says =
       here = tail_whole (i ∷ code) (length code) (omega arith);
       says = says;
     }) (omega arith))
+
+-- An instruction that is written for a target that is far.
+pub record StandsIn (code : List sock_filter) (t : Target) (i : sock_filter) : Type 0 where
+  pub far : IsFar code t
+  pub says : Says t i (length code)
+  pub fine : IsFine i 0 (length code + 1)
+  pub range : IsInRange i
+
+pub return_stands : (code : List sock_filter) (t : Target) (w : ℕ) → t ≡ Give w → w < 2 ^ 32 → StandsIn code t (give w)
+return_stands code t w is fits = rw is record {
+  far = λ m other. absurd (cc);
+  says = (refl, refl);
+  fine = fine_return refl;
+  range = record { code = omega arith; jt = omega arith; jf = omega arith; k = fits };
+}
+
+pub jump_stands : (code : List sock_filter) (t : Target) (m over : ℕ) → t ≡ At m → over + m + 1 ≡ length code → 254 < over → over < 2 ^ 32
+    → StandsIn code t (record { code = 0x05; jt = 0; jf = 0; k = over })
+jump_stands code t m over is at far fits = rw is record {
+  far = λ n same. let e : m ≡ n = cc in omega arith;
+  says = (refl, omega arith);
+  fine = fine_jump refl (omega arith);
+  range = record { code = omega arith; jt = omega arith; jf = omega arith; k = fits };
+}
 
 -- The code of a test.
 abbrev pub code_of : Test → ℕ

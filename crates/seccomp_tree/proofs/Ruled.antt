@@ -10,7 +10,7 @@ use Rattle.seccomp_tree.proofs.Common.{IsRulingMet, AreRules, greatest_length, I
 use Rattle.seccomp_tree.specs.Conditions.{numbers_of}
 use Rattle.seccomp_tree.specs.Decisions.{goes_on}
 use Rattle.seccomp_tree.proofs.Runs.{grows_not, grows_on, leads_by, starts_more}
-use Rattle.seccomp_tree.proofs.Begun.{begun_few, found_in_code}
+use Rattle.seccomp_tree.proofs.Begun.{found_in_code}
 use Rattle.seccomp_tree.proofs.Choices.{numbers_many, laid_in}
 use Rattle.seccomp_tree.proofs.Deciding.{first_here, first_behind, first_nothing}
 use Rattle.seccomp_tree.proofs.Meeting.{holds_or_not, chosen_plain, part_fits, plain_cost, met_now, met_both}
@@ -160,7 +160,7 @@ module _ (old code : List sock_filter) (default : ℕ) (c : Condition) (d : Ruli
         room =
             let long = ap (λ l. (1 + joined e.conditions rest) * part_length l 3) is.1 in
             rw count (omega (arith, run_more c.arg_len (joined e.conditions rest), only_length d.conditions c own, long, x.room));
-        few = omega (arith, h.few, begun_few steps (numbers_of c.arg_len), x.few, count);
+        few = omega (arith, h.few, x.few, count);
         are = h.are;
         inside = laid_in code c (Give d.value) steps laid h fits
             (λ a. found_in_code code (numbers_of like.arg_len) steps (record { start = 0; target = Give 0 }) a
@@ -181,7 +181,7 @@ module _ (old code : List sock_filter) (default : ℕ) (c : Condition) (d : Ruli
         before = rules_length rest;
         grows = x.grows;
         room = rw count (omega (arith, only_length d.conditions c own));
-        few = omega (arith, h.few, begun_few (single t) (numbers_of c.arg_len));
+        few = omega (arith, h.few);
         are = h.are;
         inside = laid_in code c (Give d.value) (single t) laid h fits (λ a. x.inside);
         leads = λ r rec w n front on first takes.

@@ -8,7 +8,7 @@ use Rattle.seccomp_tree.specs.declared.steps.Step.{Step}
 use Rattle.seccomp_tree.specs.declared.decisions.DefaultValue.{DefaultValue}
 use Rattle.seccomp_tree.specs.Steps.{found_in, AreSteps}
 use Rattle.seccomp_tree.specs.Code.{IsIn, Grows, LeadsAlways}
-use Rattle.seccomp_tree.specs.Decisions.{Ruling, First, Takes, rules_length}
+use Rattle.seccomp_tree.specs.Decisions.{Ruling, First, Takes}
 use Rattle.seccomp_tree.specs.Decided.{DecisionSet, default_for, rulings_for}
 use Rattle.seccomp_tree.specs.TreeProgram.{one_value, calls_length}
 
@@ -20,23 +20,11 @@ pub record IsAnswer (code : List sock_filter) (default : ℕ) (rulings : List Ru
   pub own : one_value default rulings ≡ None → (r : List ℕ) → IsRecord r → (w n : ℕ) → First default r rulings w
       → Takes r [] rulings n → LeadsAlways code r t w (n + 1)
 
--- Code was put in front, and the target answers calls.
-pub record IsAnswered (old : List sock_filter) (default : ℕ) (rulings : List Ruling) (t : Target) (new : List sock_filter) : Type 0 where
-  pub grows : Grows old (rules_length rulings) new
-  pub answer : IsAnswer new default rulings t
-
 -- A number after this one, up to which the default is the same.
 pub record IsNextDefault (defaults : List DefaultValue) (number next : ℕ) : Type 0 where
   pub above : number < next
   pub within : next ≤ 2 ^ 32
   pub same : (n : ℕ) → number ≤ n → n < next → default_for defaults n ≡ default_for defaults number
-
--- A number after this one, up to which calls are answered as those of this one.
-pub record IsNextNumber (d : DecisionSet) (number next : ℕ) : Type 0 where
-  pub above : number < next
-  pub within : next ≤ 2 ^ 32
-  pub default : (n : ℕ) → number ≤ n → n < next → default_for d.defaults n ≡ default_for d.defaults number
-  pub rulings : (n : ℕ) → number ≤ n → n < next → rulings_for d.calls n ≡ rulings_for d.calls number
 
 -- The steps over the numbers below one answer each of them.
 pub record AreAnswers (d : DecisionSet) (next : ℕ) (code : List sock_filter) (steps : List Step) : Type 0 where

@@ -81,10 +81,6 @@ pub record DoesAs (code : List sock_filter) (t : Target) (place : ℕ) : Type 0 
   pub here : tail_at code place ≡ instruction ∷ rest
   pub says : Says t instruction place
 
--- The target is no place that a jump reaches.
-abbrev pub IsFar : List sock_filter → Target → Type 0
-IsFar code t = (m : ℕ) → t ≡ At m → m + 255 < length code
-
 -- The place does what the target says, and is so near that a jump to it fits 8 bits though one more instruction may come
 -- between. A place that is near is taken as it is.
 pub record IsReached (old : List sock_filter) (t : Target) (place : ℕ) (new : List sock_filter) : Type 0 where
@@ -106,17 +102,18 @@ pub record IsTested (old : List sock_filter) (test : Test) (k : ℕ) (yes no t :
   pub some : 1 ≤ length new
   pub leads : (r : List ℕ) (a w n : ℕ) → a < 2 ^ 32 → Starts 1 old r (chosen test k yes no a) a w n → Returns r new a w (suc n)
 
--- The target goes on as the steps say for the accumulator, in so many steps more than what they say takes.
-abbrev pub GoesOn : List sock_filter → List Step → ℕ → Target → List sock_filter → Type 0
-GoesOn old steps m t new = (r : List ℕ) (a w n : ℕ) → a < 2 ^ 32 → Leads old r (found_in steps a) a w n → Starts 1 new r t a w (n + m)
+-- The target goes on as the steps say for the accumulator and a base, in so many steps more than what they say takes.
+abbrev pub GoesOn : List sock_filter → ℕ → List Step → ℕ → Target → List sock_filter → Type 0
+GoesOn old base steps m t new =
+    (r : List ℕ) (a w n : ℕ) → a < 2 ^ 32 → Leads old r (found_in steps (a + base)) a w n → Starts 1 new r t a w (n + m)
 
 -- It takes two steps for each halving; as many as it has tests if it is a row of few.
-pub record IsTree (old : List sock_filter) (steps : List Step) (t : Target) (new : List sock_filter) : Type 0 where
+pub record IsTree (old : List sock_filter) (base : ℕ) (steps : List Step) (t : Target) (new : List sock_filter) : Type 0 where
   pub grows : Grows old (3 * (length steps - 1)) new
   pub inside : IsIn new t
   pub last : 2 ≤ length steps → t ≡ At (length new - 1)
-  pub leads : (k : ℕ) → length steps ≤ 2 ^ k → GoesOn old steps (2 * k) t new
-  pub soon : row steps ≤ 6 → GoesOn old steps (row steps) t new
+  pub leads : (k : ℕ) → length steps ≤ 2 ^ k → GoesOn old base steps (2 * k) t new
+  pub soon : row steps ≤ 6 → GoesOn old base steps (row steps) t new
 
 -- How many instructions n steps over numbers of a length take at most.
 abbrev pub part_length : SeccompCmpArgLen → ℕ → ℕ

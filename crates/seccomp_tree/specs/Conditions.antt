@@ -1,5 +1,5 @@
 -- Conditions: comparisons as steps over what is so elsewhere, and targets for where one holds and where it does not.
-use Rattle.std.specs.Prelude.{◌≡◌, ℕ, ◌+◌, List, bit_and, if◌then◌else◌, ◌<◌, ◌≤◌, ◌^◌, length, Bool, true, false, Option, Some, None}
+use Rattle.std.specs.Prelude.{◌≡◌, ℕ, ◌+◌, List, bit_and, if◌then◌else◌, ◌<◌, ◌≤◌, ◌^◌, length, Bool, true, false}
 use Rattle.seccompiler.specs.declared.bpf.sock_filter.{sock_filter}
 use Rattle.seccompiler.specs.declared.backend.SeccompCmpArgLen.{SeccompCmpArgLen}
 use Rattle.seccompiler.specs.declared.backend.SeccompCmpArgLen.TheVariants.{Dword, Qword}
@@ -10,7 +10,7 @@ use Rattle.seccomp_tree.specs.declared.steps.Target.{Target}
 use Rattle.seccomp_tree.specs.Code.{IsIn, Grows, LeadsAlways, part_length, part_steps}
 use Rattle.seccompiler.specs.declared.backend.SeccompCmpOp.TheVariants.{MaskedEq}
 use Rattle.seccomp_tree.specs.declared.steps.Step.{Step}
-use Rattle.seccomp_tree.specs.Steps.{found_in, AreSteps, begun}
+use Rattle.seccomp_tree.specs.Steps.{found_in, AreSteps}
 
 -- How many numbers a length has.
 abbrev pub numbers_of : SeccompCmpArgLen → ℕ
@@ -27,29 +27,21 @@ pub record IsChosen {A : Type 0} (Is : Type 0) (yes no t : A) : Type 0 where
   pub met : Is → t ≡ yes
   pub unmet : (Is → ⊥) → t ≡ no
 
--- A target over another.
-abbrev pub over : Option Target → Target → Target
-over None t = t
-over (Some u) t = u
+-- The numbers from one up to the next lie to the value as it does; it is the last, or the next is the value or the one after it.
+pub record IsTurn (value number end next : ℕ) : Type 0 where
+  pub above : number < next
+  pub within : next ≤ end
+  pub alike : (a : ℕ) → number ≤ a → a < next → (number < value → a < value) × (number ≡ value → a ≡ value)
+  pub cut : next < end → (number ≤ value) × ((number < value → next ≡ value) × (number ≡ value → next ≡ value + 1))
 
--- From the first number up to the end there is this target over what others have.
-pub record IsOverPushed (old others : List Step) (first end : ℕ) (target : Option Target) (new : List Step) : Type 0 where
-  pub are : AreSteps end new
-  pub inside : (a : ℕ) → first ≤ a → a < end → found_in new a ≡ over target (found_in others a)
-  pub below : (a : ℕ) → a < first → found_in new a ≡ found_in old a
-  pub few : length new + begun others (first + 1) ≤ length old + 1 + begun others end
-
--- For the numbers below the size the steps have the target if the condition's comparison holds, and else what others
--- have; there are at most so many more.
-pub record AreLaidTo (c : Condition) (target : Target) (others : List Step) (size more : ℕ) (steps : List Step) : Type 0 where
-  pub are : AreSteps size steps
-  pub each : (a : ℕ) → a < size → IsChosen (Compares c.operator a (part_of c.arg_len c.value)) target (found_in others a) (found_in steps a)
-  pub few : length steps ≤ begun others size + more
+-- The steps have the target for the numbers on which the condition's comparison holds, and else what others have; there are
+-- at most two more.
+pub record AreLaid (c : Condition) (target : Target) (others steps : List Step) : Type 0 where
+  pub are : AreSteps (numbers_of c.arg_len) steps
+  pub each : (a : ℕ) → a < numbers_of c.arg_len
+      → IsChosen (Compares c.operator a (part_of c.arg_len c.value)) target (found_in others a) (found_in steps a)
+  pub few : length steps ≤ length others + 2
   pub plain : is_plain c.operator ≡ true
-
--- The same for all numbers.
-abbrev pub AreLaid : Condition → Target → List Step → List Step → Type 0
-AreLaid c target others steps = AreLaidTo c target others (numbers_of c.arg_len) 2 steps
 
 -- ---- what a promise counts
 

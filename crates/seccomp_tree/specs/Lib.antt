@@ -3,7 +3,6 @@
 -- Between layers: what private functions promise each other. No promise rests on how these are worded.
 pub mod Steps
 pub mod Code
-pub mod Arguments
 pub mod Conditions
 pub mod Decisions
 pub mod Rules

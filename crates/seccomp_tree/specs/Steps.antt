@@ -1,5 +1,6 @@
 -- Steps: what is looked up by a number, from a start on, up to the next one.
-use Rattle.std.specs.Prelude.{◌≡◌, ◌≢◌, ℕ, ◌+◌, ◌-◌, ◌<◌, ◌≤◌, List, [], ◌∷◌, nat_le, nat_lt, if◌then◌else◌, ⊤, length, Bool, false, ◌&&◌}
+use Rattle.std.specs.Prelude.{◌≡◌, ◌≢◌, ℕ, ◌+◌, ◌-◌, ◌<◌, ◌≤◌, ◌^◌, List, [], ◌∷◌, nat_le, nat_lt, if◌then◌else◌, ⊤, length, Bool, false}
+use Rattle.std.specs.Prelude.{◌&&◌}
 use Rattle.std.specs.Prelude.{nat_eq}
 use Rattle.seccomp_tree.specs.declared.steps.Target.{Target}
 use Rattle.seccomp_tree.specs.declared.steps.Target.TheVariants.{Give, At}
@@ -24,6 +25,11 @@ abbrev pub AscendFrom : ℕ → ℕ → List Step → Type 0
 AscendFrom size start [] = ⊤
 AscendFrom size start (x ∷ steps) = (start ≤ x.start) × ((x.start < size) × AscendFrom size (x.start + 1) steps)
 
+-- There are steps, and all but the first start above a base, within 2 ^ 32 numbers of it, each above the one before it.
+abbrev pub AreOver : ℕ → List Step → Type 0
+AreOver base [] = ⊥
+AreOver base (x ∷ steps) = AscendFrom (base + 2 ^ 32) (base + 1) steps
+
 -- The first step starts at 0.
 abbrev pub StartsAtZero : List Step → Type 0
 StartsAtZero [] = ⊥
@@ -44,6 +50,11 @@ pub record AreSteps (size : ℕ) (steps : List Step) : Type 0 where
   pub ascend : AscendFrom size 0 steps
   pub tight : AreTight steps
 
+-- Where the first of the steps starts, or the size.
+abbrev pub first_start : ℕ → List Step → ℕ
+first_start size [] = size
+first_start size (x ∷ steps) = x.start
+
 -- How many of the steps start below a number.
 abbrev pub begun : List Step → ℕ → ℕ
 begun [] number = 0
@@ -58,13 +69,6 @@ pub record IsPushed (old : List Step) (start : ℕ) (target : Target) (new : Lis
   pub below : (a : ℕ) → a < start → found_in new a ≡ found_in old a
   pub few : length new ≤ length old + 1
 
--- The numbers from the first to the last have what others have for them, less the base each.
-pub record IsPartPushed (old others : List Step) (first last base : ℕ) (new : List Step) : Type 0 where
-  pub are : AreSteps (last + 1 - base) new
-  pub inside : (a : ℕ) → first ≤ base + a → base + a ≤ last → found_in new a ≡ found_in others (base + a)
-  pub below : (a : ℕ) → base + a < first → found_in new a ≡ found_in old a
-  pub few : length new + begun others (first + 1) ≤ length old + 1 + begun others (last + 1)
-
 -- ---- rows: how many tests tell steps apart, one after the other
 
 -- Whether two targets are one.
@@ -77,10 +81,6 @@ same _ _ = false
 abbrev pub second_stands_out : List Step → Bool
 second_stands_out (x ∷ y ∷ z ∷ steps) = same x.target z.target && nat_eq (z.start - y.start) 1
 second_stands_out _ = false
-
--- How many of two steps or more the first test of a row leaves to no other test.
-abbrev pub settled : List Step → ℕ
-settled steps = if second_stands_out steps then 2 else 1
 
 -- How many tests tell steps apart: each settles a step that stands out, and the one in front of it is answered as the one
 -- after it; or else it settles the first step.

@@ -1,14 +1,15 @@
-// Arguments of 64 bits: steps over the high halves, whose targets are steps over the low halves.
+// Arguments: those of 64 bits as steps over the high halves, whose targets are steps over the low halves.
 
-ghost use Rattle.std.specs.Prelude.{◌≤◌, ◌<◌, ◌-◌, ◌*◌, ◌^◌, IfOk, length};
-ghost use Rattle.seccomp_tree.specs.Steps.{AreSteps};
+ghost use Rattle.std.specs.Prelude.{◌≤◌, ◌<◌, ◌^◌, IfOk, length};
 ghost use Rattle.seccompiler.specs.Machine.{argument_at};
-ghost use Rattle.seccompiler.specs.declared.backend.SeccompCmpArgLen.TheVariants.{Qword};
-ghost use Rattle.seccomp_tree.specs.Code.{AreIn, IsPart};
-ghost use Rattle.seccomp_tree.specs.Arguments.{AreHighs, IsHalf, IsNext, half_length};
+ghost use Rattle.seccompiler.specs.Policy.{part_of};
+ghost use Rattle.seccomp_tree.specs.Steps.{AreSteps};
+ghost use Rattle.seccomp_tree.specs.Code.{AreIn, IsPart, part_length};
+ghost use Rattle.seccomp_tree.specs.Conditions.{numbers_of};
 
 use crate::code::Code;
-use crate::steps::{Step, Target, push_part, push_step, until};
+use crate::steps::{Step, Target, push_step, until};
+use seccompiler::SeccompCmpArgLen;
 use std::alloc::{AllocError, Global};
 
 // How many low halves there are, and the greatest.
@@ -17,75 +18,37 @@ const HALVES: u64 = 0x1_0000_0000;
 const GREATEST_HALF: u64 = 0xffff_ffff;
 
 impl Code {
-    /// Goes on as the steps say for the argument, whatever the accumulator holds.
+    /// Goes on as the steps say for what is compared of the argument, whatever the accumulator holds.
     pub(crate) fn argument(
         &mut self,
         alloc: Global,
+        size: SeccompCmpArgLen,
         index: u8,
         steps: &[Step],
     ) -> Result<Target, AllocError>
         requires index { index ≤ 5 }
-        requires are { AreSteps (2 ^ 64) steps.now }
+        requires are { AreSteps (numbers_of size) steps.now }
         requires inside { AreIn self.old steps.now }
-        ensures { IfOk result (λ t. IsPart self.old Qword (13 * length steps.now - 2) (λ r. argument_at r index) steps.now t self.new) }
+        ensures { IfOk result (λ t. IsPart self.old size (part_length size (length steps.now)) (λ r. part_of size (argument_at r index)) steps.now t self.new) }
     {
-        let highs = self.high_halves(alloc, index, steps)?;
-        self.word(20 + 8 * index, &highs)
-    }
-
-    // The steps over the high halves.
-    fn high_halves(
-        &mut self,
-        alloc: Global,
-        index: u8,
-        steps: &[Step],
-    ) -> Result<Vec<Step>, AllocError>
-        requires index { index ≤ 5 }
-        requires are { AreSteps (2 ^ 64) steps.now }
-        requires inside { AreIn self.old steps.now }
-        ensures { IfOk result (λ highs. AreHighs self.old index steps.now (2 ^ 32) highs.items self.new) }
-    {
+        if let SeccompCmpArgLen::Dword = size {
+            return self.word(16 + 8 * index, 0, steps);
+        }
         let mut highs = Vec::new(alloc);
         let mut high = 0;
         while high < HALVES {
-            let target = self.half(alloc, index, steps, high)?;
+            let first = high * HALVES;
+            let begin = until(steps, first);
+            let own = &steps[begin - 1..until(steps, first + GREATEST_HALF)];
+            let target = self.word(16 + 8 * index, first, own)?;
             push_step(&mut highs, high, target)?;
-            high = next_half(steps, high);
+            // The next half that may go on otherwise: after this if a step starts inside it, or else that of the next step.
+            high = if begin < steps.len() {
+                (steps[begin].start / HALVES).max(high + 1)
+            } else {
+                HALVES
+            };
         }
-        Ok(highs)
+        self.word(20 + 8 * index, 0, &highs)
     }
-
-    // Goes on as the steps say for an argument of this high half.
-    fn half(
-        &mut self,
-        alloc: Global,
-        index: u8,
-        steps: &[Step],
-        high: u64,
-    ) -> Result<Target, AllocError>
-        requires index { index ≤ 5 }
-        requires high { high < 2 ^ 32 }
-        requires are { AreSteps (2 ^ 64) steps.now }
-        requires inside { AreIn self.old steps.now }
-        ensures { IfOk result (λ t. IsHalf self.old index steps.now high t self.new) }
-    {
-        let first = high * HALVES;
-        let mut lows = Vec::new(alloc);
-        push_part(&mut lows, steps, first, first + GREATEST_HALF, first)?;
-        self.word(16 + 8 * index, &lows)
-    }
-}
-
-// The next high half that may go on otherwise than this one: after this one if a step starts inside it, or else that
-// of the next step; 2^32 if there is none.
-fn next_half(steps: &[Step], high: u64) -> u64
-    requires high { high < 2 ^ 32 }
-    requires are { AreSteps (2 ^ 64) steps.now }
-    ensures { IsNext steps.now high result }
-{
-    let end = until(steps, high * HALVES);
-    if end == steps.len() {
-        return HALVES;
-    }
-    (steps[end].start / HALVES).max(high + 1)
 }

@@ -3,7 +3,7 @@
 ghost use Rattle.std.specs.Prelude.{◌≡◌, ◌≤◌, ◌<◌, ◌+◌, ◌^◌, ◌∷◌, [], IsTrue, IfSome, IfOk, OnOk, length};
 ghost use Rattle.seccompiler.specs.Code.{give};
 ghost use Rattle.seccompiler.specs.Machine.{IsFine, IsInRange};
-ghost use Rattle.seccomp_tree.specs.Code.{IsSound, IsIn, IsFar, DoesAs, IsReached, IsTested, Says};
+ghost use Rattle.seccomp_tree.specs.Code.{IsSound, IsIn, DoesAs, IsReached, IsTested};
 
 use crate::steps::Target;
 use seccompiler::BpfProgram;
@@ -51,8 +51,7 @@ impl Code {
     pub(crate) fn new(alloc: Global) -> Result<Self, AllocError>
         ensures { IfOk result (λ code. code ≡ give 0x80000000 ∷ []) }
     {
-        let mut back = Vec::new(alloc);
-        back.push(bpf_stmt(RETURN, 0x8000_0000))?;
+        let back = vec![in alloc; bpf_stmt(RETURN, 0x8000_0000)]?;
         Ok(Code { back })
     }
 
@@ -116,38 +115,27 @@ impl Code {
         None
     }
 
-    // The last near place of an instruction that does what the target says; or where this one is written, which does.
-    fn stand_in(&mut self, target: Target, instruction: sock_filter) -> Result<usize, AllocError>
-        requires target { IsIn self.old target }
-        requires far { IsFar self.old target }
-        requires fine { IsFine instruction 0 (length self.old + 1) }
-        requires range { IsInRange instruction }
-        requires does { Says target instruction (length self.old) }
-        ensures { IfOk result (λ place. IsReached self.old target place self.new) }
-    {
-        if let Some(place) = self.twin(target) {
-            return Ok(place);
-        }
-        self.push(instruction)?;
-        Ok(self.len() - 1)
-    }
-
     /// A near place that does what the target says: its own, or that of a return or a jump, which is written if none
     /// is near.
     pub(crate) fn reach(&mut self, target: Target) -> Result<usize, AllocError>
         requires { IsIn self.old target }
         ensures { IfOk result (λ place. IsReached self.old target place self.new) }
     {
-        match target {
-            Target::Give(word) => self.stand_in(target, bpf_stmt(RETURN, word)),
+        let instruction = match target {
+            Target::Give(word) => bpf_stmt(RETURN, word),
             Target::At(place) => {
                 let over = self.over(place);
                 if over <= REACH {
                     return Ok(place);
                 }
-                self.stand_in(target, bpf_stmt(JUMP, over as u32))
+                bpf_stmt(JUMP, over as u32)
             }
+        };
+        if let Some(place) = self.twin(target) {
+            return Ok(place);
         }
+        self.push(instruction)?;
+        Ok(self.len() - 1)
     }
 
     /// If the accumulator compares with `k`, goes on as the one target says, and else as the other.

@@ -1,16 +1,12 @@
 // Conditions as targets: if one holds, the one target; else the other.
 
-ghost use Rattle.std.specs.Prelude.{◌≡◌, ◌≤◌, ◌%◌, IfOk, length};
-ghost use Rattle.seccompiler.specs.Machine.{argument_at};
-ghost use Rattle.seccompiler.specs.Policy.{part_of};
-ghost use Rattle.seccompiler.specs.declared.backend.SeccompCmpOp.TheVariants.{MaskedEq};
-ghost use Rattle.seccomp_tree.specs.Steps.{AreSteps};
-ghost use Rattle.seccomp_tree.specs.Code.{AreIn, IsIn, IsPart, part_length};
-ghost use Rattle.seccomp_tree.specs.Conditions.{HasBits, IsConditionMet, IsMet, condition_length, numbers_of};
+ghost use Rattle.std.specs.Prelude.{◌≡◌, ◌≤◌, ◌%◌, IfOk};
+ghost use Rattle.seccomp_tree.specs.Code.{IsIn};
+ghost use Rattle.seccomp_tree.specs.Conditions.{HasBits, IsConditionMet, IsMet};
 
 use crate::code::{Code, Test};
 use crate::intervals::laid;
-use crate::steps::{Step, Target, one};
+use crate::steps::{Target, one};
 use seccompiler::bpf::{LOAD, MASK, bpf_stmt};
 use seccompiler::{SeccompCmpArgLen, SeccompCmpOp, SeccompCondition};
 use std::alloc::{AllocError, Global};
@@ -35,53 +31,20 @@ impl Code {
             return Ok(yes);
         }
         if let SeccompCmpOp::MaskedEq(mask) = condition.operator() {
-            return self.masked_condition(condition, mask, yes, no);
+            // The low half first, since code is written from its end.
+            let index = condition.arg_index();
+            let (high_value, low_value) = condition.split_value();
+            let yes = self.masked(16 + 8 * index, (mask % HALVES) as u32, low_value, yes, no)?;
+            return match condition.arg_len() {
+                SeccompCmpArgLen::Dword => Ok(yes),
+                SeccompCmpArgLen::Qword => {
+                    self.masked(20 + 8 * index, (mask / HALVES) as u32, high_value, yes, no)
+                }
+            };
         }
         let no = one(alloc, no)?;
         let steps = laid(alloc, condition, yes, &no)?;
-        self.part(alloc, condition.arg_len(), condition.arg_index(), &steps)
-    }
-
-    /// Goes on as the steps say for what is compared of the argument, whatever the accumulator holds.
-    pub(crate) fn part(
-        &mut self,
-        alloc: Global,
-        size: SeccompCmpArgLen,
-        index: u8,
-        steps: &[Step],
-    ) -> Result<Target, AllocError>
-        requires index { index ≤ 5 }
-        requires are { AreSteps (numbers_of size) steps.now }
-        requires inside { AreIn self.old steps.now }
-        ensures { IfOk result (λ t. IsPart self.old size (part_length size (length steps.now)) (λ r. part_of size (argument_at r index)) steps.now t self.new) }
-    {
-        match size {
-            SeccompCmpArgLen::Dword => self.word(16 + 8 * index, steps),
-            SeccompCmpArgLen::Qword => self.argument(alloc, index, steps),
-        }
-    }
-
-    // Goes on as a condition with a mask says: the low half first, since code is written from its end.
-    fn masked_condition(
-        &mut self,
-        condition: &SeccompCondition,
-        mask: u64,
-        yes: Target,
-        no: Target,
-    ) -> Result<Target, AllocError>
-        requires masked { condition.now.operator ≡ MaskedEq mask }
-        requires yes { IsIn self.old yes }
-        requires no { IsIn self.old no }
-        ensures { IfOk result (λ t. IsConditionMet self.old condition.now yes no t self.new) }
-    {
-        let index = condition.arg_index();
-        let (high_value, low_value) = condition.split_value();
-        let (high, low) = ((mask / HALVES) as u32, (mask % HALVES) as u32);
-        let yes = self.masked(16 + 8 * index, low, low_value, yes, no)?;
-        match condition.arg_len() {
-            SeccompCmpArgLen::Dword => Ok(yes),
-            SeccompCmpArgLen::Qword => self.masked(20 + 8 * index, high, high_value, yes, no),
-        }
+        self.argument(alloc, condition.arg_len(), condition.arg_index(), &steps)
     }
 
     // Goes on as the one target says if the record's word at this byte has the value's bits under the mask.

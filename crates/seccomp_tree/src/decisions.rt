@@ -95,14 +95,11 @@ impl Decisions {
             return KILL_PROCESS;
         }
         let number = word_at(call, 0);
-        first_value(self.rulings_for(number), self.default_for(number), call)
-    }
-
-    /// The default value of a number.
-    pub(crate) fn default_for(&self, number: u32) -> u32
-        ensures { result ≡ default_for self.now.defaults number }
-    {
-        default_for(&self.defaults, number)
+        first_value(
+            self.rulings_for(number),
+            default_for(&self.defaults, number),
+            call,
+        )
     }
 
     /// The rulings of a number, or none.
@@ -133,8 +130,8 @@ fn ascend_from_zero(defaults: &[DefaultValue]) -> bool
     true
 }
 
-// The value of the last default that starts at or below the number.
-fn default_for(defaults: &[DefaultValue], number: u32) -> u32
+/// The value of the last default that starts at or below the number.
+pub(crate) fn default_for(defaults: &[DefaultValue], number: u32) -> u32
     ensures { result ≡ default_for defaults.now number }
 {
     let mut value = 0;
@@ -162,12 +159,7 @@ fn first_value(rulings: &[Decision], default: u32, call: &[u8; 64]) -> u32
 fn all_hold(conditions: &[SeccompCondition], call: &[u8; 64]) -> bool
     ensures { IsTrue result ↔ RuleHolds conditions.now call.now }
 {
-    for condition in conditions {
-        if !condition.holds(call) {
-            return false;
-        }
-    }
-    true
+    conditions.iter().all(|condition| condition.holds(call))
 }
 
 // The 32 bits of bytes `k` to `k + 3`, which are little-endian.

@@ -33,10 +33,12 @@ impl Decisions {
         let calls = calls_of(alloc, filter.rules(), filter.match_action().into())?;
         let value = filter.mismatch_action().into();
         let defaults = vec![in alloc; DefaultValue { start: 0, value }]?;
-        match Decisions::new(filter.target_arch(), defaults, calls) {
-            Some(decisions) => Ok(decisions),
-            None => unreachable!(),
-        }
+        let target_arch = filter.target_arch();
+        Ok(Decisions {
+            target_arch,
+            defaults,
+            calls,
+        })
     }
 }
 

@@ -1,16 +1,15 @@
 // Comparisons as steps: for each number what is so where a condition holds on it, and what is so elsewhere.
 
-ghost use Rattle.std.specs.Prelude.{◌≡◌, ◌≤◌, ◌<◌, ◌^◌, ◌↔◌, IsTrue, IfOk, None, Some, true};
-ghost use Rattle.seccompiler.specs.Policy.{Compares, part_of};
-ghost use Rattle.seccomp_tree.specs.Steps.{AreSteps};
-ghost use Rattle.seccomp_tree.specs.Conditions.{AreLaid, IsChosen, IsOverPushed, is_plain, numbers_of};
+ghost use Rattle.std.specs.Prelude.{◌≡◌, ◌≤◌, ◌<◌, ◌^◌, ◌↔◌, IsTrue, IfOk, true};
+ghost use Rattle.seccompiler.specs.Policy.{Compares};
+ghost use Rattle.seccomp_tree.specs.Steps.{AreSteps, first_start};
+ghost use Rattle.seccomp_tree.specs.Conditions.{AreLaid, IsTurn, is_plain, numbers_of};
 
-use crate::steps::{Step, Target, push_part, push_step};
+use crate::steps::{Step, Target, push_step};
 use seccompiler::{SeccompCmpArgLen, SeccompCmpOp, SeccompCondition};
 use std::alloc::{AllocError, Global};
 
 /// Steps that have the target if the condition's comparison holds, and else what others have.
-#[tactic(auto, using(crate::proofs::Choices::numbers_few))]
 pub(crate) fn laid(
     alloc: Global,
     condition: &SeccompCondition,
@@ -21,27 +20,39 @@ pub(crate) fn laid(
     requires others { AreSteps (numbers_of condition.now.arg_len) others.now }
     ensures { IfOk result (λ steps. AreLaid condition.now target others.now steps.items) }
 {
-    let value = u128::from(value_part(condition));
+    let size = numbers(condition.arg_len());
+    let value = u128::from(condition.value()) % size;
     let mut steps = Vec::new(alloc);
-    push_over(&mut steps, others, 0, value, side(condition, 0, target))?;
-    let next = value + 1;
-    let at = side(condition, value, target);
-    push_over(&mut steps, others, value, next, at)?;
-    let end = numbers(condition.arg_len());
-    push_over(&mut steps, others, next, end, side(condition, next, target))?;
+    let mut number = 0;
+    let mut rest = others;
+    while number < size {
+        let is_met = compares(condition.operator(), number, value);
+        let chosen = if is_met { target } else { rest[0].target };
+        push_step(&mut steps, number as u64, chosen)?;
+        let end = first_start(&rest[1..], size);
+        number = turn(value, number, end);
+        if number == end {
+            rest = &rest[1..];
+        }
+    }
     Ok(steps)
 }
 
-// The target, if the condition's comparison holds on the number.
-fn side(condition: &SeccompCondition, number: u128, target: Target) -> Option<Target>
-    ensures { IsChosen (Compares condition.now.operator number (part_of condition.now.arg_len condition.now.value)) (Some target) None result }
+// Up to where the numbers from this one on compare with the value as it does, or the end if that comes before.
+fn turn(value: u128, number: u128, end: u128) -> u128
+    requires some { number < end }
+    requires fits { value < 2 ^ 64 }
+    ensures { IsTurn value number end result }
 {
-    let value = u128::from(value_part(condition));
-    if compares(condition.operator(), number, value) {
-        Some(target)
-    } else {
-        None
-    }
+    let turn = if number == value { value + 1 } else { value };
+    if number <= value { turn.min(end) } else { end }
+}
+
+// Where the first of the steps starts, or the size.
+fn first_start(steps: &[Step], size: u128) -> u128
+    ensures { result ≡ first_start size steps.now }
+{
+    steps.first().map_or(size, |step| u128::from(step.start))
 }
 
 // Whether the comparison holds.
@@ -59,46 +70,14 @@ fn compares(operator: SeccompCmpOp, number: u128, value: u128) -> bool
     }
 }
 
-// Gives the numbers from `first` up to `end` this target, or what others have if there is none.
-fn push_over(
-    steps: &mut Vec<Step>,
-    others: &[Step],
-    first: u128,
-    end: u128,
-    target: Option<Target>,
-) -> Result<(), AllocError>
-    requires others { AreSteps (2 ^ 64) others.now }
-    requires order { first ≤ end }
-    requires within { end ≤ 2 ^ 64 }
-    requires below { AreSteps first steps.old.items }
-    ensures { IfOk result (λ _. IsOverPushed steps.old.items others.now first end target steps.new.items) }
-{
-    if first == end {
-        return Ok(());
-    }
-    match target {
-        Some(target) => push_step(steps, first as u64, target),
-        None => push_part(steps, others, first as u64, (end - 1) as u64, 0),
-    }
-}
-
 // How many numbers a length has.
 fn numbers(length: SeccompCmpArgLen) -> u128
-    ensures { result ≡ numbers_of length }
+    ensures numbers { result ≡ numbers_of length }
+    ensures some { 1 ≤ result }
+    ensures few { result ≤ 2 ^ 64 }
 {
     match length {
         SeccompCmpArgLen::Dword => 0x1_0000_0000,
         SeccompCmpArgLen::Qword => 0x1_0000_0000_0000_0000,
-    }
-}
-
-// What counts of the condition's value.
-fn value_part(condition: &SeccompCondition) -> u64
-    ensures part { result ≡ part_of condition.now.arg_len condition.now.value }
-    ensures inside { result < numbers_of condition.now.arg_len }
-{
-    match condition.arg_len() {
-        SeccompCmpArgLen::Dword => condition.value() & 0xffff_ffff,
-        SeccompCmpArgLen::Qword => condition.value(),
     }
 }

@@ -1,14 +1,13 @@
 // The program of decisions.
 
-ghost use Rattle.std.specs.Prelude.{◌≡◌, ℕ, ◌≤◌, ◌<◌, ◌^◌, [], IfOk, IfErr};
+ghost use Rattle.std.specs.Prelude.{◌≡◌, ℕ, ◌≤◌, ◌<◌, ◌^◌, [], IfOk, IfErr, IfSome};
 ghost use Rattle.seccomp_tree.specs.Rules.{IsTooMany};
-ghost use Rattle.seccomp_tree.specs.Decisions.{rules_length};
 ghost use Rattle.seccomp_tree.specs.Decided.{calls_of, rulings_for};
 ghost use Rattle.seccomp_tree.specs.TreeProgram.{one_value};
-ghost use Rattle.seccomp_tree.specs.CallSteps.{IsAnswered, IsNextDefault};
+ghost use Rattle.seccomp_tree.specs.CallSteps.{IsNextDefault};
 
 use crate::code::{Code, Test};
-use crate::decisions::{Decision, Decisions, DefaultValue, KILL_PROCESS};
+use crate::decisions::{Decision, Decisions, DefaultValue, KILL_PROCESS, default_for};
 use crate::error::TreeError;
 use crate::steps::{Step, Target, push_step};
 use seccompiler::BpfProgram;
@@ -24,7 +23,7 @@ const NUMBERS: u64 = 0x1_0000_0000;
 
 impl Decisions {
     ghost use Rattle.seccomp_tree.specs.TreeProgram.{IsTreeProgram, IsTooLargeFor, calls_length};
-    ghost use Rattle.seccomp_tree.specs.CallSteps.{AreCallSteps, IsNextNumber};
+    ghost use Rattle.seccomp_tree.specs.CallSteps.{AreCallSteps};
 
     /// The program of these decisions: one tree of tests over call numbers, and after it the tests of their arguments.
     ///
@@ -37,7 +36,7 @@ impl Decisions {
     {
         let mut code = Code::new(alloc)?;
         let steps = self.call_steps(alloc, &mut code)?;
-        let calls = code.word(SECCOMP_DATA_NR_OFFSET, &steps)?;
+        let calls = code.word(SECCOMP_DATA_NR_OFFSET, 0, &steps)?;
         let arch = self.target_arch.get_audit_value();
         code.test(Test::Equal, arch, calls, Target::Give(KILL_PROCESS))?;
         code.push(bpf_stmt(LOAD, u32::from(SECCOMP_DATA_ARCH_OFFSET)))?;
@@ -60,54 +59,33 @@ impl Decisions {
         while next < NUMBERS {
             let number = next as u32;
             let rulings = self.rulings_for(number);
-            let target = code.answer(alloc, rulings, self.default_for(number))?;
+            let default = default_for(&self.defaults, number);
+            let target = match one_value(rulings, default) {
+                Some(value) => Target::Give(value),
+                None => code.rules(alloc, rulings, default)?,
+            };
             push_step(&mut steps, next, target)?;
-            next = self.next_number(number);
+            // The next number that may be answered otherwise.
+            next = if rulings.is_empty() {
+                next_default(&self.defaults, number).min(next_call(&self.calls, number))
+            } else {
+                next + 1
+            };
         }
         Ok(steps)
-    }
-
-    // The next number that may be answered otherwise than this one, or 2^32.
-    fn next_number(&self, number: u32) -> u64
-        ensures { IsNextNumber self.now number result }
-    {
-        if !self.rulings_for(number).is_empty() {
-            return u64::from(number) + 1;
-        }
-        next_default(&self.defaults, number).min(next_call(&self.calls, number))
-    }
-}
-
-impl Code {
-    // Goes on as the first of the rulings that holds says, or returns the default.
-    fn answer(
-        &mut self,
-        alloc: Global,
-        rulings: &[Decision],
-        default: u32,
-    ) -> Result<Target, TreeError>
-        ensures ok { IfOk result (λ t. IsAnswered self.old default rulings.now t self.new) }
-        ensures err { IfErr result (IsTooMany (rules_length rulings.now)) }
-    {
-        match one_value(rulings, default) {
-            Some(value) => Ok(Target::Give(value)),
-            None => self.rules(alloc, rulings, default),
-        }
     }
 }
 
 // The value that alone answers calls of these rulings, if one does.
 fn one_value(rulings: &[Decision], default: u32) -> Option<u32>
-    ensures { result ≡ one_value default rulings.now }
+    ensures value { result ≡ one_value default rulings.now }
+    ensures fits { IfSome result (λ v. v < 2 ^ 32) }
 {
-    if rulings.is_empty() {
-        return Some(default);
+    match rulings.first() {
+        None => Some(default),
+        Some(first) if first.conditions.is_empty() => Some(first.value),
+        _ => None,
     }
-    let first = &rulings[0];
-    if first.conditions.len() == 0 {
-        return Some(first.value);
-    }
-    None
 }
 
 // The number of the next default after this number, or 2^32.

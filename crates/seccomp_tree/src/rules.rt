@@ -2,7 +2,7 @@
 
 ghost use Rattle.std.specs.Prelude.{◌≡◌, IfOk, IfErr, Some};
 ghost use Rattle.seccomp_tree.specs.Code.{IsIn};
-ghost use Rattle.seccomp_tree.specs.Decisions.{alike, only, rules_length, same_length};
+ghost use Rattle.seccomp_tree.specs.Decisions.{alike, only, rules_length};
 ghost use Rattle.seccomp_tree.specs.Rules.{AreFit, AreRules, IsInFront, IsRulingMet, IsSettled, IsTooMany};
 
 use crate::code::Code;
@@ -11,7 +11,7 @@ use crate::error::TreeError;
 use crate::intervals::laid;
 use crate::steps::{Step, Target, one};
 use seccompiler::bpf::BPF_MAX_LEN;
-use seccompiler::{SeccompCmpArgLen, SeccompCmpOp, SeccompCondition};
+use seccompiler::{SeccompCmpOp, SeccompCondition};
 use std::alloc::{AllocError, Global};
 
 /// What comes after some rulings: steps over what a condition compares, or one target for all records, if there is
@@ -44,8 +44,7 @@ impl Code {
                 return Err(TreeError::TooLarge);
             }
         }
-        let target = self.settle(alloc, &rest)?;
-        Ok(target)
+        Ok(self.settle(alloc, &rest)?)
     }
 
     // Puts a ruling in front of the rest. One that compares what the rest does is laid over its steps.
@@ -81,10 +80,7 @@ impl Code {
         ensures { IfOk result (λ t. IsSettled self.old rest.now.like rest.now.steps.items t self.new) }
     {
         match rest.like {
-            Some(condition) => {
-                let (size, index) = (condition.arg_len(), condition.arg_index());
-                self.part(alloc, size, index, &rest.steps)
-            }
+            Some(c) => self.argument(alloc, c.arg_len(), c.arg_index(), &rest.steps),
             None => Ok(rest.steps[0].target),
         }
     }
@@ -115,35 +111,20 @@ impl Code {
 fn is_alike(condition: &SeccompCondition, other: Option<SeccompCondition>) -> bool
     ensures { result ≡ alike (Some condition.now) other }
 {
-    match other {
-        Some(other) => {
-            condition.arg_index() == other.arg_index()
-                && is_same_length(condition.arg_len(), other.arg_len())
-        }
-        None => false,
-    }
-}
-
-// Whether two lengths are one.
-fn is_same_length(first: SeccompCmpArgLen, second: SeccompCmpArgLen) -> bool
-    ensures { result ≡ same_length first second }
-{
-    match (first, second) {
-        (SeccompCmpArgLen::Dword, SeccompCmpArgLen::Dword) => true,
-        (SeccompCmpArgLen::Qword, SeccompCmpArgLen::Qword) => true,
-        _ => false,
-    }
+    other.is_some_and(|other| {
+        condition.arg_index() == other.arg_index() && condition.arg_len() == other.arg_len()
+    })
 }
 
 // The condition, if there is one without a mask.
 fn only(conditions: &[SeccompCondition]) -> Option<SeccompCondition>
     ensures { result ≡ only conditions.now }
 {
-    if conditions.len() != 1 {
+    let [condition] = conditions else {
         return None;
-    }
-    match conditions[0].operator() {
+    };
+    match condition.operator() {
         SeccompCmpOp::MaskedEq(_) => None,
-        _ => Some(conditions[0]),
+        _ => Some(*condition),
     }
 }

@@ -1,7 +1,7 @@
 // What is looked up by a number: steps, each from its start up to the next one's.
 
-ghost use Rattle.std.specs.Prelude.{◌≡◌, ◌≤◌, ◌+◌, ◌-◌, ◌^◌, ◌↔◌, IsTrue, IfOk, length};
-ghost use Rattle.seccomp_tree.specs.Steps.{AreSteps, IsPartPushed, IsPushed, begun, found_in, single};
+ghost use Rattle.std.specs.Prelude.{◌≡◌, ◌≤◌, ◌+◌, ◌^◌, ◌↔◌, IsTrue, IfOk, length};
+ghost use Rattle.seccomp_tree.specs.Steps.{AreSteps, IsPushed, begun, found_in, single};
 
 use std::alloc::{AllocError, Global};
 
@@ -19,11 +19,7 @@ impl Target {
     pub(crate) fn is(self, other: Target) -> bool
         ensures { IsTrue result ↔ (self ≡ other) }
     {
-        match (self, other) {
-            (Target::Give(word), Target::Give(other)) => word == other,
-            (Target::At(place), Target::At(other)) => place == other,
-            _ => false,
-        }
+        self == other
     }
 }
 
@@ -47,45 +43,11 @@ pub(crate) fn push_step(steps: &mut Vec<Step>, start: u64, target: Target) -> Re
     ensures { IfOk result (λ _. IsPushed steps.old.items start target steps.new.items) }
 {
     // Neighbours with one target are one step.
-    if have(steps, start, target) {
+    if !steps.is_empty() && steps[steps.len() - 1].target.is(target) {
         return Ok(());
     }
     steps.push(Step { start, target })?;
     Ok(())
-}
-
-/// Gives the numbers from `first` to `last` what others have for them, less `base` each.
-pub(crate) fn push_part(
-    steps: &mut Vec<Step>,
-    others: &[Step],
-    first: u64,
-    last: u64,
-    base: u64,
-) -> Result<(), AllocError>
-    requires others { AreSteps (2 ^ 64) others.now }
-    requires base { base ≤ first }
-    requires order { first ≤ last }
-    requires below { AreSteps (first - base) steps.old.items }
-    ensures { IfOk result (λ _. IsPartPushed steps.old.items others.now first last base steps.new.items) }
-{
-    push_step(steps, first - base, found(others, first))?;
-    let (begin, end) = (until(others, first), until(others, last));
-    for i in begin..end {
-        let step = others[i];
-        push_step(steps, step.start - base, step.target)?;
-    }
-    Ok(())
-}
-
-// Whether there are steps, and they have this target for the number.
-fn have(steps: &[Step], number: u64, target: Target) -> bool
-    requires { AreSteps number steps.now }
-    ensures { IsTrue result ↔ ((1 ≤ length steps.now) × (found_in steps.now number ≡ target)) }
-{
-    if steps.is_empty() {
-        return false;
-    }
-    steps[steps.len() - 1].target.is(target)
 }
 
 /// How many of the steps start at or below the number.
@@ -96,12 +58,4 @@ pub(crate) fn until(steps: &[Step], number: u64) -> usize
     ensures few { result ≤ length steps.now }
 {
     steps.partition_point(|step| step.start <= number)
-}
-
-/// The target that the steps have for a number.
-pub(crate) fn found(steps: &[Step], number: u64) -> Target
-    requires { AreSteps (2 ^ 64) steps.now }
-    ensures { result ≡ found_in steps.now number }
-{
-    steps[until(steps, number) - 1].target
 }

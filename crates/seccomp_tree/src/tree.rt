@@ -1,7 +1,7 @@
 // The tree of tests of steps.
 
-ghost use Rattle.std.specs.Prelude.{◌≡◌, ◌≤◌, ◌-◌, ◌*◌, ◌%◌, ◌^◌, ◌↔◌, IsTrue, IfOk, length};
-ghost use Rattle.seccomp_tree.specs.Steps.{AreSteps, AscendFrom, row, second_stands_out, settled};
+ghost use Rattle.std.specs.Prelude.{◌≡◌, ◌≤◌, ◌+◌, ◌-◌, ◌*◌, ◌%◌, ◌↔◌, IsTrue, IfOk, length};
+ghost use Rattle.seccomp_tree.specs.Steps.{AreOver, row, second_stands_out};
 ghost use Rattle.seccompiler.specs.Machine.{word_at};
 ghost use Rattle.seccompiler.specs.declared.backend.SeccompCmpArgLen.TheVariants.{Dword};
 ghost use Rattle.seccomp_tree.specs.Code.{AreIn, IsPart, IsTree};
@@ -23,60 +23,51 @@ fn stands_out(steps: &[Step]) -> bool
         && steps[2].start.saturating_sub(steps[1].start) == 1
 }
 
-// How many of the steps the first test of a row leaves to no other test.
-fn settled(steps: &[Step]) -> usize
-    ensures { result ≡ settled steps.now }
-{
-    if stands_out(steps) { 2 } else { 1 }
-}
-
 // Whether at most so many tests tell the steps apart, one after the other.
 fn is_row(steps: &[Step], tests: usize) -> bool
     ensures { IsTrue result ↔ (row steps.now ≤ tests) }
 {
-    if steps.len() < 2 {
-        return true;
-    }
-    if tests == 0 {
-        return false;
-    }
-    is_row(&steps[settled(steps)..], tests - 1)
+    let settled = if stands_out(steps) { 2 } else { 1 };
+    steps.len() < 2 || tests > 0 && is_row(&steps[settled..], tests - 1)
 }
 
 impl Code {
-    /// Goes on as the steps say for the accumulator. A row of few tests is written as it is, others are halved.
-    pub(crate) fn tree(&mut self, steps: &[Step]) -> Result<Target, AllocError>
+    /// Goes on as the steps say for the accumulator and a base. A row of few tests is written as it is, others are halved.
+    pub(crate) fn tree(&mut self, base: u64, steps: &[Step]) -> Result<Target, AllocError>
         requires some { 1 ≤ length steps.now }
-        requires ascend { AscendFrom (2 ^ 32) 0 steps.now }
+        requires over { AreOver base steps.now }
         requires inside { AreIn self.old steps.now }
-        ensures { IfOk result (λ t. IsTree self.old steps.now t self.new) }
+        ensures { IfOk result (λ t. IsTree self.old base steps.now t self.new) }
     {
         if steps.len() == 1 {
             return Ok(steps[0].target);
         }
         if !is_row(steps, MOST) {
             let half = steps.len() / 2;
-            let upper = self.tree(&steps[half..])?;
-            let lower = self.tree(&steps[..half])?;
-            return self.test(Test::AtLeast, steps[half].start as u32, upper, lower);
+            let upper = self.tree(base, &steps[half..])?;
+            let lower = self.tree(base, &steps[..half])?;
+            let k = (steps[half].start - base) as u32;
+            return self.test(Test::AtLeast, k, upper, lower);
         }
         if stands_out(steps) {
-            let rest = self.tree(&steps[2..])?;
-            return self.test(Test::Equal, steps[1].start as u32, steps[1].target, rest);
+            let rest = self.tree(base, &steps[2..])?;
+            let k = (steps[1].start - base) as u32;
+            return self.test(Test::Equal, k, steps[1].target, rest);
         }
-        let rest = self.tree(&steps[1..])?;
-        self.test(Test::AtLeast, steps[1].start as u32, rest, steps[0].target)
+        let rest = self.tree(base, &steps[1..])?;
+        let k = (steps[1].start - base) as u32;
+        self.test(Test::AtLeast, k, rest, steps[0].target)
     }
 
-    /// Goes on as the steps say for the 32 bits of the record from this byte on, whatever is in the accumulator.
-    pub(crate) fn word(&mut self, byte: u8, steps: &[Step]) -> Result<Target, AllocError>
+    /// Goes on as the steps say for a base and the 32 bits of the record from this byte on, whatever is in the accumulator.
+    pub(crate) fn word(&mut self, byte: u8, base: u64, steps: &[Step]) -> Result<Target, AllocError>
         requires aligned { byte % 4 ≡ 0 }
         requires inside_record { byte ≤ 60 }
-        requires are { AreSteps (2 ^ 32) steps.now }
+        requires over { AreOver base steps.now }
         requires inside { AreIn self.old steps.now }
-        ensures { IfOk result (λ t. IsPart self.old Dword (3 * length steps.now - 2) (λ r. word_at r byte) steps.now t self.new) }
+        ensures { IfOk result (λ t. IsPart self.old Dword (3 * length steps.now - 2) (λ r. word_at r byte + base) steps.now t self.new) }
     {
-        let tested = self.tree(steps)?;
+        let tested = self.tree(base, steps)?;
         if steps.len() == 1 {
             return Ok(tested);
         }

@@ -1,10 +1,62 @@
-use Rattle.seccomp_tree.proofs.Common.{◌∙◌}
-use Rattle.seccomp_tree.proofs.Choices.{laid_whole}
+use Rattle.seccomp_tree.proofs.Common.{◌≡◌, ◌≢◌, ◌⊎◌, List, Step, ◌-◌, ◌%◌, ap, ◌∙◌, inl, inr, drop, length, refl, take, sym, false≢true}
+use Rattle.seccomp_tree.proofs.Common.{get_or, Give, Compares, part_of}
+use Rattle.seccomp_tree.specs.Steps.{first_start}
+use Rattle.seccomp_tree.specs.Conditions.{IsChosen, numbers_of}
+use Rattle.seccomp_tree.proofs.Trees.{all_behind}
+use Rattle.seccomp_tree.proofs.Choices.{Laying, laying_begins, laying_on, laying_ends, part_left}
+use Rattle.seccomp_tree.proofs.intervals.laid.Goals.{After-turn-number, then-is_met, else-is_met}
 use Rattle.seccomp_tree.proofs.intervals.laid.Goals as goal
+
+pub loop-number-init : goal.loop-number-init
+loop-number-init c =
+    rw c.new-steps.ensures.items (laying_begins c.args.condition.now c.args.target c.args.others.now c.requires.others)
+
+-- where the next of the others starts
+end_is : (c : After-turn-number) → c.first_start-end.result
+    ≡ first_start (numbers_of c.args.condition.now.arg_len) (drop 1 c.loop-number.rest.now)
+end_is c = c.first_start-end.ensures
+    ∙ ap (λ n. first_start n (take (length c.loop-number.rest.now - 1) (drop 1 c.loop-number.rest.now)))
+    (c.numbers-size.ensures.numbers ∙ ap numbers_of c.arg_len.ensures)
+    ∙ ap (first_start (numbers_of c.args.condition.now.arg_len)) (all_behind c.loop-number.rest.now 1)
+
+-- what counts of the value
+value_is : (c : After-turn-number) → c.from.result % c.numbers-size.result
+    ≡ part_of c.args.condition.now.arg_len c.args.condition.now.value
+value_is c =
+    rw (c.from.ensures, c.value.ensures, c.numbers-size.ensures.numbers, c.arg_len.ensures)
+    (part_left c.args.condition.now.arg_len c.args.condition.now.value (rw c.value.ensures at c.value.type_inv))
+
+-- what is chosen for the number
+chosen : (c : After-turn-number) → IsChosen (Compares c.args.condition.now.operator c.loop-number.number
+    (part_of c.args.condition.now.arg_len c.args.condition.now.value)) c.args.target
+    (get_or c.loop-number.rest.now 0 (record { start = 0; target = Give 0 })).target c.if-is_met.chosen
+chosen c =
+    let both = rw (c.operator.ensures, value_is c) at c.compares-is_met.ensures in
+    elim c.if-is_met.branch [
+      | then-is_met w ↦ record { met = λ is. w.chosen-is; unmet = λ not. absurd (not (both.0 w.if-is_met.true)) }
+      | else-is_met w ↦ record { met = λ is. absurd (false≢true (sym w.if-is_met.false ∙ both.1 is)); unmet = λ not. w.chosen-is }
+    ]
+
+-- a step more
+on : (c : After-turn-number) (back : List Step)
+    → ((c.turn-number.result ≡ c.first_start-end.result) × (back ≡ drop 1 c.loop-number.rest.now))
+    ⊎ ((c.turn-number.result ≢ c.first_start-end.result) × (back ≡ c.loop-number.rest.now))
+    → Laying c.args.condition.now c.args.target c.args.others.now c.turn-number.result back c.push_step.new.steps.items
+on c back moved = laying_on c.args.condition.now c.args.target c.args.others.now c.loop-number.rest.now back c.loop-number.steps.items
+    c.push_step.new.steps.items _ _ c.loop-number.number c.turn-number.result _ _ c.requires.plain c.loop-number.invariant
+    (rw (c.numbers-size.ensures.numbers, c.arg_len.ensures) at c.loop-number-test.true) (value_is c) (end_is c) c.turn-number.ensures
+    (chosen c) c.in_ok-push_step.ensures moved
+
+pub loop-number-preserved-then-number-end : goal.loop-number-preserved-then-number-end
+loop-number-preserved-then-number-end c =
+    on ((goal.at.loop-number-preserved-then-number-end c).After-turn-number) _
+    (inl (c.if-number-end.true, all_behind c.loop-number.rest.now 1))
+
+pub loop-number-preserved : goal.loop-number-preserved
+loop-number-preserved c = on ((goal.at.loop-number-preserved c).After-turn-number) _ (inr (c.if-number-end.false, refl))
 
 pub returns : goal.returns
 returns c =
-    laid_whole c.args.condition.now c.args.target c.args.others.now _ _ _ c.from-value.result _ _ _
-    (c.from-value.ensures ∙ c.value_part.ensures.part) c.requires.plain c.requires.others c.side.ensures
-    (rw c.new-steps.ensures.items at c.in_ok-push_over.ensures) c.side-at.ensures c.in_ok-push_over-2.ensures c.side-2.ensures
-    (rw (c.numbers-end.ensures, c.arg_len.ensures) at c.in_ok-push_over-3.ensures)
+    laying_ends c.args.condition.now c.args.target c.args.others.now c.loop-number.rest.now c.loop-number.steps.items
+    c.loop-number.number c.requires.plain c.loop-number.invariant
+    (rw (c.numbers-size.ensures.numbers, c.arg_len.ensures) at c.loop-number-test.false)

@@ -1,15 +1,23 @@
-use Rattle.seccomp_tree.proofs.Common.{sym, ◌∙◌, false≢true, Step}
-use Rattle.seccomp_tree.proofs.Begun.{pushed_same, pushed_more}
+use Rattle.seccomp_tree.proofs.Common.{◌≤◌, length, sym, ◌∙◌, arith, nat_tests, false≢true, Step}
+use Rattle.seccomp_tree.proofs.Begun.{found_last, pushed_same, pushed_more}
+use Rattle.seccomp_tree.proofs.steps.push_step.Goals.{else-not-is_empty-via-then-not-is_empty+else-is}
+use Rattle.seccomp_tree.proofs.steps.push_step.Goals.{else-not-is_empty-via-else-not-is_empty}
 use Rattle.seccomp_tree.proofs.steps.push_step.Goals as goal
 
-pub returns-then-have : goal.returns-then-have
-returns-then-have c =
-    let h = rw c.deref.ensures.value at (c.have.ensures.0 c.if-have.true) in
-    pushed_same c.args.steps.now.items c.args.start c.args.target c.requires.below h.0 h.1
+pub returns-then-is : goal.returns-then-is
+returns-then-is c =
+    let old = c.args.steps.now.items in
+    let some : 1 ≤ length old = grind (arith, nat_tests, c.is_empty.ensures, c.if-not-is_empty.true) in
+    pushed_same old c.args.start c.args.target c.requires.below some
+    (found_last c.args.start _ old _ c.requires.below some (omega (arith, c.len.ensures)) c.index.ensures ∙ c.is.ensures.0 c.if-is.true)
 
 pub returns : goal.returns
 returns c =
+    let old = c.args.steps.now.items in
     let x : Step = record { start = c.args.start; target = c.args.target } in
-    let e = c.deref.ensures.value in
-    rw c.in_ok-push.ensures.items (pushed_more c.args.steps.now.items x c.requires.below
-    (λ some same. false≢true (sym c.if-have.false ∙ c.have.ensures.1 (rw e (some, same)))))
+    rw c.in_ok-push.ensures.items (pushed_more old x c.requires.below (elim c.else-not-is_empty.branch [
+      | else-not-is_empty-via-then-not-is_empty+else-is w ↦ λ some same.
+          let last = found_last c.args.start _ old _ c.requires.below some (omega (arith, w.len.ensures)) w.index.ensures in
+          false≢true (sym w.if-is.false ∙ w.is.ensures.1 (sym last ∙ same))
+      | else-not-is_empty-via-else-not-is_empty w ↦ λ some same. grind (arith, nat_tests, c.is_empty.ensures, w.if-not-is_empty.false, some)
+    ]))

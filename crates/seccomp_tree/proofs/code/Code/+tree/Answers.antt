@@ -1,17 +1,17 @@
-use Rattle.seccomp_tree.proofs.Common.{◌/◌, ◌^◌, length, refl, sym, ◌∙◌, arith, inl, inr, cases_lt, false≢true, row, IfOk-weaker}
-use Rattle.seccomp_tree.proofs.Common.{length-take-le, Give}
+use Rattle.seccomp_tree.proofs.Common.{◌/◌, length, refl, sym, ◌∙◌, arith, inl, inr, cases_lt, false≢true, row, IfOk-weaker}
+use Rattle.seccomp_tree.proofs.Common.{length-take-le, Give, Step}
 use Rattle.seccomp_tree.proofs.Runs.{is_in_grown}
-use Rattle.seccomp_tree.proofs.Begun.{starts_rise}
-use Rattle.seccomp_tree.proofs.Trees.{ascend_take, in_take, all_behind, rest_of, out_long, tree_single, tree_out, tree_first, tree_halves}
+use Rattle.seccomp_tree.proofs.Trees.{over_starts, over_take, in_take, all_behind, rest_of, out_long, tree_single, tree_out, tree_first}
+use Rattle.seccomp_tree.proofs.Trees.{tree_halves}
 use Rattle.seccomp_tree.proofs.code.Code.+tree.Goals as goal
 
 pub returns-then-steps-eq1 : goal.returns-then-steps-eq1
-returns-then-steps-eq1 t c = tree_single c.args.self.now c.args.steps.now _ c.if-steps-eq1.true c.requires.inside
+returns-then-steps-eq1 t c = tree_single c.args.self.now c.args.base c.args.steps.now _ c.if-steps-eq1.true c.requires.inside
 
 pub tree-requires : goal.tree-requires
 tree-requires t c =
-    rest_of c.args.self.now (2 ^ 32) (length c.args.steps.now / 2) t c.args.steps.now (omega (arith, c.requires.some))
-    (omega (arith, c.requires.some)) (omega (arith, c.decreases)) c.requires.ascend c.requires.inside
+    rest_of c.args.self.now c.args.base (length c.args.steps.now / 2) t c.args.steps.now (omega (arith, c.requires.some))
+    (omega (arith, c.requires.some)) (omega (arith, c.decreases)) c.requires.over c.requires.inside
 
 pub tree-requires-then-not-is_row : goal.tree-requires-then-not-is_row
 tree-requires-then-not-is_row t c =
@@ -22,19 +22,28 @@ tree-requires-then-not-is_row t c =
       (
         omega (arith, long, c.requires.some),
         (
-          ascend_take (2 ^ 32) 0 n steps c.requires.ascend,
+          over_take c.args.base n steps (omega (arith, c.requires.some)) c.requires.over,
           λ k d lt. is_in_grown _ c.in_ok-upper.ensures.grows (in_take c.args.self.now n steps c.requires.inside k d lt),
         ),
       ),
     )
 
-pub overflow_cast-steps : goal.overflow_cast-steps
-overflow_cast-steps t c =
-    omega (
-      arith,
-      (starts_rise (2 ^ 32) 0 c.args.steps.now (length c.args.steps.now / 2) (record { start = 0; target = Give 0 })
-          c.requires.ascend (omega (arith, c.requires.some))).1,
-    )
+abbrev first : Step
+first = record { start = 0; target = Give 0 }
+
+pub overflow_sub-k : goal.overflow_sub-k
+overflow_sub-k t c = omega (
+  arith,
+  (over_starts c.args.base (length c.args.steps.now / 2) c.args.steps.now first c.requires.over (omega (arith, c.requires.some))
+      (omega (arith, c.requires.some))).0,
+)
+
+pub overflow_cast-k : goal.overflow_cast-k
+overflow_cast-k t c = omega (
+  arith,
+  (over_starts c.args.base (length c.args.steps.now / 2) c.args.steps.now first c.requires.over (omega (arith, c.requires.some))
+      (omega (arith, c.requires.some))).1,
+)
 
 pub returns-then-not-is_row : goal.returns-then-not-is_row
 returns-then-not-is_row t c =
@@ -42,8 +51,8 @@ returns-then-not-is_row t c =
     let all = all_behind steps (length steps / 2) in
     IfOk-weaker c.test.result _ _
     (λ u h.
-    tree_halves c.args.self.now c.tree.new.self c.tree-then-not-is_row.new.self c.test.new.self steps (length steps / 2) _
-    c.in_ok-upper.upper c.in_ok-lower.lower u refl c.requires.ascend (omega (arith, c.requires.some))
+    tree_halves c.args.self.now c.tree.new.self c.tree-then-not-is_row.new.self c.test.new.self c.args.base steps (length steps / 2) _
+    c.in_ok-upper.upper c.in_ok-lower.lower u refl c.requires.over (omega (arith, c.requires.some))
     (elim (cases_lt 6 (row steps)) [ inl lt ↦ lt | inr le ↦ absurd (false≢true (c.if-not-is_row.ensures.1 le)) ])
     (rw all at c.in_ok-upper.ensures) c.in_ok-lower.ensures h)
     c.test.ensures
@@ -52,7 +61,7 @@ pub tree-requires-then-stands_out : goal.tree-requires-then-stands_out
 tree-requires-then-stands_out t c =
     let steps = c.args.steps.now in
     let long = out_long steps (sym c.stands_out.ensures ∙ c.if-stands_out.true) in
-    rest_of c.args.self.now (2 ^ 32) 2 t steps (omega arith) (omega (arith, long)) (omega (arith, c.decreases)) c.requires.ascend
+    rest_of c.args.self.now c.args.base 2 t steps (omega arith) (omega (arith, long)) (omega (arith, c.decreases)) c.requires.over
     c.requires.inside
 
 pub returns-then-stands_out : goal.returns-then-stands_out
@@ -61,14 +70,15 @@ returns-then-stands_out t c =
     let all = all_behind steps 2 in
     IfOk-weaker c.test-then-stands_out.result _ _
     (λ u h.
-    tree_out c.args.self.now c.tree-then-stands_out.new.self c.test-then-stands_out.new.self steps _ c.in_ok-rest.rest u c.requires.ascend
+    tree_out c.args.self.now c.tree-then-stands_out.new.self c.test-then-stands_out.new.self c.args.base steps _ c.in_ok-rest.rest u
+    c.requires.over
     (sym c.stands_out.ensures ∙ c.if-stands_out.true) (c.is_row.ensures.0 c.if-not-is_row.false) (rw all at c.in_ok-rest.ensures) h)
     c.test-then-stands_out.ensures
 
 pub tree-requires-2 : goal.tree-requires-2
 tree-requires-2 t c =
-    rest_of c.args.self.now (2 ^ 32) 1 t c.args.steps.now (omega arith) (omega (arith, c.requires.some)) (omega (arith, c.decreases))
-    c.requires.ascend c.requires.inside
+    rest_of c.args.self.now c.args.base 1 t c.args.steps.now (omega arith) (omega (arith, c.requires.some)) (omega (arith, c.decreases))
+    c.requires.over c.requires.inside
 
 pub returns : goal.returns
 returns t c =
@@ -76,7 +86,8 @@ returns t c =
     let all = all_behind steps 1 in
     IfOk-weaker c.test-2.result _ _
     (λ u h.
-    tree_first c.args.self.now c.tree-2.new.self c.test-2.new.self steps _ c.in_ok-rest-2.rest u
-    (omega (arith, c.requires.some)) (sym c.stands_out.ensures ∙ c.if-stands_out.false) (c.is_row.ensures.0 c.if-not-is_row.false)
+    tree_first c.args.self.now c.tree-2.new.self c.test-2.new.self c.args.base steps _ c.in_ok-rest-2.rest u
+    (omega (arith, c.requires.some)) c.requires.over (sym c.stands_out.ensures
+    ∙ c.if-stands_out.false) (c.is_row.ensures.0 c.if-not-is_row.false)
     (rw all at c.in_ok-rest-2.ensures) h)
     c.test-2.ensures

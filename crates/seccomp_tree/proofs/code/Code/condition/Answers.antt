@@ -1,18 +1,34 @@
-use Rattle.seccomp_tree.proofs.Common.{refl, sym, single, IfOk-weaker}
+use Rattle.seccomp_tree.proofs.Common.{refl, sym, ◌∙◌, single, IsConditionMet, IfOk-weaker}
 use Rattle.seccomp_tree.proofs.Choices.{laid_in}
-use Rattle.seccomp_tree.proofs.Meeting.{met_now, met_by_steps}
+use Rattle.seccomp_tree.proofs.Meeting.{met_now, met_by_steps, masked_dword, masked_qword}
 use Rattle.seccomp_tree.proofs.code.Code.condition.Goals as goal
 
 pub returns-then-is : goal.returns-then-is
 returns-then-is c =
     met_now c.args.yes c.args.no c.args.yes c.requires.yes (λ r is. refl) (λ r not. sym (c.is.ensures.0 c.if-is.true))
 
-pub part-requires : goal.part-requires
-part-requires c =
+pub returns-in-Dword : goal.returns-in-Dword
+returns-in-Dword c =
+    let h = rw (c.arg_index-index.ensures.index, c.split_value-high_value.ensures) at c.in_ok-yes.ensures in
+    masked_dword c.args.self.now c.masked.new.self c.args.condition.now c.in-MaskedEq.mask c.args.yes c.args.no c.in_ok-yes.yes
+    (sym c.in-Dword.ensures) (sym c.operator.ensures ∙ c.in-MaskedEq.is) h
+
+pub returns-in-Qword : goal.returns-in-Qword
+returns-in-Qword c =
+    let h = rw (c.arg_index-index.ensures.index, c.split_value-high_value.ensures) at c.in_ok-yes.ensures in
+    IfOk-weaker c.masked-in-Qword.result _
+    (λ t. IsConditionMet c.args.self.now c.args.condition.now c.args.yes c.args.no t c.masked-in-Qword.new.self)
+    (λ t k. masked_qword c.args.self.now c.masked.new.self c.masked-in-Qword.new.self c.args.condition.now c.in-MaskedEq.mask c.args.yes
+    c.args.no c.in_ok-yes.yes t (sym c.in-Qword.ensures) (sym c.operator.ensures ∙ c.in-MaskedEq.is) h
+    (rw (c.arg_index-index.ensures.index, c.split_value-high_value.ensures) at k))
+    c.masked-in-Qword.ensures
+
+pub argument-requires : goal.argument-requires
+argument-requires c =
     let h = rw (c.deref.ensures.value, c.in_ok-no.ensures) at c.in_ok-steps.ensures in
     record {
       index = c.arg_index.ensures.within;
-      are = rw (c.arg_len.ensures, c.deref-2.ensures.value) h.are;
+      are = rw (c.arg_len-2.ensures, c.deref-2.ensures.value) h.are;
       inside = rw c.deref-2.ensures.value (laid_in c.args.self.now c.args.condition.now c.args.yes (single c.args.no) _ h c.requires.yes
           (λ a. c.requires.no));
     }
@@ -20,5 +36,5 @@ part-requires c =
 pub returns : goal.returns
 returns c =
     let h = rw (c.deref.ensures.value, c.in_ok-no.ensures) at c.in_ok-steps.ensures in
-    IfOk-weaker c.part.result _ _ (λ t k. met_by_steps c.args.self.now c.part.new.self c.args.condition.now c.args.yes c.args.no t
-    c.in_ok-steps.steps.items h (rw (c.arg_len.ensures, c.arg_index.ensures.index, c.deref-2.ensures.value) at k)) c.part.ensures
+    IfOk-weaker c.argument.result _ _ (λ t k. met_by_steps c.args.self.now c.argument.new.self c.args.condition.now c.args.yes c.args.no t
+    c.in_ok-steps.steps.items h (rw (c.arg_len-2.ensures, c.arg_index.ensures.index, c.deref-2.ensures.value) at k)) c.argument.ensures

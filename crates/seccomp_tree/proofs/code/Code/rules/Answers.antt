@@ -42,4 +42,4 @@ returns-clause-ok c =
     let none : l.left ≡ 0 = omega arith in
     let h = rw none at l.invariant.1 in
     settled c.args.self.now l.self c.settle.new.self c.args.default c.args.rulings.now l.rest.like l.rest.steps.items _ h
-    c.in_ok-target.ensures
+    c.in_ok-settle.ensures

@@ -1,9 +1,44 @@
-use Rattle.seccomp_tree.proofs.CallsPushed.{calls_on}
+use Rattle.seccomp_tree.proofs.Common.{◌≡◌, ◌+◌, ◌∷◌, [], List, Ruling, length, refl, arith, nat_tests, ap, sym, ◌∙◌, DecisionSet}
+use Rattle.seccomp_tree.proofs.Common.{default_for, rulings_for}
+use Rattle.seccomp_tree.proofs.CallsPushed.{IsAnswered, answered_one, answered_rules, calls_on, next_alone, next_both}
+use Rattle.seccomp_tree.proofs.decisions.Decisions.call_steps.Goals.{After-push_step, in-Some, in-None+in_ok-target-in-None}
 use Rattle.seccomp_tree.proofs.decisions.Decisions.call_steps.Goals as goal
+
+default : (c : After-push_step) → c.default_for-default.result ≡ default_for c.args.self.now.defaults c.loop-next.next
+default c = c.default_for-default.ensures
+    ∙ ap (λ l. default_for l c.loop-next.next) (c.deref.ensures.value ∙ ap (λ (x : DecisionSet). x.defaults) c.self.view_is)
+
+answered : (c : After-push_step) → IsAnswered c.loop-next.code (default_for c.args.self.now.defaults c.loop-next.next)
+    (rulings_for c.args.self.now.calls c.loop-next.next) c.match-one_value.target c.match-one_value.code
+answered c = rw (← default c, ← c.rulings_for-rulings.ensures) (elim c.match-one_value.branch [
+  | in-Some w ↦ rw (w.target-is, w.code-is)
+      (answered_one c.loop-next.code c.default_for-default.result w.in-Some.value c.rulings_for-rulings.result.now w.in-Some.ensures.fits
+      (sym c.one_value.ensures.value ∙ w.in-Some.is))
+  | in-None+in_ok-target-in-None w ↦ rw (w.target-is, w.code-is)
+      (answered_rules c.loop-next.code w.rules.new.self c.default_for-default.result
+      c.rulings_for-rulings.result.now w.in_ok-target-in-None.target (sym c.one_value.ensures.value
+      ∙ w.in-None.is) w.in_ok-target-in-None.ensures.ok)
+])
+
+none : (rulings : List Ruling) → length rulings ≡ 0 → rulings ≡ []
+none [] is = refl
+none (d ∷ rulings) is = absurd (omega arith)
 
 pub loop-next-preserved : goal.loop-next-preserved
 loop-next-preserved c =
-    calls_on c.args.self.now c.args.code.now c.loop-next.code c.answer.new.self c.loop-next.steps.items c.push_step.new.steps.items
-    c.loop-next.next c.next_number-next.result c.in_ok-target.target c.loop-next.invariant
-    (rw (← c.default_for.ensures, ← c.rulings_for-rulings.ensures) c.in_ok-target.ensures.ok) c.in_ok-push_step.ensures
-    c.next_number-next.ensures
+    calls_on c.args.self.now c.args.code.now c.loop-next.code c.match-one_value.code c.loop-next.steps.items c.push_step.new.steps.items
+    c.loop-next.next (c.loop-next.next + 1) c.match-one_value.target c.loop-next.invariant
+    (answered ((goal.at.loop-next-preserved c).After-push_step)) c.in_ok-push_step.ensures
+    (next_alone c.args.self.now c.loop-next.next c.loop-next-test.true)
+
+pub loop-next-preserved-then-is_empty : goal.loop-next-preserved-then-is_empty
+loop-next-preserved-then-is_empty c =
+    let defaults = c.deref-then-is_empty.ensures.value ∙ ap (λ (x : DecisionSet). x.defaults) c.self.view_is in
+    let calls = ap (λ (x : DecisionSet). x.calls) c.self.view_is in
+    let empty : length c.rulings_for-rulings.result.now ≡ 0 = grind (arith, nat_tests, c.is_empty.ensures, c.if-is_empty.true) in
+    calls_on c.args.self.now c.args.code.now c.loop-next.code c.match-one_value.code c.loop-next.steps.items c.push_step.new.steps.items
+    c.loop-next.next _ c.match-one_value.target c.loop-next.invariant
+    (answered ((goal.at.loop-next-preserved-then-is_empty c).After-push_step)) c.in_ok-push_step.ensures
+    (next_both c.args.self.now c.loop-next.next c.next_default.result c.next_call.result _ (rw defaults at c.next_default.ensures)
+    c.next_call.ensures.above c.next_call.ensures.within (rw calls at c.next_call.ensures.none)
+    (sym c.rulings_for-rulings.ensures ∙ none c.rulings_for-rulings.result.now empty) c.min-next.ensures)

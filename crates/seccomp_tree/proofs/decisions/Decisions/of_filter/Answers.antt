@@ -1,11 +1,15 @@
-use Rattle.seccomp_tree.proofs.Common.{rules, ◌≡◌, decisions_of}
+use Rattle.seccomp_tree.proofs.Common.{rules, ◌≡◌, calls_of, decisions_of}
 use Rattle.seccomp_tree.proofs.FilterDecided.{decide_as}
 use Rattle.seccomp_tree.proofs.decisions.Decisions.of_filter.Goals as goal
 
 pub calls_of-requires : goal.calls_of-requires
 calls_of-requires c = record { numbers = rw c.rules.ensures c.in_ok-check_numbers.ensures.fit }
 
-same : (c : goal.In-Some) → c.in-Some.decisions ≡ decisions_of c.args.filter.now
+same : (c : goal.After-target_arch-target_arch) → (record {
+  target_arch = c.target_arch-target_arch.result;
+  defaults = c.in_ok-defaults.defaults.items;
+  calls = calls_of c.in_ok-calls.calls.entries;
+}) ≡ decisions_of c.args.filter.now
 same c = search rules
 
 pub returns-clause-alike : goal.returns-clause-alike

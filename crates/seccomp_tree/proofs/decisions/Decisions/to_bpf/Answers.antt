@@ -1,10 +1,12 @@
-use Rattle.seccomp_tree.proofs.Common.{◌∙◌, ◌∷◌, ap, arith, nat_tests, load, audit_word, DecisionSet}
+use Rattle.seccomp_tree.proofs.Common.{refl, ◌∙◌, ◌∷◌, ap, arith, nat_tests, load, audit_word, DecisionSet}
 use Rattle.seccomp_tree.proofs.Theorem.{IsWritten, answers_in, written_program, written_short}
 use Rattle.seccomp_tree.proofs.decisions.Decisions.to_bpf.Goals.{After-len-is_large}
 use Rattle.seccomp_tree.proofs.decisions.Decisions.to_bpf.Goals as goal
 
-pub word-requires-clause-inside : goal.word-requires-clause-inside
-word-requires-clause-inside c = rw c.deref.ensures.value (answers_in c.args.self.now _ _ _ c.in_ok-steps.ensures.ok)
+pub word-requires : goal.word-requires
+word-requires c =
+    let h = answers_in c.args.self.now _ _ _ c.in_ok-steps.ensures.ok in
+    rw c.deref.ensures.value record { aligned = refl; inside_record = omega arith; over = h.0; inside = h.1 }
 
 written : (c : After-len-is_large) → IsWritten c.args.self.now c.into_program-program.result.items
 written c = record {

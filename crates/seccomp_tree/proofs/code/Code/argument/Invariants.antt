@@ -1,5 +1,6 @@
-use Rattle.seccomp_tree.proofs.Common.{◌-◌, ◌^◌, AreHighs}
-use Rattle.seccomp_tree.proofs.code.Code.high_halves.Given as goal
+use Rattle.seccomp_tree.proofs.Common.{◌-◌, ◌^◌}
+use Rattle.seccomp_tree.proofs.Halves.{AreHighs}
+use Rattle.seccomp_tree.proofs.code.Code.argument.Given as goal
 
 abbrev pub invariant-loop-high : goal.invariant-loop-high
 invariant-loop-high l = AreHighs l.initial.self l.index l.steps l.high l.highs.items l.self

@@ -1,0 +1,10 @@
+use Rattle.seccomp_tree.proofs.Common.{◌-◌}
+use Rattle.seccomp_tree.proofs.Choices.{Laying}
+use Rattle.seccomp_tree.specs.Conditions.{numbers_of}
+use Rattle.seccomp_tree.proofs.intervals.laid.Given as goal
+
+abbrev pub invariant-loop-number : goal.invariant-loop-number
+invariant-loop-number l = Laying l.condition l.target l.others l.number l.rest l.steps.items
+
+abbrev pub decreases-loop-number : goal.decreases-loop-number
+decreases-loop-number l = numbers_of l.condition.arg_len - l.number

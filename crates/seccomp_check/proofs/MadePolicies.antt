@@ -15,10 +15,10 @@ use Rattle.seccompiler.specs.declared.bpf.sock_filter.{sock_filter}
 use Rattle.seccompiler.specs.declared.json.types.JsonFilterMap.{JsonFilterMap}
 use Rattle.seccompiler.specs.JsonAnswers.{ArePoliciesOf, HasPolicy}
 use Rattle.seccompiler.specs.JsonPolicyOf.{IsPolicyOf}
-use Rattle.seccompiler.specs.JsonSteps.{AreFilters, IsFaultless}
+use Rattle.seccompiler.specs.JsonSteps.{AreFilters}
 use Rattle.seccompiler.specs.JsonTypes.{JsonFilter}
 use Rattle.seccompiler.specs.Policy.{Filter}
-use Rattle.seccomp_check.specs.Checks.{AreAllCompiled}
+use Rattle.seccomp_check.specs.Checks.{IsFaultless, AreAllCompiled}
 use Rattle.seccomp_command_line.proofs.ByName.{by_text}
 use Rattle.seccomp_command_line.proofs.Found.{all_listed}
 

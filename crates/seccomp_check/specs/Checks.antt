@@ -13,8 +13,10 @@ use Rattle.seccompiler.specs.Errors.{IsNoMemoryInside}
 use Rattle.seccompiler.specs.JsonAnswers.{OfValue}
 use Rattle.seccompiler.specs.JsonFilters.{AreAll}
 use Rattle.seccompiler.specs.JsonPrograms.{IsProgramOf, TellsFirstFault}
-use Rattle.seccompiler.specs.JsonSteps.{IsFaultless, IsPolicyRefusal}
+use Rattle.seccompiler.specs.JsonPolicyOf.{IsPolicyOf}
+use Rattle.seccompiler.specs.JsonSteps.{IsPolicyRefusal}
 use Rattle.seccompiler.specs.JsonTypes.{JsonFilter}
+use Rattle.seccompiler.specs.Policy.{Filter}
 use Rattle.seccomp_check.specs.declared.fault.Cause.{Cause}
 use Rattle.seccomp_check.specs.declared.fault.Cause.TheVariants as cause
 use Rattle.seccomp_check.specs.declared.fault.Fault.{Fault}
@@ -55,6 +57,10 @@ pub record IsPlaced (target : TargetArch) (text told : List ℕ) : Type 0 where
 -- All filters of the value have programs.
 abbrev pub AreAllCompiled : TargetArch → Data → Type 0
 AreAllCompiled target d = AreAll (λ value. (program : List sock_filter) × IsProgramOf target value program) d
+
+-- The JSON filter has a policy on this architecture.
+abbrev pub IsFaultless : TargetArch → JsonFilter → Type 0
+IsFaultless target j = (policy : Filter) × IsPolicyOf target j policy
 
 -- A filter has no policy, for this, and all filters in front of it have one.
 pub record RefusesFirst (target : TargetArch) (filters : List (String Global × JsonFilter)) (e : JsonFrontendError) : Type 0 where

@@ -8,11 +8,10 @@ use Rattle.seccompiler.specs.declared.json.error.JsonFrontendError.TheVariants.{
 use Rattle.seccompiler.specs.declared.json.types.JsonFilterMap.{JsonFilterMap}
 use Rattle.seccompiler.specs.JsonFilters.{AreFound, IsLeastFault}
 use Rattle.seccompiler.specs.declared.backend.TargetArch.{TargetArch}
-use Rattle.seccompiler.specs.declared.backend.BackendError.TheVariants.{InvalidArgumentNumber}
 use Rattle.seccompiler.specs.declared.json.types.JsonCondition.{JsonCondition}
 use Rattle.seccompiler.specs.JsonTypes.{JsonFilter}
-use Rattle.seccompiler.specs.Policy.{Condition, Filter}
-use Rattle.seccompiler.specs.JsonPolicyOf.{Fault, unknown_call, refused, condition_of, IsFirstFault, IsPolicyOf}
+use Rattle.seccompiler.specs.Policy.{Condition}
+use Rattle.seccompiler.specs.JsonPolicyOf.{Fault, unknown_call, refused, condition_of, IsFirstFault}
 use Rattle.seccompiler.specs.declared.backend.BackendError.TheVariants as of_backend
 
 -- The value is an object, and the map has exactly its names, each with the filter that its value is.
@@ -41,7 +40,7 @@ IsNoFailedRead e = ⊤
 -- A conversion gives the condition of the same four parts if the index is at most 5, and is refused if it is above.
 abbrev pub IsConditionOf : JsonCondition → Result Condition JsonFrontendError → Type 0
 IsConditionOf c (Ok made) = (c.arg_index ≤ 5) × (made ≡ condition_of c)
-IsConditionOf c (Err e) = (5 < c.arg_index) × (e ≡ Backend InvalidArgumentNumber)
+IsConditionOf c (Err e) = (5 < c.arg_index) × (e ≡ Backend of_backend.InvalidArgumentNumber)
 
 -- An error reports a fault for which P holds, and no lack of memory is in it. Lack of memory may come in place of the
 -- fault, and no other error comes.
@@ -54,7 +53,3 @@ Tells P _ = ⊥
 -- Why a JSON filter has no policy, as an error reports it: its first fault.
 abbrev pub IsPolicyRefusal : TargetArch → JsonFilter → JsonFrontendError → Type 0
 IsPolicyRefusal arch j = Tells (IsFirstFault arch j)
-
--- The JSON filter has a policy on this architecture.
-abbrev pub IsFaultless : TargetArch → JsonFilter → Type 0
-IsFaultless arch j = (policy : Filter) × IsPolicyOf arch j policy

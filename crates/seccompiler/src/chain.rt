@@ -12,17 +12,21 @@ use crate::bpf::{return_word, sock_filter};
 use crate::rule::SeccompRule;
 use std::collections::BTreeMap;
 
+// The first number behind those of 32 unsigned bits.
+const FIRST_LARGE: i64 = 0x1_0000_0000;
+
 /// The least number that does not fit 32 unsigned bits, if there is one.
 pub(crate) fn unfit_number(rules: &BTreeMap<i64, Vec<SeccompRule>>) -> Option<i64>
     ensures unfit { IfSome result (IsLeastUnfit (keys rules.now)) }
     ensures fit { IsNone result ↔ AreCallNumbers (keys rules.now) }
 {
-    for number in rules.keys() {
-        if u32::try_from(*number).is_err() {
-            return Some(*number);
-        }
+    let (least, _) = rules.first_key_value()?;
+    if *least < 0 {
+        return Some(*least);
     }
-    None
+    let mut large = rules.range(FIRST_LARGE..);
+    let (number, _) = large.next()?;
+    Some(*number)
 }
 
 /// The call number as a record has it.

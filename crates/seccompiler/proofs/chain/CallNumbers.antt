@@ -1,71 +1,71 @@
--- For `unfit_number`: which numbers are call numbers, and the least that is none.
-use Rattle.std.proofs.Common.{◌≡◌, ℕ, zero, suc, ℤ, pos, negsuc, ◌≤ℤ◌, ◌<ℤ◌, List, [], ◌∷◌, ◌++◌, true, false, Result, Ok, Err, Less, refl}
-use Rattle.std.proofs.Common.{sym, ◌∙◌, subst, arith, ⊎_elim}
+-- For `unfit_number`: which keys of a map are call numbers, and the least that is none.
+use Rattle.std.proofs.Common.{◌≡◌, ℕ, ℤ, pos, negsuc, ◌≤ℤ◌, ◌<ℤ◌, Option, Some, None, IsSome, true, false, Less, Equal, Greater, refl, sym, subst, ◌↔◌, ◌⊎◌, inl, inr}
+use Rattle.std.proofs.Common.{Ordering, arith, get_or, length, ◌<◌}
 use Rattle.std.specs.Prelude.{All, Contains}
-use Rattle.std.specs.Int.{FitsUnsignedBits}
-use Rattle.std.specs.Result.{OkIff, is_err}
-use Rattle.std.specs.List.{AllByRecursion}
-use Rattle.std.specs.List.Sorted.{IsStrictlySortedBy}
-use Rattle.std.specs.Ordering.{int_cmp, MatchOrdering}
+use Rattle.std.specs.BTreeMap.{BTreeMap, get, keys}
+use Rattle.std.specs.BTreeMap.Range.{IsLeBy}
+use Rattle.std.specs.Ordering.{int_cmp, is_gt, MatchOrdering}
 use Rattle.std.specs.Cmp.{int_ranks}
-use Rattle.std.specs.Int.Signed.{≤ℤ_refl}
+use Rattle.std.proofs.lemmas.Bool.{true≢false}
+use Rattle.std.proofs.lemmas.Cmp.{int_cmp_total}
 use Rattle.std.proofs.lemmas.Int.{ints}
-use Rattle.std.proofs.lemmas.List.Elements.{All-contains, All-from_recursion, Contains-append_cases, Contains-append_right}
-use Rattle.std.proofs.lemmas.Map.Keys.{sorted_head, sorted_tail}
+use Rattle.std.proofs.lemmas.List.Elements.{All-contains, Contains-get_or}
+use Rattle.std.proofs.lemmas.Map.Views.{btree_map_contains_key_iff}
 use Rattle.seccompiler.specs.Policy.{IsCallNumber}
-use Rattle.seccompiler.specs.Compiled.{IsLeastUnfit}
+use Rattle.seccompiler.specs.Compiled.{AreCallNumbers, IsLeastUnfit}
 
--- A number that fits 32 unsigned bits is a call number.
-call_number_if_fits : (z : ℤ) → FitsUnsignedBits 32 z → IsCallNumber z
-call_number_if_fits (pos n) fits = (n, refl, fits)
-call_number_if_fits (negsuc n) fits = absurd fits
+call_number : (m : ℤ) → pos 0 ≤ℤ m → m <ℤ pos 4294967296 → IsCallNumber m
+call_number (pos n) low high = (n, refl, omega (arith, ints, high))
+call_number (negsuc n) low high = absurd (omega (arith, ints, low))
 
--- A number that converts to 32 unsigned bits is a call number.
-pub call_number_if_ok : {E : Type 0} (z y : ℤ) (r : Result ℕ E) (v : ℕ) → y ≡ z → OkIff r (FitsUnsignedBits 32 y) v
-    → false ≡ is_err r → IsCallNumber z
-call_number_if_ok z y (Ok x) v same iff ok = call_number_if_fits z (subst (FitsUnsignedBits 32) same iff.0)
-call_number_if_ok z y (Err e) v same iff ok = cc
+at_most : (x y : ℤ) → IsLeBy int_cmp x y → x ≤ℤ y
+at_most x y le = by (int_cmp x y) (int_ranks x y) le
+  where
+    by : (o : Ordering) → MatchOrdering o (x <ℤ y) (x ≡ y) (y <ℤ x) → is_gt o ≡ false → x ≤ℤ y
+    by Less below le = omega (arith, ints, below)
+    by Equal same le = omega (arith, ints, same)
+    by Greater above le = absurd (true≢false le)
 
--- A number that does not convert is none.
-pub no_call_number_if_err : {E : Type 0} (z y : ℤ) (r : Result ℕ E) (v : ℕ) → y ≡ z → OkIff r (FitsUnsignedBits 32 y) v
-    → true ≡ is_err r → IsCallNumber z → ⊥
-no_call_number_if_err z y (Ok x) v same iff err = cc
-no_call_number_if_err z y (Err e) v same iff err = λ call. iff (subst (FitsUnsignedBits 32) (sym (same ∙ call.1)) call.2)
+exact : (x y : ℤ) → int_cmp x y ≡ Equal → x ≡ y
+exact x y same = subst (λ o. MatchOrdering o (x <ℤ y) (x ≡ y) (y <ℤ x)) same (int_ranks x y)
 
--- In an ascending list, what stands behind a number is above it.
-above_behind : (front : List ℤ) (z : ℤ) (back : List ℤ) → IsStrictlySortedBy int_cmp (front ++ z ∷ back)
-    → AllByRecursion (λ y. int_cmp z y ≡ Less) back
-above_behind [] z back ascends = sorted_head int_cmp z back ascends
-above_behind (x ∷ front) z back ascends = above_behind front z back (sorted_tail int_cmp x (front ++ z ∷ back) ascends)
+-- A number that fits 32 unsigned bits, or one behind them.
+fits_or_large : (m : ℤ) → IsLeBy int_cmp (pos 4294967296) m ⊎ (m <ℤ pos 4294967296)
+fits_or_large m = by (int_cmp (pos 4294967296) m) (int_ranks (pos 4294967296) m) refl
+  where
+    by : (o : Ordering) → MatchOrdering o (pos 4294967296 <ℤ m) (pos 4294967296 ≡ m) (m <ℤ pos 4294967296)
+        → int_cmp (pos 4294967296) m ≡ o → IsLeBy int_cmp (pos 4294967296) m ⊎ (m <ℤ pos 4294967296)
+    by Less r is = inl (rw is refl)
+    by Equal r is = inl (rw is refl)
+    by Greater r is = inr r
 
--- What compares as less is at most.
-le_if_less : (x y : ℤ) → int_cmp x y ≡ Less → x ≤ℤ y
-le_if_less x y less = let below : x <ℤ y = subst (λ o. MatchOrdering o (x <ℤ y) (x ≡ y) (y <ℤ x)) less (int_ranks x y) in
-    omega (arith, ints)
+-- The keys of a map from a least one on, which is not below 0.
+module _ {X : Type 0} (m : BTreeMap ℤ X) (least : ℤ) (from : All (IsLeBy int_cmp least) (keys m)) (positive : pos 0 ≤ℤ least) where
+  there : (q : ℤ) → IsSome (get int_cmp m q) ↔ Contains (keys m) q
+  there = btree_map_contains_key_iff int_cmp_total exact m
 
--- The one number of a list is at least itself.
-le_only : (z m : ℤ) → Contains (z ∷ []) m → z ≤ℤ m
-le_only z m (zero, within, is) = subst (λ y. z ≤ℤ y) is (≤ℤ_refl z)
-le_only z m (suc k, within, is) = absurd (omega arith)
+  small : (q : ℤ) → Contains (keys m) q → q <ℤ pos 4294967296 → IsCallNumber q
+  small q among below = call_number q (let above = at_most least q (All-contains (IsLeBy int_cmp least) (keys m) q from among) in
+      omega (arith, ints, above, positive)) below
 
--- In an ascending list the first number that is no call number is the least such.
-first_is_least : (front : List ℤ) (z : ℤ) (back : List ℤ) → All IsCallNumber front → (IsCallNumber z → ⊥)
-    → IsStrictlySortedBy int_cmp (front ++ z ∷ back) → IsLeastUnfit (front ++ z ∷ back) z
-first_is_least front z back fit unfit ascends = record {
-  among = Contains-append_right front (z ∷ back) z (0, omega arith, refl);
-  unfit = unfit;
-  least = λ m there bad. ⊎_elim
-      (λ ahead. absurd (bad (All-contains IsCallNumber front m fit ahead)))
-      (λ behind. ⊎_elim
-      (λ here. le_only z m here)
-      (λ after. le_if_less z m (All-contains (λ y. int_cmp z y ≡ Less) back m
-      (All-from_recursion _ back (above_behind front z back ascends)) after))
-      (Contains-append_cases (z ∷ []) back m behind))
-      (Contains-append_cases front (z ∷ back) m there);
-}
+  -- All are call numbers if none is larger than they are.
+  pub all_fit : ((q : ℤ) → IsLeBy int_cmp (pos 4294967296) q → get int_cmp m q ≡ None) → AreCallNumbers (keys m)
+  all_fit none k d within =
+      let q = get_or (keys m) k d in
+      let among = Contains-get_or (keys m) k d within in
+      elim (fits_or_large q) [
+        | inl large ↦ absurd (true≢false (sym (rw (none q large) at ((there q).1 among))))
+        | inr below ↦ small q among below
+      ]
 
--- The same of a list that is cut there.
-pub first_unfit_is_least : (numbers front : List ℤ) (z : ℤ) (back : List ℤ) → numbers ≡ front ++ z ∷ back → All IsCallNumber front
-    → (IsCallNumber z → ⊥) → IsStrictlySortedBy int_cmp numbers → IsLeastUnfit numbers z
-first_unfit_is_least numbers front z back is fit unfit ascends =
-    rw is (first_is_least front z back fit unfit (subst (IsStrictlySortedBy int_cmp) is ascends))
+  -- The least of the larger ones is the least that is no call number.
+  pub least_large : (n : ℤ) → IsLeBy int_cmp (pos 4294967296) n → IsSome (get int_cmp m n)
+      → ((q : ℤ) → IsLeBy int_cmp (pos 4294967296) q → IsSome (get int_cmp m q) → IsLeBy int_cmp n q) → IsLeastUnfit (keys m) n
+  least_large n large some first = record {
+    among = (there n).0 some;
+    unfit = λ call. let above = at_most (pos 4294967296) n large in absurd (omega (arith, ints, above, call.1, call.2));
+    least = λ q among bad. elim (fits_or_large q) [
+      | inl also ↦ at_most n q (first q also ((there q).1 among))
+      | inr below ↦ absurd (bad (small q among below))
+    ];
+  }

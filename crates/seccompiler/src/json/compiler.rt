@@ -228,9 +228,8 @@ pub(crate) fn read_policies(
     ensures no_reader { IfErr result IsNoFailedRead }
     ensures memory { IfErr result IsNoMemoryInFrontend }
 {
-    let source = Source {
-        value: value_of(alloc, text)?,
-    };
+    let value = value_of(alloc, text)?;
+    let source = Source { value };
     let filters = lent_filters(alloc, &source.value)?;
     let policies = policies_under(alloc, arch, filters)?;
     Ok((source, policies))

@@ -44,13 +44,8 @@ impl<'v> Model for LentFilter<'v> {
 pub fn owned(alloc: Global, filter: LentFilter<'_>) -> Result<JsonFilter, AllocError>
     ensures { IfOk result (λ f. f ≡ filter.entry) }
 {
-    let LentFilter {
-        mismatch_action,
-        match_action,
-        rules: lent,
-    } = filter;
-    let mut rules = Vec::with_capacity(alloc, lent.len())?;
-    for rule in lent {
+    let mut rules = Vec::with_capacity(alloc, filter.rules.len())?;
+    for rule in filter.rules {
         let syscall = String::from_str(alloc, rule.syscall)?;
         rules.push(JsonRule {
             syscall,
@@ -58,8 +53,8 @@ pub fn owned(alloc: Global, filter: LentFilter<'_>) -> Result<JsonFilter, AllocE
         })?;
     }
     Ok(JsonFilter {
-        mismatch_action,
-        match_action,
+        mismatch_action: filter.mismatch_action,
+        match_action: filter.match_action,
         rules,
     })
 }

@@ -1,48 +1,32 @@
-use Rattle.std.proofs.Common.{rules, ◌≡◌, map, ◌∷◌, ◌++◌, w64, sym, ◌∙◌, ap, refl}
+use Rattle.std.proofs.Common.{rules, w64, refl}
 use mir.Val.{SFits}
-use Rattle.std.proofs.lemmas.Int.{to_z-of_z}
-use Rattle.std.proofs.lemmas.List.Elements.{All-push, All-map, All-same, All-contains}
-use Rattle.std.proofs.lemmas.Map.Iter.{iter_end, rest_so_far}
-use Rattle.std.specs.Map.Iter.{deref}
-use Rattle.seccompiler.specs.Policy.{IsCallNumber}
-use Rattle.seccompiler.proofs.chain.CallNumbers.{call_number_if_ok, no_call_number_if_err, first_unfit_is_least}
-use Rattle.std.specs.BTreeMap.{keys}
 use Rattle.std.proofs.lemmas.Bool.{true≢false}
+use Rattle.std.proofs.lemmas.Int.{to_z-of_z}
+use Rattle.std.proofs.lemmas.List.Elements.{All-contains}
+use Rattle.std.specs.BTreeMap.{keys}
+use Rattle.seccompiler.specs.Policy.{IsCallNumber}
+use Rattle.seccompiler.proofs.chain.CallNumbers.{all_fit, least_large}
 use Rattle.seccompiler.proofs.chain.unfit_number.Goals as goal
 
-pub loop-number-preserved : goal.loop-number-preserved
-loop-number-preserved c = let fits : SFits w64 c.in-Some.number.now = search rules in
-    All-push (λ number. IsCallNumber number.now) c.loop-number.yielded c.in-Some.number c.loop-number.invariant
-    (call_number_if_ok c.in-Some.number.now _ c.try_from.result _
-    (to_z-of_z w64 c.in-Some.number.now fits) c.try_from.ensures c.if-is_err.ensures.value)
+pub returns-in_err-number-clause-fit : goal.returns-in_err-number-clause-fit
+returns-in_err-number-clause-fit c = (
+  λ none. all_fit c.args.rules.now c.in_ok-least.least.now c.in_ok-least.ensures.all_from (search rules)
+      (λ q large. (c.range-large.ensures.in_range tt).5 c.in_err-number.ensures.steps.0 q (large, tt)),
+  λ fit. search rules,
+)
 
-pub returns-then-is_err : goal.returns-then-is_err
-returns-then-is_err c = let number = c.in-Some.number.now in
-    let fits : SFits w64 number = search rules in let numbers = keys c.args.rules.now in
-    let front = map deref c.loop-number.yielded in let back = c.next.new.self in
-    let rest : c.loop-number.number-iterator ≡ number ∷ back = c.in-Some.ensures.steps in
-    let all : c.into_iter-number-iterator.result ≡ front ++ c.loop-number.number-iterator =
-    rest_so_far deref c.loop-number.yielded _ _ c.loop-number.yielded_by in
-    let is : numbers ≡ front ++ number ∷ back = sym c.keys-number-items.ensures.rest
-    ∙ sym c.into_iter-number-iterator.ensures.into_iter_gives ∙ all ∙ ap (λ xs. front ++ xs) rest in
-    let unfit = no_call_number_if_err number _ c.try_from.result _
-    (to_z-of_z w64 number fits) c.try_from.ensures c.if-is_err.ensures.value in
-    let least = first_unfit_is_least numbers front number back is
-    (All-map IsCallNumber deref c.loop-number.yielded c.loop-number.invariant) unfit c.keys-number-items.ensures.ordered in
-    record {
-      unfit = rw (to_z-of_z w64 number fits) least;
-      fit = (λ e. absurd (true≢false e), λ fit. absurd (unfit (All-contains IsCallNumber numbers number fit least.among)));
-    }
+pub returns-clause-unfit : goal.returns-clause-unfit
+returns-clause-unfit c =
+    let number = c.in_ok-number.number.now in
+    let fits : SFits w64 number = search rules in
+    let range = c.range-large.ensures.in_range tt in
+    let own = rw c.in_ok-number.ensures.steps at range.1 in
+    rw (to_z-of_z w64 number fits) (least_large c.args.rules.now c.in_ok-least.least.now c.in_ok-least.ensures.all_from (search rules)
+    number own.0.0 (rw own.1 refl) (λ q large some. rw c.in_ok-number.ensures.steps at range.2 q (large, tt) some))
 
-pub returns : goal.returns
-returns c = let numbers = keys c.args.rules.now in
-    let whole = iter_end deref numbers c.loop-number.yielded _ _ _ _
-    (c.into_iter-number-iterator.ensures.into_iter_gives ∙ c.keys-number-items.ensures.rest)
-    c.loop-number.yielded_by c.in-None.is c.next.ensures.steps in
-    record {
-      unfit = tt;
-      fit = (
-        λ _. All-same IsCallNumber numbers _ (sym whole.0) (All-map IsCallNumber deref c.loop-number.yielded c.loop-number.invariant),
-        λ _. refl,
-      );
-    }
+pub returns-clause-fit : goal.returns-clause-fit
+returns-clause-fit c =
+    let number = c.in_ok-number.number.now in
+    let fits : SFits w64 number = search rules in
+    let least = rw (to_z-of_z w64 number fits) at (returns-clause-unfit c) in
+    (λ e. absurd (true≢false e), λ fit. absurd (least.unfit (All-contains IsCallNumber (keys c.args.rules.now) number fit least.among)))

@@ -1,18 +1,22 @@
 -- For `gather`: what is gathered of entries, one after the other.
-use Rattle.std.proofs.Common.{◌≡◌, ◌++◌, List, [], ◌∷◌, ◌||◌, Some, None, All, refl, sym, ap, ◌∙◌, append-nil, replicate, false}
+use Rattle.std.proofs.Common.{◌≡◌, ℕ, ◌+◌, ◌<◌, ◌++◌, length, take, get_or, subst, List, [], ◌∷◌, ◌||◌, Some, None, All, refl, sym, ap, ◌∙◌, append-nil, replicate, false}
 use Rattle.std.specs.List.{flat_map, list_any}
 use Rattle.std.proofs.Math.Bool.{or-false}
-use Rattle.std.proofs.lemmas.List.{flat_map_more}
+use Rattle.std.proofs.lemmas.List.{flat_map_more, take_more}
 use Rattle.std.proofs.lemmas.List.Elements.{All-push}
 use Rattle.std.proofs.lemmas.List.Folds.{list_any-append}
 use Rattle.seccompiler.specs.declared.backend.TargetArch.{TargetArch}
+use Rattle.seccompiler.specs.declared.json.error.JsonFrontendError.{JsonFrontendError}
 use Rattle.seccompiler.specs.declared.json.policy.Gathered.{Gathered}
 use Rattle.seccompiler.specs.JsonTypes.{JsonRule}
 use Rattle.seccompiler.specs.JsonGathered.{added, told_of, HasAdded, AreGathered}
+use Rattle.seccompiler.specs.JsonSteps.{Tells}
 use Rattle.seccompiler.specs.Policy.{chains_of}
+use Rattle.seccompiler.proofs.Parts.{around}
+use Rattle.seccompiler.proofs.json.policy.EntryFaults.{first_wrong}
 use Rattle.seccompiler.proofs.json.policy.EntryChains.{Pairs}
 use Rattle.seccompiler.proofs.json.policy.ToldNumbers.{told_none}
-use Rattle.seccompiler.specs.JsonPolicyOf.{chain_at, is_always, rules_for, IsFineEntry}
+use Rattle.seccompiler.specs.JsonPolicyOf.{chain_at, is_always, rules_for, IsFaultOf, IsFineEntry, IsFirstOf}
 
 -- Items added at two times are added as one list.
 pub added_twice : {X : Type 0} (front own : List X) → added own (added front None) ≡ added (front ++ own) None
@@ -38,12 +42,26 @@ pub record AreDone (arch : TargetArch) (entries : List JsonRule) (made : Gathere
   pub gathered : AreGathered arch entries made
 
 -- The same of one more behind them.
-pub done_more : (arch : TargetArch) (entries : List JsonRule) (entry : JsonRule) (old new : Gathered)
+done_more : (arch : TargetArch) (entries : List JsonRule) (entry : JsonRule) (old new : Gathered)
     → AreDone arch entries old → IsFineEntry arch entry → HasAdded arch entry old new → AreDone arch (entries ++ entry ∷ []) new
 done_more arch entries entry old new so_far fine more = record {
   fine = All-push (IsFineEntry arch) entries entry so_far.fine fine;
   gathered = gathered_push arch entries entry old new so_far.gathered more;
 }
+
+-- The next entry, by its place and as it was named.
+module _ (arch : TargetArch) (entries : List JsonRule) (k : ℕ) (entry named : JsonRule) (old : Gathered) (within : k < length entries)
+    (is : entry ≡ get_or entries k entry) (same : named ≡ entry) (so_far : AreDone arch (take k entries) old) where
+  pub next_done : (new : Gathered) → IsFineEntry arch named → HasAdded arch named old new → AreDone arch (take (k + 1) entries) new
+  next_done new fine more =
+      subst (λ (es : List JsonRule). AreDone arch es new)
+      (ap (λ (x : JsonRule). take k entries ++ x ∷ []) is ∙ sym (take_more entries k entry within))
+      (done_more arch (take k entries) entry old new so_far (subst (IsFineEntry arch) same fine)
+      (subst (λ (e : JsonRule). HasAdded arch e old new) same more))
+
+  pub next_wrong : (error : JsonFrontendError) → Tells (IsFaultOf arch named) error → Tells (IsFirstOf arch entries) error
+  next_wrong error told = first_wrong arch entries (take k entries) entry _ (around entries k entry within is) error so_far.fine
+      (subst (λ (e : JsonRule). Tells (IsFaultOf arch e) error) same told)
 
 -- Nothing is gathered of no entries.
 pub none_gathered : (arch : TargetArch) (made : Gathered) → made.rules.entries ≡ [] → made.always ≡ replicate 463 false → AreGathered arch [] made

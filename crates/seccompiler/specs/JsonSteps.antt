@@ -18,8 +18,7 @@ use Rattle.seccompiler.specs.declared.backend.BackendError.TheVariants as of_bac
 abbrev pub AreFilters : Data → JsonFilterMap → Type 0
 AreFilters d filters = AreFound IsFilter (get_by_text filters.0) d
 
--- Why the value is refused: it is no object, or this is its least name whose value is no filter.
--- Lack of memory may come in place of both, and no other error comes.
+-- Why the value is refused: it is no object, or this is its least name whose value is no filter; or memory ran out.
 abbrev pub IsShapeRefusal : Data → JsonFrontendError → Type 0
 IsShapeRefusal d NotAnObject = IsObject d → ⊥
 IsShapeRefusal d (Shape name) = IsLeastFault d (string_bytes name)

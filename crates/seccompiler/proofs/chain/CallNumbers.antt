@@ -1,6 +1,6 @@
 -- For `unfit_number`: which keys of a map are call numbers, and the least that is none.
-use Rattle.std.proofs.Common.{◌≡◌, ℤ, pos, negsuc, ◌≤ℤ◌, ◌<ℤ◌, None, IsSome, false, Less, Equal, Greater, refl, sym, subst, ◌↔◌, ◌⊎◌, inl, inr}
-use Rattle.std.proofs.Common.{Ordering, arith, get_or}
+use Rattle.std.proofs.Common.{◌≡◌, ℤ, pos, negsuc, ◌≤ℤ◌, ◌<ℤ◌, None, IsSome, false, Ordering, Less, Equal, Greater, refl, sym, subst}
+use Rattle.std.proofs.Common.{◌↔◌, ◌⊎◌, inl, inr, arith, get_or}
 use Rattle.std.specs.Prelude.{All, Contains}
 use Rattle.std.specs.BTreeMap.{BTreeMap, get, keys}
 use Rattle.std.specs.BTreeMap.Range.{IsLeBy}

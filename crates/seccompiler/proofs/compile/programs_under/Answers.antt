@@ -26,7 +26,8 @@ returns-in_err-program-clause-refused c =
     let e : String Global × Filter = (c.in-Some.name, c.in-Some.policy) in
     let all = at_next Compiles so_far e c.next.new.self c.in-Some.ensures.steps in
     rw (p.1, p.2) (λ arch d are. refusal_of arch d c.args.policies are so_far.done e c.next.new.self all
-    c.into_iter-name-iterator.ensures.into_iter_gives.5 c.loop-name.found.items so_far.made c.in_err-program.field-0.0 c.in_err-program.ensures.refused)
+    c.into_iter-name-iterator.ensures.into_iter_gives.5 c.loop-name.found.items so_far.made c.in_err-program.field-0.0
+    c.in_err-program.ensures.refused)
 
 pub returns-clause-programs : goal.returns-clause-programs
 returns-clause-programs c =

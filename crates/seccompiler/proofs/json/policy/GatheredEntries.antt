@@ -1,5 +1,6 @@
 -- For `gather`: what is gathered of entries, one after the other.
-use Rattle.std.proofs.Common.{◌≡◌, ℕ, ◌+◌, ◌<◌, ◌++◌, length, take, get_or, subst, List, [], ◌∷◌, ◌||◌, Some, None, All, refl, sym, ap, ◌∙◌, append-nil, replicate, false}
+use Rattle.std.proofs.Common.{◌≡◌, ℕ, ◌+◌, ◌<◌, ◌++◌, length, take, get_or, List, [], ◌∷◌, ◌||◌, Some, None, All, replicate, false}
+use Rattle.std.proofs.Common.{refl, sym, ap, ◌∙◌, subst, append-nil}
 use Rattle.std.specs.List.{flat_map, list_any}
 use Rattle.std.proofs.Math.Bool.{or-false}
 use Rattle.std.proofs.lemmas.List.{flat_map_more, take_more}
@@ -41,14 +42,6 @@ pub record AreDone (arch : TargetArch) (entries : List JsonRule) (made : Gathere
   pub fine : All (IsFineEntry arch) entries
   pub gathered : AreGathered arch entries made
 
--- The same of one more behind them.
-done_more : (arch : TargetArch) (entries : List JsonRule) (entry : JsonRule) (old new : Gathered)
-    → AreDone arch entries old → IsFineEntry arch entry → HasAdded arch entry old new → AreDone arch (entries ++ entry ∷ []) new
-done_more arch entries entry old new so_far fine more = record {
-  fine = All-push (IsFineEntry arch) entries entry so_far.fine fine;
-  gathered = gathered_push arch entries entry old new so_far.gathered more;
-}
-
 -- The next entry, by its place and as it was named.
 module _ (arch : TargetArch) (entries : List JsonRule) (k : ℕ) (entry named : JsonRule) (old : Gathered) (within : k < length entries)
     (is : entry ≡ get_or entries k entry) (same : named ≡ entry) (so_far : AreDone arch (take k entries) old) where
@@ -56,15 +49,19 @@ module _ (arch : TargetArch) (entries : List JsonRule) (k : ℕ) (entry named : 
   next_done new fine more =
       subst (λ (es : List JsonRule). AreDone arch es new)
       (ap (λ (x : JsonRule). take k entries ++ x ∷ []) is ∙ sym (take_more entries k entry within))
-      (done_more arch (take k entries) entry old new so_far (subst (IsFineEntry arch) same fine)
-      (subst (λ (e : JsonRule). HasAdded arch e old new) same more))
+      (record {
+        fine = All-push (IsFineEntry arch) (take k entries) entry so_far.fine (subst (IsFineEntry arch) same fine);
+        gathered = gathered_push arch (take k entries) entry old new so_far.gathered
+            (subst (λ (e : JsonRule). HasAdded arch e old new) same more);
+      })
 
   pub next_wrong : (error : JsonFrontendError) → Tells (IsFaultOf arch named) error → Tells (IsFirstOf arch entries) error
   next_wrong error told = first_wrong arch entries (take k entries) entry _ (around entries k entry within is) error so_far.fine
       (subst (λ (e : JsonRule). Tells (IsFaultOf arch e) error) same told)
 
 -- Nothing is gathered of no entries.
-pub none_gathered : (arch : TargetArch) (made : Gathered) → made.rules.entries ≡ [] → made.always ≡ replicate 463 false → AreGathered arch [] made
+pub none_gathered : (arch : TargetArch) (made : Gathered) → made.rules.entries ≡ [] → made.always ≡ replicate 463 false
+    → AreGathered arch [] made
 none_gathered arch made no_rules nothing = record {
   rules = λ number. ap (λ (entries : Pairs). chain_at (chains_of entries) number) no_rules;
   always = λ number. ap (λ told. told_of told number) nothing ∙ told_none 463 number;

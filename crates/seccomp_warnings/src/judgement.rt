@@ -1,7 +1,9 @@
 // What is so of the entries of a filter beside each other.
 
 ghost use Rattle.std.specs.Prelude.{◌≡◌, ◌↔◌, ℕ, ℤ, Any, IfErr, IfNone, IfOk, IfSome, IsTrue, List, OnOk, Some, true, false, slice_get};
-ghost use Rattle.seccompiler.specs.JsonSteps.{IsFaultless, IsPolicyRefusal};
+ghost use Rattle.seccompiler.specs.JsonPolicyOf.{IsPolicyOf};
+ghost use Rattle.seccompiler.specs.JsonSteps.{IsPolicyRefusal};
+ghost use Rattle.seccompiler.specs.Policy.{Filter};
 ghost use Rattle.seccompiler.specs.JsonTypes.{JsonRule};
 ghost use Rattle.seccomp_warnings.specs.Judgements as spec;
 ghost use Rattle.seccomp_warnings.specs.Judgements.{AreJudgements, IsJudgement, IsOfNumber, IsSetOf, IsUndoneBy, IsWithAndWithoutArgs};
@@ -38,7 +40,7 @@ pub fn judgements_of(
     filter: &JsonFilter,
 ) -> Result<Vec<Judgement>, JsonFrontendError>
     ensures judgements { IfOk result (λ judgements. AreJudgements arch filter.now judgements.items) }
-    ensures policy { OnOk result (IsFaultless arch filter.now) }
+    ensures policy { OnOk result ((policy : Filter) × IsPolicyOf arch filter.now policy) }
     ensures refusal { IfErr result (IsPolicyRefusal arch filter.now) }
 {
     let verdicts = verdicts_of(alloc, arch, filter)?;

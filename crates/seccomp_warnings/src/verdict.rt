@@ -1,8 +1,9 @@
 // Whether a filter needs its entries, by comparison of programs.
 
 ghost use Rattle.std.specs.Prelude.{◌≡◌, ◌<◌, ◌++◌, ℕ, [], List, All, Some, pos, map, length, slice_get, IfOk, IfErr, OnOk};
-ghost use Rattle.seccompiler.specs.JsonPolicyOf.{IsFineEntry};
-ghost use Rattle.seccompiler.specs.JsonSteps.{IsFaultless, IsPolicyRefusal};
+ghost use Rattle.seccompiler.specs.JsonPolicyOf.{IsFineEntry, IsPolicyOf};
+ghost use Rattle.seccompiler.specs.JsonSteps.{IsPolicyRefusal};
+ghost use Rattle.seccompiler.specs.Policy.{Filter};
 ghost use Rattle.seccompiler.specs.declared.backend.TargetArch.{TargetArch};
 ghost use Rattle.seccomp_warnings.specs.Verdicts as spec;
 ghost use Rattle.seccomp_warnings.specs.VerdictPolicies.{SaysOfPolicies};
@@ -59,7 +60,7 @@ pub fn verdicts_of(
 ) -> Result<Vec<Verdict>, JsonFrontendError>
     ensures verdicts { IfOk result (λ verdicts. spec.AreVerdicts arch filter.now verdicts.items) }
     ensures policies { IfOk result (λ verdicts. (place : ℕ) (v : declared.Verdict) → slice_get verdicts.items place ≡ Some v → SaysOfPolicies arch filter.now place v) }
-    ensures policy { OnOk result (IsFaultless arch filter.now) }
+    ensures policy { OnOk result ((policy : Filter) × IsPolicyOf arch filter.now policy) }
     ensures refusal { IfErr result (IsPolicyRefusal arch filter.now) }
 {
     let policy = JsonCompiler::new(arch).make_seccomp_filter(alloc, filter)?;

@@ -2,11 +2,11 @@
 use Rattle.seccomp_tree.proofs.Common.{◌≡◌, ◌≢◌, ℕ, ◌+◌, ◌^◌, ◌<◌, ◌≤◌, List, [], ◌∷◌, length, drop, get_or, true, ◌⊎◌, inl, inr, ◌∙◌}
 use Rattle.seccomp_tree.proofs.Common.{arith, refl, nat_tests, nat_eq, nat_lt, if◌then◌else◌, cases_lt, cases_eq, bit_and, sock_filter}
 use Rattle.seccomp_tree.proofs.Common.{SeccompCmpArgLen, SeccompCmpOp, Dword, Qword, ◌%◌, MaskedEq, Condition, Compares, part_of, Target}
-use Rattle.seccomp_tree.proofs.Common.{Step, found_from}
+use Rattle.seccomp_tree.proofs.Common.{Step}
 use Rattle.seccomp_tree.proofs.Common.{found_in, AscendFrom, AreSteps, IsPushed, IsIn, AreIn, is_plain, IsChosen, AreLaid}
 use Rattle.seccomp_tree.specs.Steps.{first_start}
 use Rattle.seccomp_tree.specs.Conditions.{IsTurn, numbers_of}
-use Rattle.seccomp_tree.proofs.Begun.{steps_more, are_in_below}
+use Rattle.seccomp_tree.proofs.Begun.{steps_more, are_in_below, found_until, found_behind}
 
 -- ---- comparing
 
@@ -78,7 +78,8 @@ laying_on c target others (x ∷ rest) back steps more value end number next d t
     | inr not ↦ rw not.1 (later rest (omega (arith, ends, not.0, turn.within)) up)
   ];
   same = λ a le lt. elim moved [
-    | inl on ↦ rw on.1 (h.same a (omega (arith, turn.above)) lt ∙ behind rest a (omega (arith, ends, on.0)) lt)
+    | inl on ↦ rw on.1 (h.same a (omega (arith, turn.above)) lt
+        ∙ found_behind (numbers_of c.arg_len) x.target rest a (omega (arith, ends, on.0)) lt)
     | inr not ↦ rw not.1 (h.same a (omega (arith, turn.above)) lt)
   ];
   are = steps_more (number + 1) next more (omega arith) (omega (arith, turn.above)) pushed.are;
@@ -86,7 +87,8 @@ laying_on c target others (x ∷ rest) back steps more value end number next d t
     | inl below ↦ rw (pushed.below a below) (h.each a below)
     | inr le ↦
         let other : found_in others a ≡ x.target =
-        h.same a le (omega (arith, last, turn.within)) ∙ before rest a (omega (arith, ends, turn.within)) up in
+        h.same a le (omega (arith, last, turn.within))
+        ∙ found_until (numbers_of c.arg_len) x.target rest a (omega (arith, ends, turn.within)) in
         let side = rw part at (turn.alike a le lt) in
         rw (pushed.from a le, other) record {
           met = λ is. chosen.met (alike_on c.operator a number (part_of c.arg_len c.value) plain (grind (arith, side, le)) is);
@@ -120,16 +122,6 @@ laying_on c target others (x ∷ rest) back steps more value end number next d t
         → AscendFrom (numbers_of c.arg_len) (next + 1) l
     later [] lt up = tt
     later (y ∷ l) lt up = (omega arith, up.1)
-
-    behind : (l : List Step) (a : ℕ) → first_start (numbers_of c.arg_len) l ≤ a → a < numbers_of c.arg_len
-        → found_from x.target l a ≡ found_in l a
-    behind [] a le lt = absurd (omega arith)
-    behind (y ∷ l) a le lt = grind (arith, nat_tests)
-
-    before : (l : List Step) (a : ℕ) → a < first_start (numbers_of c.arg_len) l → AscendFrom (numbers_of c.arg_len) (number + 1) l
-        → found_from x.target l a ≡ x.target
-    before [] a lt up = refl
-    before (y ∷ l) a lt up = grind (arith, nat_tests)
 
 pub laying_ends : (c : Condition) (target : Target) (others rest steps : List Step) (number : ℕ) → is_plain c.operator ≡ true
     → Laying c target others number rest steps → numbers_of c.arg_len ≤ number → AreLaid c target others steps

@@ -1,5 +1,5 @@
 -- The names that the proofs share, of std, of the library and of the definitions.
-pub use Rattle.seccomp_tree.specs.Code.{AreFine, AreIn, DoesAs, GoesOn, Grows, IsIn, IsPart, IsReached, IsSound, IsTested}
+pub use Rattle.seccomp_tree.specs.Code.{AreFine, AreIn, DoesAs, GoesOn, Grows, IsHalf, IsIn, IsPart, IsReached, IsSound, IsTested}
 pub use Rattle.seccomp_tree.specs.Code.{IsTree, Leads, LeadsAlways, Returns, Says, Starts, StartsAlways, chosen, gives, near, part_length}
 pub use Rattle.seccomp_tree.specs.Code.{part_steps, tail_at, to_place, to_return}
 pub use Rattle.seccomp_tree.specs.Conditions.{AreLaid, HasBits, IsChosen, IsConditionMet, IsMet, condition_length}
@@ -12,7 +12,7 @@ pub use Rattle.seccomp_tree.specs.Decisions.{rules_length, same_length, stops}
 pub use Rattle.seccomp_tree.specs.FilterDecisions.{DecideAs, call_of, decisions_of, rulings_of}
 pub use Rattle.seccomp_tree.specs.Layouts.{AgreesInAll, IsCompiledIn}
 pub use Rattle.seccomp_tree.specs.Rules.{AreRules, IsInFront, IsRulingMet, IsSettled, afresh, alone, along}
-pub use Rattle.seccomp_tree.specs.Steps.{AreOver, AreSteps, AscendFrom, IsPushed, TightFrom, begun, found_from, found_in, row, same}
+pub use Rattle.seccomp_tree.specs.Steps.{AreOver, AreSteps, AscendFrom, IsPushed, TightFrom, found_from, found_in, row, same}
 pub use Rattle.seccomp_tree.specs.Steps.{second_stands_out, single}
 pub use Rattle.seccomp_tree.specs.TreeProgram.{AreRanges, EndsAsDecided, IsTreeProgram, TakesOwn, calls_length, one, one_value, other, own}
 pub use Rattle.seccomp_tree.specs.TreeProgram.{value_for}
@@ -52,14 +52,12 @@ pub use Rattle.std.proofs.lemmas.Int.{ints}
 pub use Rattle.std.proofs.lemmas.List.{drop-drop, drop_all, drop_more, get_or-drop, get_or-reverse, get_or-take, length-reverse}
 pub use Rattle.std.proofs.lemmas.List.{length-take, length-take-le, reverse-append, take_all}
 pub use Rattle.std.proofs.lemmas.List.Elements.{All-cons, All-head, All-nil, All-tail}
-pub use Rattle.std.proofs.lemmas.List.Sorted.{IsPartitionPoint-from_clause, IsPartitionedBy-leb}
 pub use Rattle.std.proofs.lemmas.Map.Keys.{sorted_head, sorted_tail}
 pub use Rattle.std.proofs.lemmas.Map.Made.{length-le_from_is_member}
 pub use Rattle.std.proofs.lemmas.Result.{IfErr-weaker, IfOk-weaker, err_from_is_err_and}
 pub use Rattle.std.specs.BTreeMap.{insert_entry, is_at}
 pub use Rattle.std.specs.Cmp.{int_ranks, nat_eq_equiv}
 pub use Rattle.std.specs.Int.Bits.{and_lt, and_zero_r}
-pub use Rattle.std.specs.List.Sorted.{IsPartitionPoint}
 pub use Rattle.std.specs.Map.{keys_of, lookup}
 pub use Rattle.std.specs.Ordering.{MatchOrdering, int_cmp, is_eq, nat_cmp, ordering_reverse}
 pub use Rattle.std.specs.Prelude.{IfOk, IsSome, bit_and, max, min, nat_lt, slice_get, unsigned_abs}

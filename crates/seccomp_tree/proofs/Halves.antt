@@ -1,242 +1,230 @@
 -- Arguments of 64 bits: steps by their high and their low halves.
-use Rattle.seccomp_tree.proofs.Common.{◌≡◌, ℕ, suc, ◌+◌, ◌-◌, ◌*◌, ◌/◌, ◌^◌, ◌<◌, ◌≤◌, List, [], length, get_or, sym, ap, subst, arith, inl}
-use Rattle.seccomp_tree.proofs.Common.{inr, max, cases_lt, cases_eq, pow-succ', sock_filter, word_at, argument_at, zero, Grows, LeadsAlways}
-use Rattle.seccomp_tree.proofs.Common.{IsRecord, ◌∷◌, take, drop}
-use Rattle.seccomp_tree.proofs.Common.{refl, ◌∙◌, nat_tests, length-drop, length-take, take_all, get_or-drop, AscendFrom, AreOver}
-use Rattle.seccomp_tree.proofs.Common.{word_fits, number_halves, Target, Step, found_in, AreSteps, begun, IsPushed}
-use Rattle.seccomp_tree.proofs.Common.{Dword, Qword, AreIn, IsPart, IsIn}
-use Rattle.seccomp_tree.proofs.Runs.{grows_on, is_in_grown, leads_by, leads_grown, starts_more}
-use Rattle.seccomp_tree.proofs.Begun.{begun_few, begun_more, begun_below, begun_counts, starts_rise, found_same, are_in_below, not_none}
-use Rattle.seccomp_tree.proofs.Begun.{steps_more}
-use Rattle.seccomp_tree.proofs.Trees.{in_take, in_drop, from_drop, found_take}
+use Rattle.seccomp_tree.proofs.Common.{◌≡◌, ℕ, suc, ◌+◌, ◌-◌, ◌*◌, ◌/◌, ◌%◌, ◌^◌, ◌<◌, ◌≤◌, List, [], ◌∷◌, length, ap, ◌∙◌, subst, arith}
+use Rattle.seccomp_tree.proofs.Common.{inl, inr, refl, sym, cases_lt, cases_eq, pow-succ', sock_filter, word_at, argument_at, IsRecord}
+use Rattle.seccomp_tree.proofs.Common.{word_fits, number_halves, Target, Step, found_in, AreSteps, AscendFrom, IsPushed, single, Dword}
+use Rattle.seccomp_tree.proofs.Common.{Qword, get_or, AreIn, Grows, IsHalf, IsIn, IsPart, LeadsAlways}
+use Rattle.seccomp_tree.specs.Steps.{first_start}
+use Rattle.seccomp_tree.proofs.Runs.{grows_not, grows_on, is_in_grown, leads_by, leads_grown, starts_more}
+use Rattle.seccomp_tree.proofs.Begun.{above_none, are_in_below, found_behind, found_in_code, found_last, found_until, not_none, steps_more}
 
--- How many of the steps start in front of a high half.
-abbrev pub started : List Step → ℕ → ℕ
-started steps high = begun steps (high * 2 ^ 32)
+-- what the last step has, numbers from 2 ^ 32 on have
+last_from : (lows : List Step) (d : Step) → AreSteps (2 ^ 32) lows → (a : ℕ) → 2 ^ 32 ≤ a
+    → found_in lows a ≡ (get_or lows (length lows - 1) d).target
+last_from lows d are a le = found_last (2 ^ 32) a (length lows - 1) lows d are (not_none (2 ^ 32) lows are (omega arith)) refl le
 
--- How many instructions an argument of this high half takes at most, and a target that goes on as the steps say for it.
-abbrev pub half_length : List Step → ℕ → ℕ
-half_length steps high = 3 * (started steps (high + 1) - started steps high) + 1
+-- what is pushed for a high half, and then for those behind it, if there are some
+module _ {old new : List sock_filter} {index : ℕ} {lows highs mid : List Step} {high : ℕ} {t : Target} (next : ℕ) (d : Step)
+    (are : AreSteps (2 ^ 32) lows) (part : IsPart old Dword (3 * length lows - 2) (λ r. word_at r (16 + 8 * index)) lows t new)
+    (first : IsPushed highs high t mid) where
+  pub half_alone : next ≡ high + 1 → IsHalf old index lows high next highs mid (get_or lows (length lows - 1) d).target new
+  half_alone is = record {
+    are = rw is first.are;
+    few = omega (arith, first.few);
+    below = first.below;
+    own = rw (first.from high (omega arith)) part;
+    behind = λ h above lt. absurd (omega arith);
+    ends = last_from lows d are;
+  }
 
-abbrev pub IsHalf : List sock_filter → ℕ → List Step → ℕ → Target → List sock_filter → Type 0
-IsHalf old index steps high t new = IsPart old Dword (half_length steps high) (λ r. high * 2 ^ 32 + word_at r (16 + 8 * index)) steps t new
-
--- A further high half, up to which the steps have the same by low halves; more of them start in front of it, or after
--- that.
-pub record IsNext (steps : List Step) (high next : ℕ) : Type 0 where
-  pub above : high < next
-  pub within : next ≤ 2 ^ 32
-  pub same : (h a : ℕ) → high ≤ h → h < next → a < 2 ^ 32 → found_in steps (h * 2 ^ 32 + a) ≡ found_in steps (high * 2 ^ 32 + a)
-  pub more : next < 2 ^ 32 → started steps high + started steps (high + 1) < started steps next + started steps (next + 1)
-
--- Steps over the high halves below one, whose targets go on as steps say for an argument.
-pub record AreHighs (old : List sock_filter) (index : ℕ) (steps : List Step) (high : ℕ) (highs : List Step) (new : List sock_filter) : Type
-    0 where
-  pub within : high ≤ 2 ^ 32
-  pub turns : ℕ
-  pub soon : high < 2 ^ 32 → turns < started steps high + started steps (high + 1)
-  pub end : turns ≤ 2 * length steps
-  pub are : AreSteps high highs
-  pub few : length highs ≤ turns
-  pub grows : Grows old (3 * started steps high + turns) new
-  pub leads : (h : ℕ) → h < high → IsIn new (found_in highs h) × ((r : List ℕ) → IsRecord r → (w n k : ℕ) → length steps ≤ 2 ^ k
-      → LeadsAlways old r (found_in steps (h * 2 ^ 32 + word_at r (16 + 8 * index))) w n → LeadsAlways new r (found_in highs h) w (n + 2 +
-      2 * k))
-
--- ---- one high half
-
--- the steps of one high half: from the last that starts at or below its first number on, up to those behind it
-abbrev pub own_steps : List Step → ℕ → ℕ → List Step
-own_steps steps begin end = take (end - begin) (drop begin steps)
-
--- the first of them that start below a number start below it
-take_below : (m n from k : ℕ) (steps : List Step) → k ≡ begun steps n → AscendFrom m from steps → AscendFrom n from (take k steps)
-take_below m n from (suc k) (x ∷ steps) is h = elim (cases_lt x.start n) [
-  | inl lt ↦ (h.0, (lt, take_below m n (x.start + 1) k steps (grind (arith, nat_tests, is)) h.1.1))
-  | inr le ↦ absurd (grind (arith, nat_tests, is))
-]
-take_below m n from _ steps is h = tt
-
-pub own_over : (m from base begin end : ℕ) (steps : List Step) → AscendFrom m from steps → begin + 1 ≡ begun steps (base + 1)
-    → end ≡ begun steps (base + 2 ^ 32) → AreOver base (own_steps steps begin end)
-own_over m from base begin end [] h is is' = absurd (omega (arith, is))
-own_over m from base zero zero (x ∷ steps) h is is' = absurd (omega (
-  arith,
-  is,
-  is',
-  begun_more (x ∷ steps) (base + 1) (base + 2 ^ 32)
-      (omega arith),
-))
-own_over m from base zero (suc k) (x ∷ steps) h is is' =
-    let whole : suc k - 0 ≡ suc k = omega arith in
-    rw whole (take_below m (base + 2 ^ 32) (base + 1) k steps (grind (arith, nat_tests, is, is')) (raise steps (grind
-    (arith, nat_tests, is)) h.1.1))
-  where
-    raise : (l : List Step) → begun l (base + 1) ≡ 0 → AscendFrom m (x.start + 1) l → AscendFrom m (base + 1) l
-    raise [] none up = tt
-    raise (y ∷ l) none up = (grind (arith, nat_tests, none), up.1)
-own_over m from base (suc begin) end (x ∷ steps) h is is' =
-    let rest : end - suc begin ≡ end - 1 - begin = omega arith in
-    rw rest (own_over m (x.start + 1) base begin (end - 1) steps h.1.1 (grind (arith, nat_tests, is)) (grind (arith, nat_tests, is, is')))
-
-own_long : (steps : List Step) (begin end : ℕ) → length (own_steps steps begin end) ≤ end - begin
-own_long steps begin end = omega (arith, length-take (end - begin) (drop begin steps))
-
-pub own_in : (code : List sock_filter) (steps : List Step) (begin end : ℕ) → AreIn code steps → AreIn code (own_steps steps begin end)
-own_in code steps begin end h = in_take code (end - begin) (drop begin steps) (in_drop code begin steps h)
-
-own_found : (steps : List Step) (begin end base a : ℕ) → AreSteps (2 ^ 64) steps → begin + 1 ≡ begun steps (base + 1)
-    → end ≡ begun steps (base + 2 ^ 32) → a < 2 ^ 32 → found_in (own_steps steps begin end) (a + base) ≡ found_in steps (base + a)
-own_found [] begin end base a are is is' small = absurd (omega (arith, is))
-own_found (x ∷ l) begin end base a are is is' small =
-    let at : a + base ≡ base + a = omega arith in
-    rw at (sym taken ∙ sym (dropped begin refl))
-  where
-    more : begin + 1 ≤ end
-    more = omega (arith, is, is', begun_more (x ∷ l) (base + 1) (base + 2 ^ 32) (omega arith))
-
-    dropped : (n : ℕ) → n ≡ begin → found_in (x ∷ l) (base + a) ≡ found_in (drop n (x ∷ l)) (base + a)
-    dropped zero same = refl
-    dropped (suc n) same = from_drop (2 ^ 64) (x.start + 1) x.target l n (base + a) x are.ascend.1.1
-        (omega (arith, begun_few (x ∷ l) (base + 1))) (omega (arith, begun_below (x ∷ l) (base + 1) (suc n) x (omega arith)))
-
-    taken : found_in (drop begin (x ∷ l)) (base + a) ≡ found_in (own_steps (x ∷ l) begin end) (base + a)
-    taken = elim (cases_lt end (length (x ∷ l))) [
-      | inl lt ↦
-          found_take (drop begin (x ∷ l)) (end - begin) (base + a) x (omega (arith, more)) (omega (arith, length-drop begin (x ∷ l), more))
-          (above lt)
-      | inr le ↦ ap (λ s. found_in s (base + a)) (sym (take_all (end - begin) (drop begin (x ∷ l)) (omega (
-        arith,
-        length-drop begin
-            (x ∷ l),
-      ))))
-    ]
-      where
-        at : begin + (end - begin) ≡ end
-        at = omega (arith, more)
-
-        above : end < length (x ∷ l) → base + a < (get_or (drop begin (x ∷ l)) (end - begin) x).start
-        above lt = rw (get_or-drop begin (x ∷ l) (end - begin) x, at) (elim (cases_lt ((get_or (x ∷ l) end x).start) (base + 2 ^ 32)) [
-          | inl below ↦ absurd (omega (arith, begun_counts (2 ^ 64) 0 (x ∷ l) (base + 2 ^ 32) end x are.ascend lt below, is'))
-          | inr le ↦ omega arith
-        ])
-
-pub half_of_word : (old new : List sock_filter) (index : ℕ) (steps : List Step) (high begin end : ℕ) (t : Target) → AreSteps (2 ^ 64) steps
-    → begin + 1 ≡ begun steps (high * 2 ^ 32 + 1) → end ≡ begun steps (high * 2 ^ 32 + 2 ^ 32)
-    → IsPart old Dword (3 * length (own_steps steps begin end) - 2) (λ r. word_at r (16 + 8 * index) + high * 2 ^ 32)
-    (own_steps steps begin end) t new
-    → IsHalf old index steps high t new
-half_of_word old new index steps high begin end t are is is' word = record {
-  grows = record {
-    front = word.grows.front;
-    whole = word.grows.whole;
-    few = omega
-        (arith, word.grows.few, own_long steps begin end, up, up');
-  };
-  inside = word.inside;
-  leads = λ r rec w n k few lead.
-      word.leads r rec w n k (omega (arith, own_long steps begin end, begun_few steps (high * 2 ^ 32 + 2 ^ 32)))
-      (rw (own_found steps begin end (high * 2 ^ 32) (word_at r (16 + 8 * index)) are is is' (word_fits r (16 + 8 * index) rec)) lead);
-}
-  where
-    up : begun steps (high * 2 ^ 32) ≤ begun steps (high * 2 ^ 32 + 1)
-    up = begun_more steps (high * 2 ^ 32) (high * 2 ^ 32 + 1) (omega arith)
-
-    up' : begun steps (high * 2 ^ 32 + 2 ^ 32) ≤ begun steps ((high + 1) * 2 ^ 32)
-    up' = begun_more steps (high * 2 ^ 32 + 2 ^ 32) ((high + 1) * 2 ^ 32) (omega arith)
-
--- ---- the next high half
-
--- that of the number at which a further step starts, if it is none of this half; or none does, and it is past all
-pub next_is : (steps : List Step) (high start next : ℕ) → AreSteps (2 ^ 64) steps → high < 2 ^ 32 → start ≤ 2 ^ 64
-    → begun steps start ≤ begun steps (high * 2 ^ 32 + 1)
-    → (start < 2 ^ 64 → begun steps (high * 2 ^ 32 + 1) < begun steps (start + 1)) → next ≡ max (start / 2 ^ 32) (high + 1)
-    → IsNext steps high next
-next_is steps high start next are small within none some is = record {
-  above = omega (arith, is);
-  within = omega (arith, is);
-  same = λ h a le lt fits. elim (cases_eq h high) [
-    | inl here ↦ ap (λ x. found_in steps (x * 2 ^ 32 + a)) here
-    | inr further ↦
-        found_same (2 ^ 64) steps (h * 2 ^ 32 + a) (high * 2 ^ 32 + a) are (omega arith) (grind (arith, begun_more steps, none, is))
-  ];
-  more = λ less.
-      let up = begun_more steps ((high + 1) * 2 ^ 32) (next * 2 ^ 32) (omega (arith, is)) in
-      let far = begun_more steps (start + 1) ((next + 1) * 2 ^ 32) (omega (arith, is)) in
-      omega (arith, begun_more steps (high * 2 ^ 32) (high * 2 ^ 32 + 1) (omega arith), up, far, some (omega (arith, is)));
-}
-
-pub next_some : (steps : List Step) (high n next : ℕ) (d : Step) → AreSteps (2 ^ 64) steps → high < 2 ^ 32
-    → n ≡ begun steps (high * 2 ^ 32 + 1) → n < length steps → next ≡ max ((get_or steps n d).start / 2 ^ 32) (high + 1)
-    → IsNext steps high next
-next_some steps high n next d are small count lt is =
-    let s = (get_or steps n d).start in
-    let near : begun steps s ≤ n = grind (arith, begun_below steps s n d) in
-    let rise = starts_rise (2 ^ 64) 0 steps n d are.ascend lt in
-    let there = begun_counts (2 ^ 64) 0 steps (s + 1) n d are.ascend lt (omega arith) in
-    next_is steps high s next are small (omega (arith, rise.1)) (omega (arith, near, count)) (λ _. omega (arith, there, count)) is
+  pub half_more : (more : List Step) → high + 1 < next → IsPushed mid (high + 1) (get_or lows (length lows - 1) d).target more
+      → IsHalf old index lows high next highs more (get_or lows (length lows - 1) d).target new
+  half_more more lt second = record {
+    are = steps_more (high + 1 + 1) next more (omega arith) (omega arith) second.are;
+    few = omega (arith, first.few, second.few);
+    below = λ h below. second.below h (omega arith) ∙ first.below h below;
+    own = rw (second.below high (omega arith), first.from high (omega arith)) part;
+    behind = λ h above less. second.from h (omega arith);
+    ends = last_from lows d are;
+  }
 
 -- ---- the loop of `argument`
 
-pub highs_one : (old mid new : List sock_filter) (index : ℕ) (steps highs more : List Step) (high next : ℕ) (t : Target)
-    → AreHighs old index steps high highs mid → high < 2 ^ 32
-    → IsHalf mid index steps high t new
-    → IsNext steps high next → IsPushed highs high t more → AreHighs old index steps next more new
-highs_one old mid new index steps highs more high next t h small half on pushed =
-    let up = begun_more steps (high * 2 ^ 32) ((high + 1) * 2 ^ 32) (omega arith) in
-    let turn = h.soon small in
-    record {
-      within = on.within;
-      turns = h.turns + 1;
-      soon = λ lt. omega (arith, turn, on.more lt);
-      end = omega (arith, turn, begun_few steps (high * 2 ^ 32), begun_few steps ((high + 1) * 2 ^ 32));
-      are = steps_more (high + 1) next more (omega arith) (omega (arith, on.above)) pushed.are;
-      few = omega (arith, h.few, pushed.few);
-      grows = grows_on _ h.grows half.grows
-          (omega (arith, up, begun_more steps ((high + 1) * 2 ^ 32) (next * 2 ^ 32) (omega (arith, on.above))));
-      leads = λ x lt. elim (cases_lt x high) [
-        | inl below ↦
-            let was = h.leads x below in
-            rw (pushed.below x below) (
-              is_in_grown (found_in highs x) half.grows was.0,
-              λ r rec w n k few lead a fits. leads_grown half.grows (was.1 r rec w n k few lead a fits),
-            )
-        | inr le ↦ rw (pushed.from x le) (
-          half.inside,
-          λ r rec w n k few lead a fits.
-              let here = rw (on.same x (word_at r (16 + 8 * index)) le lt (word_fits r (16 + 8 * index) rec)) at lead in
-              starts_more (n + 2 + 2 * k) (omega arith)
-              (leads_by (half.leads r rec w n k few (λ b fits'. leads_grown h.grows (here b fits')) a fits)),
+-- Steps over the high halves below one, whose targets go on as the steps say for an argument; and over low halves of this one,
+-- of those below a bound. The steps that are left start behind that. One more of them may be counted as done.
+pub record AreHalves (old : List sock_filter) (index : ℕ) (steps left lows : List Step) (high bound more : ℕ) (highs : List Step)
+    (code : List sock_filter) : Type 0 where
+  pub fits : high < 2 ^ 32
+  pub within : bound ≤ 2 ^ 32
+  pub above : AscendFrom (2 ^ 64) (high * 2 ^ 32 + bound) left
+  pub same : (a : ℕ) → first_start (2 ^ 64) left ≤ a → a < 2 ^ 64 → found_in steps a ≡ found_in left a
+  pub are_lows : AreSteps bound lows
+  pub some : 1 ≤ length lows + more
+  pub own : (a : ℕ) → high * 2 ^ 32 + a < first_start (2 ^ 64) left → found_in steps (high * 2 ^ 32 + a) ≡ found_in lows a
+  pub low_few : length lows + length left ≤ length steps
+  pub are_highs : AreSteps high highs
+  pub few : length highs + 2 * length left + 2 ≤ 2 * length steps + 2 * more
+  pub before : ℕ
+  pub grows : Grows old before code
+  pub room : before + 3 * length lows + 4 * length left ≤ 4 * length steps + more
+  pub leads : (h : ℕ) → h < high → IsIn code (found_in highs h) × ((r : List ℕ) → IsRecord r → (w n k : ℕ) → length steps ≤ 2 ^ k
+      → LeadsAlways old r (found_in steps (h * 2 ^ 32 + word_at r (16 + 8 * index))) w n
+      → LeadsAlways code r (found_in highs h) w (n + 2 + 2 * k))
+
+pub halves_begin : (old : List sock_filter) (index : ℕ) (x : Step) (left : List Step) → AreSteps (2 ^ 64) (x ∷ left)
+    → AreHalves old index (x ∷ left) left (single x.target) 0 1 0 [] old
+halves_begin old index x left are = record {
+  fits = omega arith;
+  within = omega arith;
+  above = rw (are.first (omega arith)) at are.ascend.1.1;
+  same = λ a le lt. found_behind (2 ^ 64) x.target left a le lt;
+  are_lows = record { first = λ _. refl; ascend = (omega arith, (omega arith, tt)); tight = tt };
+  some = omega arith;
+  own = λ a lt. found_until (2 ^ 64) x.target left (0 * 2 ^ 32 + a) lt;
+  low_few = omega arith;
+  are_highs = record { first = λ some. absurd (omega arith); ascend = tt; tight = tt };
+  few = omega arith;
+  before = 0;
+  grows = grows_not old 0;
+  room = omega arith;
+  leads = λ h lt. absurd (omega arith);
+}
+
+module _ {old code : List sock_filter} {index : ℕ} {steps left lows highs : List Step} {high bound : ℕ} where
+  -- a step of the same high half
+  pub halves_same : (x : Step) → AreHalves old index steps (x ∷ left) lows high bound 0 highs code → x.start / 2 ^ 32 ≤ high
+      → AreHalves old index steps (x ∷ left) lows high (x.start % 2 ^ 32) 1 highs code
+  halves_same x h le = record {
+    fits = h.fits;
+    within = omega arith;
+    above = (omega (arith, h.above.0), h.above.1);
+    same = h.same;
+    are_lows = steps_more bound (x.start % 2 ^ 32) lows (above_none bound 0 lows h.are_lows.ascend (omega (arith, h.some)))
+        (omega (arith, h.above.0)) h.are_lows;
+    some = omega arith;
+    own = h.own;
+    low_few = h.low_few;
+    are_highs = h.are_highs;
+    few = omega (arith, h.few);
+    before = h.before;
+    grows = h.grows;
+    room = omega (arith, h.room);
+    leads = h.leads;
+  }
+
+  -- a step is pushed
+  pub halves_on : (x : Step) (pushed : List Step) → AreHalves old index steps (x ∷ left) lows high bound 1 highs code
+      → x.start ≡ high * 2 ^ 32 + bound → bound < 2 ^ 32 → IsPushed lows bound x.target pushed
+      → AreHalves old index steps left pushed high (bound + 1) 0 highs code
+  halves_on x pushed h is lt p = record {
+    fits = h.fits;
+    within = omega arith;
+    above = subst (λ n. AscendFrom (2 ^ 64) n left) (omega (arith, is)) h.above.1.1;
+    same = λ a le lt. h.same a (omega (arith, (ends left h.above.1.1).0, le)) lt ∙ found_behind (2 ^ 64) x.target left a le lt;
+    are_lows = p.are;
+    some = omega (arith, not_none (bound + 1) pushed p.are (omega arith));
+    own = λ a lt. elim (cases_lt a bound) [
+      | inl less ↦ h.own a (omega (arith, is)) ∙ sym (p.below a less)
+      | inr le ↦ h.same (high * 2 ^ 32 + a) (omega (arith, is)) (omega (arith, lt, (ends left h.above.1.1).1))
+          ∙ found_until (2 ^ 64) x.target left (high * 2 ^ 32 + a) lt ∙ sym (p.from a le)
+    ];
+    low_few = omega (arith, h.low_few, p.few);
+    are_highs = h.are_highs;
+    few = omega (arith, h.few);
+    before = h.before;
+    grows = h.grows;
+    room = omega (arith, h.room, p.few);
+    leads = h.leads;
+  }
+    where
+      ends : (l : List Step) → AscendFrom (2 ^ 64) (x.start + 1) l → (x.start ≤ first_start (2 ^ 64) l) × (first_start (2 ^ 64) l ≤ 2 ^ 64)
+      ends [] up = (omega (arith, h.above.1.0), omega arith)
+      ends (y ∷ l) up = (omega (arith, up.0), omega (arith, up.1.0))
+
+  -- the low halves so far may be looked up
+  pub lows_in : AreHalves old index steps left lows high bound 0 highs code → AreIn old steps → AreSteps (2 ^ 32) lows × AreIn code lows
+  lows_in h inside = (
+    steps_more bound (2 ^ 32) lows some h.within h.are_lows,
+    are_in_below code bound lows some h.are_lows (λ a lt. rw (h.own a (below left a lt h.above)) at
+        (is_in_grown (found_in steps (high * 2 ^ 32 + a)) h.grows (found_in_code old steps _ (omega (arith, h.few)) inside))),
+  )
+    where
+      some : 0 < bound
+      some = above_none bound 0 lows h.are_lows.ascend (omega (arith, h.some))
+
+      below : (l : List Step) (a : ℕ) → a < bound → AscendFrom (2 ^ 64) (high * 2 ^ 32 + bound) l
+          → high * 2 ^ 32 + a < first_start (2 ^ 64) l
+      below [] a lt up = omega (arith, h.fits, h.within)
+      below (y ∷ l) a lt up = omega (arith, up.0)
+
+module _ {old code new : List sock_filter} {index : ℕ} {steps left lows highs more : List Step} {high bound next : ℕ} {last : Target}
+    (h : AreHalves old index steps left lows high bound 0 highs code) (half : IsHalf code index lows high next highs more last new)
+    (up : high < next) (far : next * 2 ^ 32 ≤ first_start (2 ^ 64) left) (inside : AreIn old steps) where
+  whole : Grows old (h.before + (3 * length lows - 2)) new
+  whole = grows_on _ h.grows half.own.grows (omega arith)
+
+  -- what is behind a high half is as the last of its steps
+  behind : (g a : ℕ) → high < g → g * 2 ^ 32 + a < first_start (2 ^ 64) left → found_in steps (g * 2 ^ 32 + a) ≡ last
+  behind g a above lt =
+      let at : g * 2 ^ 32 + a ≡ high * 2 ^ 32 + ((g - high) * 2 ^ 32 + a) = omega arith in
+      rw at (h.own ((g - high) * 2 ^ 32 + a) (omega arith) ∙ half.ends ((g - high) * 2 ^ 32 + a) (omega arith))
+
+  -- targets of all high halves up to the next
+  closed : (g : ℕ) → g < next → IsIn new (found_in more g) × ((r : List ℕ) → IsRecord r → (w n k : ℕ)
+      → length steps ≤ 2 ^ k → LeadsAlways old r (found_in steps (g * 2 ^ 32 + word_at r (16 + 8 * index))) w n
+      → LeadsAlways new r (found_in more g) w (n + 2 + 2 * k))
+  closed g lt = elim (cases_lt g high) [
+    | inl less ↦
+        let was = h.leads g less in
+        rw (half.below g less) (
+          is_in_grown (found_in highs g) half.own.grows was.0,
+          λ r rec w n k few lead a small. leads_grown half.own.grows (was.1 r rec w n k few lead a small),
         )
-      ];
-    }
+    | inr le ↦ elim (cases_eq g high) [
+      | inl here ↦ rw here (
+        half.own.inside,
+        λ r rec w n k few lead a small.
+            let at = h.own (word_at r (16 + 8 * index)) (omega (arith, far, up, word_fits r (16 + 8 * index) rec)) in
+            starts_more (n + 2 + 2 * k) (omega arith) (leads_by (half.own.leads r rec w n k (omega (arith, few, h.low_few))
+            (λ b fits. leads_grown h.grows (rw at at (lead b fits))) a small)),
+      )
+      | inr other ↦ rw (half.behind g (omega arith) lt) (
+        rw (behind g 0 (omega arith) (omega (arith, far, lt))) at
+            (is_in_grown (found_in steps (g * 2 ^ 32 + 0)) whole (found_in_code old steps _ (omega (arith, h.few)) inside)),
+        λ r rec w n k few lead a small.
+            let at = behind g (word_at r (16 + 8 * index)) (omega arith) (omega (arith, far, lt, word_fits r (16 + 8 * index) rec)) in
+            starts_more (n + 2 + 2 * k) (omega arith) (leads_grown whole (rw at at (lead a small))),
+      )
+    ]
+  ]
 
--- ---- both halves
+  -- for the next there is the last target below its first step
+  pub halves_next : (x : Step) (back rest : List Step) → left ≡ x ∷ back → next ≡ x.start / 2 ^ 32 → AreSteps (x.start % 2 ^ 32) rest
+      → length rest ≤ 1 → ((a : ℕ) → a < x.start % 2 ^ 32 → found_in rest a ≡ last)
+      → AreHalves old index steps left rest next (x.start % 2 ^ 32) 1 more new
+  halves_next x back rest begins at are few is = record {
+    fits = omega (arith, at, (rw begins at h.above).1.0);
+    within = omega arith;
+    above = rw begins (omega (arith, at), (rw begins at h.above).1);
+    same = h.same;
+    are_lows = are;
+    some = omega arith;
+    own = λ a lt. behind next a up lt ∙ sym (is a (omega (arith, at, ap (first_start (2 ^ 64)) begins)));
+    low_few = omega (arith, few, h.few);
+    are_highs = half.are;
+    few = omega (arith, h.few, half.few);
+    before = h.before + (3 * length lows - 2);
+    grows = whole;
+    room = omega (arith, h.room, few, h.some);
+    leads = closed;
+  }
 
-pub highs_are : (old new : List sock_filter) (index high : ℕ) (steps highs : List Step) → 2 ^ 32 ≤ high
-    → AreHighs old index steps high highs new → AreSteps (2 ^ 32) highs × AreIn new highs
-highs_are old new index high steps highs all h =
-    let end : high ≡ 2 ^ 32 = omega (arith, h.within) in
-    (rw end at h.are, are_in_below new high highs (omega arith) h.are (λ a lt. (h.leads a lt).0))
+  pub highs_in : AreIn new more
+  highs_in = are_in_below new next more (omega arith) half.are (λ a lt. (closed a lt).0)
 
-pub is_argument : (old mid new : List sock_filter) (index high : ℕ) (steps highs : List Step) (t : Target) → AreSteps (2 ^ 64) steps
-    → 2 ^ 32 ≤ high → AreHighs old index steps high highs mid
-    → IsPart mid Dword (3 * length highs - 2) (λ r. word_at r (20 + 8 * index) + 0) highs t new
-    → IsPart old Qword (13 * length steps - 2) (λ r. argument_at r index) steps t new
-is_argument old mid new index high steps highs t are all h word =
-    let some = not_none (2 ^ 64) steps are (omega arith) in
-    record {
-      grows = grows_on _ h.grows word.grows (omega (arith, h.few, h.end, begun_few steps (high * 2 ^ 32)));
-      inside = word.inside;
-      leads = λ r rec w n k few lead.
-          let top = word_at r (20 + 8 * index) in
-          let fits = word_fits r (20 + 8 * index) rec in
-          let at : word_at r (16 + 8 * index + 4) ≡ top = ap (λ i. word_at r i) (omega arith) in
-          let whole : argument_at r index ≡ top * 2 ^ 32 + word_at r (16 + 8 * index) = omega (arith, number_halves r (16 + 8 * index), at)
-          in
-          let behind = (h.leads top (omega (arith, all, fits))).1 r rec w n k few
-          (subst (λ u. LeadsAlways old r (found_in steps u) w n) whole lead) in
-          let none : top + 0 ≡ top = omega arith in
-          λ a small. starts_more (n + (5 + 4 * k)) (omega arith)
-          (word.leads r rec w (n + 2 + 2 * k) (suc k) (omega (arith, h.few, h.end, pow-succ' 2 k)) (rw none behind) a small);
-    }
+  -- both halves
+  pub is_argument : (t : Target) (end : List sock_filter) → next ≡ 2 ^ 32
+      → IsPart new Dword (3 * length more - 2) (λ r. word_at r (20 + 8 * index)) more t end
+      → IsPart old Qword (13 * length steps - 2) (λ r. argument_at r index) steps t end
+  is_argument t end is word = record {
+    grows = grows_on _ whole word.grows (omega (arith, h.room, h.some, half.few, h.few));
+    inside = word.inside;
+    leads = λ r rec w n k few lead.
+        let top = word_at r (20 + 8 * index) in
+        let at : word_at r (16 + 8 * index + 4) ≡ top = ap (λ i. word_at r i) (omega arith) in
+        let number : argument_at r index ≡ top * 2 ^ 32 + word_at r (16 + 8 * index) =
+        omega (arith, number_halves r (16 + 8 * index), at) in
+        let both = (closed top (omega (arith, is, word_fits r (20 + 8 * index) rec))).1 r rec w n k few
+        (subst (λ u. LeadsAlways old r (found_in steps u) w n) number lead) in
+        λ a small. starts_more (n + (5 + 4 * k)) (omega arith)
+        (word.leads r rec w (n + 2 + 2 * k) (suc k) (omega (arith, half.few, h.few, pow-succ' 2 k)) both a small);
+  }

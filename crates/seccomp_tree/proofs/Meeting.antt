@@ -46,14 +46,12 @@ rule_or_not (c ∷ q) r = elim (holds_or_not c r) [
 -- ---- parts
 
 pub part_of_word : (old new : List sock_filter) (index : ℕ) (steps : List Step) (t : Target)
-    → IsPart old Dword (3 * length steps - 2) (λ r. word_at r (16 + 8 * index) + 0) steps t new
+    → IsPart old Dword (3 * length steps - 2) (λ r. word_at r (16 + 8 * index)) steps t new
     → IsPart old Dword (part_length Dword (length steps)) (λ r. part_of Dword (argument_at r index)) steps t new
 part_of_word old new index steps t word = record {
   grows = word.grows;
   inside = word.inside;
-  leads = λ r rec w n k few lead.
-      let same : word_at r (16 + 8 * index) + 0 ≡ argument_at r index % 2 ^ 32 = omega (arith, low_word r index rec) in
-      word.leads r rec w n k few (rw same lead);
+  leads = λ r rec w n k few lead. word.leads r rec w n k few (rw (← low_word r index rec) lead);
 }
 
 -- ---- conditions without a mask

@@ -10,7 +10,7 @@ use Rattle.seccomp_tree.proofs.Common.{IsRulingMet, AreRules, greatest_length, I
 use Rattle.seccomp_tree.specs.Conditions.{numbers_of}
 use Rattle.seccomp_tree.specs.Decisions.{goes_on}
 use Rattle.seccomp_tree.proofs.Runs.{grows_not, grows_on, leads_by, starts_more}
-use Rattle.seccomp_tree.proofs.Begun.{found_in_code}
+use Rattle.seccomp_tree.proofs.Begun.{found_in_code, not_none}
 use Rattle.seccomp_tree.proofs.Choices.{numbers_many, laid_in}
 use Rattle.seccomp_tree.proofs.Deciding.{first_here, first_behind, first_nothing}
 use Rattle.seccomp_tree.proofs.Meeting.{holds_or_not, chosen_plain, part_fits, plain_cost, met_now, met_both}
@@ -163,8 +163,8 @@ module _ (old code : List sock_filter) (default : ℕ) (c : Condition) (d : Ruli
         few = omega (arith, h.few, x.few, count);
         are = h.are;
         inside = laid_in code c (Give d.value) steps laid h fits
-            (λ a. found_in_code code (numbers_of like.arg_len) steps (record { start = 0; target = Give 0 }) a
-            (omega (arith, numbers_many like.arg_len)) x.are x.inside);
+            (λ a. found_in_code code steps a
+            (not_none (numbers_of like.arg_len) steps x.are (omega (arith, numbers_many like.arg_len))) x.inside);
         leads = λ r rec w n front on first takes.
             laid_leads steps laid r w n rec h (λ holds. first_here d (e ∷ rest) holds first)
             (λ not.

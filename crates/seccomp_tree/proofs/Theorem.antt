@@ -80,7 +80,7 @@ pub record IsWritten (d : DecisionSet) (p : List sock_filter) : Type 0 where
   pub answers : AreCallSteps (give 0x80000000 ∷ []) d steps mid
   pub calls : Target
   pub behind : List sock_filter
-  pub word : IsPart mid Dword (3 * length steps - 2) (λ r. word_at r 0 + 0) steps calls behind
+  pub word : IsPart mid Dword (3 * length steps - 2) (λ r. word_at r 0) steps calls behind
   pub test : Target
   pub tested : List sock_filter
   pub tests : IsTested behind Equal (audit_word d.target_arch) calls (Give 0x80000000) test tested
@@ -96,9 +96,6 @@ module _ (d : DecisionSet) (p : List sock_filter) (h : IsWritten d p) where
       rw h.whole (load_run r h.tested 4 0 w (suc m) rec (omega arith)
       (h.tests.leads r (word_at r 4) w m small (rw is (enters (word_at r 4) small))))
 
-  number : (r : List ℕ) → word_at r 0 + 0 ≡ word_at r 0
-  number r = omega arith
-
   -- a program that is written returns what is decided
   written_returns : (r : List ℕ) (w n k : ℕ) → IsRecord r → length h.steps ≤ 2 ^ k → IsDecided d r w → TakesOwn d r n
       → Returns r p 0 w (4 + 2 * k + n)
@@ -106,8 +103,8 @@ module _ (d : DecisionSet) (p : List sock_filter) (h : IsWritten d p) where
       (chosen_runs r (Give w) w 1 rec (grind (arith, nat_tests, not, is)) (λ a small. to_return w a 1 (omega arith)))
   written_returns r w n k rec few (decided arch first) takes = returns_more (4 + 2 * k + n) (omega arith)
       (chosen_runs r h.calls w (n + 1 + (1 + 2 * k)) rec (grind (arith, nat_tests, arch))
-      (h.word.leads r rec w (n + 1) k few (rw (number r)
-      (answer_leads d h.mid _ r w n rec (h.answers.answers.each (word_at r 0) (word_fits r 0 rec)) arch first takes))))
+      (h.word.leads r rec w (n + 1) k few
+      (answer_leads d h.mid _ r w n rec (h.answers.answers.each (word_at r 0) (word_fits r 0 rec)) arch first takes)))
 
   written_decides : (r : List ℕ) → IsRecord r → EndsAsDecided d p r
   written_decides r rec =
@@ -135,7 +132,7 @@ module _ (d : DecisionSet) (p : List sock_filter) (h : IsWritten d p) where
 
 -- the steps over all numbers may be looked up in the code
 pub answers_in : (d : DecisionSet) (old mid : List sock_filter) (steps : List Step) → AreCallSteps old d steps mid
-    → AreOver 0 steps × AreIn mid steps
+    → AreOver steps × AreIn mid steps
 answers_in d old mid steps h = (
   over_zero steps h.answers.are,
   are_in_below mid (2 ^ 32) steps (omega arith) h.answers.are (λ a lt. (h.answers.each a lt).inside),

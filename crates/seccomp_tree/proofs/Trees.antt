@@ -17,14 +17,14 @@ ascend_take : (m from n : ℕ) (steps : List Step) → AscendFrom m from steps �
 ascend_take m from (suc n) (x ∷ steps) h = (h.0, (h.1.0, ascend_take m (x.start + 1) n steps h.1.1))
 ascend_take m from _ steps h = tt
 
-pub over_some : (base : ℕ) (steps : List Step) → AreOver base steps → 1 ≤ length steps
-over_some base [] h = absurd h
-over_some base (x ∷ steps) h = omega arith
+pub over_some : (steps : List Step) → AreOver steps → 1 ≤ length steps
+over_some [] h = absurd h
+over_some (x ∷ steps) h = omega arith
 
-pub over_take : (base n : ℕ) (steps : List Step) → 1 ≤ n → AreOver base steps → AreOver base (take n steps)
-over_take base (suc n) (x ∷ steps) some h = ascend_take (base + 2 ^ 32) (base + 1) n steps h
-over_take base zero steps some h = absurd (omega arith)
-over_take base (suc n) [] some h = absurd h
+pub over_take : (n : ℕ) (steps : List Step) → 1 ≤ n → AreOver steps → AreOver (take n steps)
+over_take (suc n) (x ∷ steps) some h = ascend_take (2 ^ 32) 1 n steps h
+over_take zero steps some h = absurd (omega arith)
+over_take (suc n) [] some h = absurd h
 
 pub in_take : (code : List sock_filter) (n : ℕ) (steps : List Step) → AreIn code steps → AreIn code (take n steps)
 in_take code n steps h k d lt =
@@ -46,25 +46,25 @@ found_take (x ∷ steps) (suc n) a d some lt below = from_take x.target steps n 
 
 -- ---- the others
 
-over_behind : (base from n : ℕ) (steps : List Step) → base < from → n < length steps → AscendFrom (base + 2 ^ 32) from steps
-    → AreOver base (drop n steps)
-over_behind base from n [] above lt h = absurd (omega arith)
-over_behind base from zero (x ∷ steps) above lt h =
-    ascend_more (base + 2 ^ 32) (base + 2 ^ 32) (x.start + 1) (base + 1) steps (omega arith) (omega (arith, h.0)) h.1.1
-over_behind base from (suc n) (x ∷ steps) above lt h =
-    over_behind base (x.start + 1) n steps (omega (arith, h.0)) (omega arith) h.1.1
+over_behind : (from n : ℕ) (steps : List Step) → 0 < from → n < length steps → AscendFrom (2 ^ 32) from steps
+    → AreOver (drop n steps)
+over_behind from n [] above lt h = absurd (omega arith)
+over_behind from zero (x ∷ steps) above lt h =
+    ascend_more (2 ^ 32) (2 ^ 32) (x.start + 1) 1 steps (omega arith) (omega (arith, h.0)) h.1.1
+over_behind from (suc n) (x ∷ steps) above lt h =
+    over_behind (x.start + 1) n steps (omega (arith, h.0)) (omega arith) h.1.1
 
-over_drop : (base n : ℕ) (steps : List Step) → n < length steps → AreOver base steps → AreOver base (drop n steps)
-over_drop base zero steps lt h = h
-over_drop base (suc n) [] lt h = absurd h
-over_drop base (suc n) (x ∷ steps) lt h = over_behind base (base + 1) n steps (omega arith) (omega arith) h
+over_drop : (n : ℕ) (steps : List Step) → n < length steps → AreOver steps → AreOver (drop n steps)
+over_drop zero steps lt h = h
+over_drop (suc n) [] lt h = absurd h
+over_drop (suc n) (x ∷ steps) lt h = over_behind 1 n steps (omega arith) (omega arith) h
 
 -- the starts of all but the first
-pub over_starts : (base k : ℕ) (steps : List Step) (d : Step) → AreOver base steps → 1 ≤ k → k < length steps
-    → (base < (get_or steps k d).start) × ((get_or steps k d).start < base + 2 ^ 32)
-over_starts base (suc k) (x ∷ steps) d h some lt =
-    let rise = starts_rise (base + 2 ^ 32) (base + 1) steps k d h (omega arith) in (omega (arith, rise.0), rise.1)
-over_starts base _ _ d h some lt = absurd (omega arith)
+pub over_starts : (k : ℕ) (steps : List Step) (d : Step) → AreOver steps → 1 ≤ k → k < length steps
+    → (0 < (get_or steps k d).start) × ((get_or steps k d).start < 2 ^ 32)
+over_starts (suc k) (x ∷ steps) d h some lt =
+    let rise = starts_rise (2 ^ 32) 1 steps k d h (omega arith) in (omega (arith, rise.0), rise.1)
+over_starts _ _ d h some lt = absurd (omega arith)
 
 pub in_drop : (code : List sock_filter) (n : ℕ) (steps : List Step) → AreIn code steps → AreIn code (drop n steps)
 in_drop code n steps h k d lt = rw (get_or-drop n steps k d) (h (n + k) d (omega (arith, length-drop n steps)))
@@ -77,23 +77,23 @@ from_drop m from t (x ∷ steps) zero a d h lt above = grind (arith, nat_tests)
 from_drop m from t (x ∷ steps) (suc n) a d h lt above =
     grind (arith, nat_tests, starts_rise m (x.start + 1) steps n d h.1.1, from_drop m (x.start + 1) x.target steps n a d h.1.1)
 
-pub found_drop : (base : ℕ) (steps : List Step) (n a : ℕ) (d : Step) → AreOver base steps → n < length steps → (get_or steps n d).start ≤ a
+pub found_drop : (steps : List Step) (n a : ℕ) (d : Step) → AreOver steps → n < length steps → (get_or steps n d).start ≤ a
     → found_in steps a ≡ found_in (drop n steps) a
-found_drop base (x ∷ steps) (suc n) a d h lt above = from_drop (base + 2 ^ 32) (base + 1) x.target steps n a d h (omega arith) above
-found_drop base steps zero a d h lt above = refl
-found_drop base [] n a d h lt above = absurd (omega arith)
+found_drop (x ∷ steps) (suc n) a d h lt above = from_drop (2 ^ 32) 1 x.target steps n a d h (omega arith) above
+found_drop steps zero a d h lt above = refl
+found_drop [] n a d h lt above = absurd (omega arith)
 
 -- the rest of a slice is what is left of the list
 pub all_behind : (steps : List Step) (n : ℕ) → take (length steps - n) (drop n steps) ≡ drop n steps
 all_behind steps n = take_all (length steps - n) (drop n steps) (omega (arith, length-drop n steps))
 
-pub rest_of : (code : List sock_filter) (base n t : ℕ) (steps : List Step) → 1 ≤ n → n < length steps → length steps ≤ t
-    → AreOver base steps → AreIn code steps
+pub rest_of : (code : List sock_filter) (n t : ℕ) (steps : List Step) → 1 ≤ n → n < length steps → length steps ≤ t
+    → AreOver steps → AreIn code steps
     → (length (take (length steps - n) (drop n steps)) < t) × ((1 ≤ length (take (length steps - n) (drop n steps)))
-    × (AreOver base (take (length steps - n) (drop n steps)) × AreIn code (take (length steps - n) (drop n steps))))
-rest_of code base n t steps some lt all_in over inside =
+    × (AreOver (take (length steps - n) (drop n steps)) × AreIn code (take (length steps - n) (drop n steps))))
+rest_of code n t steps some lt all_in over inside =
     let long = length-drop n steps in
-    rw (all_behind steps n) (omega (arith, long), (omega (arith, long), (over_drop base n steps lt over, in_drop code n steps inside)))
+    rw (all_behind steps n) (omega (arith, long), (omega (arith, long), (over_drop n steps lt over, in_drop code n steps inside)))
 
 -- the number of halvings of a half is one less
 pub halvings : (n m k : ℕ) → 2 ≤ n → n ≤ 2 ^ k → m ≤ n - n / 2 → (j : ℕ) × (k ≡ suc j) × (m ≤ 2 ^ j)
@@ -119,10 +119,10 @@ row_halvings steps (suc (suc (suc k))) some six le = omega arith
 row_halvings steps k some six le = omega (arith, row_few steps some)
 
 -- beside a second step that stands out the others decide
-stands_beside : (base i : ℕ) (x y z : Step) (steps : List Step) → AreOver base (x ∷ y ∷ z ∷ steps)
+stands_beside : (i : ℕ) (x y z : Step) (steps : List Step) → AreOver (x ∷ y ∷ z ∷ steps)
     → second_stands_out (x ∷ y ∷ z ∷ steps) ≡ true
-    → found_in (x ∷ y ∷ z ∷ steps) (i + base) ≡ chosen Equal (y.start - base) y.target (found_in (z ∷ steps) (i + base)) i
-stands_beside base i x y z steps h out =
+    → found_in (x ∷ y ∷ z ∷ steps) i ≡ chosen Equal (y.start) y.target (found_in (z ∷ steps) i) i
+stands_beside i x y z steps h out =
     let both = and_parts (same x.target z.target) (nat_eq (z.start - y.start) 1) out in
     grind (
       arith,
@@ -130,27 +130,27 @@ stands_beside base i x y z steps h out =
       same_one x.target z.target both.0,
       both.1,
       h.0,
-      found_before (base + 2 ^ 32) (z.start + 1) z.target steps (i + base) h.1.1.1.1,
+      found_before (2 ^ 32) (z.start + 1) z.target steps i h.1.1.1.1,
     )
 
 -- ---- the code
 
 -- what there was is led to as before
-plain_goes : {most : ℕ} (old new : List sock_filter) (base : ℕ) (t : Target) (m : ℕ) → Grows old most new
-    → GoesOn old base (single t) m t new
-plain_goes old new base t m g r a w n small h = starts_more (n + m) (omega arith) (leads_grown g h)
+plain_goes : {most : ℕ} (old new : List sock_filter) (t : Target) (m : ℕ) → Grows old most new
+    → GoesOn old (single t) m t new
+plain_goes old new t m g r a w n small h = starts_more (n + m) (omega arith) (leads_grown g h)
 
 -- one step is its target
-pub tree_single : (code : List sock_filter) (base : ℕ) (steps : List Step) (d : Step) → length steps ≡ 1 → AreIn code steps
-    → IsTree code base steps (get_or steps 0 d).target code
-tree_single code base (x ∷ []) d one inside = record {
+pub tree_single : (code : List sock_filter) (steps : List Step) (d : Step) → length steps ≡ 1 → AreIn code steps
+    → IsTree code steps (get_or steps 0 d).target code
+tree_single code (x ∷ []) d one inside = record {
   grows = grows_not code _;
   inside = inside 0 d (omega arith);
   last = λ two. absurd (omega arith);
-  leads = λ k le. plain_goes code code base x.target (2 * k) (grows_not code 0);
-  soon = λ few. plain_goes code code base x.target 0 (grows_not code 0);
+  leads = λ k le. plain_goes code code x.target (2 * k) (grows_not code 0);
+  soon = λ few. plain_goes code code x.target 0 (grows_not code 0);
 }
-tree_single code base _ d one inside = absurd (omega arith)
+tree_single code _ d one inside = absurd (omega arith)
 
 either : (b : Bool) → ((p q : Target) → (if b then p else q) ≡ p) ⊎ ((p q : Target) → (if b then p else q) ≡ q)
 either true = inl (λ p q. refl)
@@ -161,21 +161,21 @@ chosen_one Equal k a = either (nat_eq a k)
 chosen_one AtLeast k a = either (nat_le k a)
 
 -- a test between what goes on as some steps say, and what does as others
-test_goes : (old both new : List sock_filter) (base : ℕ) (steps high low : List Step) (test : Test) (k : ℕ) (u v t : Target) (m : ℕ)
-    → ((a : ℕ) → a < 2 ^ 32 → found_in steps (a + base) ≡ chosen test k (found_in high (a + base)) (found_in low (a + base)) a)
-    → GoesOn old base high m u both → GoesOn old base low m v both → IsTested both test k u v t new → GoesOn old base steps (suc m) t new
-test_goes old both new base steps high low test k u v t m is above below h r a w n small lead =
+test_goes : (old both new : List sock_filter) (steps high low : List Step) (test : Test) (k : ℕ) (u v t : Target) (m : ℕ)
+    → ((a : ℕ) → a < 2 ^ 32 → found_in steps a ≡ chosen test k (found_in high a) (found_in low a) a)
+    → GoesOn old high m u both → GoesOn old low m v both → IsTested both test k u v t new → GoesOn old steps (suc m) t new
+test_goes old both new steps high low test k u v t m is above below h r a w n small lead =
     starts_more (n + suc m) (omega arith) (starts_last h.last h.some (h.leads r a w (n + m) small (elim (chosen_one test k a) [
-      | inl e ↦ rw (e u v) (above r a w n small (rw (is a small ∙ e (found_in high (a + base)) (found_in low (a + base))) at lead))
-      | inr e ↦ rw (e u v) (below r a w n small (rw (is a small ∙ e (found_in high (a + base)) (found_in low (a + base))) at lead))
+      | inl e ↦ rw (e u v) (above r a w n small (rw (is a small ∙ e (found_in high a) (found_in low a)) at lead))
+      | inr e ↦ rw (e u v) (below r a w n small (rw (is a small ∙ e (found_in high a) (found_in low a)) at lead))
     ])))
 
 -- a test of a row, and the rest of it
-row_tree : (old mid new : List sock_filter) (base : ℕ) (steps rest : List Step) (test : Test) (k : ℕ) (u v x t : Target)
-    → IsTree old base rest x mid
+row_tree : (old mid new : List sock_filter) (steps rest : List Step) (test : Test) (k : ℕ) (u v x t : Target)
+    → IsTree old rest x mid
     → IsTested mid test k u v t new → row steps ≡ suc (row rest) → row steps ≤ 6 → 1 ≤ length rest → length rest < length steps
-    → GoesOn old base steps (suc (row rest)) t new → IsTree old base steps t new
-row_tree old mid new base steps rest test k u v x t tree h one six some less run = record {
+    → GoesOn old steps (suc (row rest)) t new → IsTree old steps t new
+row_tree old mid new steps rest test k u v x t tree h one six some less run = record {
   grows = grows_on _ tree.grows h.grows (omega arith);
   inside = last_in new t h.last h.some;
   last = λ two. h.last;
@@ -185,45 +185,45 @@ row_tree old mid new base steps rest test k u v x t tree h one six some less run
 }
 
 -- the two tests that begin a row
-pub tree_out : (old mid new : List sock_filter) (base : ℕ) (steps : List Step) (d : Step) (x t : Target) → AreOver base steps
-    → second_stands_out steps ≡ true → row steps ≤ 6 → IsTree old base (drop 2 steps) x mid
-    → IsTested mid Equal ((get_or steps 1 d).start - base) (get_or steps 1 d).target x t new → IsTree old base steps t new
-tree_out old mid new base (a ∷ b ∷ c ∷ steps) d x t over out six tree h =
+pub tree_out : (old mid new : List sock_filter) (steps : List Step) (d : Step) (x t : Target) → AreOver steps
+    → second_stands_out steps ≡ true → row steps ≤ 6 → IsTree old (drop 2 steps) x mid
+    → IsTested mid Equal ((get_or steps 1 d).start) (get_or steps 1 d).target x t new → IsTree old steps t new
+tree_out old mid new (a ∷ b ∷ c ∷ steps) d x t over out six tree h =
     let one : row (a ∷ b ∷ c ∷ steps) ≡ suc (row (c ∷ steps)) = grind (arith, out) in
-    row_tree old mid new base (a ∷ b ∷ c ∷ steps) (c ∷ steps) Equal (b.start - base) b.target x x t tree h one six (omega arith)
+    row_tree old mid new (a ∷ b ∷ c ∷ steps) (c ∷ steps) Equal (b.start) b.target x x t tree h one six (omega arith)
     (omega arith)
-    (test_goes old mid new base (a ∷ b ∷ c ∷ steps) (single b.target) (c ∷ steps) Equal (b.start - base) b.target x t (row (c ∷ steps))
-    (λ i small. stands_beside base i a b c steps over out) (plain_goes old mid base b.target (row (c ∷ steps)) tree.grows)
+    (test_goes old mid new (a ∷ b ∷ c ∷ steps) (single b.target) (c ∷ steps) Equal (b.start) b.target x t (row (c ∷ steps))
+    (λ i small. stands_beside i a b c steps over out) (plain_goes old mid b.target (row (c ∷ steps)) tree.grows)
     (tree.soon (omega (arith, one))) h)
-tree_out old mid new base _ d x t over out six tree h = absurd (cc)
+tree_out old mid new _ d x t over out six tree h = absurd (cc)
 
-pub tree_first : (old mid new : List sock_filter) (base : ℕ) (steps : List Step) (d : Step) (x t : Target) → 2 ≤ length steps
-    → AreOver base steps → second_stands_out steps ≡ false → row steps ≤ 6 → IsTree old base (drop 1 steps) x mid
-    → IsTested mid AtLeast ((get_or steps 1 d).start - base) x (get_or steps 0 d).target t new → IsTree old base steps t new
-tree_first old mid new base (a ∷ b ∷ steps) d x t some over out six tree h =
-    row_tree old mid new base (a ∷ b ∷ steps) (b ∷ steps) AtLeast (b.start - base) x a.target x t tree h (one steps out) six
+pub tree_first : (old mid new : List sock_filter) (steps : List Step) (d : Step) (x t : Target) → 2 ≤ length steps
+    → AreOver steps → second_stands_out steps ≡ false → row steps ≤ 6 → IsTree old (drop 1 steps) x mid
+    → IsTested mid AtLeast ((get_or steps 1 d).start) x (get_or steps 0 d).target t new → IsTree old steps t new
+tree_first old mid new (a ∷ b ∷ steps) d x t some over out six tree h =
+    row_tree old mid new (a ∷ b ∷ steps) (b ∷ steps) AtLeast (b.start) x a.target x t tree h (one steps out) six
     (omega arith) (omega arith)
-    (test_goes old mid new base (a ∷ b ∷ steps) (b ∷ steps) (single a.target) AtLeast (b.start - base) x a.target t (row (b ∷ steps))
+    (test_goes old mid new (a ∷ b ∷ steps) (b ∷ steps) (single a.target) AtLeast (b.start) x a.target t (row (b ∷ steps))
     (λ i small. grind (arith, nat_tests, over.0))
-    (tree.soon (omega (arith, one steps out))) (plain_goes old mid base a.target (row (b ∷ steps)) tree.grows) h)
+    (tree.soon (omega (arith, one steps out))) (plain_goes old mid a.target (row (b ∷ steps)) tree.grows) h)
   where
     one : (l : List Step) → second_stands_out (a ∷ b ∷ l) ≡ false → row (a ∷ b ∷ l) ≡ suc (row (b ∷ l))
     one l out = grind (arith, out)
-tree_first old mid new base _ d x t some over out six tree h = absurd (omega arith)
+tree_first old mid new _ d x t some over out six tree h = absurd (omega arith)
 
 -- a test in front of two halves
-pub tree_halves : (old mid both new : List sock_filter) (base : ℕ) (steps : List Step) (n : ℕ) (d : Step) (u v t : Target)
+pub tree_halves : (old mid both new : List sock_filter) (steps : List Step) (n : ℕ) (d : Step) (u v t : Target)
     → n ≡ length steps / 2
-    → AreOver base steps → 2 ≤ length steps → 6 < row steps → IsTree old base (drop n steps) u mid → IsTree mid base (take n steps) v both
-    → IsTested both AtLeast ((get_or steps n d).start - base) u v t new → IsTree old base steps t new
-tree_halves old mid both new base steps n d u v t half over some long upper lower h = record {
+    → AreOver steps → 2 ≤ length steps → 6 < row steps → IsTree old (drop n steps) u mid → IsTree mid (take n steps) v both
+    → IsTested both AtLeast ((get_or steps n d).start) u v t new → IsTree old steps t new
+tree_halves old mid both new steps n d u v t half over some long upper lower h = record {
   grows = grows_on _ (grows_on (3 * (length steps - 2)) upper.grows lower.grows (omega (arith, high, low))) h.grows (omega arith);
   inside = last_in new t h.last h.some;
   last = λ two. h.last;
   leads = λ k le r a w m small lead.
       let j = halvings (length steps) (length steps - length steps / 2) k some le (omega arith) in
-      starts_more (m + 2 * k) (omega (arith, j.1)) (test_goes old both new base steps (drop n steps) (take n steps) AtLeast
-      ((get_or steps n d).start - base) u v t (suc (2 * j.0)) halved
+      starts_more (m + 2 * k) (omega (arith, j.1)) (test_goes old both new steps (drop n steps) (take n steps) AtLeast
+      ((get_or steps n d).start) u v t (suc (2 * j.0)) halved
       (λ r a w m small own. starts_more (m + suc (2 * j.0)) (omega arith)
       (leads_grown lower.grows (leads_by (upper.leads j.0 (omega (arith, high, j.2)) r a w m small own))))
       (λ r a w m small own. starts_more (m + suc (2 * j.0)) (omega arith)
@@ -237,16 +237,16 @@ tree_halves old mid both new base steps n d u v t half over some long upper lowe
     low : length (take n steps) ≡ n
     low = length-take-le n steps (omega arith)
 
-    halved : (a : ℕ) → a < 2 ^ 32 → found_in steps (a + base)
-        ≡ chosen AtLeast ((get_or steps n d).start - base) (found_in (drop n steps) (a + base)) (found_in (take n steps) (a + base)) a
+    halved : (a : ℕ) → a < 2 ^ 32 → found_in steps a
+        ≡ chosen AtLeast ((get_or steps n d).start) (found_in (drop n steps) a) (found_in (take n steps) a) a
     halved a small =
-        let start = over_starts base n steps d over (omega arith) (omega arith) in
+        let start = over_starts n steps d over (omega arith) (omega arith) in
         grind (
           arith,
           nat_tests,
           start,
-          found_take steps n (a + base) d (omega arith) (omega arith),
-          found_drop base steps n (a + base) d over (omega arith),
+          found_take steps n a d (omega arith) (omega arith),
+          found_drop steps n a d over (omega arith),
         )
 
 -- ---- after the load of a word
@@ -256,14 +256,14 @@ found_one (x ∷ y ∷ steps) a b few = absurd (omega arith)
 found_one _ a b few = refl
 
 -- one step needs no load
-pub word_one : (old new : List sock_filter) (byte base : ℕ) (steps : List Step) (t : Target) → length steps ≡ 1
-    → IsTree old base steps t new
-    → IsPart old Dword (3 * length steps - 2) (λ r. word_at r byte + base) steps t new
-word_one old new byte base steps t one h = record {
+pub word_one : (old new : List sock_filter) (byte : ℕ) (steps : List Step) (t : Target) → length steps ≡ 1
+    → IsTree old steps t new
+    → IsPart old Dword (3 * length steps - 2) (λ r. word_at r byte) steps t new
+word_one old new byte steps t one h = record {
   grows = grows_on _ h.grows (grows_not new 0) (omega arith);
   inside = h.inside;
   leads = λ r is w n k le always a small. starts_more (n + (1 + 2 * k)) (omega arith) (h.leads k le r a w n small
-      (rw (found_one steps (a + base) (word_at r byte + base) (omega arith)) (always a small)));
+      (rw (found_one steps a (word_at r byte) (omega arith)) (always a small)));
 }
 
 -- a run that loads a word of the record
@@ -272,10 +272,10 @@ pub load_run : (r : List ℕ) (code : List sock_filter) (byte a w n : ℕ) → I
 load_run r code byte a w n is inside h = goes_on (load byte) code a (word_at r byte) w n 0
     (loads refl (omega (arith, is.long)) (omega arith) refl) (word_fits r byte is) h
 
-pub word_more : (old mid new : List sock_filter) (byte base : ℕ) (steps : List Step) (u t : Target) → byte ≤ 60 → 2 ≤ length steps
-    → IsTree old base steps u mid → new ≡ load byte ∷ mid → t ≡ At (length new - 1)
-    → IsPart old Dword (3 * length steps - 2) (λ r. word_at r byte + base) steps t new
-word_more old mid new byte base steps u t inside some h written last = record {
+pub word_more : (old mid new : List sock_filter) (byte : ℕ) (steps : List Step) (u t : Target) → byte ≤ 60 → 2 ≤ length steps
+    → IsTree old steps u mid → new ≡ load byte ∷ mid → t ≡ At (length new - 1)
+    → IsPart old Dword (3 * length steps - 2) (λ r. word_at r byte) steps t new
+word_more old mid new byte steps u t inside some h written last = record {
   grows = rw written (grows_on (3 * length steps - 2) h.grows (grows_one mid (load byte)) (omega arith));
   inside = last_in new t last (omega (arith, ap length written));
   leads = λ r is w n k le always a small.

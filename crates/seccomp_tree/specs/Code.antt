@@ -2,7 +2,7 @@
 use Rattle.std.specs.Prelude.{◌≡◌, ℕ, suc, ◌+◌, ◌-◌, ◌*◌, ◌<◌, ◌≤◌, ◌^◌, List, [], ◌∷◌, ◌++◌, length, drop, ⊤, nat_eq, nat_le}
 use Rattle.std.specs.Prelude.{slice_index_or, if◌then◌else◌}
 use Rattle.seccompiler.specs.declared.bpf.sock_filter.{sock_filter}
-use Rattle.seccompiler.specs.Machine.{IsRecord, Does, IsFine, IsInRange}
+use Rattle.seccompiler.specs.Machine.{IsRecord, Does, IsFine, IsInRange, word_at}
 use Rattle.seccompiler.specs.declared.backend.SeccompCmpArgLen.{SeccompCmpArgLen}
 use Rattle.seccompiler.specs.declared.backend.SeccompCmpArgLen.TheVariants.{Dword, Qword}
 use Rattle.seccompiler.specs.Code.{give}
@@ -11,7 +11,7 @@ use Rattle.seccomp_tree.specs.declared.steps.Target.TheVariants.{Give, At}
 use Rattle.seccomp_tree.specs.declared.steps.Step.{Step}
 use Rattle.seccomp_tree.specs.declared.code.Test.{Test}
 use Rattle.seccomp_tree.specs.declared.code.Test.TheVariants.{Equal, AtLeast}
-use Rattle.seccomp_tree.specs.Steps.{found_in, row}
+use Rattle.seccomp_tree.specs.Steps.{AreSteps, found_in, row}
 
 -- Each instruction is one of the seven, within its fields' ranges, and its jumps lead to instructions after it.
 abbrev pub AreFine : List sock_filter → Type 0
@@ -102,18 +102,17 @@ pub record IsTested (old : List sock_filter) (test : Test) (k : ℕ) (yes no t :
   pub some : 1 ≤ length new
   pub leads : (r : List ℕ) (a w n : ℕ) → a < 2 ^ 32 → Starts 1 old r (chosen test k yes no a) a w n → Returns r new a w (suc n)
 
--- The target goes on as the steps say for the accumulator and a base, in so many steps more than what they say takes.
-abbrev pub GoesOn : List sock_filter → ℕ → List Step → ℕ → Target → List sock_filter → Type 0
-GoesOn old base steps m t new =
-    (r : List ℕ) (a w n : ℕ) → a < 2 ^ 32 → Leads old r (found_in steps (a + base)) a w n → Starts 1 new r t a w (n + m)
+-- The target goes on as the steps say for the accumulator, in so many steps more than what they say takes.
+abbrev pub GoesOn : List sock_filter → List Step → ℕ → Target → List sock_filter → Type 0
+GoesOn old steps m t new = (r : List ℕ) (a w n : ℕ) → a < 2 ^ 32 → Leads old r (found_in steps a) a w n → Starts 1 new r t a w (n + m)
 
 -- It takes two steps for each halving; as many as it has tests if it is a row of few.
-pub record IsTree (old : List sock_filter) (base : ℕ) (steps : List Step) (t : Target) (new : List sock_filter) : Type 0 where
+pub record IsTree (old : List sock_filter) (steps : List Step) (t : Target) (new : List sock_filter) : Type 0 where
   pub grows : Grows old (3 * (length steps - 1)) new
   pub inside : IsIn new t
   pub last : 2 ≤ length steps → t ≡ At (length new - 1)
-  pub leads : (k : ℕ) → length steps ≤ 2 ^ k → GoesOn old base steps (2 * k) t new
-  pub soon : row steps ≤ 6 → GoesOn old base steps (row steps) t new
+  pub leads : (k : ℕ) → length steps ≤ 2 ^ k → GoesOn old steps (2 * k) t new
+  pub soon : row steps ≤ 6 → GoesOn old steps (row steps) t new
 
 -- How many instructions n steps over numbers of a length take at most.
 abbrev pub part_length : SeccompCmpArgLen → ℕ → ℕ
@@ -133,3 +132,13 @@ pub record IsPart (old : List sock_filter) (l : SeccompCmpArgLen) (most : ℕ) (
   pub inside : IsIn new t
   pub leads : (r : List ℕ) → IsRecord r → (w n k : ℕ) → length steps ≤ 2 ^ k → LeadsAlways old r (found_in steps (number r)) w n
       → StartsAlways new r t w (n + part_steps l k)
+
+-- A high half goes on as steps over its low halves say, and those behind it, up to the next, as the last of these steps says.
+pub record IsHalf (old : List sock_filter) (index : ℕ) (lows : List Step) (high next : ℕ) (highs more : List Step) (last : Target)
+    (new : List sock_filter) : Type 0 where
+  pub are : AreSteps next more
+  pub few : length more ≤ length highs + 2
+  pub below : (h : ℕ) → h < high → found_in more h ≡ found_in highs h
+  pub own : IsPart old Dword (3 * length lows - 2) (λ r. word_at r (16 + 8 * index)) lows (found_in more high) new
+  pub behind : (h : ℕ) → high < h → h < next → found_in more h ≡ last
+  pub ends : (a : ℕ) → 2 ^ 32 ≤ a → found_in lows a ≡ last

@@ -1,5 +1,5 @@
 -- Steps: what is looked up by a number, from a start on, up to the next one.
-use Rattle.std.specs.Prelude.{◌≡◌, ◌≢◌, ℕ, ◌+◌, ◌-◌, ◌<◌, ◌≤◌, ◌^◌, List, [], ◌∷◌, nat_le, nat_lt, if◌then◌else◌, ⊤, length, Bool, false}
+use Rattle.std.specs.Prelude.{◌≡◌, ◌≢◌, ℕ, ◌+◌, ◌-◌, ◌<◌, ◌≤◌, ◌^◌, List, [], ◌∷◌, nat_le, if◌then◌else◌, ⊤, length, Bool, false}
 use Rattle.std.specs.Prelude.{◌&&◌}
 use Rattle.std.specs.Prelude.{nat_eq}
 use Rattle.seccomp_tree.specs.declared.steps.Target.{Target}
@@ -25,10 +25,10 @@ abbrev pub AscendFrom : ℕ → ℕ → List Step → Type 0
 AscendFrom size start [] = ⊤
 AscendFrom size start (x ∷ steps) = (start ≤ x.start) × ((x.start < size) × AscendFrom size (x.start + 1) steps)
 
--- There are steps, and all but the first start above a base, within 2 ^ 32 numbers of it, each above the one before it.
-abbrev pub AreOver : ℕ → List Step → Type 0
-AreOver base [] = ⊥
-AreOver base (x ∷ steps) = AscendFrom (base + 2 ^ 32) (base + 1) steps
+-- There are steps over numbers of 32 bits; where the first starts doesn't matter.
+abbrev pub AreOver : List Step → Type 0
+AreOver [] = ⊥
+AreOver (x ∷ steps) = AscendFrom (2 ^ 32) 1 steps
 
 -- The first step starts at 0.
 abbrev pub StartsAtZero : List Step → Type 0
@@ -54,11 +54,6 @@ pub record AreSteps (size : ℕ) (steps : List Step) : Type 0 where
 abbrev pub first_start : ℕ → List Step → ℕ
 first_start size [] = size
 first_start size (x ∷ steps) = x.start
-
--- How many of the steps start below a number.
-abbrev pub begun : List Step → ℕ → ℕ
-begun [] number = 0
-begun (x ∷ steps) number = if nat_lt x.start number then 1 + begun steps number else 0
 
 -- ---- between private functions
 

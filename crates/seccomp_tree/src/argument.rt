@@ -4,18 +4,16 @@ ghost use Rattle.std.specs.Prelude.{◌≤◌, ◌<◌, ◌^◌, IfOk, length};
 ghost use Rattle.seccompiler.specs.Machine.{argument_at};
 ghost use Rattle.seccompiler.specs.Policy.{part_of};
 ghost use Rattle.seccomp_tree.specs.Steps.{AreSteps};
-ghost use Rattle.seccomp_tree.specs.Code.{AreIn, IsPart, part_length};
+ghost use Rattle.seccomp_tree.specs.Code.{AreIn, IsHalf, IsPart, part_length};
 ghost use Rattle.seccomp_tree.specs.Conditions.{numbers_of};
 
 use crate::code::Code;
-use crate::steps::{Step, Target, push_step, until};
+use crate::steps::{Step, Target, one, push_step};
 use seccompiler::SeccompCmpArgLen;
 use std::alloc::{AllocError, Global};
 
-// How many low halves there are, and the greatest.
+// How many halves there are.
 const HALVES: u64 = 0x1_0000_0000;
-
-const GREATEST_HALF: u64 = 0xffff_ffff;
 
 impl Code {
     /// Goes on as the steps say for what is compared of the argument, whatever the accumulator holds.
@@ -32,23 +30,50 @@ impl Code {
         ensures { IfOk result (λ t. IsPart self.old size (part_length size (length steps.now)) (λ r. part_of size (argument_at r index)) steps.now t self.new) }
     {
         if let SeccompCmpArgLen::Dword = size {
-            return self.word(16 + 8 * index, 0, steps);
+            return self.word(16 + 8 * index, steps);
         }
         let mut highs = Vec::new(alloc);
         let mut high = 0;
-        while high < HALVES {
-            let first = high * HALVES;
-            let begin = until(steps, first);
-            let own = &steps[begin - 1..until(steps, first + GREATEST_HALF)];
-            let target = self.word(16 + 8 * index, first, own)?;
-            push_step(&mut highs, high, target)?;
-            // The next half that may go on otherwise: after this if a step starts inside it, or else that of the next step.
-            high = if begin < steps.len() {
-                (steps[begin].start / HALVES).max(high + 1)
-            } else {
-                HALVES
-            };
+        let mut lows = one(alloc, steps[0].target)?;
+        for step in &steps[1..] {
+            let (next, low) = (step.start / HALVES, step.start % HALVES);
+            if high < next {
+                let last = self.half(index, &lows, high, next, &mut highs)?;
+                lows = Vec::new(alloc);
+                if low > 0 {
+                    push_step(&mut lows, 0, last)?;
+                }
+                high = next;
+            }
+            push_step(&mut lows, low, step.target)?;
         }
-        self.word(20 + 8 * index, 0, &highs)
+        self.half(index, &lows, high, HALVES, &mut highs)?;
+        self.word(20 + 8 * index, &highs)
+    }
+
+    // Gives a high half what its low halves have, and those up to the next what the last of them has.
+    fn half(
+        &mut self,
+        index: u8,
+        lows: &[Step],
+        high: u64,
+        next: u64,
+        highs: &mut Vec<Step>,
+    ) -> Result<Target, AllocError>
+        requires index { index ≤ 5 }
+        requires next { high < next }
+        requires fits { next ≤ 2 ^ 32 }
+        requires lows { AreSteps (2 ^ 32) lows.now }
+        requires inside { AreIn self.old lows.now }
+        requires highs { AreSteps high highs.old.items }
+        ensures { IfOk result (λ last. IsHalf self.old index lows.now high next highs.old.items highs.new.items last self.new) }
+    {
+        let target = self.word(16 + 8 * index, lows)?;
+        push_step(highs, high, target)?;
+        let last = lows[lows.len() - 1].target;
+        if high + 1 < next {
+            push_step(highs, high + 1, last)?;
+        }
+        Ok(last)
     }
 }

@@ -36,7 +36,7 @@ impl Decisions {
     {
         let mut code = Code::new(alloc)?;
         let steps = self.call_steps(alloc, &mut code)?;
-        let calls = code.word(SECCOMP_DATA_NR_OFFSET, 0, &steps)?;
+        let calls = code.word(SECCOMP_DATA_NR_OFFSET, &steps)?;
         let arch = self.target_arch.get_audit_value();
         code.test(Test::Equal, arch, calls, Target::Give(KILL_PROCESS))?;
         code.push(bpf_stmt(LOAD, u32::from(SECCOMP_DATA_ARCH_OFFSET)))?;

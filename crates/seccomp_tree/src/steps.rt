@@ -1,7 +1,7 @@
 // What is looked up by a number: steps, each from its start up to the next one's.
 
-ghost use Rattle.std.specs.Prelude.{◌≡◌, ◌≤◌, ◌+◌, ◌^◌, ◌↔◌, IsTrue, IfOk, length};
-ghost use Rattle.seccomp_tree.specs.Steps.{AreSteps, IsPushed, begun, found_in, single};
+ghost use Rattle.std.specs.Prelude.{◌≡◌, ◌↔◌, IsTrue, IfOk};
+ghost use Rattle.seccomp_tree.specs.Steps.{AreSteps, IsPushed, single};
 
 use std::alloc::{AllocError, Global};
 
@@ -48,14 +48,4 @@ pub(crate) fn push_step(steps: &mut Vec<Step>, start: u64, target: Target) -> Re
     }
     steps.push(Step { start, target })?;
     Ok(())
-}
-
-/// How many of the steps start at or below the number.
-pub(crate) fn until(steps: &[Step], number: u64) -> usize
-    requires { AreSteps (2 ^ 64) steps.now }
-    ensures count { result ≡ begun steps.now (number + 1) }
-    ensures some { 1 ≤ result }
-    ensures few { result ≤ length steps.now }
-{
-    steps.partition_point(|step| step.start <= number)
 }

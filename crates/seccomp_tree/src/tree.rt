@@ -32,42 +32,42 @@ fn is_row(steps: &[Step], tests: usize) -> bool
 }
 
 impl Code {
-    /// Goes on as the steps say for the accumulator and a base. A row of few tests is written as it is, others are halved.
-    pub(crate) fn tree(&mut self, base: u64, steps: &[Step]) -> Result<Target, AllocError>
+    /// Goes on as the steps say for the accumulator. A row of few tests is written as it is, others are halved.
+    pub(crate) fn tree(&mut self, steps: &[Step]) -> Result<Target, AllocError>
         requires some { 1 ≤ length steps.now }
-        requires over { AreOver base steps.now }
+        requires over { AreOver steps.now }
         requires inside { AreIn self.old steps.now }
-        ensures { IfOk result (λ t. IsTree self.old base steps.now t self.new) }
+        ensures { IfOk result (λ t. IsTree self.old steps.now t self.new) }
     {
         if steps.len() == 1 {
             return Ok(steps[0].target);
         }
         if !is_row(steps, MOST) {
             let half = steps.len() / 2;
-            let upper = self.tree(base, &steps[half..])?;
-            let lower = self.tree(base, &steps[..half])?;
-            let k = (steps[half].start - base) as u32;
+            let upper = self.tree(&steps[half..])?;
+            let lower = self.tree(&steps[..half])?;
+            let k = steps[half].start as u32;
             return self.test(Test::AtLeast, k, upper, lower);
         }
         if stands_out(steps) {
-            let rest = self.tree(base, &steps[2..])?;
-            let k = (steps[1].start - base) as u32;
+            let rest = self.tree(&steps[2..])?;
+            let k = steps[1].start as u32;
             return self.test(Test::Equal, k, steps[1].target, rest);
         }
-        let rest = self.tree(base, &steps[1..])?;
-        let k = (steps[1].start - base) as u32;
+        let rest = self.tree(&steps[1..])?;
+        let k = steps[1].start as u32;
         self.test(Test::AtLeast, k, rest, steps[0].target)
     }
 
-    /// Goes on as the steps say for a base and the 32 bits of the record from this byte on, whatever is in the accumulator.
-    pub(crate) fn word(&mut self, byte: u8, base: u64, steps: &[Step]) -> Result<Target, AllocError>
+    /// Goes on as the steps say for the 32 bits of the record from this byte on, whatever is in the accumulator.
+    pub(crate) fn word(&mut self, byte: u8, steps: &[Step]) -> Result<Target, AllocError>
         requires aligned { byte % 4 ≡ 0 }
         requires inside_record { byte ≤ 60 }
-        requires over { AreOver base steps.now }
+        requires over { AreOver steps.now }
         requires inside { AreIn self.old steps.now }
-        ensures { IfOk result (λ t. IsPart self.old Dword (3 * length steps.now - 2) (λ r. word_at r byte + base) steps.now t self.new) }
+        ensures { IfOk result (λ t. IsPart self.old Dword (3 * length steps.now - 2) (λ r. word_at r byte) steps.now t self.new) }
     {
-        let tested = self.tree(base, steps)?;
+        let tested = self.tree(steps)?;
         if steps.len() == 1 {
             return Ok(tested);
         }

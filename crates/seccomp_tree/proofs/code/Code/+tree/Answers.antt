@@ -6,11 +6,11 @@ use Rattle.seccomp_tree.proofs.Trees.{tree_halves}
 use Rattle.seccomp_tree.proofs.code.Code.+tree.Goals as goal
 
 pub returns-then-steps-eq1 : goal.returns-then-steps-eq1
-returns-then-steps-eq1 t c = tree_single c.args.self.now c.args.base c.args.steps.now _ c.if-steps-eq1.true c.requires.inside
+returns-then-steps-eq1 t c = tree_single c.args.self.now c.args.steps.now _ c.if-steps-eq1.true c.requires.inside
 
 pub tree-requires : goal.tree-requires
 tree-requires t c =
-    rest_of c.args.self.now c.args.base (length c.args.steps.now / 2) t c.args.steps.now (omega (arith, c.requires.some))
+    rest_of c.args.self.now (length c.args.steps.now / 2) t c.args.steps.now (omega (arith, c.requires.some))
     (omega (arith, c.requires.some)) (omega (arith, c.decreases)) c.requires.over c.requires.inside
 
 pub tree-requires-then-not-is_row : goal.tree-requires-then-not-is_row
@@ -22,7 +22,7 @@ tree-requires-then-not-is_row t c =
       (
         omega (arith, long, c.requires.some),
         (
-          over_take c.args.base n steps (omega (arith, c.requires.some)) c.requires.over,
+          over_take n steps (omega (arith, c.requires.some)) c.requires.over,
           λ k d lt. is_in_grown _ c.in_ok-upper.ensures.grows (in_take c.args.self.now n steps c.requires.inside k d lt),
         ),
       ),
@@ -31,17 +31,10 @@ tree-requires-then-not-is_row t c =
 abbrev first : Step
 first = record { start = 0; target = Give 0 }
 
-pub overflow_sub-k : goal.overflow_sub-k
-overflow_sub-k t c = omega (
-  arith,
-  (over_starts c.args.base (length c.args.steps.now / 2) c.args.steps.now first c.requires.over (omega (arith, c.requires.some))
-      (omega (arith, c.requires.some))).0,
-)
-
 pub overflow_cast-k : goal.overflow_cast-k
 overflow_cast-k t c = omega (
   arith,
-  (over_starts c.args.base (length c.args.steps.now / 2) c.args.steps.now first c.requires.over (omega (arith, c.requires.some))
+  (over_starts (length c.args.steps.now / 2) c.args.steps.now first c.requires.over (omega (arith, c.requires.some))
       (omega (arith, c.requires.some))).1,
 )
 
@@ -51,7 +44,7 @@ returns-then-not-is_row t c =
     let all = all_behind steps (length steps / 2) in
     IfOk-weaker c.test.result _ _
     (λ u h.
-    tree_halves c.args.self.now c.tree.new.self c.tree-then-not-is_row.new.self c.test.new.self c.args.base steps (length steps / 2) _
+    tree_halves c.args.self.now c.tree.new.self c.tree-then-not-is_row.new.self c.test.new.self steps (length steps / 2) _
     c.in_ok-upper.upper c.in_ok-lower.lower u refl c.requires.over (omega (arith, c.requires.some))
     (elim (cases_lt 6 (row steps)) [ inl lt ↦ lt | inr le ↦ absurd (false≢true (c.if-not-is_row.ensures.1 le)) ])
     (rw all at c.in_ok-upper.ensures) c.in_ok-lower.ensures h)
@@ -61,7 +54,7 @@ pub tree-requires-then-stands_out : goal.tree-requires-then-stands_out
 tree-requires-then-stands_out t c =
     let steps = c.args.steps.now in
     let long = out_long steps (sym c.stands_out.ensures ∙ c.if-stands_out.true) in
-    rest_of c.args.self.now c.args.base 2 t steps (omega arith) (omega (arith, long)) (omega (arith, c.decreases)) c.requires.over
+    rest_of c.args.self.now 2 t steps (omega arith) (omega (arith, long)) (omega (arith, c.decreases)) c.requires.over
     c.requires.inside
 
 pub returns-then-stands_out : goal.returns-then-stands_out
@@ -70,14 +63,14 @@ returns-then-stands_out t c =
     let all = all_behind steps 2 in
     IfOk-weaker c.test-then-stands_out.result _ _
     (λ u h.
-    tree_out c.args.self.now c.tree-then-stands_out.new.self c.test-then-stands_out.new.self c.args.base steps _ c.in_ok-rest.rest u
+    tree_out c.args.self.now c.tree-then-stands_out.new.self c.test-then-stands_out.new.self steps _ c.in_ok-rest.rest u
     c.requires.over
     (sym c.stands_out.ensures ∙ c.if-stands_out.true) (c.is_row.ensures.0 c.if-not-is_row.false) (rw all at c.in_ok-rest.ensures) h)
     c.test-then-stands_out.ensures
 
 pub tree-requires-2 : goal.tree-requires-2
 tree-requires-2 t c =
-    rest_of c.args.self.now c.args.base 1 t c.args.steps.now (omega arith) (omega (arith, c.requires.some)) (omega (arith, c.decreases))
+    rest_of c.args.self.now 1 t c.args.steps.now (omega arith) (omega (arith, c.requires.some)) (omega (arith, c.decreases))
     c.requires.over c.requires.inside
 
 pub returns : goal.returns
@@ -86,7 +79,7 @@ returns t c =
     let all = all_behind steps 1 in
     IfOk-weaker c.test-2.result _ _
     (λ u h.
-    tree_first c.args.self.now c.tree-2.new.self c.test-2.new.self c.args.base steps _ c.in_ok-rest-2.rest u
+    tree_first c.args.self.now c.tree-2.new.self c.test-2.new.self steps _ c.in_ok-rest-2.rest u
     (omega (arith, c.requires.some)) c.requires.over (sym c.stands_out.ensures
     ∙ c.if-stands_out.false) (c.is_row.ensures.0 c.if-not-is_row.false)
     (rw all at c.in_ok-rest-2.ensures) h)

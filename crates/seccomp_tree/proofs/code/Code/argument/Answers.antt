@@ -1,108 +1,93 @@
-use Rattle.seccomp_tree.proofs.Common.{◌≡◌, ◌≤◌, ◌+◌, ◌-◌, ◌*◌, ◌^◌, ap, ◌∙◌, arith, begun}
-use Rattle.seccomp_tree.proofs.Common.{IfOk-weaker}
-use Rattle.seccomp_tree.proofs.Runs.{is_in_grown}
-use Rattle.seccomp_tree.proofs.Begun.{begun_few, begun_more, over_zero}
+use Rattle.seccomp_tree.proofs.Common.{◌≡◌, ◌%◌, ◌*◌, ◌+◌, ◌-◌, ◌^◌, ◌∷◌, List, [], arith, refl, take, drop, drop_more, drop_all, length}
+use Rattle.seccomp_tree.proofs.Common.{get_or, Step, Give, IfOk-weaker}
+use Rattle.seccomp_tree.proofs.Begun.{steps_more}
 use Rattle.seccomp_tree.proofs.Meeting.{part_of_word}
-use Rattle.seccomp_tree.proofs.Halves.{IsHalf, half_of_word, highs_one, highs_are, is_argument, next_is, next_some, own_in, own_over}
-use Rattle.seccomp_tree.proofs.code.Code.argument.Goals.{After-until, After-push_step}
+use Rattle.seccomp_tree.proofs.Halves.{AreHalves, halves_same, halves_on, halves_next, highs_in, is_argument, lows_in}
+use Rattle.seccomp_tree.proofs.code.Code.argument.Goals.{After-deref-3, After-push_step-arg-1}
+use Rattle.seccomp_tree.proofs.code.Code.argument.Goals.{then-high-next+in_ok-last+then-low-gt0+in_ok-push_step}
+use Rattle.seccomp_tree.proofs.code.Code.argument.Goals.{then-high-next+in_ok-last+else-low-gt0, else-high-next}
 use Rattle.seccomp_tree.proofs.code.Code.argument.Goals as goal
-
-pub word-requires : goal.word-requires
-word-requires c =
-    let are = rw c.in-Dword.is at c.requires.are in
-    record {
-      aligned = omega arith;
-      inside_record = omega (arith, c.requires.index);
-      over = over_zero c.args.steps.now are;
-      inside = c.requires.inside;
-    }
 
 pub returns-in-Dword : goal.returns-in-Dword
 returns-in-Dword c =
     rw c.in-Dword.is (IfOk-weaker c.word.result _ _
     (λ t h. part_of_word c.args.self.now c.word.new.self c.args.index c.args.steps.now t h) c.word.ensures)
 
-pub until-requires : goal.until-requires
-until-requires c = rw c.in_default.is at c.requires.are
+pub half-requires-clause-lows : goal.half-requires-clause-lows
+half-requires-clause-lows c = rw c.deref.ensures.value (lows_in c.loop-step.invariant.1 c.requires.inside).0
 
--- where a half's own steps begin and end
-begins : (c : After-until) → c.until-begin.result - 1 + 1 ≡ begun c.args.steps.now (c.loop-high.high * 2 ^ 32 + 1)
-begins c = omega (arith, c.until-begin.ensures.count, c.until-begin.ensures.some)
+pub half-requires-clause-inside : goal.half-requires-clause-inside
+half-requires-clause-inside c = rw c.deref.ensures.value (lows_in c.loop-step.invariant.1 c.requires.inside).1
 
-ends : (c : After-until) → c.until.result ≡ begun c.args.steps.now (c.loop-high.high * 2 ^ 32 + 2 ^ 32)
-ends c = c.until.ensures.count ∙ ap (begun c.args.steps.now) (omega arith)
+pub half-requires-2-clause-lows : goal.half-requires-2-clause-lows
+half-requires-2-clause-lows c = rw c.deref-2.ensures.value (lows_in c.loop-step.invariant.1 c.requires.inside).0
 
-some : (c : After-until) → c.until-begin.result ≤ c.until.result
-some c = omega (
-  arith,
-  begins c,
-  ends c,
-  begun_more c.args.steps.now (c.loop-high.high * 2 ^ 32 + 1) (c.loop-high.high * 2 ^ 32 + 2 ^ 32) (omega arith),
-)
+pub half-requires-2-clause-inside : goal.half-requires-2-clause-inside
+half-requires-2-clause-inside c = rw c.deref-2.ensures.value (lows_in c.loop-step.invariant.1 c.requires.inside).1
 
-pub slice_bounds-own-count : goal.slice_bounds-own-count
-slice_bounds-own-count c = omega (arith, some ((goal.at.slice_bounds-own-count c).After-until))
+-- the steps behind the first, the next of them, and those that are left then
+abbrev others : List Step → List Step
+others steps = take (length steps - 1) (drop 1 steps)
 
-pub slice_bounds-own-start : goal.slice_bounds-own-start
-slice_bounds-own-start c = omega (arith, some ((goal.at.slice_bounds-own-start c).After-until))
+abbrev none : Step
+none = record { start = 0; target = Give 0 }
 
-pub word-requires-in-loop-high-clause-over : goal.word-requires-in-loop-high-clause-over
-word-requires-in-loop-high-clause-over c =
-    let b = (goal.at.word-requires-in-loop-high-clause-over c).After-until in
-    own_over (2 ^ 64) 0 (c.loop-high.high * 2 ^ 32) (c.until-begin.result - 1) c.until.result c.args.steps.now
-    (rw c.in_default.is at c.requires.are).ascend (begins b) (ends b)
+abbrev x : After-push_step-arg-1 → Step
+x c = get_or (others c.args.steps.now) c.loop-step.step-index none
 
-pub word-requires-in-loop-high-clause-inside : goal.word-requires-in-loop-high-clause-inside
-word-requires-in-loop-high-clause-inside c =
-    own_in c.loop-high.self c.args.steps.now (c.until-begin.result - 1) c.until.result
-    (λ k d lt. is_in_grown _ c.loop-high.invariant.grows (c.requires.inside k d lt))
+abbrev back : After-push_step-arg-1 → List Step
+back c = drop (c.loop-step.step-index + 1) (others c.args.steps.now)
 
-half : (c : After-push_step) → IsHalf c.loop-high.self c.args.index c.args.steps.now c.loop-high.high c.in_ok-target.target
-    c.word-in-loop-high.new.self
-half c = half_of_word c.loop-high.self c.word-in-loop-high.new.self c.args.index c.args.steps.now c.loop-high.high
-    (c.until-begin.result - 1) c.until.result c.in_ok-target.target (rw c.in_default.is at c.requires.are)
-    (omega (arith, c.until-begin.ensures.count, c.until-begin.ensures.some))
-    (c.until.ensures.count ∙ ap (begun c.args.steps.now) (omega arith))
-    c.in_ok-target.ensures
+before : (c : After-push_step-arg-1) → AreHalves c.args.self.now c.args.index c.args.steps.now (x c ∷ back c) c.loop-step.lows.items
+    c.loop-step.high c.loop-step.invariant.0 0 c.loop-step.highs.items c.loop-step.self
+before c = rw (drop_more (others c.args.steps.now) c.loop-step.step-index none c.loop-step-test.true) at c.loop-step.invariant.1
 
-pub loop-high-preserved-then-begin-steps : goal.loop-high-preserved-then-begin-steps
-loop-high-preserved-then-begin-steps c =
-    let l = c.loop-high in
-    highs_one c.args.self.now l.self c.word-in-loop-high.new.self c.args.index c.args.steps.now l.highs.items c.push_step.new.steps.items
-    l.high
-    _ c.in_ok-target.target l.invariant c.loop-high-test.true (half ((goal.at.loop-high-preserved-then-begin-steps c).After-push_step))
-    (next_some c.args.steps.now l.high c.until-begin.result _ _ (rw c.in_default.is at c.requires.are) c.loop-high-test.true
-    c.until-begin.ensures.count c.if-begin-steps.true c.max-high.ensures)
-    c.in_ok-push_step.ensures
+ready : (c : After-push_step-arg-1) → AreHalves c.args.self.now c.args.index c.args.steps.now (x c ∷ back c) c.if-high-next.lows.items
+    c.if-high-next.high ((x c).start % 2 ^ 32) 1 c.if-high-next.highs.items c.if-high-next.self
+    × ((x c).start ≡ c.if-high-next.high * 2 ^ 32 + (x c).start % 2 ^ 32)
+ready c = elim c.if-high-next.branch [
+  | then-high-next+in_ok-last+then-low-gt0+in_ok-push_step w ↦
+      let p = rw w.new-lows.ensures.items at w.in_ok-push_step.ensures in
+      let half = rw w.deref.ensures.value at w.in_ok-last.ensures in
+      rw (w.self-is, w.highs-is, w.high-is, w.lows-is) (
+        halves_next (before c) half w.if-high-next.true (omega arith) c.requires.inside (x c) (back c) _ refl refl
+            (steps_more 1 ((x c).start % 2 ^ 32) _ (omega arith) w.if-low-gt0.true p.are) p.few (λ a lt. p.from a (omega arith)),
+        omega arith,
+      )
+  | then-high-next+in_ok-last+else-low-gt0 w ↦
+      let half = rw w.deref.ensures.value at w.in_ok-last.ensures in
+      rw (w.self-is, w.highs-is, w.high-is, w.lows-is, w.new-lows.ensures.items) (
+        halves_next (before c) half w.if-high-next.true (omega arith) c.requires.inside (x c) (back c) [] refl refl
+            (record { first = λ some. absurd (omega (arith, w.if-low-gt0.false)); ascend = tt; tight = tt }) (omega arith)
+            (λ a lt. absurd (omega (arith, w.if-low-gt0.false))),
+        omega arith,
+      )
+  | else-high-next w ↦ rw (w.self-is, w.highs-is, w.high-is, w.lows-is)
+      (halves_same (x c) (before c) w.if-high-next.false, omega (arith, (before c).above.0, w.if-high-next.false))
+]
 
-pub loop-high-preserved : goal.loop-high-preserved
-loop-high-preserved c =
-    let l = c.loop-high in
-    let steps = c.args.steps.now in
-    highs_one c.args.self.now l.self c.word-in-loop-high.new.self c.args.index steps l.highs.items c.push_step.new.steps.items l.high
-    (2 ^ 32) c.in_ok-target.target l.invariant c.loop-high-test.true (half ((goal.at.loop-high-preserved c).After-push_step))
-    (next_is steps l.high (2 ^ 64) (2 ^ 32) (rw c.in_default.is at c.requires.are) c.loop-high-test.true (omega arith)
-    (omega (arith, begun_few steps (2 ^ 64), c.until-begin.ensures.count, c.if-begin-steps.false)) (λ lt. absurd (omega arith))
-    (omega (arith, c.loop-high-test.true)))
-    c.in_ok-push_step.ensures
+pub push_step-requires-in-loop-step : goal.push_step-requires-in-loop-step
+push_step-requires-in-loop-step c = record { below = (ready c).0.are_lows }
 
-pub word-requires-2 : goal.word-requires-2
-word-requires-2 c =
-    let l = c.loop-high in
-    let h = highs_are c.args.self.now l.self c.args.index l.high c.args.steps.now l.highs.items c.loop-high-test.false l.invariant in
-    rw c.deref.ensures.value record {
-      aligned = omega arith;
-      inside_record = omega (arith, c.requires.index);
-      over = over_zero l.highs.items h.0;
-      inside = h.1;
-    }
+pub loop-step-preserved : goal.loop-step-preserved
+loop-step-preserved c =
+    let h = ready ((goal.at.loop-step-preserved c).After-push_step-arg-1) in
+    (_, halves_on _ _ h.0 h.1 (omega arith) c.in_ok-push_step-2.ensures)
+
+-- no step is left
+after : (c : After-deref-3) → AreHalves c.args.self.now c.args.index c.args.steps.now [] c.loop-step.lows.items c.loop-step.high
+    c.loop-step.invariant.0 0 c.loop-step.highs.items c.loop-step.self
+after c = rw (drop_all c.loop-step.step-index (others c.args.steps.now) c.loop-step-test.false) at c.loop-step.invariant.1
+
+pub word-requires-2-clause-inside : goal.word-requires-2-clause-inside
+word-requires-2-clause-inside c = rw c.deref-3.ensures.value (highs_in (after c) (rw c.deref-2.ensures.value at c.in_ok-half.ensures)
+    (after c).fits (omega arith) c.requires.inside)
 
 pub returns : goal.returns
 returns c =
-    let l = c.loop-high in
-    let e = c.deref.ensures.value in
+    let h = after ((goal.at.returns c).After-deref-3) in
     let size = c.in_default.is in
     IfOk-weaker c.word-2.result _ _
-    (λ t h. rw size (is_argument c.args.self.now l.self c.word-2.new.self c.args.index l.high c.args.steps.now l.highs.items t
-    (rw size at c.requires.are) c.loop-high-test.false l.invariant (rw e at h)))
+    (λ t k. rw size (is_argument h (rw c.deref-2.ensures.value at c.in_ok-half.ensures) h.fits (omega arith) c.requires.inside t
+    c.word-2.new.self refl (rw c.deref-3.ensures.value at k)))
     c.word-2.ensures

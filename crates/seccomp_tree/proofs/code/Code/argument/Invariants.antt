@@ -1,9 +1,7 @@
-use Rattle.seccomp_tree.proofs.Common.{◌-◌, ◌^◌}
-use Rattle.seccomp_tree.proofs.Halves.{AreHighs}
+use Rattle.seccomp_tree.proofs.Common.{ℕ, drop}
+use Rattle.seccomp_tree.proofs.Halves.{AreHalves}
 use Rattle.seccomp_tree.proofs.code.Code.argument.Given as goal
 
-abbrev pub invariant-loop-high : goal.invariant-loop-high
-invariant-loop-high l = AreHighs l.initial.self l.index l.steps l.high l.highs.items l.self
-
-abbrev pub decreases-loop-high : goal.decreases-loop-high
-decreases-loop-high l = 2 ^ 32 - l.high
+abbrev pub invariant-loop-step : goal.invariant-loop-step
+invariant-loop-step l = (bound : ℕ)
+    × AreHalves l.initial.self l.index l.steps (drop l.step-index l.step-items) l.lows.items l.high bound 0 l.highs.items l.self

@@ -11,7 +11,7 @@ pub use Rattle.seccomp_tree.specs.Decisions.{conditions_length, conditions_steps
 pub use Rattle.seccomp_tree.specs.Decisions.{rules_length, same_length, stops}
 pub use Rattle.seccomp_tree.specs.FilterDecisions.{DecideAs, call_of, decisions_of, rulings_of}
 pub use Rattle.seccomp_tree.specs.Layouts.{AgreesInAll, IsCompiledIn}
-pub use Rattle.seccomp_tree.specs.Rules.{AreRules, IsInFront, IsRulingMet, IsSettled, afresh, alone, along}
+pub use Rattle.seccomp_tree.specs.Rules.{AreFit, AreRules, IsRulingMet, IsSettled}
 pub use Rattle.seccomp_tree.specs.Steps.{AreOver, AreSteps, AscendFrom, IsPushed, TightFrom, found_from, found_in, row, same}
 pub use Rattle.seccomp_tree.specs.Steps.{second_stands_out, single}
 pub use Rattle.seccomp_tree.specs.TreeProgram.{AreRanges, EndsAsDecided, IsTreeProgram, TakesOwn, calls_length, one, one_value, other, own}

@@ -1,13 +1,12 @@
 -- Rulings as a target, from the last to the first: each is put in front of what comes after it.
 use Rattle.seccomp_tree.proofs.Common.{◌≡◌, ℕ, suc, ◌+◌, ◌*◌, ◌<◌, ◌≤◌, ◌^◌, List, [], ◌∷◌, length, drop, true, false, refl, sym, ap}
-use Rattle.seccomp_tree.proofs.Common.{◌∙◌, subst, inl, inr, Option, Some, None, arith, nat_tests, false≢true, true≢false, All-nil}
+use Rattle.seccomp_tree.proofs.Common.{◌∙◌, Option, Some, None, arith, nat_tests, false≢true, true≢false, All-nil}
 use Rattle.seccomp_tree.proofs.Common.{All-cons, All-head, All-tail, sock_filter, SeccompCmpArgLen, IsRecord, argument_at, Condition, Holds}
-use Rattle.seccomp_tree.proofs.Common.{RuleHolds, part_of, Target, Give, Step, found_in, AreSteps, single, is_plain, AreLaid}
-use Rattle.seccomp_tree.proofs.Common.{IsConditionMet, LeadsAlways, to_return, AreIn, Grows, part_length, part_steps}
-use Rattle.seccomp_tree.proofs.Common.{IsPart, Ruling, First, only, alike, same_length, joins, joined, conditions_length, conditions_steps}
+use Rattle.seccomp_tree.proofs.Common.{RuleHolds, part_of, Target, Give, Step, found_in, single, is_plain, AreLaid}
+use Rattle.seccomp_tree.proofs.Common.{IsConditionMet, LeadsAlways, to_return, Grows, part_length, part_steps}
+use Rattle.seccomp_tree.proofs.Common.{Ruling, First, only, alike, same_length, joins, joined, conditions_length, conditions_steps}
 use Rattle.seccomp_tree.proofs.Common.{rules_length, RunTakes, by_steps, by_conditions, Enters, begins, Takes, stops, passes, ends}
-use Rattle.seccomp_tree.proofs.Common.{IsRulingMet, AreRules, greatest_length, IsSettled, IsInFront, along, afresh, alone}
-use Rattle.seccomp_tree.specs.Conditions.{numbers_of}
+use Rattle.seccomp_tree.proofs.Common.{IsRulingMet, AreFit, AreRules, greatest_length, IsSettled, IsChosen, IsIn, get_or, zero}
 use Rattle.seccomp_tree.specs.Decisions.{goes_on}
 use Rattle.seccomp_tree.proofs.Runs.{grows_not, grows_on, leads_by, starts_more}
 use Rattle.seccomp_tree.proofs.Begun.{found_in_code, not_none}
@@ -71,215 +70,248 @@ enters_first first d rest n apart (begins m e takes) = takes
 joins_itself : (q : List Condition) (c : Condition) → only q ≡ Some c → joins q q ≡ true
 joins_itself q c own = rw own (grind (arith, nat_tests))
 
-takes_fresh : (r : List ℕ) (p : List Condition) (rest : List Ruling) (n : ℕ) → joins p (head rest) ≡ false → Takes r p rest n
-    → Takes r [] rest n
-takes_fresh r p [] n apart (ends q) = ends []
-takes_fresh r p (d ∷ rest) n apart (stops q e l m holds enters) = stops [] d rest m holds
-    (begins m refl (enters_first p d rest m apart enters))
-takes_fresh r p (d ∷ rest) n apart (passes q e l m k not enters takes) =
-    passes [] d rest m k not (begins m refl (enters_first p d rest m apart enters)) takes
+-- what rulings take depends on one in front of them only if it joins them
+takes_apart : (r : List ℕ) (p q : List Condition) (rest : List Ruling) (n : ℕ) → joins p (head rest) ≡ false → joins q (head rest) ≡ false
+    → Takes r p rest n → Takes r q rest n
+takes_apart r p q [] n apart other (ends x) = ends q
+takes_apart r p q (d ∷ rest) n apart other (stops x e l m holds enters) = stops q d rest m holds
+    (begins m other (enters_first p d rest m apart enters))
+takes_apart r p q (d ∷ rest) n apart other (passes x e l m k not enters takes) =
+    passes q d rest m k not (begins m other (enters_first p d rest m apart enters)) takes
 
--- what those behind a ruling take that doesn't hold, in whose run they are
-takes_behind : (r : List ℕ) (first : List Condition) (d : Ruling) (rest : List Ruling) (n : ℕ) → joins first d.conditions ≡ true
-    → (RuleHolds d.conditions r → ⊥) → Takes r first (d ∷ rest) n → Takes r d.conditions rest n
-takes_behind r first d rest n on not (stops q e l m holds enters) = absurd (not holds)
-takes_behind r first d rest n on not (passes q e l m k other enters takes) =
-    subst (Takes r d.conditions rest) (omega (arith, enters_joined first d rest m on enters)) takes
+takes_joined : (r : List ℕ) (p q : List Condition) (d : Ruling) (rest : List Ruling) (n : ℕ) → joins p d.conditions ≡ true
+    → joins q d.conditions ≡ true → Takes r p (d ∷ rest) n → Takes r q (d ∷ rest) n
+takes_joined r p q d rest n on other (stops x e l m holds enters) =
+    rw (enters_joined p d rest m on enters) (stops q d rest 0 holds (goes_on other))
+takes_joined r p q d rest n on other (passes x e l m k not enters takes) =
+    rw (enters_joined p d rest m on enters) (passes q d rest 0 k not (goes_on other) takes)
 
 -- ---- what comes after
 
--- Steps over what a condition compares, the only one of the first of the rulings, whose run was entered in front of it.
-pub record ArePending (old : List sock_filter) (default : ℕ) (c : Condition) (d : Ruling) (rest : List Ruling) (steps : List Step)
-    (code : List sock_filter) : Type 0 where
-  pub own : only d.conditions ≡ Some c
+-- The number of a record that steps are over, and how many instructions a condition takes that compares it.
+abbrev pub looked_up : Option Condition → List ℕ → ℕ
+looked_up None r = 0
+looked_up (Some c) r = part_of c.arg_len (argument_at r c.arg_index)
+
+abbrev pub alone_length : Option Condition → ℕ
+alone_length None = 0
+alone_length (Some c) = part_length c.arg_len 3
+
+-- Steps go on as rulings do behind one with these conditions, whose run was entered in front of it.
+pub record IsBehind (old : List sock_filter) (default : ℕ) (q : List Condition) (rulings : List Ruling) (like : Option Condition)
+    (steps : List Step) (code : List sock_filter) : Type 0 where
+  pub own : only q ≡ like
   pub before : ℕ
   pub grows : Grows old before code
-  pub room : before + (1 + joined d.conditions rest) * part_length c.arg_len 3 ≤ rules_length (d ∷ rest)
-  pub few : length steps ≤ 2 * (1 + joined d.conditions rest) + 1
-  pub are : AreSteps (numbers_of c.arg_len) steps
-  pub inside : AreIn code steps
-  pub leads : (r : List ℕ) → IsRecord r → (w n : ℕ) (first : List Condition) → joins first d.conditions ≡ true
-      → First default r (d ∷ rest) w → Takes r first (d ∷ rest) n
-      → LeadsAlways code r (found_in steps (part_of c.arg_len (argument_at r c.arg_index))) w (n + 1)
+  pub room : before + joined q rulings * alone_length like ≤ rules_length rulings
+  pub few : length steps ≤ 2 * joined q rulings + 1
+  pub fit : AreFit code like steps
+  pub leads : (r : List ℕ) → IsRecord r → (w n : ℕ) → First default r rulings w → Takes r q rulings n
+      → LeadsAlways code r (found_in steps (looked_up like r)) w (n + 1)
 
-abbrev pub IsRest : List sock_filter → ℕ → List Ruling → Option Condition → List Step → List sock_filter → Type 0
-IsRest old default rulings None steps code =
-    (t : Target) × (steps ≡ single t) × (only (head rulings) ≡ None) × AreRules old rulings default t code
-IsRest old default rulings (Some c) steps code =
-    (d : Ruling) × (rest : List Ruling) × (rulings ≡ d ∷ rest) × ArePending old default c d rest steps code
+pub behind_none : (old : List sock_filter) (default : ℕ) → default < 2 ^ 32 → IsBehind old default [] [] None (single (Give default)) old
+behind_none old default fits = record {
+  own = refl;
+  before = 0;
+  grows = grows_not old 0;
+  room = omega arith;
+  few = omega arith;
+  fit = (Give default, refl, fits);
+  leads = λ r rec w n is takes a small. rw (first_nothing is) (to_return default a (n + 1) (omega arith));
+}
 
-pub rest_none : (old : List sock_filter) (default : ℕ) → default < 2 ^ 32 → IsRest old default [] None (single (Give default)) old
-rest_none old default fits =
-    let own : AreRules old [] default (Give default) old = record {
-      grows = grows_not old 0;
-      inside = fits;
-      leads = λ r rec w n is takes a small. rw (first_nothing is) (to_return default a (n + 1) (omega arith));
-    } in
-    (Give default, refl, refl, own)
+module _ {old code : List sock_filter} {default : ℕ} where
+  -- so for a ruling that compares what the steps are over
+  pub behind_along : (p : List Condition) (rulings : List Ruling) (own like : Option Condition) (steps : List Step) → only p ≡ own
+      → alike own like ≡ true → IsBehind old default (head rulings) rulings like steps code → IsBehind old default p rulings own steps code
+  behind_along p (d ∷ rest) (Some c) (Some x) steps is same h =
+      let e = alike_is c x same in
+      let on : joins p d.conditions ≡ true = rw (is, h.own) same in
+      let itself = joins_itself d.conditions x h.own in
+      let count : joined p (d ∷ rest) ≡ joined d.conditions (d ∷ rest) = grind (arith, on, itself) in
+      record {
+        own = is;
+        before = h.before;
+        grows = h.grows;
+        room = rw (count, e.1) h.room;
+        few = rw count h.few;
+        fit = rw e.1 h.fit;
+        leads = λ r rec w n first takes.
+            rw (e.0, e.1) (h.leads r rec w n first (takes_joined r p d.conditions d rest n on itself takes));
+      }
+  behind_along p [] own (Some x) steps is same h = absurd (cc h.own)
+  behind_along p rulings (Some c) None steps is same h = absurd (false≢true same)
+  behind_along p rulings None like steps is same h = absurd (false≢true same)
 
--- ---- a ruling laid over steps
+  -- and for any other, of a target
+  pub behind_fresh : (p : List Condition) (rulings : List Ruling) (own : Option Condition) (t : Target) → only p ≡ own
+      → joins p (head rulings) ≡ false → AreRules old rulings default t code → IsBehind old default p rulings own (single t) code
+  behind_fresh p rulings own t is apart x = record {
+    own = is;
+    before = rules_length rulings;
+    grows = x.grows;
+    room = rw (none rulings apart) (omega arith);
+    few = omega arith;
+    fit = one own;
+    leads = λ r rec w n first takes. x.leads r rec w n first (takes_apart r p [] rulings n apart refl takes);
+  }
+    where
+      none : (l : List Ruling) → joins p (head l) ≡ false → joined p l ≡ 0
+      none [] apart = refl
+      none (d ∷ l) apart = grind (arith, apart)
 
-run_many : (l : SeccompCmpArgLen) (n j : ℕ) → n ≤ 2 * (1 + j) + 1 → n ≤ (1 + j) * part_length l 3
-run_many l n j le = grind (arith, le)
+      one_in : (k : ℕ) (d : Step) → k < 1 → IsIn code (get_or (single t) k d).target
+      one_in zero d lt = x.inside
+      one_in (suc k) d lt = absurd (omega arith)
 
-run_more : (l : SeccompCmpArgLen) (j : ℕ) → (1 + suc j) * part_length l 3 ≡ part_length l 3 + (1 + j) * part_length l 3
+      one : (o : Option Condition) → AreFit code o (single t)
+      one None = (t, refl, x.inside)
+      one (Some c) =
+          (record { first = λ _. refl; ascend = (omega arith, (omega (arith, numbers_many c.arg_len), tt)); tight = tt }, one_in)
+
+-- ---- a ruling in front
+
+run_more : (l : SeccompCmpArgLen) (j : ℕ) → suc j * part_length l 3 ≡ part_length l 3 + j * part_length l 3
 run_more l j = grind arith
+
+module _ {old code : List sock_filter} {default : ℕ} (d : Ruling) (rest : List Ruling) (steps : List Step) where
+  -- one laid over the steps
+  pub behind_laid : (c : Condition) (laid : List Step) → d.value < 2 ^ 32 → IsBehind old default d.conditions rest (Some c) steps code
+      → AreLaid c (Give d.value) steps laid → IsBehind old default d.conditions (d ∷ rest) (Some c) laid code
+  behind_laid c laid fits x h =
+      let on = joins_itself d.conditions c x.own in
+      let count : joined d.conditions (d ∷ rest) ≡ suc (joined d.conditions rest) = grind (arith, on) in
+      record {
+        own = x.own;
+        before = x.before;
+        grows = x.grows;
+        room = rw count (omega (arith, run_more c.arg_len (joined d.conditions rest), only_length d.conditions c x.own, x.room));
+        few = omega (arith, h.few, x.few, count);
+        fit = (
+          h.are,
+          laid_in code c (Give d.value) steps laid h fits
+              (λ a. found_in_code code steps a (not_none _ steps x.fit.0 (omega (arith, numbers_many c.arg_len))) x.fit.1),
+        );
+        leads = leads;
+      }
+    where
+      number : List ℕ → ℕ
+      number r = looked_up (Some c) r
+
+      choice : (r : List ℕ) → IsRecord r → IsChosen (Holds c r) (Give d.value) (found_in steps (number r)) (found_in laid (number r))
+      choice r rec = chosen_plain c r (Give d.value) (found_in steps (number r)) (found_in laid (number r)) h.plain
+          (h.each (number r) (part_fits c.arg_len r c.arg_index rec))
+
+      leads : (r : List ℕ) → IsRecord r → (w n : ℕ) → First default r (d ∷ rest) w → Takes r d.conditions (d ∷ rest) n
+          → LeadsAlways code r (found_in laid (number r)) w (n + 1)
+      leads r rec w n first (stops q e l m holds enters) a small =
+          rw ((choice r rec).met ((only_holds d.conditions c r x.own).1 holds), first_here d rest holds first)
+          (to_return d.value a (n + 1) (omega arith))
+      leads r rec w n first (passes q e l m k not enters takes) a small =
+          let none = enters_joined d.conditions d rest m (joins_itself d.conditions c x.own) enters in
+          rw ((choice r rec).unmet (λ is. not ((only_holds d.conditions c r x.own).0 is)))
+          (starts_more (n + 1) (omega (arith, none)) (x.leads r rec w k (first_behind d rest not first) takes a small))
+
+  -- one by its conditions
+  pub behind_alone : (new : List sock_filter) (y : Step) (u : Target) → y ≡ get_or steps 0 y
+      → IsBehind old default d.conditions rest None steps code → IsRulingMet code d.conditions d.value y.target u new
+      → IsBehind old default d.conditions (d ∷ rest) None (single u) new
+  behind_alone new y u is x h = record {
+    own = x.own;
+    before = rules_length (d ∷ rest);
+    grows = grows_on (rules_length (d ∷ rest)) x.grows h.grows (omega (arith, x.room));
+    room = rw count (omega arith);
+    few = omega arith;
+    fit = (u, refl, h.inside);
+    leads = leads;
+  }
+    where
+      apart : joins d.conditions d.conditions ≡ false
+      apart = rw x.own refl
+
+      count : joined d.conditions (d ∷ rest) ≡ 0
+      count = grind (arith, apart)
+
+      by_itself : (m : ℕ) → RunTakes d.conditions (1 + joined d.conditions rest) m → m ≡ conditions_steps d.conditions
+      by_itself m (by_steps c k e le) = absurd (cc x.own)
+      by_itself m (by_conditions e) = refl
+
+      first_is : y.target ≡ found_in steps 0
+      first_is = ap (λ (s : Step). s.target) (is ∙ ap (λ l. get_or l 0 y) x.fit.1) ∙ sym (ap (λ l. found_in l 0) x.fit.1)
+
+      leads : (r : List ℕ) → IsRecord r → (w n : ℕ) → First default r (d ∷ rest) w → Takes r d.conditions (d ∷ rest) n
+          → LeadsAlways new r u w (n + 1)
+      leads r rec w n first (stops q e l m holds enters) a small =
+          starts_more (n + 1) (omega (arith, by_itself m (enters_first d.conditions d rest m apart enters)))
+          (h.met r rec holds w 1 (rw (← first_here d rest holds first) (λ b fits. to_return w b 1 (omega arith))) a small)
+      leads r rec w n first (passes q e l m k not enters takes) a small =
+          starts_more (n + 1) (omega (arith, by_itself m (enters_first d.conditions d rest m apart enters)))
+          (h.unmet r rec not w (k + 1) (rw first_is (x.leads r rec w k (first_behind d rest not first) takes)) a small)
+
+-- ---- what comes after, as a target
 
 run_room : (l : SeccompCmpArgLen) (n j : ℕ) → n ≤ 2 * (1 + j) + 1 → part_length l n ≤ (1 + j) * part_length l 3
 run_room l n j le = grind (arith, le)
 
-module _ (old code : List sock_filter) (default : ℕ) (c : Condition) (d : Ruling) (own : only d.conditions ≡ Some c)
-    (fits : d.value < 2 ^ 32) where
-  -- what is chosen if the ruling holds, and if it doesn't
-  laid_leads : (others laid : List Step) (r : List ℕ) (w n : ℕ) → IsRecord r → AreLaid c (Give d.value) others laid
-      → (RuleHolds d.conditions r → w ≡ d.value)
-      → ((RuleHolds d.conditions r → ⊥) → LeadsAlways code r (found_in others (part_of c.arg_len (argument_at r c.arg_index))) w (n + 1))
-      → LeadsAlways code r (found_in laid (part_of c.arg_len (argument_at r c.arg_index))) w (n + 1)
-  laid_leads others laid r w n rec h met unmet a small =
-      let x = part_of c.arg_len (argument_at r c.arg_index) in
-      let both = only_holds d.conditions c r own in
-      let plain = (only_is d.conditions c own).1 in
-      let own_choice = chosen_plain c r (Give d.value) (found_in others x) (found_in laid x) plain
-      (h.each x (part_fits c.arg_len r c.arg_index rec)) in
-      elim (holds_or_not c r) [
-        | inl is ↦ rw (own_choice.met is, met (both.0 is)) (to_return d.value a (n + 1) (omega arith))
-        | inr not ↦ rw (own_choice.unmet not) (unmet (λ holds. not (both.1 holds)) a small)
-      ]
+module _ {old code : List sock_filter} {default : ℕ} {steps : List Step} where
+  rules_settled : (new : List sock_filter) (c : Condition) (d : Ruling) (rest : List Ruling) (t : Target)
+      → IsBehind old default d.conditions (d ∷ rest) (Some c) steps code → IsSettled code (Some c) steps t new
+      → AreRules old (d ∷ rest) default t new
+  rules_settled new c d rest t x part = record {
+    grows = grows_on (rules_length (d ∷ rest)) x.grows part.grows
+        (omega (arith, rw count at x.room, run_room c.arg_len (length steps) (joined d.conditions rest) few));
+    inside = part.inside;
+    leads = leads;
+  }
+    where
+      on : joins d.conditions d.conditions ≡ true
+      on = joins_itself d.conditions c x.own
 
-  pub pending_along : (like : Condition) (e : Ruling) (rest : List Ruling) (steps laid : List Step) → alike (Some c) (Some like) ≡ true
-      → ArePending old default like e rest steps code → AreLaid c (Give d.value) steps laid
-      → ArePending old default c d (e ∷ rest) laid code
-  pending_along like e rest steps laid same x h =
-      let is = alike_is c like same in
-      let joins_on : joins d.conditions e.conditions ≡ true = rw (own, x.own) same in
-      let count : joined d.conditions (e ∷ rest) ≡ suc (joined e.conditions rest) = grind (arith, joins_on) in
-      record {
-        own = own;
-        before = x.before;
-        grows = x.grows;
-        room =
-            let long = ap (λ l. (1 + joined e.conditions rest) * part_length l 3) is.1 in
-            rw count (omega (arith, run_more c.arg_len (joined e.conditions rest), only_length d.conditions c own, long, x.room));
-        few = omega (arith, h.few, x.few, count);
-        are = h.are;
-        inside = laid_in code c (Give d.value) steps laid h fits
-            (λ a. found_in_code code steps a
-            (not_none (numbers_of like.arg_len) steps x.are (omega (arith, numbers_many like.arg_len))) x.inside);
-        leads = λ r rec w n front on first takes.
-            laid_leads steps laid r w n rec h (λ holds. first_here d (e ∷ rest) holds first)
-            (λ not.
-            rw (is.0, is.1) (x.leads r rec w n d.conditions joins_on (first_behind d (e ∷ rest) not first)
-            (takes_behind r front d (e ∷ rest) n on not takes)));
-      }
+      count : joined d.conditions (d ∷ rest) ≡ 1 + joined d.conditions rest
+      count = grind (arith, on)
 
-  pub pending_afresh : (t : Target) (rest : List Ruling) (laid : List Step) → joins d.conditions (head rest) ≡ false
-      → AreRules old rest default t code → AreLaid c (Give d.value) (single t) laid → ArePending old default c d rest laid code
-  pending_afresh t rest laid apart x h =
-      let count : joined d.conditions rest ≡ 0 = grind (arith, apart) in
-      record {
-        own = own;
-        before = rules_length rest;
-        grows = x.grows;
-        room = rw count (omega (arith, only_length d.conditions c own));
-        few = omega (arith, h.few);
-        are = h.are;
-        inside = laid_in code c (Give d.value) (single t) laid h fits (λ a. x.inside);
-        leads = λ r rec w n front on first takes.
-            laid_leads (single t) laid r w n rec h (λ holds. first_here d rest holds first)
-            (λ not. x.leads r rec w n (first_behind d rest not first)
-            (takes_fresh r d.conditions rest n apart (takes_behind r front d rest n on not takes)));
-      }
+      few : length steps ≤ 2 * (1 + joined d.conditions rest) + 1
+      few = omega (arith, x.few, count)
 
--- ---- a ruling by its conditions
+      -- the run is entered, and what is left goes on in it
+      enters : (r : List ℕ) → IsRecord r → (w m k : ℕ) → First default r (d ∷ rest) w
+          → RunTakes d.conditions (1 + joined d.conditions rest) m → Takes r d.conditions (d ∷ rest) k → LeadsAlways new r t w (m + k + 1)
+      enters r rec w m k first (by_conditions e) takes a small = absurd (cc x.own)
+      enters r rec w m k first (by_steps y j e le) takes a small =
+          let same : y ≡ c = cc x.own in
+          starts_more (m + k + 1) (omega (arith, ap (λ (z : Condition). part_steps z.arg_len j) same))
+          (leads_by (part.leads r rec w (k + 1) j (omega (arith, few, le)) (x.leads r rec w k first takes) a small))
 
-rules_alone : (old mid new : List sock_filter) (default : ℕ) (d : Ruling) (rest : List Ruling) (t u : Target) → only d.conditions ≡ None
-    → AreRules old rest default t mid → IsRulingMet mid d.conditions d.value t u new → AreRules old (d ∷ rest) default u new
-rules_alone old mid new default d rest t u none x h = record {
-  grows = grows_on (rules_length (d ∷ rest)) x.grows h.grows (omega arith);
-  inside = h.inside;
-  leads = leads;
-}
-  where
-    by_itself : (m : ℕ) → RunTakes d.conditions (1 + joined d.conditions rest) m → m ≡ conditions_steps d.conditions
-    by_itself m (by_steps c k e le) = absurd (cc)
-    by_itself m (by_conditions e) = refl
+      leads : (r : List ℕ) → IsRecord r → (w n : ℕ) → First default r (d ∷ rest) w → Takes r [] (d ∷ rest) n → LeadsAlways new r t w (n + 1)
+      leads r rec w n first (stops q e l m holds enter) a small = starts_more (n + 1) (omega arith)
+          (enters r rec w m 0 first (enters_first [] d rest m refl enter) (stops d.conditions d rest 0 holds (goes_on on)) a small)
+      leads r rec w n first (passes q e l m k not enter takes) a small = starts_more (n + 1) (omega arith)
+          (enters r rec w m (0 + k) first (enters_first [] d rest m refl enter) (passes d.conditions d rest 0 k not (goes_on on) takes) a
+          small)
 
-    leads : (r : List ℕ) → IsRecord r → (w n : ℕ) → First default r (d ∷ rest) w → Takes r [] (d ∷ rest) n → LeadsAlways new r u w (n + 1)
-    leads r rec w n first (stops q e l m holds enters) a small =
-        let value = first_here d rest holds first in
-        let run = by_itself m (enters_first [] d rest m refl enters) in
-        starts_more (n + 1) (omega (arith, run))
-        (h.met r rec holds w 1 (rw (← value) (λ b fits. to_return w b 1 (omega arith))) a small)
-    leads r rec w n first (passes q e l m k not enters takes) a small =
-        let run = by_itself m (enters_first [] d rest m refl enters) in
-        starts_more (n + 1) (omega (arith, run))
-        (h.unmet r rec not w (k + 1) (x.leads r rec w k (first_behind d rest not first)
-        (takes_fresh r d.conditions rest k (rw none refl) takes)) a small)
+  pub settled : (new : List sock_filter) (rulings : List Ruling) (like : Option Condition) (t : Target)
+      → IsBehind old default (head rulings) rulings like steps code → IsSettled code like steps t new → AreRules old rulings default t new
+  settled new rulings None t h s = rw s.1 record {
+    grows = grows_on (rules_length rulings) h.grows (grows_not code 0) (omega (arith, h.room));
+    inside = rw (← found, ap (λ l. found_in l 0) h.fit.1) h.fit.2;
+    leads = λ r rec w n first takes.
+        let apart : joins (head rulings) (head rulings) ≡ false = rw h.own refl in
+        rw (← found) (h.leads r rec w n first (takes_apart r [] (head rulings) rulings n refl apart takes));
+  }
+    where
+      found : found_in steps 0 ≡ t
+      found = ap (λ l. found_in l 0) s.0
+  settled new [] (Some c) t h s = absurd (cc h.own)
+  settled new (d ∷ rest) (Some c) t h s = rules_settled new c d rest t h s
 
--- ---- what comes after, as a target
-
-rules_settled : (old code new : List sock_filter) (default : ℕ) (c : Condition) (d : Ruling) (rest : List Ruling) (steps : List Step)
-    (t : Target) → ArePending old default c d rest steps code
-    → IsPart code c.arg_len (part_length c.arg_len (length steps)) (λ r. part_of c.arg_len (argument_at r c.arg_index)) steps t new
-    → AreRules old (d ∷ rest) default t new
-rules_settled old code new default c d rest steps t x part = record {
-  grows = grows_on (rules_length (d ∷ rest)) x.grows part.grows
-      (omega (arith, x.room, run_room c.arg_len (length steps) (joined d.conditions rest) x.few));
-  inside = part.inside;
-  leads = leads;
-}
-  where
-    -- the run is entered, and what is left goes on in it
-    enters : (r : List ℕ) → IsRecord r → (w m k : ℕ) → First default r (d ∷ rest) w → RunTakes d.conditions (1 + joined d.conditions rest) m
-        → Takes r d.conditions (d ∷ rest) k → LeadsAlways new r t w (m + k + 1)
-    enters r rec w m k first (by_conditions e) takes a small = absurd (cc x.own)
-    enters r rec w m k first (by_steps y j e le) takes a small =
-        let same : y ≡ c = cc x.own in
-        let next = x.leads r rec w k d.conditions (joins_itself d.conditions c x.own) first takes in
-        starts_more (m + k + 1) (omega (arith, ap (λ (z : Condition). part_steps z.arg_len j) same))
-        (leads_by (part.leads r rec w (k + 1) j (omega (arith, x.few, le)) next a small))
-
-    leads : (r : List ℕ) → IsRecord r → (w n : ℕ) → First default r (d ∷ rest) w → Takes r [] (d ∷ rest) n → LeadsAlways new r t w (n + 1)
-    leads r rec w n first (stops q e l m holds enter) a small =
-        starts_more (n + 1) (omega arith)
-        (enters r rec w m 0 first (enters_first [] d rest m refl enter)
-        (stops d.conditions d rest 0 holds (goes_on (joins_itself d.conditions c x.own))) a small)
-    leads r rec w n first (passes q e l m k not enter takes) a small =
-        starts_more (n + 1) (omega arith) (enters r rec w m (0 + k) first (enters_first [] d rest m refl enter)
-        (passes d.conditions d rest 0 k not (goes_on (joins_itself d.conditions c x.own)) takes) a small)
-
-pub settled : (old code new : List sock_filter) (default : ℕ) (rulings : List Ruling) (like : Option Condition) (steps : List Step)
-    (t : Target) → IsRest old default rulings like steps code → IsSettled code like steps t new → AreRules old rulings default t new
-settled old code new default rulings None steps t h s =
-    let same : t ≡ h.0 = ap (λ l. found_in l 0) (sym s.0 ∙ h.1) in rw (same, s.1) h.3
-settled old code new default rulings (Some c) steps t h s = rw h.2 (rules_settled old code new default c h.0 h.1 steps t h.3 s)
-
--- ---- a ruling in front
-
-rest_head : (old : List sock_filter) (default : ℕ) (rulings : List Ruling) (like : Option Condition) (steps : List Step)
-    (code : List sock_filter) → IsRest old default rulings like steps code → only (head rulings) ≡ like
-rest_head old default rulings None steps code h = h.2
-rest_head old default rulings (Some c) steps code h = ap (λ (l : List Ruling). only (head l)) h.2 ∙ h.3.own
-
-pub in_front : (old code new : List sock_filter) (default : ℕ) (d : Ruling) (rulings : List Ruling) (like new_like : Option Condition)
-    (steps laid : List Step) → IsRest old default rulings like steps code
-    → IsInFront code d like steps new_like laid new → IsRest old default (d ∷ rulings) new_like laid new
-in_front old code new default d rulings None new_like steps laid h (along c own same fits over is old_is) = absurd (false≢true same)
-in_front old code new default d rulings (Some x) new_like steps laid h (along c own same fits over is old_is) =
-    rw (is, old_is, h.2) (d, h.0 ∷ h.1, refl, pending_along old code default c d own fits x h.0 h.1 steps laid same h.3 over)
-in_front old code new default d rulings like new_like steps laid h (afresh c t own apart fits s over is) =
-    let x = settled old code new default rulings like steps t h s in
-    let other : joins d.conditions (head rulings) ≡ false = rw (own, rest_head old default rulings like steps code h) apart in
-    rw is (d, rulings, refl, pending_afresh old new default c d own fits t rulings laid other x over)
-in_front old code new default d rulings like new_like steps laid h (alone t u mid none s met is_one is) =
-    rw is (u, is_one, none, rules_alone old mid new default d rulings t u none (settled old code mid default rulings like steps t h s) met)
-
--- more steps than a program has instructions need more of them
-pub rest_many : (old code : List sock_filter) (default : ℕ) (rulings : List Ruling) (like : Option Condition) (steps : List Step)
-    → IsRest old default rulings like steps code → greatest_length < length steps → greatest_length < rules_length rulings
-rest_many old code default rulings None steps h many = absurd (omega (arith, ap (λ (l : List Step). length l) h.1))
-rest_many old code default rulings (Some c) steps h many =
-    omega (arith, many, run_many c.arg_len (length steps) (joined h.0.conditions h.1) h.3.few, h.3.room, ap rules_length h.2)
+  -- more steps than a program has instructions need more of them
+  pub behind_many : (q : List Condition) (rulings : List Ruling) (like : Option Condition) → IsBehind old default q rulings like steps code
+      → greatest_length < length steps → greatest_length < rules_length rulings
+  behind_many q rulings None h many = absurd (omega (arith, ap (λ (l : List Step). length l) h.fit.1))
+  behind_many q rulings (Some c) h many = omega (arith, many, h.few, h.room, more c.arg_len (joined q rulings))
+    where
+      more : (l : SeccompCmpArgLen) (j : ℕ) → 7 * j ≤ j * part_length l 3
+      more l j = grind arith
 
 pub rules_less : (n : ℕ) (rulings : List Ruling) → rules_length (drop n rulings) ≤ rules_length rulings
 rules_less (suc n) (d ∷ rulings) = omega (arith, rules_less n rulings)

@@ -1,5 +1,5 @@
 -- Rulings as a target: what the first that holds says, or what comes after them.
-use Rattle.std.specs.Prelude.{◌≡◌, ℕ, ◌+◌, ◌<◌, ◌^◌, List, [], length, Option, Some, None, true, false}
+use Rattle.std.specs.Prelude.{◌≡◌, ℕ, ◌+◌, ◌<◌, List, [], length, Option, Some, None}
 use Rattle.seccompiler.specs.declared.bpf.sock_filter.{sock_filter}
 use Rattle.seccompiler.specs.Machine.{IsRecord, argument_at, greatest_length}
 use Rattle.seccompiler.specs.Policy.{Condition, RuleHolds, part_of}
@@ -9,9 +9,9 @@ use Rattle.seccomp_tree.specs.declared.steps.Target.{Target}
 use Rattle.seccomp_tree.specs.declared.steps.Target.TheVariants.{Give}
 use Rattle.seccomp_tree.specs.declared.steps.Step.{Step}
 use Rattle.seccomp_tree.specs.Steps.{AreSteps, single}
-use Rattle.seccomp_tree.specs.Conditions.{numbers_of, AreLaid, IsMet}
+use Rattle.seccomp_tree.specs.Conditions.{numbers_of, IsMet}
 use Rattle.seccomp_tree.specs.Code.{IsIn, AreIn, Grows, LeadsAlways, part_length, IsPart}
-use Rattle.seccomp_tree.specs.Decisions.{Ruling, First, Takes, alike, only, rules_length, conditions_length, conditions_steps}
+use Rattle.seccomp_tree.specs.Decisions.{Ruling, First, Takes, rules_length, conditions_length, conditions_steps}
 
 -- The target returns the value if all the conditions hold, and else goes on as what comes after.
 abbrev pub IsRulingMet : List sock_filter → List Condition → ℕ → Target → Target → List sock_filter → Type 0
@@ -37,14 +37,3 @@ abbrev pub IsSettled : List sock_filter → Option Condition → List Step → T
 IsSettled old None steps t new = (steps ≡ single t) × (new ≡ old)
 IsSettled old (Some c) steps t new =
     IsPart old c.arg_len (part_length c.arg_len (length steps)) (λ r. part_of c.arg_len (argument_at r c.arg_index)) steps t new
-
--- A ruling was put in front: laid over the steps if it compares what they do, or over one target; or by its conditions.
-pub data IsInFront (old : List sock_filter) (d : Ruling) (like : Option Condition) (steps : List Step) (new_like : Option Condition)
-    (laid : List Step) (new : List sock_filter) : Type 0 where
-  along : (c : Condition) → only d.conditions ≡ Some c → alike (Some c) like ≡ true → d.value < 2 ^ 32
-      → AreLaid c (Give d.value) steps laid → new_like ≡ Some c → new ≡ old → IsInFront old d like steps new_like laid new
-  afresh : (c : Condition) (t : Target) → only d.conditions ≡ Some c → alike (Some c) like ≡ false → d.value < 2 ^ 32
-      → IsSettled old like steps t new → AreLaid c (Give d.value) (single t) laid → new_like ≡ Some c
-      → IsInFront old d like steps new_like laid new
-  alone : (t u : Target) (mid : List sock_filter) → only d.conditions ≡ None → IsSettled old like steps t mid
-      → IsRulingMet mid d.conditions d.value t u new → laid ≡ single u → new_like ≡ None → IsInFront old d like steps new_like laid new

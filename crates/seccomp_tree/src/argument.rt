@@ -8,12 +8,9 @@ ghost use Rattle.seccomp_tree.specs.Code.{AreIn, IsHalf, IsPart, part_length};
 ghost use Rattle.seccomp_tree.specs.Conditions.{numbers_of};
 
 use crate::code::Code;
-use crate::steps::{Step, Target, one, push_step};
+use crate::steps::{Step, Target, WORDS, one, push_step};
 use seccompiler::SeccompCmpArgLen;
 use std::alloc::{AllocError, Global};
-
-// How many halves there are.
-const HALVES: u64 = 0x1_0000_0000;
 
 impl Code {
     /// Goes on as the steps say for what is compared of the argument, whatever the accumulator holds.
@@ -36,7 +33,7 @@ impl Code {
         let mut high = 0;
         let mut lows = one(alloc, steps[0].target)?;
         for step in &steps[1..] {
-            let (next, low) = (step.start / HALVES, step.start % HALVES);
+            let (next, low) = (step.start / WORDS, step.start % WORDS);
             if high < next {
                 let last = self.half(index, &lows, high, next, &mut highs)?;
                 lows = Vec::new(alloc);
@@ -47,7 +44,7 @@ impl Code {
             }
             push_step(&mut lows, low, step.target)?;
         }
-        self.half(index, &lows, high, HALVES, &mut highs)?;
+        self.half(index, &lows, high, WORDS, &mut highs)?;
         self.word(20 + 8 * index, &highs)
     }
 

@@ -6,13 +6,10 @@ ghost use Rattle.seccomp_tree.specs.Conditions.{HasBits, IsConditionMet, IsMet};
 
 use crate::code::{Code, Test};
 use crate::intervals::laid;
-use crate::steps::{Target, one};
+use crate::steps::{Target, WORDS, one};
 use seccompiler::bpf::{LOAD, MASK, bpf_stmt};
 use seccompiler::{SeccompCmpArgLen, SeccompCmpOp, SeccompCondition};
 use std::alloc::{AllocError, Global};
-
-// How many low halves there are.
-const HALVES: u64 = 0x1_0000_0000;
 
 impl Code {
     /// Goes on as the one target says if the condition holds, and else as the other, whatever the accumulator holds.
@@ -34,11 +31,11 @@ impl Code {
             // The low half first, since code is written from its end.
             let index = condition.arg_index();
             let (high_value, low_value) = condition.split_value();
-            let yes = self.masked(16 + 8 * index, (mask % HALVES) as u32, low_value, yes, no)?;
+            let yes = self.masked(16 + 8 * index, (mask % WORDS) as u32, low_value, yes, no)?;
             return match condition.arg_len() {
                 SeccompCmpArgLen::Dword => Ok(yes),
                 SeccompCmpArgLen::Qword => {
-                    self.masked(20 + 8 * index, (mask / HALVES) as u32, high_value, yes, no)
+                    self.masked(20 + 8 * index, (mask / WORDS) as u32, high_value, yes, no)
                 }
             };
         }

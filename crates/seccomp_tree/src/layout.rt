@@ -2,7 +2,7 @@
 
 ghost use Rattle.std.specs.Prelude.{IfOk, IfErr, OnOk};
 ghost use Rattle.seccompiler.specs.Compiled.{AreCallNumbers, numbers_of};
-ghost use Rattle.seccomp_tree.specs.declared.layout.Layout.TheVariants.{Linear, Tree};
+ghost use Rattle.seccomp_tree.specs.declared.layout.Layout.TheVariants.{Tree};
 ghost use Rattle.seccomp_tree.specs.Layouts.{AgreesInAll, IsCompiledIn, IsFitting, IsFittingRefusal, IsRefusalIn};
 
 use crate::decisions::Decisions;
@@ -52,24 +52,15 @@ pub fn to_bpf_in(
     ensures refused { IfErr result (IsRefusalIn layout filter.now) }
 {
     match layout {
-        Layout::Linear => to_linear_bpf(alloc, filter),
+        Layout::Linear => match filter.to_bpf(alloc) {
+            Ok(program) => Ok(program),
+            Err(BackendError::InvalidSyscallNumber(number)) => {
+                Err(FilterError::InvalidSyscallNumber(number))
+            }
+            Err(BackendError::FilterTooLarge(length)) => Err(FilterError::FilterTooLarge(length)),
+            Err(_) => Err(FilterError::OutOfMemory),
+        },
         Layout::Tree => to_tree_bpf(alloc, filter),
-    }
-}
-
-// The filter's program in the linear layout.
-fn to_linear_bpf(alloc: Global, filter: &SeccompFilter) -> Result<BpfProgram, FilterError>
-    ensures compiled { IfOk result (λ program. IsCompiledIn Linear filter.now program.items) }
-    ensures numbers { OnOk result (AreCallNumbers (numbers_of filter.now.chains)) }
-    ensures refused { IfErr result (IsRefusalIn Linear filter.now) }
-{
-    match filter.to_bpf(alloc) {
-        Ok(program) => Ok(program),
-        Err(BackendError::InvalidSyscallNumber(number)) => {
-            Err(FilterError::InvalidSyscallNumber(number))
-        }
-        Err(BackendError::FilterTooLarge(length)) => Err(FilterError::FilterTooLarge(length)),
-        Err(_) => Err(FilterError::OutOfMemory),
     }
 }
 

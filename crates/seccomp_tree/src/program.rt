@@ -9,7 +9,7 @@ ghost use Rattle.seccomp_tree.specs.CallSteps.{IsNextDefault};
 use crate::code::{Code, Test};
 use crate::decisions::{Decision, Decisions, DefaultValue, KILL_PROCESS, default_for};
 use crate::error::TreeError;
-use crate::steps::{Step, Target, push_step};
+use crate::steps::{Step, Target, WORDS, push_step};
 use seccompiler::BpfProgram;
 use seccompiler::bpf::{
     BPF_MAX_LEN, LOAD, SECCOMP_DATA_ARCH_OFFSET, SECCOMP_DATA_NR_OFFSET, bpf_stmt,
@@ -17,9 +17,6 @@ use seccompiler::bpf::{
 use std::alloc::Global;
 use std::collections::BTreeMap;
 use std::ops::Bound;
-
-// How many call numbers there are.
-const NUMBERS: u64 = 0x1_0000_0000;
 
 impl Decisions {
     ghost use Rattle.seccomp_tree.specs.TreeProgram.{IsTreeProgram, IsTooLargeFor, calls_length};
@@ -56,7 +53,7 @@ impl Decisions {
     {
         let mut steps = Vec::new(alloc);
         let mut next: u64 = 0;
-        while next < NUMBERS {
+        while next < WORDS {
             let number = next as u32;
             let rulings = self.rulings_for(number);
             let default = default_for(&self.defaults, number);
@@ -92,7 +89,7 @@ fn one_value(rulings: &[Decision], default: u32) -> Option<u32>
 fn next_default(defaults: &[DefaultValue], number: u32) -> u64
     ensures { IsNextDefault defaults.now number result }
 {
-    let mut next = NUMBERS;
+    let mut next = WORDS;
     for default in defaults {
         let start = u64::from(default.start);
         if u64::from(number) < start && start < next {
@@ -111,6 +108,6 @@ fn next_call(calls: &BTreeMap<u32, Vec<Decision>>, number: u32) -> u64
     let mut after = calls.range((Bound::Excluded(number), Bound::Unbounded));
     match after.next() {
         Some((next, _)) => u64::from(*next),
-        None => NUMBERS,
+        None => WORDS,
     }
 }

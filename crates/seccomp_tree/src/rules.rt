@@ -1,9 +1,9 @@
 // Rulings as a target: what the first that holds says.
 
-ghost use Rattle.std.specs.Prelude.{◌≡◌, IfOk, IfErr, Some};
+ghost use Rattle.std.specs.Prelude.{◌≡◌, IfOk, IfErr};
 ghost use Rattle.seccomp_tree.specs.Code.{IsIn};
 ghost use Rattle.seccomp_tree.specs.Decisions.{alike, only, rules_length};
-ghost use Rattle.seccomp_tree.specs.Rules.{AreFit, AreRules, IsInFront, IsRulingMet, IsSettled, IsTooMany};
+ghost use Rattle.seccomp_tree.specs.Rules.{AreFit, AreRules, IsRulingMet, IsSettled, IsTooMany};
 
 use crate::code::Code;
 use crate::decisions::Decision;
@@ -13,14 +13,6 @@ use crate::steps::{Step, Target, one};
 use seccompiler::bpf::BPF_MAX_LEN;
 use seccompiler::{SeccompCmpOp, SeccompCondition};
 use std::alloc::{AllocError, Global};
-
-/// What comes after some rulings: steps over what a condition compares, or one target for all records, if there is
-/// none.
-#[derive(Drop)]
-struct Rest {
-    like: Option<SeccompCondition>,
-    steps: Vec<Step>,
-}
 
 impl Code {
     /// Goes on as the first of the rulings that holds says, or returns the default; whatever the accumulator holds.
@@ -33,55 +25,47 @@ impl Code {
         ensures ok { IfOk result (λ t. AreRules self.old rulings.now default t self.new) }
         ensures err { IfErr result (IsTooMany (rules_length rulings.now)) }
     {
-        let steps = one(alloc, Target::Give(default))?;
-        let mut rest = Rest { like: None, steps };
+        // What comes after the rulings: steps over what the condition compares, or one target if there is none.
+        let mut like = None;
+        let mut steps = one(alloc, Target::Give(default))?;
         let mut left = rulings.len();
         while left > 0 {
             left -= 1;
-            rest = self.ruling(alloc, &rulings[left], rest)?;
+            let ruling = &rulings[left];
+            let own = only(&ruling.conditions);
+            if !is_alike(own, like) {
+                steps = one(alloc, self.settle(alloc, like, &steps)?)?;
+            }
+            steps = match own {
+                Some(condition) => laid(alloc, &condition, Target::Give(ruling.value), &steps)?,
+                None => {
+                    let after = steps[0].target;
+                    let met = self.conditions(alloc, &ruling.conditions, ruling.value, after)?;
+                    one(alloc, met)?
+                }
+            };
+            like = own;
             // A program has fewer tests than so many steps need.
-            if rest.steps.len() > BPF_MAX_LEN {
+            if steps.len() > BPF_MAX_LEN {
                 return Err(TreeError::TooLarge);
             }
         }
-        Ok(self.settle(alloc, &rest)?)
+        Ok(self.settle(alloc, like, &steps)?)
     }
 
-    // Puts a ruling in front of the rest. One that compares what the rest does is laid over its steps.
-    fn ruling(&mut self, alloc: Global, ruling: &Decision, rest: Rest) -> Result<Rest, AllocError>
-        requires fit { AreFit self.old rest.like rest.steps.items }
-        ensures { IfOk result (λ new. IsInFront self.old ruling.now rest.like rest.steps.items new.like new.steps.items self.new) }
+    // Goes on as the steps say.
+    fn settle(
+        &mut self,
+        alloc: Global,
+        like: Option<SeccompCondition>,
+        steps: &[Step],
+    ) -> Result<Target, AllocError>
+        requires fit { AreFit self.old like steps.now }
+        ensures { IfOk result (λ t. IsSettled self.old like steps.now t self.new) }
     {
-        let like = only(&ruling.conditions);
         match like {
-            Some(condition) => {
-                let target = Target::Give(ruling.value);
-                if is_alike(&condition, rest.like) {
-                    let steps = laid(alloc, &condition, target, &rest.steps)?;
-                    return Ok(Rest { like, steps });
-                }
-                let after = self.settle(alloc, &rest)?;
-                let others = one(alloc, after)?;
-                let steps = laid(alloc, &condition, target, &others)?;
-                Ok(Rest { like, steps })
-            }
-            None => {
-                let behind = self.settle(alloc, &rest)?;
-                let target = self.conditions(alloc, &ruling.conditions, ruling.value, behind)?;
-                let steps = one(alloc, target)?;
-                Ok(Rest { like, steps })
-            }
-        }
-    }
-
-    // Goes on as the rest says.
-    fn settle(&mut self, alloc: Global, rest: &Rest) -> Result<Target, AllocError>
-        requires fit { AreFit self.old rest.now.like rest.now.steps.items }
-        ensures { IfOk result (λ t. IsSettled self.old rest.now.like rest.now.steps.items t self.new) }
-    {
-        match rest.like {
-            Some(c) => self.argument(alloc, c.arg_len(), c.arg_index(), &rest.steps),
-            None => Ok(rest.steps[0].target),
+            Some(c) => self.argument(alloc, c.arg_len(), c.arg_index(), steps),
+            None => Ok(steps[0].target),
         }
     }
 
@@ -107,13 +91,16 @@ impl Code {
     }
 }
 
-// Whether the condition compares what the other does.
-fn is_alike(condition: &SeccompCondition, other: Option<SeccompCondition>) -> bool
-    ensures { result ≡ alike (Some condition.now) other }
+// Whether there are two conditions, which compare the same.
+fn is_alike(one: Option<SeccompCondition>, other: Option<SeccompCondition>) -> bool
+    ensures { result ≡ alike one other }
 {
-    other.is_some_and(|other| {
-        condition.arg_index() == other.arg_index() && condition.arg_len() == other.arg_len()
-    })
+    match (one, other) {
+        (Some(one), Some(other)) => {
+            one.arg_index() == other.arg_index() && one.arg_len() == other.arg_len()
+        }
+        _ => false,
+    }
 }
 
 // The condition, if there is one without a mask.

@@ -5,6 +5,9 @@ ghost use Rattle.seccomp_tree.specs.Steps.{AreSteps, IsPushed, single};
 
 use std::alloc::{AllocError, Global};
 
+/// How many numbers there are of 32 bits.
+pub(crate) const WORDS: u64 = 0x1_0000_0000;
+
 /// What a program does next.
 #[derive(Clone, Copy, Debug, PartialEq, Eq)]
 pub(crate) enum Target {

@@ -1,4 +1,4 @@
-use Rattle.seccomp_tree.proofs.Common.{ℕ, List, Result, Ok, Err, subst, IfOk, Vec, Global, sock_filter, IsRecord, Ends, Filter}
+use Rattle.seccomp_tree.proofs.Common.{ℕ, List, subst, IfOk-weaker, sock_filter, IsRecord, Ends, Filter}
 use Rattle.seccomp_tree.proofs.Common.{EndsAtDecision, Layout, Linear, Tree, AgreesInAll, IsCompiledIn}
 use Rattle.seccomp_tree.proofs.FilterDecided.{one_decision}
 use Rattle.seccomp_tree.proofs.layout.to_bpf_in.Goals as goal
@@ -19,13 +19,9 @@ agree layout f p compiled = λ other q also r rec.
       other_ends = subst (Ends q r at_other.steps) (one_decision f r at_other.word at.word at_other.decision at.decision) at_other.ends;
     }
 
-agree_ok : {E : Type 0} (layout : Layout) (f : Filter) (made : Result (Vec sock_filter Global) E)
-    → IfOk made (λ p. IsCompiledIn layout f p.items) → IfOk made (λ p. AgreesInAll f p.items)
-agree_ok layout f (Ok p) compiled = agree layout f p.items compiled
-agree_ok layout f (Err e) compiled = tt
+pub returns-in-Ok-clause-agrees : goal.returns-in-Ok-clause-agrees
+returns-in-Ok-clause-agrees c = agree Linear c.args.filter.now c.in-Ok.program.items c.in-Ok.ensures.compiled
 
-pub returns-in-Linear-clause-agrees : goal.returns-in-Linear-clause-agrees
-returns-in-Linear-clause-agrees c = agree_ok Linear c.args.filter.now c.to_linear_bpf.result c.to_linear_bpf.ensures.compiled
-
-pub returns-in-Tree-clause-agrees : goal.returns-in-Tree-clause-agrees
-returns-in-Tree-clause-agrees c = agree_ok Tree c.args.filter.now c.to_tree_bpf.result c.to_tree_bpf.ensures.compiled
+pub returns-clause-agrees : goal.returns-clause-agrees
+returns-clause-agrees c = IfOk-weaker c.to_tree_bpf.result _ _ (λ p h. agree Tree c.args.filter.now p.items h)
+    c.to_tree_bpf.ensures.compiled

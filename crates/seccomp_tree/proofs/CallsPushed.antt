@@ -3,8 +3,8 @@ use Rattle.seccomp_tree.proofs.Common.{◌≡◌, ℕ, ◌+◌, ◌<◌, ◌≤�
 use Rattle.seccomp_tree.proofs.Common.{if◌then◌else◌, refl, suc, get_or, ◌⊎◌, inl, inr, nat_lt, IsSome, nat_tests, cases_lt, is_at, lookup}
 use Rattle.seccomp_tree.proofs.Common.{nat_cmp, Global, sock_filter, Target, Step, IsPushed, Grows, Ruling, rules_length, DecisionSet}
 use Rattle.seccomp_tree.proofs.Common.{default_for, rulings_for, calls_of, default_from, calls_length, DefaultValue, Give, AreRules}
-use Rattle.seccomp_tree.proofs.Common.{ap, min, one_value}
-use Rattle.seccomp_tree.specs.CallSteps.{IsAnswer, AreAnswers, AreCallSteps, IsNextDefault}
+use Rattle.seccomp_tree.proofs.Common.{ap, one_value}
+use Rattle.seccomp_tree.specs.CallSteps.{IsAnswer, AreAnswers, AreCallSteps, IsNextStart}
 use Rattle.seccomp_tree.proofs.Runs.{grows_not, grows_on, is_in_grown, leads_grown}
 use Rattle.seccomp_tree.proofs.Begun.{steps_more}
 use Rattle.seccomp_tree.proofs.Deciding.{items_of, rulings_under}
@@ -21,18 +21,20 @@ same_from value (x ∷ defaults) m n parts =
     grind (arith, nat_tests, parts 0 x (omega arith), rest x.value, rest value)
 
 -- The next default so far: the first defaults start at the number or below it, or there or later.
-pub record NextSoFar (defaults : List DefaultValue) (number next i : ℕ) : Type 0 where
+pub record NextSoFar (defaults : List DefaultValue) (calls : List (ℕ × List Ruling)) (number next i : ℕ) : Type 0 where
   pub above : number < next
   pub within : next ≤ 2 ^ 32
   pub none : (k : ℕ) (d : DefaultValue) → k < i → k < length defaults
       → ((get_or defaults k d).start ≤ number) ⊎ (next ≤ (get_or defaults k d).start)
+  pub no_calls : (n : ℕ) → number < n → n < next → rulings_for calls n ≡ []
 
-pub next_is : (defaults : List DefaultValue) (number next i : ℕ) → length defaults ≤ i → NextSoFar defaults number next i
-    → IsNextDefault defaults number next
-next_is defaults number next i all h = record {
+pub next_is : (defaults : List DefaultValue) (calls : List (ℕ × List Ruling)) (number next i : ℕ) → length defaults ≤ i
+    → NextSoFar defaults calls number next i → IsNextStart defaults calls number next
+next_is defaults calls number next i all h = record {
   above = h.above;
   within = h.within;
   same = λ n le less. same_from 0 defaults n number (λ k d inside. grind (arith, h.none k d (omega arith) inside, h.above));
+  none = h.no_calls;
 }
 
 answer_grown : (old new : List sock_filter) (most default : ℕ) (rulings : List Ruling) (t : Target) → Grows old most new
@@ -92,15 +94,14 @@ next_alone d number fits = record {
   rulings = λ n le lt. let same : n ≡ number = omega arith in rw same refl;
 }
 
-pub next_both : (d : DecisionSet) (number default call next : ℕ) → IsNextDefault d.defaults number default → number < call → call ≤ 2 ^ 32
-    → ((n : ℕ) → number < n → n < call → rulings_for d.calls n ≡ []) → rulings_for d.calls number ≡ [] → next ≡ min default call
+pub next_start : (d : DecisionSet) (number next : ℕ) → IsNextStart d.defaults d.calls number next → rulings_for d.calls number ≡ []
     → IsNextNumber d number next
-next_both d number default call next h above within none own is = record {
-  above = omega (arith, is, h.above);
-  within = omega (arith, is);
-  default = λ n le lt. h.same n le (omega (arith, is));
+next_start d number next h own = record {
+  above = h.above;
+  within = h.within;
+  default = h.same;
   rulings = λ n le lt. elim (cases_lt number n) [
-    | inl more ↦ none n more (omega (arith, is)) ∙ sym own
+    | inl more ↦ h.none n more lt ∙ sym own
     | inr less ↦ let same : n ≡ number = omega arith in rw same refl
   ];
 }

@@ -1,10 +1,10 @@
 // The program of decisions.
 
-ghost use Rattle.std.specs.Prelude.{◌≡◌, ℕ, ◌≤◌, ◌<◌, ◌^◌, [], IfOk, IfErr, IfSome};
+ghost use Rattle.std.specs.Prelude.{◌≡◌, ◌<◌, ◌^◌, IfOk, IfErr, IfSome};
 ghost use Rattle.seccomp_tree.specs.Rules.{IsTooMany};
-ghost use Rattle.seccomp_tree.specs.Decided.{calls_of, rulings_for};
+ghost use Rattle.seccomp_tree.specs.Decided.{calls_of};
 ghost use Rattle.seccomp_tree.specs.TreeProgram.{one_value};
-ghost use Rattle.seccomp_tree.specs.CallSteps.{IsNextDefault};
+ghost use Rattle.seccomp_tree.specs.CallSteps.{IsNextStart};
 
 use crate::code::{Code, Test};
 use crate::decisions::{Decision, Decisions, DefaultValue, KILL_PROCESS, default_for};
@@ -64,7 +64,7 @@ impl Decisions {
             push_step(&mut steps, next, target)?;
             // The next number that may be answered otherwise.
             next = if rulings.is_empty() {
-                next_default(&self.defaults, number).min(next_call(&self.calls, number))
+                next_start(&self.defaults, &self.calls, number)
             } else {
                 next + 1
             };
@@ -85,11 +85,15 @@ fn one_value(rulings: &[Decision], default: u32) -> Option<u32>
     }
 }
 
-// The number of the next default after this number, or 2^32.
-fn next_default(defaults: &[DefaultValue], number: u32) -> u64
-    ensures { IsNextDefault defaults.now number result }
+// The next number after this one that has rulings or at which a default starts, or 2^32.
+fn next_start(defaults: &[DefaultValue], calls: &BTreeMap<u32, Vec<Decision>>, number: u32) -> u64
+    ensures { IsNextStart defaults.now (calls_of calls.now.entries) number result }
 {
-    let mut next = WORDS;
+    let mut after = calls.range((Bound::Excluded(number), Bound::Unbounded));
+    let mut next = match after.next() {
+        Some((next, _)) => u64::from(*next),
+        None => WORDS,
+    };
     for default in defaults {
         let start = u64::from(default.start);
         if u64::from(number) < start && start < next {
@@ -97,17 +101,4 @@ fn next_default(defaults: &[DefaultValue], number: u32) -> u64
         }
     }
     next
-}
-
-// The next number after this one that has rulings, or 2^32.
-fn next_call(calls: &BTreeMap<u32, Vec<Decision>>, number: u32) -> u64
-    ensures above { number < result }
-    ensures within { result ≤ 2 ^ 32 }
-    ensures none { (n : ℕ) → number < n → n < result → rulings_for (calls_of calls.now.entries) n ≡ [] }
-{
-    let mut after = calls.range((Bound::Excluded(number), Bound::Unbounded));
-    match after.next() {
-        Some((next, _)) => u64::from(*next),
-        None => WORDS,
-    }
 }

@@ -1,6 +1,6 @@
 use Rattle.seccomp_tree.proofs.Common.{◌≡◌, ◌+◌, ◌∷◌, [], List, Ruling, length, refl, arith, nat_tests, ap, sym, ◌∙◌, DecisionSet}
 use Rattle.seccomp_tree.proofs.Common.{default_for, rulings_for}
-use Rattle.seccomp_tree.proofs.CallsPushed.{IsAnswered, answered_one, answered_rules, calls_on, next_alone, next_both}
+use Rattle.seccomp_tree.proofs.CallsPushed.{IsAnswered, answered_one, answered_rules, calls_on, next_alone, next_start}
 use Rattle.seccomp_tree.proofs.decisions.Decisions.call_steps.Goals.{After-push_step, in-Some, in-None+in_ok-target-in-None}
 use Rattle.seccomp_tree.proofs.decisions.Decisions.call_steps.Goals as goal
 
@@ -39,6 +39,5 @@ loop-next-preserved-then-is_empty c =
     calls_on c.args.self.now c.args.code.now c.loop-next.code c.match-one_value.code c.loop-next.steps.items c.push_step.new.steps.items
     c.loop-next.next _ c.match-one_value.target c.loop-next.invariant
     (answered ((goal.at.loop-next-preserved-then-is_empty c).After-push_step)) c.in_ok-push_step.ensures
-    (next_both c.args.self.now c.loop-next.next c.next_default.result c.next_call.result _ (rw defaults at c.next_default.ensures)
-    c.next_call.ensures.above c.next_call.ensures.within (rw calls at c.next_call.ensures.none)
-    (sym c.rulings_for-rulings.ensures ∙ none c.rulings_for-rulings.result.now empty) c.min-next.ensures)
+    (next_start c.args.self.now c.loop-next.next _ (rw (defaults, calls) at c.next_start-next.ensures)
+    (sym c.rulings_for-rulings.ensures ∙ none c.rulings_for-rulings.result.now empty))

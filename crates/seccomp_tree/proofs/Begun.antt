@@ -1,8 +1,8 @@
 -- Steps that ascend: what they have for a number, and one step more.
 use Rattle.seccomp_tree.proofs.Common.{◌≡◌, ℕ, zero, suc, ◌+◌, ◌-◌, ◌^◌, ◌<◌, ◌≤◌, ◌≢◌, List, [], ◌∷◌, ◌++◌, length, get_or, true, false}
 use Rattle.seccomp_tree.proofs.Common.{refl, ap, nat_le, if◌then◌else◌, arith, inl, inr, length-append, nat_tests, cases_lt, Bool}
-use Rattle.seccomp_tree.proofs.Common.{sock_filter, Target, Step, found_from, found_in, AreOver, AscendFrom}
-use Rattle.seccomp_tree.proofs.Common.{AreSteps, TightFrom, IsPushed, IsIn, AreIn}
+use Rattle.seccomp_tree.proofs.Common.{sock_filter, Target, Step, found_from, found_in, AreOver, AscendFrom, AreSteps, TightFrom, IsPushed}
+use Rattle.seccomp_tree.proofs.Common.{IsIn, AreIn}
 use Rattle.seccomp_tree.specs.Steps.{first_start}
 
 -- ---- ascending

@@ -2,9 +2,9 @@
 use Rattle.seccomp_tree.proofs.Common.{◌≡◌, ℕ, ◌+◌, ◌<◌, ◌≤◌, ◌^◌, List, [], ◌∷◌, length, Option, Some, None, Vec, sym, ◌∙◌, arith}
 use Rattle.seccomp_tree.proofs.Common.{if◌then◌else◌, refl, suc, get_or, ◌⊎◌, inl, inr, nat_lt, IsSome, nat_tests, cases_lt, is_at, lookup}
 use Rattle.seccomp_tree.proofs.Common.{nat_cmp, Global, sock_filter, Target, Step, IsPushed, Grows, Ruling, rules_length, DecisionSet}
-use Rattle.seccomp_tree.proofs.Common.{default_for, rulings_for, calls_of, default_from, calls_length, DefaultValue, Give, AreRules}
-use Rattle.seccomp_tree.proofs.Common.{ap, one_value}
-use Rattle.seccomp_tree.specs.CallSteps.{IsAnswer, AreAnswers, AreCallSteps, IsNextStart}
+use Rattle.seccomp_tree.proofs.Common.{default_for, rulings_for, calls_of, default_from, calls_length, DefaultValue, Give, AreRules, ap}
+use Rattle.seccomp_tree.proofs.Common.{one_value}
+use Rattle.seccomp_tree.specs.Rules.{IsAnswer, AreAnswers, AreCallSteps, IsNextStart}
 use Rattle.seccomp_tree.proofs.Runs.{grows_not, grows_on, is_in_grown, leads_grown}
 use Rattle.seccomp_tree.proofs.Begun.{steps_more}
 use Rattle.seccomp_tree.proofs.Deciding.{items_of, rulings_under}

@@ -2,8 +2,7 @@
 use Rattle.seccomp_tree.proofs.Common.{◌≡◌, ◌≢◌, ℕ, ◌+◌, ◌^◌, ◌<◌, ◌≤◌, List, [], ◌∷◌, length, drop, get_or, true, ◌⊎◌, inl, inr, ◌∙◌}
 use Rattle.seccomp_tree.proofs.Common.{arith, refl, nat_tests, nat_eq, nat_lt, if◌then◌else◌, cases_lt, cases_eq, bit_and, sock_filter}
 use Rattle.seccomp_tree.proofs.Common.{SeccompCmpArgLen, SeccompCmpOp, Dword, Qword, ◌%◌, MaskedEq, Condition, Compares, part_of, Target}
-use Rattle.seccomp_tree.proofs.Common.{Step}
-use Rattle.seccomp_tree.proofs.Common.{found_in, AscendFrom, AreSteps, IsPushed, IsIn, AreIn, is_plain, IsChosen, AreLaid}
+use Rattle.seccomp_tree.proofs.Common.{Step, found_in, AscendFrom, AreSteps, IsPushed, IsIn, AreIn, is_plain, IsChosen, AreLaid}
 use Rattle.seccomp_tree.specs.Steps.{first_start}
 use Rattle.seccomp_tree.specs.Conditions.{IsTurn, numbers_of}
 use Rattle.seccomp_tree.proofs.Begun.{steps_more, are_in_below, found_until, found_behind}

@@ -1,9 +1,9 @@
 -- The names that the proofs share, of std, of the library and of the definitions.
-pub use Rattle.seccomp_tree.specs.Code.{AreFine, AreIn, DoesAs, GoesOn, Grows, IsHalf, IsIn, IsPart, IsReached, IsSound, IsTested}
-pub use Rattle.seccomp_tree.specs.Code.{IsTree, Leads, LeadsAlways, Returns, Says, Starts, StartsAlways, chosen, gives, near, part_length}
+pub use Rattle.seccomp_tree.specs.Code.{AreFine, AreIn, DoesAs, GoesOn, Grows, IsHalf, IsIn, IsPart, IsReached, IsSound, IsTested, IsTree}
+pub use Rattle.seccomp_tree.specs.Code.{Leads, LeadsAlways, Returns, Says, Starts, StartsAlways, chosen, gives, near, part_length}
 pub use Rattle.seccomp_tree.specs.Code.{part_steps, tail_at, to_place, to_return}
-pub use Rattle.seccomp_tree.specs.Conditions.{AreLaid, HasBits, IsChosen, IsConditionMet, IsMet, condition_length}
-pub use Rattle.seccomp_tree.specs.Conditions.{condition_steps, is_plain}
+pub use Rattle.seccomp_tree.specs.Conditions.{AreLaid, HasBits, IsChosen, IsConditionMet, IsMet, condition_length, condition_steps}
+pub use Rattle.seccomp_tree.specs.Conditions.{is_plain}
 pub use Rattle.seccomp_tree.specs.Decided.{DecisionSet, IsDecided, StartAbove, calls_of, decided, default_for, default_from}
 pub use Rattle.seccomp_tree.specs.Decided.{other_architecture, rulings_for}
 pub use Rattle.seccomp_tree.specs.Decisions.{Enters, First, Ruling, RunTakes, Takes, alike, begins, behind, by_conditions, by_steps}
@@ -38,14 +38,12 @@ pub use Rattle.seccompiler.specs.declared.backend.SeccompCmpArgLen.TheVariants.{
 pub use Rattle.seccompiler.specs.declared.backend.SeccompCmpOp.{SeccompCmpOp}
 pub use Rattle.seccompiler.specs.declared.backend.SeccompCmpOp.TheVariants.{MaskedEq}
 pub use Rattle.seccompiler.specs.declared.bpf.sock_filter.{sock_filter}
-pub use Rattle.std.proofs.Common.{All, Any, Bool, Err, Global, Greater, Less, List, None, Ok, Option, Ordering, Result, Some, Vec, []}
-pub use Rattle.std.proofs.Common.{add-one, ap, append_assoc, arith, drop, false, get_or, if◌then◌else◌, inl, inr, leb, length}
-pub use Rattle.std.proofs.Common.{length-append, length-drop, map, nat_eq, nat_le, pos, refl, reverse, rules, subst, suc, sym, take, true}
-pub use Rattle.std.proofs.Common.{zero, zero-add, ℕ, ℤ, ⊎_elim, ◌%◌, ◌*◌, ◌++◌, ◌+◌, ◌-◌, ◌/◌, ◌<ℤ◌, ◌<◌, ◌^◌, ◌||◌, ◌↔◌, ◌∙◌, ◌∷◌, ◌≡◌}
-pub use Rattle.std.proofs.Common.{◌≢◌, ◌≤◌, ◌⊎◌}
+pub use Rattle.std.proofs.Common.{All, Any, Bool, Global, Greater, Less, List, None, Option, Ordering, Some, Vec, [], add-one, ap}
+pub use Rattle.std.proofs.Common.{append_assoc, arith, drop, false, get_or, if◌then◌else◌, inl, inr, length, length-append, length-drop}
+pub use Rattle.std.proofs.Common.{map, nat_eq, nat_le, pos, refl, reverse, rules, subst, suc, sym, take, true, zero, zero-add, ℕ, ℤ, ⊎_elim}
+pub use Rattle.std.proofs.Common.{◌%◌, ◌*◌, ◌++◌, ◌+◌, ◌-◌, ◌/◌, ◌<ℤ◌, ◌<◌, ◌^◌, ◌↔◌, ◌∙◌, ◌∷◌, ◌≡◌, ◌≢◌, ◌≤◌, ◌⊎◌}
 pub use Rattle.std.proofs.Math.Nat.{one-le-pow, pow-succ'}
-pub use Rattle.std.proofs.lemmas.Bool.{and_parts, cases_Bool, cases_eq, cases_lt, eq-eqb, false≢true, leb-false, leb-true, ne_eqb}
-pub use Rattle.std.proofs.lemmas.Bool.{true≢false}
+pub use Rattle.std.proofs.lemmas.Bool.{and_parts, cases_eq, cases_lt, eq-eqb, false≢true, ne_eqb, true≢false}
 pub use Rattle.std.proofs.lemmas.Bool.Decides.{nat_tests}
 pub use Rattle.std.proofs.lemmas.Cmp.{nat_cmp_total}
 pub use Rattle.std.proofs.lemmas.Int.{ints}
@@ -53,12 +51,11 @@ pub use Rattle.std.proofs.lemmas.List.{drop-drop, drop_all, drop_more, get_or-dr
 pub use Rattle.std.proofs.lemmas.List.{length-take, length-take-le, reverse-append, take_all}
 pub use Rattle.std.proofs.lemmas.List.Elements.{All-cons, All-head, All-nil, All-tail}
 pub use Rattle.std.proofs.lemmas.Map.Keys.{sorted_head, sorted_tail}
-pub use Rattle.std.proofs.lemmas.Map.Made.{length-le_from_is_member}
-pub use Rattle.std.proofs.lemmas.Result.{IfErr-weaker, IfOk-weaker, err_from_is_err_and}
+pub use Rattle.std.proofs.lemmas.Result.{IfOk-weaker}
 pub use Rattle.std.specs.BTreeMap.{insert_entry, is_at}
-pub use Rattle.std.specs.Cmp.{int_ranks, nat_eq_equiv}
+pub use Rattle.std.specs.Cmp.{int_ranks}
 pub use Rattle.std.specs.Int.Bits.{and_lt, and_zero_r}
 pub use Rattle.std.specs.Map.{keys_of, lookup}
 pub use Rattle.std.specs.Ordering.{MatchOrdering, int_cmp, is_eq, nat_cmp, ordering_reverse}
-pub use Rattle.std.specs.Prelude.{IfOk, IsSome, bit_and, max, min, nat_lt, slice_get, unsigned_abs}
+pub use Rattle.std.specs.Prelude.{IsSome, bit_and, nat_lt, slice_get, unsigned_abs}
 pub use Rattle.std.specs.Set.{is_member}

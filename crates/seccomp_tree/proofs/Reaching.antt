@@ -2,9 +2,8 @@
 use Rattle.seccomp_tree.proofs.Common.{◌≡◌, ℕ, zero, suc, ◌+◌, ◌<◌, ◌≤◌, ◌^◌, List, ◌∷◌, ◌-◌, length, reverse, get_or, refl, sym, ap, ◌∙◌}
 use Rattle.seccomp_tree.proofs.Common.{length-reverse, subst, arith, ◌⊎◌, inl, inr, ⊎_elim, nat_tests, cases_eq, cases_lt, sock_filter}
 use Rattle.seccomp_tree.proofs.Common.{Does, jumps, is_equal, is_not_equal, is_at_least, is_less, Target, Give, At, Test, tail_at, Returns}
-use Rattle.seccomp_tree.proofs.Common.{gives, IsFine, IsInRange}
-use Rattle.seccomp_tree.proofs.Common.{give, fine_return, fine_jump}
-use Rattle.seccomp_tree.proofs.Common.{Starts, Leads, to_return, to_place, near, DoesAs, Says, Grows, IsReached, chosen, IsTested}
+use Rattle.seccomp_tree.proofs.Common.{gives, IsFine, IsInRange, give, fine_return, fine_jump, Starts, Leads, to_return, to_place, near}
+use Rattle.seccomp_tree.proofs.Common.{DoesAs, Says, Grows, IsReached, chosen, IsTested}
 use Rattle.seccomp_tree.specs.declared.code.Test.TheVariants.{Equal, AtLeast}
 use Rattle.seccomp_tree.specs.Code.{goes_on}
 use Rattle.seccomp_tree.proofs.Runs.{tail_whole, tail_written, jump_to, jump_from, grows_not, grows_one, grows_on, grown_long, returns_more}

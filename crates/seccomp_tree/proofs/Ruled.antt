@@ -1,12 +1,12 @@
 -- Rulings as a target, from the last to the first: each is put in front of what comes after it.
-use Rattle.seccomp_tree.proofs.Common.{◌≡◌, ℕ, suc, ◌+◌, ◌*◌, ◌<◌, ◌≤◌, ◌^◌, List, [], ◌∷◌, length, drop, true, false, refl, sym, ap}
-use Rattle.seccomp_tree.proofs.Common.{◌∙◌, Option, Some, None, arith, nat_tests, false≢true, true≢false, All-nil}
-use Rattle.seccomp_tree.proofs.Common.{All-cons, All-head, All-tail, sock_filter, SeccompCmpArgLen, IsRecord, argument_at, Condition, Holds}
-use Rattle.seccomp_tree.proofs.Common.{RuleHolds, part_of, Target, Give, Step, found_in, single, is_plain, AreLaid}
-use Rattle.seccomp_tree.proofs.Common.{IsConditionMet, LeadsAlways, to_return, Grows, part_length, part_steps}
-use Rattle.seccomp_tree.proofs.Common.{Ruling, First, only, alike, same_length, joins, joined, conditions_length, conditions_steps}
-use Rattle.seccomp_tree.proofs.Common.{rules_length, RunTakes, by_steps, by_conditions, Enters, begins, Takes, stops, passes, ends}
-use Rattle.seccomp_tree.proofs.Common.{IsRulingMet, AreFit, AreRules, greatest_length, IsSettled, IsChosen, IsIn, get_or, zero}
+use Rattle.seccomp_tree.proofs.Common.{◌≡◌, ℕ, suc, ◌+◌, ◌*◌, ◌<◌, ◌≤◌, ◌^◌, List, [], ◌∷◌, length, drop, true, false, refl, sym, ap, ◌∙◌}
+use Rattle.seccomp_tree.proofs.Common.{Option, Some, None, arith, nat_tests, false≢true, true≢false, All-nil, All-cons, All-head, All-tail}
+use Rattle.seccomp_tree.proofs.Common.{sock_filter, SeccompCmpArgLen, IsRecord, argument_at, Condition, Holds, RuleHolds, part_of, Target}
+use Rattle.seccomp_tree.proofs.Common.{Give, Step, found_in, single, is_plain, AreLaid, IsConditionMet, LeadsAlways, to_return, Grows}
+use Rattle.seccomp_tree.proofs.Common.{part_length, part_steps, Ruling, First, only, alike, same_length, joins, joined, conditions_length}
+use Rattle.seccomp_tree.proofs.Common.{conditions_steps, rules_length, RunTakes, by_steps, by_conditions, Enters, begins, Takes, stops}
+use Rattle.seccomp_tree.proofs.Common.{passes, ends, IsRulingMet, AreFit, AreRules, greatest_length, IsSettled, IsChosen, IsIn, get_or}
+use Rattle.seccomp_tree.proofs.Common.{zero}
 use Rattle.seccomp_tree.specs.Decisions.{goes_on}
 use Rattle.seccomp_tree.proofs.Runs.{grows_not, grows_on, leads_by, starts_more}
 use Rattle.seccomp_tree.proofs.Begun.{found_in_code, not_none}

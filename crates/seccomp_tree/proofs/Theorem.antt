@@ -8,7 +8,7 @@ use Rattle.seccomp_tree.proofs.Common.{conditions_steps, DecisionSet, default_fo
 use Rattle.seccomp_tree.proofs.Common.{one_value, value_for, TakesOwn, other, one, own, EndsAsDecided, IsTreeProgram, AreRanges, IsTested}
 use Rattle.seccomp_tree.proofs.Common.{greatest_length, load, word_fits, pow-succ', one-le-pow, give}
 use Rattle.seccomp_tree.specs.Decisions.{goes_on as runs_on}
-use Rattle.seccomp_tree.specs.CallSteps.{IsAnswer, AreCallSteps}
+use Rattle.seccomp_tree.specs.Rules.{IsAnswer, AreCallSteps}
 use Rattle.seccomp_tree.proofs.Deciding.{first_here, decided_some}
 use Rattle.seccomp_tree.proofs.Begun.{are_in_below, not_none, over_zero}
 use Rattle.seccomp_tree.specs.TreeProgram.{length_by}

@@ -3,9 +3,8 @@ use Rattle.seccomp_tree.proofs.Common.{◌≡◌, ℕ, zero, suc, ◌+◌, ◌-�
 use Rattle.seccomp_tree.proofs.Common.{true, false, refl, sym, ap, ◌∙◌, subst, nat_le, if◌then◌else◌, arith, length-drop, Bool, nat_eq, ◌⊎◌}
 use Rattle.seccomp_tree.proofs.Common.{inl, inr, get_or-drop, get_or-take, length-take, length-take-le, take_all, nat_tests, pow-succ'}
 use Rattle.seccomp_tree.proofs.Common.{sock_filter, Target, Step, found_from, found_in, AscendFrom, AreOver, single, same}
-use Rattle.seccomp_tree.proofs.Common.{second_stands_out, row}
-use Rattle.seccomp_tree.proofs.Common.{AreIn, Grows, GoesOn, chosen, IsTested, IsTree, Returns, IsPart, and_parts, At, Test, Dword}
-use Rattle.seccomp_tree.proofs.Common.{IsRecord, word_at, loads, load, word_fits}
+use Rattle.seccomp_tree.proofs.Common.{second_stands_out, row, AreIn, Grows, GoesOn, chosen, IsTested, IsTree, Returns, IsPart, and_parts}
+use Rattle.seccomp_tree.proofs.Common.{At, Test, Dword, IsRecord, word_at, loads, load, word_fits}
 use Rattle.seccomp_tree.specs.Code.{goes_on}
 use Rattle.seccomp_tree.proofs.Begun.{ascend_more, starts_rise, found_before}
 use Rattle.seccomp_tree.specs.declared.code.Test.TheVariants.{Equal, AtLeast}

@@ -5,10 +5,9 @@ pub mod Steps
 pub mod Code
 pub mod Conditions
 pub mod Decisions
-pub mod Rules
 pub mod Decided
 pub mod TreeProgram
-pub mod CallSteps
+pub mod Rules
 -- Filters as decisions, and their programs in either layout.
 pub mod FilterDecisions
 pub mod Layouts

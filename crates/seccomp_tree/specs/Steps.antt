@@ -1,6 +1,5 @@
 -- Steps: what is looked up by a number, from a start on, up to the next one.
-use Rattle.std.specs.Prelude.{◌≡◌, ◌≢◌, ℕ, ◌+◌, ◌-◌, ◌<◌, ◌≤◌, ◌^◌, List, [], ◌∷◌, nat_le, if◌then◌else◌, ⊤, length, Bool, false}
-use Rattle.std.specs.Prelude.{◌&&◌}
+use Rattle.std.specs.Prelude.{◌≡◌, ◌≢◌, ℕ, ◌+◌, ◌-◌, ◌<◌, ◌≤◌, ◌^◌, List, [], ◌∷◌, nat_le, if◌then◌else◌, ⊤, length, Bool, false, ◌&&◌}
 use Rattle.std.specs.Prelude.{nat_eq}
 use Rattle.seccomp_tree.specs.declared.steps.Target.{Target}
 use Rattle.seccomp_tree.specs.declared.steps.Target.TheVariants.{Give, At}

@@ -1,10 +1,9 @@
 // The program of decisions.
 
 ghost use Rattle.std.specs.Prelude.{◌≡◌, ◌<◌, ◌^◌, IfOk, IfErr, IfSome};
-ghost use Rattle.seccomp_tree.specs.Rules.{IsTooMany};
 ghost use Rattle.seccomp_tree.specs.Decided.{calls_of};
 ghost use Rattle.seccomp_tree.specs.TreeProgram.{one_value};
-ghost use Rattle.seccomp_tree.specs.CallSteps.{IsNextStart};
+ghost use Rattle.seccomp_tree.specs.Rules.{IsNextStart, IsTooMany};
 
 use crate::code::{Code, Test};
 use crate::decisions::{Decision, Decisions, DefaultValue, KILL_PROCESS, default_for};
@@ -20,7 +19,7 @@ use std::ops::Bound;
 
 impl Decisions {
     ghost use Rattle.seccomp_tree.specs.TreeProgram.{IsTreeProgram, IsTooLargeFor, calls_length};
-    ghost use Rattle.seccomp_tree.specs.CallSteps.{AreCallSteps};
+    ghost use Rattle.seccomp_tree.specs.Rules.{AreCallSteps};
 
     /// The program of these decisions: one tree of tests over call numbers, and after it the tests of their arguments.
     ///

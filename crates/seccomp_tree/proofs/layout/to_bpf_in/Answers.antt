@@ -1,5 +1,5 @@
-use Rattle.seccomp_tree.proofs.Common.{ℕ, List, subst, IfOk-weaker, sock_filter, IsRecord, Ends, Filter}
-use Rattle.seccomp_tree.proofs.Common.{EndsAtDecision, Layout, Linear, Tree, AgreesInAll, IsCompiledIn}
+use Rattle.seccomp_tree.proofs.Common.{ℕ, List, subst, IfOk-weaker, sock_filter, IsRecord, Ends, Filter, EndsAtDecision, Layout, Linear}
+use Rattle.seccomp_tree.proofs.Common.{Tree, AgreesInAll, IsCompiledIn}
 use Rattle.seccomp_tree.proofs.FilterDecided.{one_decision}
 use Rattle.seccomp_tree.proofs.layout.to_bpf_in.Goals as goal
 

@@ -1,5 +1,5 @@
-use Rattle.seccomp_tree.proofs.Common.{◌/◌, length, refl, sym, ◌∙◌, arith, inl, inr, cases_lt, false≢true, row, IfOk-weaker}
-use Rattle.seccomp_tree.proofs.Common.{length-take-le, Give, Step}
+use Rattle.seccomp_tree.proofs.Common.{◌/◌, length, refl, sym, ◌∙◌, arith, inl, inr, cases_lt, false≢true, row, IfOk-weaker, length-take-le}
+use Rattle.seccomp_tree.proofs.Common.{Give, Step}
 use Rattle.seccomp_tree.proofs.Runs.{is_in_grown}
 use Rattle.seccomp_tree.proofs.Trees.{over_starts, over_take, in_take, all_behind, rest_of, out_long, tree_single, tree_out, tree_first}
 use Rattle.seccomp_tree.proofs.Trees.{tree_halves}

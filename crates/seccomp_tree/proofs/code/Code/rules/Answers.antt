@@ -1,11 +1,10 @@
-use Rattle.seccomp_tree.proofs.Common.{◌≡◌, ◌-◌, ◌<◌, ◌^◌, ◌∷◌, List, Ruling, only, rules_length, length, drop, drop_all, ap, sym}
-use Rattle.seccomp_tree.proofs.Common.{◌∙◌, arith}
+use Rattle.seccomp_tree.proofs.Common.{◌≡◌, ◌-◌, ◌<◌, ◌^◌, ◌∷◌, List, Ruling, only, rules_length, length, drop, drop_all, ap, sym, ◌∙◌}
+use Rattle.seccomp_tree.proofs.Common.{arith}
 use Rattle.seccomp_tree.proofs.Deciding.{drop_at}
-use Rattle.seccomp_tree.proofs.Ruled.{IsBehind, behind_none, behind_along, behind_fresh, behind_laid, behind_alone, behind_many}
-use Rattle.seccomp_tree.proofs.Ruled.{rules_less, settled}
-use Rattle.seccomp_tree.proofs.code.Code.rules.Goals.{After-len, then-not-is_alike+in_ok-settle+in_ok-steps-2}
-use Rattle.seccomp_tree.proofs.code.Code.rules.Goals.{else-not-is_alike, in-Some+in_ok-steps-in-Some}
-use Rattle.seccomp_tree.proofs.code.Code.rules.Goals.{in-None+in_ok-met-in-None+in_ok-steps-in-None}
+use Rattle.seccomp_tree.proofs.Ruled.{IsBehind, behind_none, behind_along, behind_fresh, behind_laid, behind_alone, behind_many, rules_less}
+use Rattle.seccomp_tree.proofs.Ruled.{settled}
+use Rattle.seccomp_tree.proofs.code.Code.rules.Goals.{After-len, then-not-is_alike+in_ok-settle+in_ok-steps-2, else-not-is_alike}
+use Rattle.seccomp_tree.proofs.code.Code.rules.Goals.{in-Some+in_ok-steps-in-Some, in-None+in_ok-met-in-None+in_ok-steps-in-None}
 use Rattle.seccomp_tree.proofs.code.Code.rules.Goals as goal
 
 pub loop-left-init : goal.loop-left-init

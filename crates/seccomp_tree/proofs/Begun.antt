@@ -1,6 +1,6 @@
 -- Steps that ascend: what they have for a number, and one step more.
 use Rattle.seccomp_tree.proofs.Common.{◌≡◌, ℕ, zero, suc, ◌+◌, ◌-◌, ◌^◌, ◌<◌, ◌≤◌, ◌≢◌, List, [], ◌∷◌, ◌++◌, length, get_or, true, false}
-use Rattle.seccomp_tree.proofs.Common.{refl, ap, nat_le, if◌then◌else◌, arith, inl, inr, length-append, nat_tests, cases_lt, Bool}
+use Rattle.seccomp_tree.proofs.Common.{refl, ap, nat_le, if◌then◌else◌, arith, length-append, nat_tests, Bool}
 use Rattle.seccomp_tree.proofs.Common.{sock_filter, Target, Step, found_from, found_in, AreOver, AscendFrom, AreSteps, TightFrom, IsPushed}
 use Rattle.seccomp_tree.proofs.Common.{IsIn, AreIn}
 use Rattle.seccomp_tree.specs.Steps.{first_start}
@@ -13,7 +13,7 @@ ascend_more m n from to (x ∷ steps) le le' h =
     (omega (arith, h.0), (omega (arith, h.1.0), ascend_more m n (x.start + 1) (x.start + 1) steps le (omega arith) h.1.1))
 
 pub not_none : (m : ℕ) (steps : List Step) → AreSteps m steps → 0 < m → 1 ≤ length steps
-not_none m [] h some = absurd (h.first some)
+not_none m [] h some = absurd (omega (arith, h.first))
 not_none m (x ∷ steps) h some = omega arith
 
 pub above_none : (m from : ℕ) (steps : List Step) → AscendFrom m from steps → 1 ≤ length steps → 0 < m
@@ -22,14 +22,15 @@ above_none m from (x ∷ steps) h some = omega (arith, h.1.0)
 
 -- steps below a number are below a greater one
 pub steps_more : (m n : ℕ) (steps : List Step) → 0 < m → m ≤ n → AreSteps m steps → AreSteps n steps
-steps_more m n steps some le h =
-    record { first = λ _. h.first some; ascend = ascend_more m n 0 0 steps le (omega arith) h.ascend; tight = h.tight }
+steps_more m n [] some le h = absurd (omega (arith, h.first))
+steps_more m n (x ∷ steps) some le h =
+    record { first = h.first; ascend = ascend_more m n 0 0 (x ∷ steps) le (omega arith) h.ascend; tight = h.tight }
 
 -- and are over all numbers of 32 bits
 pub over_zero : (steps : List Step) → AreSteps (2 ^ 32) steps → AreOver steps
-over_zero [] h = absurd (h.first (omega arith))
+over_zero [] h = absurd (omega (arith, h.first))
 over_zero (x ∷ steps) h =
-    ascend_more (2 ^ 32) (2 ^ 32) (x.start + 1) 1 steps (omega arith) (omega (arith, h.first (omega arith))) h.ascend.1.1
+    ascend_more (2 ^ 32) (2 ^ 32) (x.start + 1) 1 steps (omega arith) (omega (arith, h.first)) h.ascend.1.1
 
 -- starts rise
 pub starts_rise : (m from : ℕ) (steps : List Step) (k : ℕ) (d : Step) → AscendFrom m from steps → k < length steps
@@ -81,9 +82,9 @@ in_below code m from t (x ∷ steps) up h (suc k) d lt = in_below code m (x.star
 
 pub are_in_below : (code : List sock_filter) (m : ℕ) (steps : List Step) → 0 < m → AreSteps m steps
     → ((a : ℕ) → a < m → IsIn code (found_in steps a)) → AreIn code steps
-are_in_below code m [] some are h = absurd (are.first some)
+are_in_below code m [] some are h = absurd (omega (arith, are.first))
 are_in_below code m (x ∷ steps) some are h = in_below code m 0 x.target (x ∷ steps) are.ascend
-    (λ a le lt. let yes : nat_le x.start a ≡ true = grind (arith, nat_tests, are.first some) in rw yes (h a lt))
+    (λ a le lt. let yes : nat_le x.start a ≡ true = grind (arith, nat_tests, are.first) in rw yes (h a lt))
 
 in_from : (code : List sock_filter) (t : Target) (steps : List Step) (a : ℕ) → IsIn code t → AreIn code steps
     → IsIn code (found_from t steps a)
@@ -125,17 +126,15 @@ tight_from t from (y ∷ steps) x h not tight =
 
 pub pushed_more : (old : List Step) (x : Step) → AreSteps x.start old → (1 ≤ length old → found_in old x.start ≢ x.target)
     → IsPushed old x.start x.target (old ++ x ∷ [])
-pushed_more [] x h not =
-    let none = elim (cases_lt 0 x.start) as (λ _. x.start ≡ 0) [ inl some ↦ absurd (h.first some) | inr none ↦ omega arith ] in
-    record {
-      are = record { first = λ _. none; ascend = (omega arith, (omega arith, tt)); tight = tt };
-      from = λ a le. refl;
-      below = λ a lt. absurd (h.first (omega arith));
-      few = omega arith;
-    }
+pushed_more [] x h not = record {
+  are = record { first = h.first; ascend = (omega arith, (omega arith, tt)); tight = tt };
+  from = λ a le. refl;
+  below = λ a lt. absurd (omega (arith, h.first));
+  few = omega arith;
+}
 pushed_more (y ∷ old) x h not = record {
   are = record {
-    first = λ _. h.first (omega (arith, h.ascend.1.0));
+    first = h.first;
     ascend = ascend_push 0 (y ∷ old) x (omega arith) h.ascend;
     tight = tight_from y.target (y.start + 1) old x h.ascend.1.1 (not (omega arith)) h.tight;
   };

@@ -49,14 +49,13 @@ pub record Laying (c : Condition) (target : Target) (others : List Step) (number
 
 pub laying_begins : (c : Condition) (target : Target) (others : List Step) → AreSteps (numbers_of c.arg_len) others
     → Laying c target others 0 others []
-laying_begins c target [] h = absurd (h.first (omega (arith, numbers_many c.arg_len)))
+laying_begins c target [] h = absurd (omega (arith, h.first, numbers_many c.arg_len))
 laying_begins c target (x ∷ others) h =
-    let zero : x.start ≡ 0 = h.first (omega (arith, numbers_many c.arg_len)) in
     record {
       within = omega arith;
-      from = λ some. rw zero at h.ascend.1.1;
+      from = λ some. rw h.first at h.ascend.1.1;
       same = λ a le lt. refl;
-      are = record { first = λ some. absurd (omega arith); ascend = tt; tight = tt };
+      are = record { first = refl; ascend = tt; tight = tt };
       each = λ a lt. absurd (omega arith);
       few = grind arith;
     }

@@ -57,7 +57,7 @@ pub fewest : (d : DecisionSet) (code : List sock_filter) (steps : List Step) (st
     → AreRanges d starts → length steps ≤ length starts
 fewest d code [] starts h ranges = omega arith
 fewest d code (x ∷ steps) starts h ranges =
-    let zero : x.start ≡ 0 = h.are.first (omega arith) in
+    let zero : x.start ≡ 0 = h.are.first in
     let rest = few_from d code starts x.start x.target steps ranges h.are.ascend.1.1 h.are.tight (λ n le lt. h.each n lt) in
     let first = above_one 0 1 starts (omega arith) ranges.zero in
     let up = above_less 1 (x.start + 1) starts (omega arith) in

@@ -65,13 +65,13 @@ pub halves_begin : (old : List sock_filter) (index : ℕ) (x : Step) (left : Lis
 halves_begin old index x left are = record {
   fits = omega arith;
   within = omega arith;
-  above = rw (are.first (omega arith)) at are.ascend.1.1;
+  above = rw are.first at are.ascend.1.1;
   same = λ a le lt. found_behind (2 ^ 64) x.target left a le lt;
-  are_lows = record { first = λ _. refl; ascend = (omega arith, (omega arith, tt)); tight = tt };
+  are_lows = record { first = refl; ascend = (omega arith, (omega arith, tt)); tight = tt };
   some = omega arith;
   own = λ a lt. found_until (2 ^ 64) x.target left (0 * 2 ^ 32 + a) lt;
   low_few = omega arith;
-  are_highs = record { first = λ some. absurd (omega arith); ascend = tt; tight = tt };
+  are_highs = record { first = refl; ascend = tt; tight = tt };
   few = omega arith;
   before = 0;
   grows = grows_not old 0;

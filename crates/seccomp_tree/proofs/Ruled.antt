@@ -167,7 +167,7 @@ module _ {old code : List sock_filter} {default : ℕ} where
       one : (o : Option Condition) → AreFit code o (single t)
       one None = (t, refl, x.inside)
       one (Some c) =
-          (record { first = λ _. refl; ascend = (omega arith, (omega (arith, numbers_many c.arg_len), tt)); tight = tt }, one_in)
+          (record { first = refl; ascend = (omega arith, (omega (arith, numbers_many c.arg_len), tt)); tight = tt }, one_in)
 
 -- ---- a ruling in front
 

@@ -29,11 +29,6 @@ abbrev pub AreOver : List Step → Type 0
 AreOver [] = ⊥
 AreOver (x ∷ steps) = AscendFrom (2 ^ 32) 1 steps
 
--- The first step starts at 0.
-abbrev pub StartsAtZero : List Step → Type 0
-StartsAtZero [] = ⊥
-StartsAtZero (x ∷ steps) = x.start ≡ 0
-
 -- No two neighbours have one target, and the first has another than this.
 abbrev pub TightFrom : Target → List Step → Type 0
 TightFrom target [] = ⊤
@@ -43,16 +38,16 @@ abbrev pub AreTight : List Step → Type 0
 AreTight [] = ⊤
 AreTight (x ∷ steps) = TightFrom x.target steps
 
--- Steps over all numbers below the size, none if it is 0; no two neighbours have one target.
-pub record AreSteps (size : ℕ) (steps : List Step) : Type 0 where
-  pub first : 0 < size → StartsAtZero steps
-  pub ascend : AscendFrom size 0 steps
-  pub tight : AreTight steps
-
 -- Where the first of the steps starts, or the size.
 abbrev pub first_start : ℕ → List Step → ℕ
 first_start size [] = size
 first_start size (x ∷ steps) = x.start
+
+-- Steps over all numbers below the size, none if it is 0; no two neighbours have one target.
+pub record AreSteps (size : ℕ) (steps : List Step) : Type 0 where
+  pub first : first_start size steps ≡ 0
+  pub ascend : AscendFrom size 0 steps
+  pub tight : AreTight steps
 
 -- ---- between private functions
 

@@ -37,6 +37,7 @@ impl Code {
             if high < next {
                 let last = self.half(index, &lows, high, next, &mut highs)?;
                 lows = Vec::new(alloc);
+                // What was before the half goes on up to its first step.
                 if low > 0 {
                     push_step(&mut lows, 0, last)?;
                 }

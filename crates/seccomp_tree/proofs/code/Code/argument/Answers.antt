@@ -58,7 +58,7 @@ ready c = elim c.if-high-next.branch [
       let half = rw w.deref.ensures.value at w.in_ok-last.ensures in
       rw (w.self-is, w.highs-is, w.high-is, w.lows-is, w.new-lows.ensures.items) (
         halves_next (before c) half w.if-high-next.true (omega arith) c.requires.inside (x c) (back c) [] refl refl
-            (record { first = λ some. absurd (omega (arith, w.if-low-gt0.false)); ascend = tt; tight = tt }) (omega arith)
+            (record { first = omega (arith, w.if-low-gt0.false); ascend = tt; tight = tt }) (omega arith)
             (λ a lt. absurd (omega (arith, w.if-low-gt0.false))),
         omega arith,
       )

@@ -6,4 +6,3 @@ pub mod Covered
 pub mod Ending
 pub mod Returned
 pub mod Decided
-pub mod Programs

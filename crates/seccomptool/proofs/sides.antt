@@ -1,2 +1,3 @@
 -- Lemmas for the functions of `sides`.
+pub mod Filters
 pub mod Profiles

@@ -3,3 +3,4 @@ pub mod TableNumbers
 pub mod PassingRecord
 pub mod FilterNumbers
 pub mod CheckedPrograms
+pub mod LongestWays

@@ -6,7 +6,6 @@ use Rattle.std.specs.List.{AllZip}
 use Rattle.seccompiler.specs.declared.backend.TargetArch.{TargetArch}
 use Rattle.seccompiler.specs.declared.backend.TargetArch.TheVariants.{x86_64}
 use Rattle.seccompiler.specs.declared.bpf.sock_filter.{sock_filter}
-use Rattle.seccompiler.specs.declared.machine.Outcome.{Outcome}
 use Rattle.seccomp_tree.specs.declared.layout.Layout.{Layout}
 use Rattle.seccomp_tree.specs.Layouts.{IsCompiledIn}
 use Rattle.seccompiler.specs.JsonAnswers.{ArePoliciesOf, OfValue}
@@ -49,11 +48,11 @@ use Rattle.seccomptool.specs.CheckProfile.{IsProfileCheckOf, IsRefusedProfile}
 use Rattle.seccomptool.specs.Chosen.{text_of}
 use Rattle.seccomptool.specs.Compile.{ArePrograms, name_of}
 use Rattle.seccomptool.specs.Diff.{IsDiff, verdict_in}
-use Rattle.seccomptool.specs.Explain.{IsOfPolicy, IsOfProfile}
+use Rattle.seccomptool.specs.Explain.{IsOfPolicy, IsOfProfile, IsOfProgram}
 use Rattle.seccomptool.specs.Kinds.{IsTakenAs}
 use Rattle.seccomptool.specs.Learn.{IsLesson}
 use Rattle.seccomptool.specs.Record.{IsCall, IsRecordOf}
-use Rattle.seccomptool.specs.Run.{AreReturned, IsProgramOf, IsRefusedProgram}
+use Rattle.seccomptool.specs.Run.{IsProgramOf, IsRefusedProgram}
 use Rattle.seccomptool.specs.Sides.{IsChosen, Policies}
 use Rattle.seccomptool.specs.Stats.{AreStats, IsMeasureOf, IsProfileMeasure}
 
@@ -140,16 +139,17 @@ OnRecords arch (One call) bytes P =
 OnRecords arch Records bytes P = P (records_in bytes)
 OnRecords arch Log bytes P = (records : List (List ℕ)) × P records
 
--- What is given decides so on the records: a policy's filter or a profile, and why; or a program.
-abbrev pub IsExplainedAs : TargetArch → Subject → (asked : Option (List ℕ)) → (given : List ℕ) → (records : List (List ℕ)) → Type 0
-IsExplainedAs arch subject.Policy asked text records = (e : Explanation) × IsOfPolicy arch asked text records e
-IsExplainedAs arch (subject.Profile container) asked text records = (e : Explanation) × IsOfProfile arch container.now text records e
-IsExplainedAs arch subject.Program asked bytes records =
-    (program : List sock_filter) × IsProgramOf bytes program × (outcomes : List Outcome) × AreReturned program records outcomes
+-- What is given decides so on the records, and why: a policy's filter, a profile or a program.
+abbrev pub IsExplainedAs : TargetArch → Subject → (asked : Option (List ℕ)) → (given : List ℕ) → (records : List (List ℕ)) → Explanation
+    → Type 0
+IsExplainedAs arch subject.Policy asked text records e = IsOfPolicy arch asked text records e
+IsExplainedAs arch (subject.Profile container) asked text records e = IsOfProfile arch container.now text records e
+IsExplainedAs arch subject.Program asked bytes records e = IsOfProgram bytes records e
 
 abbrev pub IsExplained : Explaining → (given : List ℕ) → (records : List (List ℕ)) → Type 0
 IsExplained asked given records =
-    (kind : Subject) × IsTakenAs asked.reading given kind × IsExplainedAs asked.arch kind (text_of asked.filter) given records
+    (kind : Subject) × IsTakenAs asked.reading given kind
+    × (e : Explanation) × IsExplainedAs asked.arch kind (text_of asked.filter) given records e
 
 -- The architectures' calls of this name or number; or the record of one.
 abbrev pub IsCalledOn : Option TargetArch → Call → (recorded : Bool) → Type 0

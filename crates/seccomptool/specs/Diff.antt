@@ -14,8 +14,8 @@ use Rattle.seccomptool.specs.declared.diff.Diff.TheVariants.{ByName, OfPair}
 use Rattle.seccomptool.specs.declared.diff.Found.{Found}
 use Rattle.seccomptool.specs.declared.diff.Found.TheVariants.{OnlyOld, OnlyNew, Both}
 use Rattle.seccomptool.specs.declared.diff.NamedFound.{NamedFound}
-use Rattle.seccomptool.specs.declared.diff.pair.Compared.{Compared}
-use Rattle.seccomptool.specs.declared.diff.pair.Pair.{Pair}
+use Rattle.seccomptool.specs.declared.diff.Compared.{Compared}
+use Rattle.seccomptool.specs.declared.diff.Pair.{Pair}
 use Rattle.seccomptool.specs.declared.diff.Scope.{Scope}
 use Rattle.seccomptool.specs.declared.diff.Scope.TheVariants as scope
 use Rattle.seccomptool.specs.declared.findings.Finding.{Finding}

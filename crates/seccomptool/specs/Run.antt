@@ -1,10 +1,7 @@
--- The program that is given, what is at fault in it, and what it returns for records.
+-- The program that is given, and what is at fault in it.
 use Rattle.std.specs.Prelude.{◌≡◌, ℕ, ◌*◌, ◌%◌, ◌<◌, ◌≤◌, ◌⊎◌, List, length, ⊤}
-use Rattle.std.specs.List.{AllZip}
 use Rattle.seccompiler.specs.declared.bpf.sock_filter.{sock_filter}
-use Rattle.seccompiler.specs.declared.machine.Outcome.{Outcome}
 use Rattle.seccompiler.specs.Machine.{AreInRange, greatest_length}
-use Rattle.seccomp_compare.specs.Machine.{Ends}
 use Rattle.seccomptool.specs.declared.error.ToolError.{ToolError}
 use Rattle.seccomptool.specs.declared.error.ToolError.TheVariants.{Program, OutOfMemory}
 use Rattle.seccomptool.specs.declared.run.fault.ProgramFault.{ProgramFault}
@@ -40,10 +37,6 @@ AreRefusedBytes bytes e = ⊥
 -- Why what is given isn't run; of a text of initializers it isn't said.
 abbrev pub IsRefusedProgram : List ℕ → ToolError → Type 0
 IsRefusedProgram given e = BeginsAsInitializers given ⊎ AreRefusedBytes given e
-
--- So the program ends on the records, one after the other.
-abbrev pub AreReturned : List sock_filter → List (List ℕ) → List Outcome → Type 0
-AreReturned program = AllZip (λ call (outcome : Outcome). Ends program call outcome.steps outcome.word)
 
 -- Between layers: a fault of bytes that aren't those of a program of a length that is taken.
 abbrev pub IsCutFault : List ℕ → ProgramFault → Type 0

@@ -5,7 +5,6 @@ pub(crate) mod fault;
 pub mod format;
 pub(crate) mod made;
 pub(crate) mod outline;
-pub(crate) mod policy;
 pub mod profile;
 
 ghost use Rattle.std.specs.Prelude.{◌≡◌, IfErr, IfOk};

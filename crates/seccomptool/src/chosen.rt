@@ -28,17 +28,12 @@ pub(crate) fn chosen_name<V>(
         }
     }
     // Their names, an empty one in quotes.
-    let mut names = String::new(alloc);
+    let mut names = Vec::new(alloc);
     for (name, _) in filters {
-        if !names.is_empty() {
-            names.push_str(", ")?;
-        }
-        if name.is_empty() {
-            names.push_str("''")?;
-        }
-        names.push_str(readable(alloc, name.as_str(), TextKind::Name)?.as_str())?;
+        let name = if name.is_empty() { "''" } else { name.as_str() };
+        names.push(readable(alloc, name, TextKind::Name)?)?;
     }
-    Err(ToolError::Unchosen(names))
+    Err(ToolError::Unchosen(names.join(alloc, ", ")?))
 }
 
 // The filter that is asked for, or the only one.
@@ -64,11 +59,6 @@ pub(crate) fn refuse_name(alloc: Global, asked: Option<&str>) -> Result<(), Tool
         Some(name) => Err(ToolError::NoFilter(String::from_str(alloc, name)?)),
         None => Ok(()),
     }
-}
-
-// Whether a filter is the one that is asked for, or none is.
-pub(crate) fn is_asked(asked: Option<&str>, name: &str) -> bool {
-    asked.unwrap_or(name) == name
 }
 
 // A text of filters, in which something stands where one is asked for.

@@ -70,30 +70,28 @@ pub(crate) fn program_text(
     format: ProgramFormat,
     made: &NamedProgram,
 ) -> Result<Vec<u8>, AllocError> {
+    let mut text = Vec::new(alloc);
+    let (name, program) = (made.name.as_str(), &made.program);
     match format {
-        ProgramFormat::Raw => bytes_of(alloc, &made.program),
-        ProgramFormat::Listing => {
-            let mut text = Vec::new(alloc);
-            push_listing(&mut text, made.name.as_str(), &made.program)?;
-            Ok(text)
-        }
+        ProgramFormat::Raw => return bytes_of(alloc, program),
+        ProgramFormat::Listing => push_listing(&mut text, name, program)?,
         ProgramFormat::C => {
-            let mut text = Vec::new(alloc);
-            for instruction in &made.program {
+            for instruction in program {
                 let sock_filter { code, jt, jf, k } = *instruction;
                 let line = format!(in alloc; "{{ 0x{code:x}, {jt}, {jf}, 0x{k:08x} }},\n")?;
                 text.extend_from_slice(line.as_bytes())?;
             }
-            Ok(text)
         }
         ProgramFormat::Json => {
-            let mut text = Vec::new(alloc);
-            let value = program_value(alloc, made.name.as_str(), &made.program, None)?;
-            push_json(&mut text, alloc, &value)?;
+            push_json(
+                &mut text,
+                alloc,
+                &program_value(alloc, name, program, None)?,
+            )?;
             text.push(b'\n')?;
-            Ok(text)
         }
     }
+    Ok(text)
 }
 
 // A program as JSON, with notes on its instructions if they are given.

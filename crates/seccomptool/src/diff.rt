@@ -1,22 +1,22 @@
 // On which calls a new side rules otherwise than an old one, or permits more.
 
-pub mod pair;
 pub(crate) mod text;
 
 ghost use Rattle.std.specs.Prelude.{◌≡◌, All, IfOk, map, option_map, string_bytes};
 ghost use Rattle.std.specs.BTreeMap.{get_by_text};
+ghost use Rattle.seccomp_compare.specs.Machine.{IsChecked};
 ghost use Rattle.seccomptool.specs.Diff as spec;
-ghost use Rattle.seccomptool.specs.Diff.{AreByName, IsDiff, IsFoundOf, IsPairOf, name_bytes, verdict_all};
+ghost use Rattle.seccomptool.specs.Diff.{AreByName, IsComparison, IsDiff, IsFoundOf, IsPairOf, name_bytes, other_parts, verdict_all};
 ghost use Rattle.seccomptool.specs.DiffParts.{AreAllNames, IsFoundUnder};
+ghost use Rattle.seccomptool.specs.Rulings.{Ruling, StandsFor};
 
-use crate::diff::pair::{Pair, compare_pair, loads_pointer};
 use crate::error::{FaultAt, ToolError};
-use crate::findings::fitting::fitting_program;
-use crate::findings::{Finding, Terms, Verdict, findings_of, verdict_of};
+use crate::findings::{Finding, Part, Terms, Verdict, findings_of, findings_on, verdict_of};
 use crate::kind::Subject;
 use crate::progress::Progress;
-use crate::sides::{Side, ruled_by};
-use seccompiler::{JsonCompiler, SeccompFilter};
+use crate::sides::{Side, fitting_program, ruled_by};
+use seccompiler::bpf::LOAD;
+use seccompiler::{BpfProgramRef, JsonCompiler, SeccompFilter, TargetArch, sock_filter};
 use std::alloc::{AllocError, Global};
 use std::collections::BTreeMap;
 
@@ -47,6 +47,28 @@ pub enum Scope {
     Named,
     /// Those of other architectures too.
     All,
+}
+
+/// What is found of a pair of sides.
+#[derive(Drop)]
+pub struct Pair {
+    /// The old filter's name, of a policy.
+    pub old_name: Option<String>,
+    /// The new filter's name, of a policy.
+    pub new_name: Option<String>,
+    /// Whether one of the programs loads the instruction pointer, on which what it decides may depend then.
+    pub loads_pointer: bool,
+    /// What is found of the programs.
+    pub found: Compared,
+}
+
+/// What is found of two programs.
+#[derive(Drop)]
+pub struct Compared {
+    /// What is found on the calls of the architecture.
+    pub own: Vec<Finding>,
+    /// What is found on the calls of the others.
+    pub others: Vec<Finding>,
 }
 
 /// What a comparison of two sides finds.
@@ -158,6 +180,47 @@ fn diff_pair<G: Progress>(
         loads_pointer,
         found,
     })
+}
+
+// What is found of two programs, whatever they stand for.
+fn compare_pair<G: Progress>(
+    alloc: Global,
+    terms: Terms,
+    new: BpfProgramRef<'_>,
+    old: BpfProgramRef<'_>,
+    progress: &mut G,
+) -> Result<Compared, ToolError>
+    requires new_checked { IsChecked new.now }
+    requires old_checked { IsChecked old.now }
+    ensures { IfOk result (λ found. (by_new by_old : Ruling) → StandsFor terms.target by_new new.now → StandsFor terms.target by_old old.now → IsComparison terms.target terms.relation by_new by_old found) }
+{
+    let own = findings_of(alloc, terms, new, old, progress)?;
+    let elsewhere = others_of(terms.target);
+    let others = findings_on(alloc, terms, &elsewhere, new, old, progress)?;
+    Ok(Compared { own, others })
+}
+
+// Whether a program loads a word of the instruction pointer.
+fn loads_pointer(program: BpfProgramRef<'_>) -> bool {
+    let is_load = |each: &sock_filter| each.code == LOAD && (each.k == 8 || each.k == 12);
+    program.iter().any(is_load)
+}
+
+// The calls of the architectures with a lesser word than this one, and of those with a greater one.
+fn others_of(target: TargetArch) -> [Part; 2]
+    ensures { result ≡ other_parts target }
+{
+    let word = target.get_audit_value();
+    [
+        Part::Elsewhere {
+            least: 0,
+            greatest: word - 1,
+        },
+        Part::Elsewhere {
+            least: word + 1,
+            greatest: u32::MAX,
+        },
+    ]
 }
 
 fn diff_policies<G: Progress>(

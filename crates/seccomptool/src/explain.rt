@@ -47,26 +47,17 @@ pub enum Why {
 /// What is decided on a record, and why.
 #[derive(Clone, Copy)]
 pub struct Explained {
-    /// The action.
-    pub action: SeccompAction,
+    /// The value that is returned.
+    pub word: u32,
     /// Why.
     pub why: Why,
-}
-
-/// A filter of a policy.
-#[derive(Drop)]
-pub struct NamedFilter {
-    /// Its name.
-    pub name: String,
-    /// The filter.
-    pub filter: JsonFilter,
 }
 
 /// What is decided on records, and why.
 #[derive(Drop)]
 pub struct Explanation {
-    /// The filter that decides; none of a profile.
-    pub filter: Option<NamedFilter>,
+    /// The name of the filter that decides; no bytes of a profile or a program.
+    pub name: String,
     /// What is decided on each record, in order.
     pub records: Vec<Explained>,
 }
@@ -103,10 +94,7 @@ pub fn explain_policy(
         return Err(ToolError::NoFilter(name));
     };
     let records = explain_each(alloc, target, &filter, records)?;
-    Ok(Explanation {
-        filter: Some(NamedFilter { name, filter }),
-        records,
-    })
+    Ok(Explanation { name, records })
 }
 
 // That each of these filters has a policy, and none of their programs is too long.
@@ -160,7 +148,7 @@ fn explain_record(
     let entries = filter.rules.as_slice();
     let reason = reason_of(alloc, target, entries, call)?;
     Ok(Explained {
-        action: action_of(filter, reason),
+        word: u32::from(action_of(filter, reason)),
         why: Why::Filter(reason),
     })
 }
@@ -192,10 +180,8 @@ pub fn explain_profile(
 {
     let profile = profile_in(alloc, text)?;
     let records = explain_each_by(alloc, target, container, &profile, records)?;
-    Ok(Explanation {
-        filter: None,
-        records,
-    })
+    let name = String::new(alloc);
+    Ok(Explanation { name, records })
 }
 
 // What a profile decides on each record, and by which of its entries.
@@ -240,13 +226,13 @@ fn explained_by_profile(
 {
     if word_at(call, 4) != target.get_audit_value() {
         return Explained {
-            action: SeccompAction::KillProcess,
+            word: u32::from(SeccompAction::KillProcess),
             why: Why::Elsewhere,
         };
     }
     let decision = decision_of_profile(target, container, profile, call);
     Explained {
-        action: decision.action,
+        word: u32::from(decision.action),
         why: Why::Profile {
             number: word_at(call, 0),
             entry: decision.entry,

@@ -1,10 +1,8 @@
 // What a comparison of two programs finds, on each set of calls.
 
-pub(crate) mod fitting;
 pub(crate) mod lines;
 pub(crate) mod parts;
 mod tries;
-pub(crate) mod values;
 
 ghost use Rattle.std.specs.Prelude.{◌≡◌, ℕ, List, ◌↔◌, IfOk};
 ghost use Rattle.seccomp_compare.specs.Compare.{IsCallOf};

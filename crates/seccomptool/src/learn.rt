@@ -1,7 +1,6 @@
 // A policy of the calls that a trace has.
 
 pub(crate) mod notes;
-mod values;
 
 ghost use Rattle.std.specs.Prelude.{◌≡◌, IfOk};
 ghost use Rattle.seccomptool.specs.Chosen.{text_of};
@@ -12,8 +11,7 @@ ghost use Rattle.seccomptool.specs.declared.learn.Start.TheVariants.{Into};
 use crate::chosen::chosen_name;
 use crate::error::{FaultAt, ToolError};
 use crate::findings::Verdict;
-use crate::learn::notes::{notes_of, refuse_strange};
-use crate::learn::values::learned_json;
+use crate::learn::notes::{learned_json, notes_of, refuse_strange};
 use crate::made::Made;
 use crate::record::call_number;
 use crate::words::Inputs;
@@ -76,13 +74,8 @@ pub(crate) struct LearnedFilter {
     pub others: JsonFilterMap,
 }
 
-// A filter that calls are added to, in the policy that it is of.
-#[derive(Drop)]
-struct Base {
-    name: String,
-    filter: JsonFilter,
-    others: JsonFilterMap,
-}
+// The name of a filter that calls are added to, the filter, and the policy's other ones.
+type Base = (String, JsonFilter, JsonFilterMap);
 
 pub(crate) fn learn_made(
     alloc: Global,
@@ -134,11 +127,7 @@ fn learned_of(
 ) -> Result<LearnedFilter, ToolError>
     ensures { IfOk result (λ own. IsLearned learning.now wanted.now observed.now policy.now own.lesson) }
 {
-    let Base {
-        name,
-        filter,
-        others,
-    } = base_of(alloc, learning.start, learning.name, policy)?;
+    let (name, filter, others) = base_of(alloc, learning.start, learning.name, policy)?;
     let (arch, most) = (learning.arch, learning.most);
     let lesson = learn_within(alloc, arch, observed, wanted, most, filter)?;
     Ok(LearnedFilter {
@@ -155,25 +144,25 @@ fn base_of(
     asked: Option<&str>,
     policy: &[u8],
 ) -> Result<Base, ToolError>
-    ensures { IfOk result (λ base. IsBase start (text_of asked.entry) policy.now base.filter) }
+    ensures { IfOk result (λ base. IsBase start (text_of asked.entry) policy.now base.1) }
 {
     match start {
-        Start::Otherwise(action) => Ok(Base {
-            name: String::from_str(alloc, asked.unwrap_or("main"))?,
-            filter: JsonFilter {
+        Start::Otherwise(action) => {
+            let name = String::from_str(alloc, asked.unwrap_or("main"))?;
+            let filter = JsonFilter {
                 mismatch_action: action,
                 match_action: SeccompAction::Allow,
                 rules: Vec::new(alloc),
-            },
-            others: JsonFilterMap(BTreeMap::new(alloc)),
-        }),
+            };
+            Ok((name, filter, JsonFilterMap(BTreeMap::new(alloc))))
+        }
         Start::Into => base_into(alloc, asked, policy),
     }
 }
 
 // The filter that is asked for, or a policy's only one, if it allows what it lists.
 fn base_into(alloc: Global, asked: Option<&str>, policy: &[u8]) -> Result<Base, ToolError>
-    ensures { IfOk result (λ base. IsBase Into (text_of asked.entry) policy.now base.filter) }
+    ensures { IfOk result (λ base. IsBase Into (text_of asked.entry) policy.now base.1) }
 {
     let mut others = filters_of(alloc, policy)?;
     let name = chosen_name(alloc, asked, &others.0)?;
@@ -181,11 +170,7 @@ fn base_into(alloc: Global, asked: Option<&str>, policy: &[u8]) -> Result<Base, 
         return Err(ToolError::NoFilter(name));
     };
     match filter.match_action {
-        SeccompAction::Allow => Ok(Base {
-            name,
-            filter,
-            others,
-        }),
+        SeccompAction::Allow => Ok((name, filter, others)),
         _ => {
             let told = "The filter's match_action isn't allow, so it doesn't list what is allowed.";
             Err(ToolError::Fault(String::from_str(alloc, told)?))

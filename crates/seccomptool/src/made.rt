@@ -30,7 +30,7 @@ use seccomp_warnings::Code;
 use seccompiler::TargetArch;
 use seccompiler::json::filters_of;
 use serde_json::json;
-use std::alloc::{AllocError, Global};
+use std::alloc::Global;
 
 /// What a command makes of the texts that it is given.
 #[derive(Drop)]
@@ -292,32 +292,16 @@ pub(crate) fn diff_made<G: Progress>(
         filter: asked.new,
         given: new,
     };
-    let mut notes = side_counted(alloc, asked, inputs.first, old)?;
-    notes.extend_from_slice(&side_counted(alloc, asked, inputs.second, new)?)?;
+    let mut notes = Vec::new(alloc);
+    for (side, path) in [(old, inputs.first), (new, inputs.second)] {
+        if matches!(side.kind, Subject::Policy) {
+            let path = path.unwrap_or("-");
+            notes.extend_from_slice(&counted(alloc, asked.quiet, terms.target, path, side.given)?)?;
+        }
+    }
     let found = diff_of(alloc, terms, old, new, progress);
     progress.end();
     let found = found?;
     let text = diff_text(alloc, terms, inputs.json, old, new, &found)?;
     Ok(Made::noting(text, found.verdict(asked.scope), notes))
-}
-
-// The note on how many warnings a side has, if it is a policy.
-fn side_counted(
-    alloc: Global,
-    asked: &Comparing<'_>,
-    path: Option<&str>,
-    side: Side<'_>,
-) -> Result<Vec<u8>, AllocError> {
-    match side.kind {
-        Subject::Policy => {
-            counted(
-                alloc,
-                asked.quiet,
-                asked.terms.target,
-                path.unwrap_or("-"),
-                side.given,
-            )
-        }
-        _ => Ok(Vec::new(alloc)),
-    }
 }

@@ -14,7 +14,6 @@ mod kind;
 mod learn;
 mod made;
 mod notes;
-mod numbers;
 mod perform;
 mod profile;
 mod progress;

@@ -42,36 +42,34 @@ pub(crate) fn profile_notes(
     flags: &[Flag],
 ) -> Result<Vec<u8>, AllocError> {
     let mut notes = Vec::new(alloc);
-    if !left_out.is_empty() {
-        let (count, names) = each_once(alloc, left_out)?;
-        let (noun, verb) = if count == 1 {
-            ("name", "is")
-        } else {
-            ("names", "are")
-        };
-        let (mark, names) = if listed {
-            (": ", names.as_str())
-        } else {
-            ("", "")
-        };
-        let told = format!(in alloc;
-            "{count} {noun} that {arch} has no call for {verb} left out{mark}{names}"
-        )?;
+    let names = each_once(alloc, left_out)?;
+    let listing = match listed {
+        true => format!(in alloc; ": {}", names.join(alloc, ", ")?)?,
+        false => String::new(alloc),
+    };
+    let told = match names.len() {
+        0 => String::new(alloc),
+        1 => format!(in alloc; "1 name that {arch} has no call for is left out{listing}")?,
+        count => format!(in alloc;
+            "{count} names that {arch} has no call for are left out{listing}"
+        )?,
+    };
+    if !told.is_empty() {
         notes.extend_from_slice(&note(alloc, path, told.as_bytes())?)?;
     }
     if !flags.is_empty() {
-        let count = flags.len();
-        let mut told = format!(in alloc; "flags to set when the program is installed ({count})")?;
-        let mut mark = ": ";
+        let mut names = Vec::new(alloc);
         for flag in flags {
-            told.push_str(mark)?;
-            told.push_str(match flag {
+            names.push(match flag {
                 Flag::Tsync => "SECCOMP_FILTER_FLAG_TSYNC",
                 Flag::Log => "SECCOMP_FILTER_FLAG_LOG",
                 Flag::SpecAllow => "SECCOMP_FILTER_FLAG_SPEC_ALLOW",
             })?;
-            mark = ", ";
         }
+        let (count, names) = (flags.len(), names.join(alloc, ", ")?);
+        let told = format!(in alloc;
+            "flags to set when the program is installed ({count}): {names}"
+        )?;
         notes.extend_from_slice(&note(alloc, path, told.as_bytes())?)?;
     }
     Ok(notes)
@@ -86,21 +84,19 @@ pub(crate) fn uncompiled(
     let ToolError::Profile(CompileError::UnknownNames(names)) = &error else {
         return Ok(error);
     };
-    let (count, names) = each_once(alloc, names)?;
+    let names = each_once(alloc, names)?;
+    let (count, names) = (names.len(), names.join(alloc, ", ")?);
     let told = format!(in alloc; "not system calls of {arch} ({count}): {names}")?;
     Ok(ToolError::Fault(told))
 }
 
-// How many names these are, each counted once, and the names, each where it first stands.
-fn each_once(alloc: Global, names: &[String]) -> Result<(usize, String), AllocError> {
-    let (mut told, mut list) = (BTreeMap::new(alloc), String::new(alloc));
+// These names as people read them, each where it first stands.
+fn each_once(alloc: Global, names: &[String]) -> Result<Vec<String>, AllocError> {
+    let (mut told, mut list) = (BTreeMap::new(alloc), Vec::new(alloc));
     for name in names {
         if told.insert(name.as_str(), ())?.is_none() {
-            if told.len() > 1 {
-                list.push_str(", ")?;
-            }
-            list.push_str(readable(alloc, name.as_str(), TextKind::Name)?.as_str())?;
+            list.push(readable(alloc, name.as_str(), TextKind::Name)?)?;
         }
     }
-    Ok((told.len(), list))
+    Ok(list)
 }

@@ -1,14 +1,15 @@
-// The record of a call.
+// Calls and their records, and numbers as they are written in words.
 
-ghost use Rattle.std.specs.Prelude.{◌≡◌, ◌++◌, ℕ, All, map, IfOk, IfErr, IfSome, IfNone, OnOk};
+ghost use Rattle.std.specs.Prelude.{◌≡◌, ◌++◌, ◌↔◌, ℕ, All, map, IfOk, IfErr, IfSome, IfNone, IsTrue, OnOk};
 ghost use Rattle.std.specs.Int.{w64, to_le_bytes};
 ghost use Rattle.std.specs.List.{concat};
+ghost use Rattle.seccomptool.specs.Numbers.{IsNumber, IsOctal};
 ghost use Rattle.seccomptool.specs.Record.{IsCall, IsRecordOf, IsUncalled, record_bytes};
 
 use crate::error::ToolError;
 use crate::findings::parts::name_of;
 use crate::json::{push_item, written};
-use crate::numbers::read_number;
+use seccomp_command_line::numbers::read_digits;
 use seccompiler::{SyscallTable, TargetArch};
 use serde_json::json;
 use std::alloc::{AllocError, Global};
@@ -131,4 +132,24 @@ fn push_arguments(bytes: &mut Vec<u8>, arguments: &[u64]) -> Result<(), AllocErr
         bytes.extend_from_slice(&argument.to_le_bytes())?;
     }
     Ok(())
+}
+
+// The number that a text of decimal digits writes, or of hexadecimal ones after `0x`, if 64 bits hold it. Numbers that begin with a
+// 0 are octal in C, so none is read.
+pub(crate) fn read_number(text: &str) -> Option<u64>
+    ensures read { IfSome result (IsNumber text.now) }
+    ensures unread { IfNone result ((n : ℕ) → IsNumber text.now n → ⊥) }
+{
+    match text.strip_prefix("0x") {
+        Some(digits) => read_digits(digits, 16),
+        None if is_octal(text) => None,
+        None => read_digits(text, 10),
+    }
+}
+
+// Whether a text is written as octal numbers are in C.
+fn is_octal(text: &str) -> bool
+    ensures { IsTrue result ↔ IsOctal text.now }
+{
+    text.len() > 1 && text.as_bytes()[0] == b'0'
 }

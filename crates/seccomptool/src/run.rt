@@ -3,20 +3,39 @@
 pub mod fault;
 pub(crate) mod initializers;
 pub(crate) mod program;
-mod unfit;
 
 ghost use Rattle.std.specs.Prelude.{IfOk};
+ghost use Rattle.std.specs.List.{AllZip};
 ghost use Rattle.seccomp_compare.specs.Machine.{IsChecked};
-ghost use Rattle.seccomptool.specs.Run.{AreReturned};
+ghost use Rattle.seccomptool.specs.Explain.{IsOfProgram, IsReturned};
 
-use crate::explain::Why;
-use crate::explain::lines::{Decision, LineFormat, push_decision};
-use crate::explain::log::{Caller, caller_at};
+use crate::error::ToolError;
 use crate::explain::search::word_at;
+use crate::explain::{Explained, Explanation, Why};
+use crate::run::program::program_of;
 use seccomp_compare::machine;
 use seccompiler::machine::Outcome;
 use seccompiler::{BpfProgramRef, TargetArch};
 use std::alloc::{AllocError, Global};
+
+/// Explains what the program that is given decides: the values that it returns, and in how many steps.
+///
+/// # Errors
+///
+/// Those of [`program_of`].
+pub(crate) fn explain_program(
+    alloc: Global,
+    target: TargetArch,
+    given: &[u8],
+    records: &[[u8; 64]],
+) -> Result<Explanation, ToolError>
+    ensures { IfOk result (IsOfProgram given.now records.now) }
+{
+    let program = program_of(alloc, given)?;
+    let records = returned(alloc, target, &program, records)?;
+    let name = String::new(alloc);
+    Ok(Explanation { name, records })
+}
 
 /// What a program returns for records, one for each, in order.
 ///
@@ -24,44 +43,31 @@ use std::alloc::{AllocError, Global};
 /// a kernel does.
 pub fn returned(
     alloc: Global,
+    target: TargetArch,
     program: BpfProgramRef<'_>,
     records: &[[u8; 64]],
-) -> Result<Vec<Outcome>, AllocError>
+) -> Result<Vec<Explained>, AllocError>
     requires { IsChecked program.now }
-    ensures { IfOk result (λ outcomes. AreReturned program.now records.now outcomes.items) }
+    ensures { IfOk result (λ all. AllZip (IsReturned program.now) records.now all.items) }
 {
-    let mut outcomes = Vec::new(alloc);
-    for record in records {
-        outcomes.push(machine::run(program, record))?;
+    let mut all = Vec::new(alloc);
+    for call in records {
+        all.push(returned_for(target, program, call))?;
     }
-    Ok(outcomes)
+    Ok(all)
 }
 
-/// The lines of what is returned for records.
-pub(crate) fn outcomes_text(
-    alloc: Global,
-    target: TargetArch,
-    format: LineFormat,
-    records: &[[u8; 64]],
-    outcomes: &[Outcome],
-    callers: &[Caller<'_>],
-) -> Result<Vec<u8>, AllocError> {
-    let mut text = Vec::new(alloc);
-    for (index, (record, outcome)) in records.iter().zip(outcomes).enumerate() {
-        let Outcome { word, steps } = *outcome;
-        let number = if word_at(record, 4) == target.get_audit_value() {
-            Some(word_at(record, 0))
-        } else {
-            None
-        };
-        let decision = Decision {
-            target,
-            name: "",
-            caller: caller_at(callers, index),
-            word,
-            why: Why::Program { number, steps },
-        };
-        push_decision(&mut text, alloc, format, decision)?;
-    }
-    Ok(text)
+// What a program returns for a record.
+fn returned_for(target: TargetArch, program: BpfProgramRef<'_>, call: &[u8; 64]) -> Explained
+    requires { IsChecked program.now }
+    ensures { IsReturned program.now call.now result }
+{
+    let Outcome { word, steps } = machine::run(program, call);
+    let number = if word_at(call, 4) == target.get_audit_value() {
+        Some(word_at(call, 0))
+    } else {
+        None
+    };
+    let why = Why::Program { number, steps };
+    Explained { word, why }
 }

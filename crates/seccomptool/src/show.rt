@@ -9,7 +9,7 @@ ghost use Rattle.std.specs.Map.{keys_of};
 ghost use Rattle.seccompiler.specs.JsonAnswers.{OfValue};
 ghost use Rattle.seccomptool.specs.Compile.{ArePrograms, IsCompiledAs};
 
-use crate::chosen::{is_asked, some_text};
+use crate::chosen::some_text;
 use crate::compile::{NamedProgram, program_value};
 use crate::error::ToolError;
 use crate::json::push_item;
@@ -62,7 +62,7 @@ pub(crate) fn programs_text(
     let mut text = Vec::new(alloc);
     for NamedProgram { name, program } in programs {
         let name = name.as_str();
-        if is_asked(asked, name) {
+        if asked.unwrap_or(name) == name {
             if !json {
                 let count = program.len();
                 text.extend_from_slice(format!(in alloc; "filter {count} ")?.as_bytes())?;

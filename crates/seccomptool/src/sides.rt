@@ -1,16 +1,18 @@
 // A side of a comparison: what it rules, and a program that stands for it.
 
 ghost use Rattle.std.specs.Prelude.{IfOk};
+ghost use Rattle.seccompiler.specs.declared.backend.TargetArch.{TargetArch};
 ghost use Rattle.seccomptool.specs.Chosen.{text_of};
+ghost use Rattle.seccomptool.specs.Rulings.{StandsFor, of_filter};
 ghost use Rattle.seccomptool.specs.Sides.{StandsForFilter, StandsForSide};
 
 use crate::chosen::{chosen_of, refuse_name};
 use crate::error::ToolError;
-use crate::findings::fitting::fitting_program;
 use crate::kind::Subject;
 use crate::profile::compiled_of;
 use crate::run::program::program_of;
-use seccompiler::{BpfProgram, JsonCompiler, TargetArch};
+use seccomp_tree::fitting_bpf;
+use seccompiler::{BpfProgram, JsonCompiler, SeccompFilter, TargetArch};
 use std::alloc::Global;
 
 /// A side of a comparison.
@@ -85,4 +87,14 @@ fn of_policy(
         name: Some(chosen.0),
         program,
     })
+}
+
+/// The program of a filter as a tree if that fits, else in the linear layout.
+pub(crate) fn fitting_program(
+    alloc: Global,
+    filter: &SeccompFilter,
+) -> Result<BpfProgram, ToolError>
+    ensures { IfOk result (λ program. (target : TargetArch) → StandsFor target (of_filter filter.now) program.items) }
+{
+    Ok(fitting_bpf(alloc, filter)?)
 }

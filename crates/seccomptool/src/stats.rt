@@ -1,25 +1,26 @@
 // How long programs are, and how many steps they take.
 
-mod ways;
-
-ghost use Rattle.std.specs.Prelude.{◌≡◌, IfOk, string_cmp};
+ghost use Rattle.std.specs.Prelude.{◌≡◌, ◌≢◌, ◌+◌, ◌<◌, length, IfOk, string_cmp};
 ghost use Rattle.std.specs.List.{AllZip};
 ghost use Rattle.std.specs.List.Sorted.{IsStrictlySortedBy};
 ghost use Rattle.std.specs.Map.{keys_of};
 ghost use Rattle.seccompiler.specs.JsonAnswers.{OfValue};
-ghost use Rattle.seccomp_compare.specs.Machine.{IsChecked};
+ghost use Rattle.seccomp_compare.specs.Machine.{IsChecked, IsFine};
 ghost use Rattle.seccomptool.specs.Stats.{AreStats, IsMeasureIn, IsMeasureOf, IsMeasured, IsProfileMeasure, passing_record};
+ghost use Rattle.seccomptool.specs.Ways.{IsGreatestNext, IsMost};
 
-use crate::chosen::{is_asked, some_text};
+use crate::chosen::some_text;
 use crate::error::ToolError;
 use crate::json::{push_item, text_or_null};
 use crate::profile::compiled_of;
-use crate::stats::ways::most_steps;
 use seccomp_command_line::readable::{TextKind, push_readable};
 use seccomp_compare::machine::run;
 use seccomp_oci::Container;
 use seccomp_tree::{FilterError, Layout, to_bpf_in};
-use seccompiler::{BpfProgramRef, JsonCompiler, SeccompFilter, SyscallTable, TargetArch};
+use seccompiler::bpf::{JUMP, LOAD, MASK, RETURN};
+use seccompiler::{
+    BpfProgramRef, JsonCompiler, SeccompFilter, SyscallTable, TargetArch, sock_filter,
+};
 use serde_json::json;
 use std::alloc::{AllocError, Global};
 use std::collections::BTreeMap;
@@ -138,6 +139,42 @@ pub(crate) fn measure_of(
     })
 }
 
+// The most instructions on a way through a program, from its first instruction to a return. Whether a
+// record takes it is not asked.
+fn most_steps(alloc: Global, program: BpfProgramRef<'_>) -> Result<usize, AllocError>
+    requires { IsChecked program.now }
+    ensures { IfOk result (IsMost program.now) }
+{
+    // The most on a way from each place on, which the places behind it tell.
+    let mut most = vec![in alloc; 0usize; program.len()]?;
+    for place in (0..program.len()).rev() {
+        let instruction = program[place];
+        let behind = if instruction.code == RETURN {
+            0
+        } else {
+            most_behind(instruction, place, &most)
+        };
+        most[place] = behind + 1;
+    }
+    Ok(most[0])
+}
+
+// The greatest of the numbers at the places that an instruction may lead to.
+fn most_behind(instruction: sock_filter, place: usize, most: &[usize]) -> usize
+    requires fine { IsFine instruction place (length most.now) }
+    requires goes_on { instruction.code ≢ RETURN }
+    requires next { place + 1 < length most.now }
+    ensures { IsGreatestNext instruction place most.now result }
+{
+    let sock_filter { code, jt, jf, k } = instruction;
+    let next = place + 1;
+    match code {
+        LOAD | MASK => most[next],
+        JUMP => most[next + k as usize],
+        _ => most[next + jt as usize].max(most[next + jf as usize]),
+    }
+}
+
 // The record of the greatest call number, with arguments that are 0.
 fn passing_record(target: TargetArch) -> [u8; 64]
     ensures { result ≡ passing_record target }
@@ -158,7 +195,7 @@ pub(crate) fn filters_text(
     let mut text = Vec::new(alloc);
     for FilterStats { name, linear, tree } in all {
         let name = name.as_str();
-        if is_asked(asked, name) {
+        if asked.unwrap_or(name) == name {
             if !json {
                 text.extend_from_slice(b"filter ")?;
                 push_readable(&mut text, name, TextKind::Name)?;

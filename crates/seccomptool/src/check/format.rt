@@ -37,16 +37,19 @@ pub(crate) fn lines_of(
         _ => Outline::of(alloc, text)?,
     };
     for diagnostic in diagnostics {
-        let position = diagnostic.position(alloc, &outline)?;
+        let places = outline.places_at(alloc, &diagnostic.path)?;
+        let position = match (diagnostic.place, places) {
+            (Place::At(position), _) => Some(position),
+            (Place::Value, Some((value, _))) => Some(value),
+            (Place::Key, Some((_, key))) => Some(key),
+            _ => None,
+        };
         match format {
             CheckFormat::Text => push_text(&mut lines, alloc, path, diagnostic)?,
             CheckFormat::Gcc => push_line(&mut lines, alloc, path, position, diagnostic)?,
             CheckFormat::Json => {
-                push_item(
-                    &mut lines,
-                    alloc,
-                    &value_of(alloc, path, position, diagnostic)?,
-                )?;
+                let value = value_of(alloc, path, position, diagnostic)?;
+                push_item(&mut lines, alloc, &value)?;
             }
         }
     }

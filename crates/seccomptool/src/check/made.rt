@@ -4,9 +4,9 @@ ghost use Rattle.std.specs.Prelude.{◌≡◌, IfErr, IfOk};
 ghost use Rattle.seccomptool.specs.Commands.{IsAccepted, IsCheck, IsRejectedFor};
 ghost use Rattle.seccomptool.specs.declared.findings.Verdict.TheVariants.{Different};
 
+use crate::check::diagnostic::policy_diagnostics;
 use crate::check::fault::fault_diagnostic;
 use crate::check::format::{CheckFormat, lines_of};
-use crate::check::policy::policy_diagnostics;
 use crate::check::profile::lines::profile_diagnostics;
 use crate::check::profile::profile_checked;
 use crate::check::{checked, verdict_where};

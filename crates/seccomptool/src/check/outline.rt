@@ -88,6 +88,7 @@ impl Outline {
     // Takes the next piece of the text: a string is a key if it stands in an object and behind no other.
     fn take(&mut self, alloc: Global, piece: &[u8]) -> Result<(), AllocError> {
         let begins = self.at;
+        let is_in_object = matches!(self.open.last(), Some(outer) if outer.is_object);
         self.at.column = begins.column.saturating_add(piece.len());
         match piece {
             [b'\n', ..] => {
@@ -98,16 +99,12 @@ impl Outline {
             }
             [] | [b',' | b':' | b' ' | b'\t' | b'\r', ..] => {}
             [b'}' | b']', ..] => drop(self.open.pop()),
-            [b'"', ..] if self.key.is_none() && self.is_in_object() => {
+            [b'"', ..] if self.key.is_none() && is_in_object => {
                 self.key = Some((begins, name_in(alloc, piece)?));
             }
             [first, ..] => self.push(alloc, begins, *first)?,
         }
         Ok(())
-    }
-
-    fn is_in_object(&self) -> bool {
-        matches!(self.open.last(), Some(outer) if outer.is_object)
     }
 
     // Adds the value that begins here, with this byte.

@@ -224,7 +224,9 @@ fn push_of_filters(
     ensures { IfOk result (λ _. All (IsTold target container.now profile.now allowed.now) all.old.items → All (IsTold target container.now profile.now allowed.now) all.new.items) }
 {
     let filters = entry_filters_of(alloc, target, container, profile)?;
-    let denied = deny_clone3(&filters);
+    let denied = filters
+        .iter()
+        .any(|filter| denies_each(&filter.filter, "clone3"));
     let has_base = !matches!(profile.default, SeccompAction::Allow);
     let count = filters.len();
     for (place, filter) in filters.iter().enumerate() {
@@ -233,16 +235,6 @@ fn push_of_filters(
         push_of_filter(alloc, target, allowed, &left_out, filter, all)?;
     }
     Ok(())
-}
-
-// Whether one of the filters denies every `clone3`.
-fn deny_clone3(filters: &[EntryFilter]) -> bool {
-    for filter in filters {
-        if denies_each(&filter.filter, "clone3") {
-            return true;
-        }
-    }
-    false
 }
 
 // The codes of which nothing is said of a filter: of the one with the default action, or of another.

@@ -1,9 +1,9 @@
 // What is written of a comparison: lines, or JSON.
 
-use crate::diff::pair::Pair;
-use crate::diff::{Diff, Found, NamedFound, verdict_found};
-use crate::findings::lines::{Shown, push_filter, push_finding, push_verdict};
-use crate::findings::values::{part_value, verdict_name};
+use crate::diff::{Diff, Found, NamedFound, Pair, verdict_found};
+use crate::findings::lines::{
+    Shown, part_value, push_filter, push_finding, push_verdict, verdict_name,
+};
 use crate::findings::{Answer, Finding, Part, Terms, Verdict, verdict_of};
 use crate::json::{push_item, said_or_null, text_or_null, written};
 use crate::kind::Subject;
@@ -46,11 +46,13 @@ pub(crate) fn diff_text(
                 Some(title(old, &pair.old_name)),
                 Some(title(new, &pair.new_name)),
             ];
-            let (target, pointer) = (terms.target, pair.loads_pointer);
-            let both = [(Some(target), &pair.found.own), (None, &pair.found.others)];
-            for (arch, findings) in both {
+            let found = &pair.found;
+            for (arch, findings) in [(Some(terms.target), &found.own), (None, &found.others)] {
                 if arch.is_none() && !is_program(old) && !is_program(new) {
                     continue;
+                }
+                if !json {
+                    push_title(&mut text, arch, pair, names)?;
                 }
                 let found = Compared {
                     names,
@@ -58,20 +60,10 @@ pub(crate) fn diff_text(
                     verdict: verdict_of(findings),
                     findings,
                 };
-                if json {
-                    push_item(&mut text, alloc, &value_of(alloc, target, found)?)?;
-                } else {
-                    push_title(&mut text, arch, pair, names)?;
-                    push_verdict(&mut text, terms.relation, found.verdict)?;
-                    let shown = Shown { target, pointer };
-                    push_findings(
-                        &mut text,
-                        alloc,
-                        shown,
-                        &[Some(true), Some(false)],
-                        findings,
-                    )?;
-                }
+                // Calls that have a name, and then those that have none.
+                let turns = [Some(true), Some(false)];
+                let pointer = pair.loads_pointer;
+                push_compared(&mut text, alloc, terms, json, pointer, &turns, found)?;
             }
         }
     }
@@ -88,46 +80,48 @@ fn push_named(
 ) -> Result<(), AllocError> {
     let name = Some(named.name.as_str());
     let none: &[Finding] = &[];
-    let (names, findings, only) = match &named.found {
-        Found::OnlyOld => ([name, None], none, ": only in OLD\n"),
-        Found::OnlyNew => ([None, name], none, ": only in NEW\n"),
-        Found::Both(findings) => ([name, name], findings.as_slice(), ""),
+    let (names, findings) = match &named.found {
+        Found::OnlyOld => ([name, None], none),
+        Found::OnlyNew => ([None, name], none),
+        Found::Both(findings) => ([name, name], findings.as_slice()),
     };
-    let (target, verdict) = (terms.target, verdict_found(&named.found));
-    if json {
-        let found = Compared {
-            names,
-            arch: Some(target),
-            verdict,
-            findings,
-        };
-        return push_item(text, alloc, &value_of(alloc, target, found)?);
+    if !json {
+        push_filter(text, named.name.as_str())?;
     }
-    push_filter(text, named.name.as_str())?;
-    if !only.is_empty() {
-        return text.extend_from_slice(only.as_bytes());
-    }
-    push_verdict(text, terms.relation, verdict)?;
-    let shown = Shown {
-        target,
-        pointer: false,
+    let found = Compared {
+        names,
+        arch: Some(terms.target),
+        verdict: verdict_found(&named.found),
+        findings,
     };
-    push_findings(text, alloc, shown, &[None], findings)
+    push_compared(text, alloc, terms, json, false, &[None], found)
 }
 
-// Adds the lines of findings: in turn of calls that have a name or that have none, or of all.
-fn push_findings(
+// Adds what is found: as JSON an item, else behind a title the verdict and the lines of findings, in turn of calls that have a name or
+// that have none, or of all.
+fn push_compared(
     text: &mut Vec<u8>,
     alloc: Global,
-    shown: Shown,
+    terms: Terms,
+    json: bool,
+    pointer: bool,
     turns: &[Option<bool>],
-    findings: &[Finding],
+    found: Compared<'_>,
 ) -> Result<(), AllocError> {
+    let target = terms.target;
+    if json {
+        return push_item(text, alloc, &value_of(alloc, target, found)?);
+    }
+    match found.names {
+        [_, None] => return text.extend_from_slice(b": only in OLD\n"),
+        [None, _] => return text.extend_from_slice(b": only in NEW\n"),
+        _ => push_verdict(text, terms.relation, found.verdict)?,
+    }
     for of_named in turns {
-        for finding in findings {
+        for finding in found.findings {
             let is_named = matches!(finding.part, Part::Named { .. });
             if of_named.unwrap_or(is_named) == is_named {
-                push_finding(alloc, text, shown, *finding)?;
+                push_finding(alloc, text, Shown { target, pointer }, *finding)?;
             }
         }
     }

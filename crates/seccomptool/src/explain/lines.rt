@@ -1,12 +1,11 @@
 // What is written of what is decided on records.
 
-use crate::explain::log::{Caller, caller_at};
+use crate::explain::log::Caller;
 use crate::explain::search::{Miss, Reason};
-use crate::explain::{Explanation, Why};
-use crate::findings::lines::{CallName, Word};
+use crate::explain::{Explained, Explanation, Why};
+use crate::findings::lines::{CallName, Word, action_value};
 use crate::findings::parts::name_of;
-use crate::findings::values::action_value;
-use crate::json::{call_or_null, push_item, said_or_null};
+use crate::json::{call_or_null, push_item, said_or_null, written};
 use seccomp_command_line::readable::{TextKind, readable};
 use seccompiler::TargetArch;
 use serde_json::{Value, json};
@@ -24,23 +23,14 @@ pub enum LineFormat {
     Json,
 }
 
-/// A decision on a record of this architecture.
-#[derive(Clone, Copy)]
-pub(crate) struct Decision<'a> {
-    /// The architecture.
-    pub target: TargetArch,
-    /// The name of the filter that decides, if one does.
-    pub name: &'a str,
-    /// Who made the call.
-    pub caller: Caller<'a>,
-    /// The value that is returned.
-    pub word: u32,
-    /// Why.
-    pub why: Why,
-}
-
-/// The lines of records, one for each.
-pub(crate) fn explained_lines(
+/// The lines of what is decided on records of an architecture, one for each, after who made the call; as JSON their list.
+///
+/// By `LineFormat::Path` the action by its name in a policy: `allow`, `log`, `trap`, `kill_thread`, `kill_process` and
+/// `user_notif`, a space and the low 16 bits in decimal after `errno` and `trace`, and the name of an errno that has one in brackets;
+/// a value that is none of these is written in hexadecimal digits after `0x`. The reason follows, by paths in the policy or the
+/// profile, and the call by its name and number. By `LineFormat::Word` the value in 8 hexadecimal digits, a space, and the reason in
+/// numbers: of a program its steps.
+pub(crate) fn explained_text(
     alloc: Global,
     target: TargetArch,
     format: LineFormat,
@@ -48,49 +38,31 @@ pub(crate) fn explained_lines(
     callers: &[Caller<'_>],
 ) -> Result<Vec<u8>, AllocError> {
     let mut text = Vec::new(alloc);
-    let name = match &explanation.filter {
-        Some(filter) => filter.name.as_str(),
-        None => "",
-    };
-    for (index, explained) in explanation.records.iter().enumerate() {
-        let decision = Decision {
-            target,
-            name,
-            caller: caller_at(callers, index),
-            word: explained.action.into(),
-            why: explained.why,
+    let (name, mut callers) = (explanation.name.as_str(), callers.iter());
+    for Explained { word, why } in &explanation.records {
+        let (word, why) = (*word, *why);
+        let caller = callers.next().copied().unwrap_or(Caller {
+            program: "",
+            process: "",
+        });
+        let line = match format {
+            LineFormat::Json => {
+                let value = value_of(alloc, target, name, caller, word, why)?;
+                push_item(&mut text, alloc, &value)?;
+                continue;
+            }
+            LineFormat::Word => {
+                let reason = reason_in_numbers(alloc, target, why)?;
+                format!(in alloc; "{caller}{word:08x} {reason}\n")?
+            }
+            LineFormat::Path => {
+                let (action, reason) = (Word(word), reason_by_path(alloc, target, name, why)?);
+                format!(in alloc; "{caller}{action}: {reason}\n")?
+            }
         };
-        push_decision(&mut text, alloc, format, decision)?;
+        text.extend_from_slice(line.as_bytes())?;
     }
-    Ok(text)
-}
-
-/// Adds the line of a decision, after who made the call.
-///
-/// By `LineFormat::Path` the action by its name in a policy: `allow`, `log`, `trap`, `kill_thread`, `kill_process` and
-/// `user_notif`, a space and the low 16 bits in decimal after `errno` and `trace`, and the name of an errno that has one in brackets;
-/// a value that is none of these is written in hexadecimal digits after `0x`. The reason follows, by paths in the policy or the
-/// profile, and the call by its name and number. By `LineFormat::Word` the value in 8 hexadecimal digits, a space, and the reason in
-/// numbers: of a program its steps.
-pub(crate) fn push_decision(
-    text: &mut Vec<u8>,
-    alloc: Global,
-    format: LineFormat,
-    decision: Decision<'_>,
-) -> Result<(), AllocError> {
-    let Decision { caller, word, .. } = decision;
-    let line = match format {
-        LineFormat::Json => return push_item(text, alloc, &value_of(alloc, decision)?),
-        LineFormat::Word => {
-            let reason = reason_in_numbers(alloc, decision)?;
-            format!(in alloc; "{caller}{word:08x} {reason}\n")?
-        }
-        LineFormat::Path => {
-            let (action, reason) = (Word(word), reason_by_path(alloc, decision)?);
-            format!(in alloc; "{caller}{action}: {reason}\n")?
-        }
-    };
-    text.extend_from_slice(line.as_bytes())
+    written(alloc, matches!(format, LineFormat::Json), "decisions", text)
 }
 
 // The kind of a reason; the number of the call, if it is of the architecture; the entry, and the condition of it, that are the
@@ -145,11 +117,26 @@ fn path_of(alloc: Global, name: &str, why: Why) -> Result<String, AllocError> {
 }
 
 // A reason in numbers.
-fn reason_in_numbers(alloc: Global, decision: Decision<'_>) -> Result<String, AllocError> {
-    let target = decision.target;
-    match decision.why {
-        Why::Filter(reason) => format!(in alloc; "{reason}"),
-        Why::Elsewhere => String::from_str(alloc, "another architecture"),
+fn reason_in_numbers(alloc: Global, target: TargetArch, why: Why) -> Result<String, AllocError> {
+    match why {
+        Why::Elsewhere | Why::Filter(Reason::AnotherArchitecture) => {
+            String::from_str(alloc, "another architecture")
+        }
+        Why::Filter(Reason::NoEntry { number }) => format!(in alloc; "no entry of call {number}"),
+        Why::Filter(
+            Reason::NoMatch {
+                entries,
+                number,
+                ..
+            },
+        ) => format!(in alloc; "no match among {entries} entries of call {number}"),
+        Why::Filter(
+            Reason::Entry {
+                place,
+                rule,
+                number,
+            },
+        ) => format!(in alloc; "entry {place}, rule {rule} of call {number}"),
         Why::Profile { entry: None, .. } => String::from_str(alloc, "defaultAction"),
         Why::Profile {
             number,
@@ -162,14 +149,13 @@ fn reason_in_numbers(alloc: Global, decision: Decision<'_>) -> Result<String, Al
     }
 }
 
-// A reason by paths in the policy, and the call, by its number alone if the architecture has no name for it.
-fn reason_by_path(alloc: Global, decision: Decision<'_>) -> Result<String, AllocError> {
-    let Decision {
-        target,
-        name,
-        why,
-        ..
-    } = decision;
+// A reason by paths in the policy of a filter of this name, and the call, by its number alone if the architecture has no name for it.
+fn reason_by_path(
+    alloc: Global,
+    target: TargetArch,
+    name: &str,
+    why: Why,
+) -> Result<String, AllocError> {
     let Some(number) = told_of(why).1 else {
         return String::from_str(alloc, "another architecture");
     };
@@ -194,20 +180,26 @@ fn reason_by_path(alloc: Global, decision: Decision<'_>) -> Result<String, Alloc
 }
 
 // A decision as an object.
-fn value_of(alloc: Global, decision: Decision<'_>) -> Result<Value, AllocError> {
-    let (reason, number, entry, condition, steps) = told_of(decision.why);
-    let Caller { program, process } = decision.caller;
-    let path = path_of(alloc, decision.name, decision.why)?;
+fn value_of(
+    alloc: Global,
+    target: TargetArch,
+    name: &str,
+    caller: Caller<'_>,
+    word: u32,
+    why: Why,
+) -> Result<Value, AllocError> {
+    let (reason, number, entry, condition, steps) = told_of(why);
+    let path = path_of(alloc, name, why)?;
     json!(in alloc; {
-        "action": action_value(alloc, decision.word)?,
-        "call": call_or_null(alloc, decision.target, number)?,
+        "action": action_value(alloc, word)?,
+        "call": call_or_null(alloc, target, number)?,
         "number": number,
         "reason": reason,
         "path": said_or_null(alloc, path.as_str())?,
         "entry": entry,
         "condition": condition,
         "steps": steps,
-        "program": said_or_null(alloc, program)?,
-        "process": said_or_null(alloc, process)?
+        "program": said_or_null(alloc, caller.program)?,
+        "process": said_or_null(alloc, caller.process)?
     })
 }

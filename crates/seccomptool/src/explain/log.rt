@@ -26,14 +26,6 @@ impl fmt::Display for Caller<'_> {
     }
 }
 
-// Who made the call of a record, if that is known.
-pub(crate) fn caller_at<'a>(callers: &[Caller<'a>], index: usize) -> Caller<'a> {
-    callers.get(index).copied().unwrap_or(Caller {
-        program: "",
-        process: "",
-    })
-}
-
 /// The calls that lines are about.
 #[derive(Drop)]
 pub(super) struct Log<'a> {

@@ -5,19 +5,17 @@ ghost use Rattle.seccomptool.specs.Chosen.{text_of};
 ghost use Rattle.seccomptool.specs.Commands.{IsExplained, IsExplainedAs, OnRecords, records_in};
 ghost use Rattle.seccomptool.specs.declared.findings.Verdict.TheVariants.{Same};
 
-use super::lines::{LineFormat, explained_lines};
+use super::lines::explained_text;
 use super::log::{Caller, log_of};
-use super::{explain_policy, explain_profile};
+use super::{Explanation, explain_policy, explain_profile};
 use crate::chosen::refuse_name;
 use crate::error::{FaultAt, ToolError};
 use crate::findings::Verdict;
-use crate::json::written;
 use crate::kind::{Subject, subject_of};
 use crate::learn::notes::strange_note;
 use crate::made::Made;
 use crate::record::called_record;
-use crate::run::program::program_of;
-use crate::run::{outcomes_text, returned};
+use crate::run::explain_program;
 use crate::words::{Calls, Explaining};
 use std::alloc::Global;
 
@@ -57,13 +55,8 @@ fn explain_records(
 {
     let subject = subject_of(alloc, &asked.reading, given)?;
     let (records, rest) = records.as_chunks::<64>();
-    let text = explained_text(alloc, asked, subject, given, records, callers)?;
-    let text = written(
-        alloc,
-        matches!(asked.format, LineFormat::Json),
-        "decisions",
-        text,
-    )?;
+    let explanation = explanation_of(alloc, asked, subject, given, records)?;
+    let text = explained_text(alloc, asked.arch, asked.format, &explanation, callers)?;
     Ok(Made {
         text,
         rest: rest.len(),
@@ -73,32 +66,25 @@ fn explain_records(
 }
 
 // What is decided on records, and why.
-fn explained_text(
+fn explanation_of(
     alloc: Global,
     asked: &Explaining<'_>,
     subject: Subject<'_>,
     given: &[u8],
     records: &[[u8; 64]],
-    callers: &[Caller<'_>],
-) -> Result<Vec<u8>, ToolError>
-    ensures { IfOk result (λ text. IsExplainedAs asked.now.arch subject.entry (text_of asked.now.filter) given.now records.now) }
+) -> Result<Explanation, ToolError>
+    ensures { IfOk result (IsExplainedAs asked.now.arch subject.entry (text_of asked.now.filter) given.now records.now) }
 {
-    let (arch, format) = (asked.arch, asked.format);
+    let arch = asked.arch;
     match subject {
-        Subject::Policy => {
-            let explanation = explain_policy(alloc, arch, asked.filter, given, records)?;
-            Ok(explained_lines(alloc, arch, format, &explanation, callers)?)
-        }
+        Subject::Policy => explain_policy(alloc, arch, asked.filter, given, records),
         Subject::Profile(container) => {
             refuse_name(alloc, asked.filter)?;
-            let explanation = explain_profile(alloc, arch, container, given, records)?;
-            Ok(explained_lines(alloc, arch, format, &explanation, callers)?)
+            explain_profile(alloc, arch, container, given, records)
         }
         Subject::Program => {
             refuse_name(alloc, asked.filter)?;
-            let program = program_of(alloc, given)?;
-            let outcomes = returned(alloc, &program, records)?;
-            Ok(outcomes_text(alloc, arch, format, records, &outcomes, callers)?)
+            explain_program(alloc, arch, given, records)
         }
     }
 }

@@ -9,7 +9,6 @@ ghost use Rattle.seccomptool.specs.Reasons.{AreIndicesFor, ConditionHolds, Entry
 
 use seccompiler::{JsonCondition, JsonRule, SeccompCondition, SyscallTable, TargetArch};
 use std::alloc::{AllocError, Global};
-use std::fmt;
 
 /// A condition that doesn't hold.
 #[derive(Clone, Copy)]
@@ -49,26 +48,6 @@ pub enum Reason {
         /// The call's number.
         number: u32,
     },
-}
-
-/// The reason in numbers.
-impl fmt::Display for Reason {
-    fn fmt<W: fmt::Write>(&self, f: &mut fmt::Formatter<W>) -> fmt::Result {
-        match self {
-            Reason::AnotherArchitecture => f.write_str("another architecture"),
-            Reason::NoEntry { number } => write!(f, "no entry of call {number}"),
-            Reason::NoMatch {
-                entries,
-                number,
-                nearest: _,
-            } => write!(f, "no match among {entries} entries of call {number}"),
-            Reason::Entry {
-                place,
-                rule,
-                number,
-            } => write!(f, "entry {place}, rule {rule} of call {number}"),
-        }
-    }
 }
 
 // Why a filter of these entries decides a record as it does.

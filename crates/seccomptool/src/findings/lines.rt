@@ -1,14 +1,16 @@
-// What is printed of findings.
+// What is printed of findings: lines, or JSON.
 
 ghost use Rattle.std.specs.Prelude.{◌≤◌};
 
 use crate::explain::search::word_at;
 use crate::findings::parts::{X32, name_of};
 use crate::findings::{Answer, Finding, Part, Verdict};
+use crate::json::{call_or_null, text_or_null};
 use seccomp_command_line::readable::{TextKind, push_readable};
 use seccomp_compare::{Relation, rank};
 use seccomp_names::error_name;
 use seccompiler::TargetArch;
+use serde_json::{Value, json};
 use std::alloc::{AllocError, Global};
 use std::fmt;
 
@@ -49,29 +51,35 @@ pub(crate) fn push_finding(
     shown: Shown,
     finding: Finding,
 ) -> Result<(), AllocError> {
-    let Finding { part, answer } = finding;
     let target = shown.target;
-    let name = PartName { target, part };
-    match answer {
-        Answer::Holds => Ok(()),
+    let told = match finding.answer {
+        Answer::Holds => return Ok(()),
         Answer::Fails { call, old, new } => {
             let (kind, example) = (kind_of(old, new), Example { shown, call });
             let (old, new) = (Word(old), Word(new));
-            push(
-                text,
-                format!(in alloc; "  {name}: {old} -> {new}, {kind}: {example}\n")?,
-            )
+            format!(in alloc; "{old} -> {new}, {kind}: {example}")?
         }
-        Answer::Undecided => push(text, format!(in alloc; "  {name}: undecided\n")?),
-    }
-}
-
-fn push(text: &mut Vec<u8>, more: String) -> Result<(), AllocError> {
-    text.extend_from_slice(more.as_bytes())
+        Answer::Undecided => String::from_str(alloc, "undecided")?,
+    };
+    let line = match finding.part {
+        Part::Named { number } => {
+            let name = CallName { target, number };
+            format!(in alloc; "  {name}: {told}\n")?
+        }
+        Part::Unnamed { least, greatest } => {
+            let is_x32 = least == X32 && target == TargetArch::x86_64;
+            let of = if is_x32 { "x32" } else { "other" };
+            format!(in alloc; "  {of} calls {least} to {greatest}: {told}\n")?
+        }
+        Part::Elsewhere { least, greatest } => format!(in alloc;
+            "  other architectures 0x{least:x} to 0x{greatest:x}: {told}\n"
+        )?,
+    };
+    text.extend_from_slice(line.as_bytes())
 }
 
 // Whether the new value permits more than the old one.
-pub(super) fn kind_of(old: u32, new: u32) -> &'static str {
+fn kind_of(old: u32, new: u32) -> &'static str {
     let (old, new) = (rank(old), rank(new));
     if old < new {
         "more"
@@ -138,36 +146,6 @@ impl fmt::Display for CallName {
     }
 }
 
-/// A part, by what it is of.
-#[derive(Clone, Copy)]
-struct PartName {
-    target: TargetArch,
-    part: Part,
-}
-
-impl fmt::Display for PartName {
-    fn fmt<W: fmt::Write>(&self, f: &mut fmt::Formatter<W>) -> fmt::Result {
-        let target = self.target;
-        match self.part {
-            Part::Named { number } => {
-                let name = CallName { target, number };
-                write!(f, "{name}")
-            }
-            Part::Unnamed { least, greatest } => {
-                let of = if least == X32 && target == TargetArch::x86_64 {
-                    "x32"
-                } else {
-                    "other"
-                };
-                write!(f, "{of} calls {least} to {greatest}")
-            }
-            Part::Elsewhere { least, greatest } => {
-                write!(f, "other architectures 0x{least:x} to 0x{greatest:x}")
-            }
-        }
-    }
-}
-
 /// A call on which two sides differ: its name or number, after the `AUDIT_ARCH_*` value if that is another, its arguments,
 /// and the instruction pointer if that is to be printed.
 #[derive(Clone, Copy)]
@@ -202,8 +180,81 @@ impl fmt::Display for Example {
 }
 
 // The 64-bit number of bytes `k` to `k + 7`.
-pub(super) fn number_at(call: &[u8; 64], k: usize) -> u64
+fn number_at(call: &[u8; 64], k: usize) -> u64
     requires { k ≤ 56 }
 {
     u64::from(word_at(call, k)) | u64::from(word_at(call, k + 4)) << 32
+}
+
+/// The action that a program's value stands for, as an object.
+pub(crate) fn action_value(alloc: Global, word: u32) -> Result<Value, AllocError> {
+    let (name, number) = Word(word).action();
+    let name = text_or_null(alloc, name)?;
+    json!(in alloc; { "name": name, "number": number, "value": word })
+}
+
+/// The name of a verdict.
+pub(crate) fn verdict_name(verdict: Verdict) -> &'static str {
+    match verdict {
+        Verdict::Same => "same",
+        Verdict::Different => "different",
+        Verdict::Undecided => "undecided",
+    }
+}
+
+/// What is found on a part on which the relation doesn't hold, or that is undecided, as an object.
+pub(crate) fn part_value(
+    alloc: Global,
+    target: TargetArch,
+    finding: Finding,
+) -> Result<Value, AllocError> {
+    let (number, least, greatest) = match finding.part {
+        Part::Named { number } => (Some(number), number, number),
+        Part::Unnamed { least, greatest } | Part::Elsewhere { least, greatest } => {
+            (None, least, greatest)
+        }
+    };
+    let (verdict, old, new, change, example) = match finding.answer {
+        Answer::Fails { call, old, new } => (
+            Verdict::Different,
+            action_value(alloc, old)?,
+            action_value(alloc, new)?,
+            Some(kind_of(old, new)),
+            record_value(alloc, &call)?,
+        ),
+        _ => (
+            Verdict::Undecided,
+            Value::Null,
+            Value::Null,
+            None,
+            Value::Null,
+        ),
+    };
+    json!(in alloc; {
+        "call": call_or_null(alloc, target, number)?,
+        "number": number,
+        "least": least,
+        "greatest": greatest,
+        "verdict": verdict_name(verdict),
+        "old": old,
+        "new": new,
+        "change": text_or_null(alloc, change)?,
+        "example": example
+    })
+}
+
+// The members of a record, as an object: numbers of 64 bits in hexadecimal digits.
+fn record_value(alloc: Global, call: &[u8; 64]) -> Result<Value, AllocError> {
+    let mut arguments = Vec::new(alloc);
+    for index in 0..6usize {
+        let argument = number_at(call, 16 + 8 * index);
+        arguments.push(Value::from(format!(in alloc; "0x{argument:x}")?))?;
+    }
+    let pointer = number_at(call, 8);
+    json!(in alloc; {
+        "number": word_at(call, 0),
+        "architecture": word_at(call, 4),
+        "instruction_pointer": format!(in alloc; "0x{pointer:x}")?,
+        "arguments": arguments
+    })
 }

@@ -4,7 +4,7 @@ ghost use Rattle.std.specs.Prelude.{◌≡◌, ◌≤◌, ◌↔◌, IsTrue, len
 ghost use Rattle.seccomptool.specs.Kinds.{BeginsAsInitializers, BeginsInitializer, behind_space};
 
 use crate::error::ToolError;
-use crate::numbers::read_number;
+use crate::record::read_number;
 use crate::run::fault::ProgramFault;
 use std::alloc::Global;
 

@@ -1,4 +1,4 @@
-// The program that is given, as bytes or as a text of C.
+// The program that is given, as bytes or as a text of C, and the first instruction that keeps it from being run.
 
 ghost use Rattle.std.specs.Prelude.{◌≡◌, ◌≤◌, length, map, All, IfOk, IfErr};
 ghost use Rattle.std.specs.List.{concat};
@@ -6,14 +6,21 @@ ghost use Rattle.seccompiler.specs.Machine.{IsInRange};
 ghost use Rattle.seccomp_compare.specs.Machine.{IsChecked};
 ghost use Rattle.seccomptool.specs.Compile.{instruction_bytes};
 ghost use Rattle.seccomptool.specs.Run.{AreRefusedBytes, HasBytes, IsCutFault, IsProgramOf, IsRefusedProgram};
+ghost use Rattle.seccomptool.specs.RunFaults.{IsAmiss};
+ghost use Rattle.seccomptool.specs.RunParts.{CantStand, IsUnfit};
 
 use crate::error::ToolError;
-use crate::run::fault::ProgramFault;
+use crate::run::fault::{Amiss, ProgramFault};
 use crate::run::initializers::{begins_as_initializers, bytes_of_initializers};
-use crate::run::unfit::refuse_unfit;
-use seccompiler::bpf::BPF_MAX_LEN;
-use seccompiler::{BpfProgram, sock_filter};
+use seccomp_compare::machine::{JUMP_IF_SET, first_unfit};
+use seccompiler::bpf::{
+    BPF_MAX_LEN, JUMP, JUMP_AT_LEAST, JUMP_EQUAL, JUMP_GREATER, LOAD, MASK, RETURN,
+};
+use seccompiler::{BpfProgram, BpfProgramRef, sock_filter};
 use std::alloc::{AllocError, Global};
+
+// The byte of a record at which its last word begins.
+const LAST_WORD: u32 = 60;
 
 /// The program of what is given, which may be run.
 ///
@@ -86,5 +93,38 @@ fn instruction(bytes: &[u8; 8]) -> sock_filter
         jt,
         jf,
         k: u32::from_le_bytes([k0, k1, k2, k3]),
+    }
+}
+
+// Refuses a program that may not be run, by its first instruction that may not stand where it does.
+pub(crate) fn refuse_unfit(program: BpfProgramRef<'_>) -> Result<(), ProgramFault>
+    requires some { 1 ≤ length program.now }
+    requires few { length program.now ≤ 4096 }
+    ensures checked { IfOk result (λ done. IsChecked program.now) }
+    ensures unfit { IfErr result (IsUnfit program.now) }
+{
+    match first_unfit(program) {
+        None => Ok(()),
+        Some(place) => Err(ProgramFault::Unfit(place, amiss(program[place], place, program.len()))),
+    }
+}
+
+// Why an instruction may not stand at a place of a program of this length.
+#[tactic(auto, using(crate::proofs::run::program::Misplaced::jump_behind, crate::proofs::run::program::Misplaced::test_behind, crate::proofs::run::program::Misplaced::at_end))]
+fn amiss(instruction: sock_filter, place: usize, length: usize) -> Amiss
+    requires { CantStand instruction place length }
+    ensures { IsAmiss instruction place length result }
+{
+    let sock_filter {
+        code,
+        jt: _,
+        jf: _,
+        k,
+    } = instruction;
+    match code {
+        LOAD if k % 4 != 0 || k > LAST_WORD => Amiss::Load,
+        LOAD | MASK | RETURN => Amiss::End,
+        JUMP | JUMP_EQUAL | JUMP_GREATER | JUMP_AT_LEAST | JUMP_IF_SET => Amiss::Jump,
+        _ => Amiss::Operation(code),
     }
 }

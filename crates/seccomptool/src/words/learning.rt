@@ -4,7 +4,7 @@ use super::matches::{Read, on};
 use super::values::{arch_in, number_in};
 use super::{Command, Misuse};
 use crate::learn::{AskedArguments, Learning, Start};
-use crate::numbers::read_number;
+use crate::record::read_number;
 use clap::ArgMatches;
 use seccompiler::SeccompAction;
 use std::alloc::Global;

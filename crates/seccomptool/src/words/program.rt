@@ -178,10 +178,11 @@ fn arg_of<'a>(alloc: Global, command: &str, row: &'a str) -> Arg<'a> {
             .help(help)
             .action(ArgAction::SetTrue);
     };
-    let arg = one_of(
-        with_letter(Arg::new(alloc, name), name).help(help),
-        values_of(command, name),
-    );
+    let mut arg = with_letter(Arg::new(alloc, name), name).help(help);
+    let values = values_of(command, name);
+    if !values.is_empty() {
+        arg = arg.value_parser(values);
+    }
     if let Some(value) = value.strip_suffix("..") {
         return arg.value_name(value).action(ArgAction::Append);
     }
@@ -214,14 +215,6 @@ fn with_letter<'a>(arg: Arg<'a>, name: &'a str) -> Arg<'a> {
         "verbose" => arg.short('v'),
         _ => arg,
     }
-}
-
-// The option with one of these values, if there are any.
-fn one_of<'a>(arg: Arg<'a>, values: &'a [&'a str]) -> Arg<'a> {
-    if values.is_empty() {
-        return arg;
-    }
-    arg.value_parser(values)
 }
 
 // What an option of a command takes; anything if there is none.

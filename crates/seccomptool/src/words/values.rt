@@ -1,7 +1,7 @@
 // The values of options and arguments, in clap's matches.
 
 use super::{Call, Calls, Misuse};
-use crate::numbers::read_number;
+use crate::record::read_number;
 use clap::ArgMatches;
 use seccomp_tree::Layout;
 use seccompiler::TargetArch;

@@ -1,4 +1,4 @@
-use Rattle.std.proofs.Common.{refl, string_bytes}
+use Rattle.std.proofs.Common.{string_bytes}
 use Rattle.std.specs.BTreeMap.{get_by_text}
 use Rattle.seccompiler.specs.JsonShape.{IsFilter}
 use Rattle.seccomp_command_line.proofs.Found.{there}
@@ -27,9 +27,8 @@ returns c =
     let own = taken c.args.target filters name c.as_str.result.now c.in-Some.filter c.in_ok-check_filters.ensures c.as_str.ensures.value
     c.in-Some.ensures.value in
     record {
-      named = record { name = c.in_ok-name.name; filter = c.in-Some.filter };
-      is = refl;
       chosen = chosen_in c.args.text.now (get_by_text filters.0) read (text_of c.args.asked) name c.in_ok-name.ensures;
+      filter = c.in-Some.filter;
       of_text = (read.0, read.1, there IsFilter (get_by_text filters.0) read.0 read.2 name c.in-Some.filter own.0);
       policy = own.1.0.0;
       is_policy = own.1.0.1;

@@ -1,10 +1,8 @@
-use Rattle.std.proofs.Common.{refl}
 use Rattle.seccomptool.proofs.explain.explain_profile.Goals as goal
 
 pub returns : goal.returns
 returns c = record {
   profile = c.in_ok-profile.profile;
   of_text = c.in_ok-profile.ensures.read;
-  is = refl;
   each = c.in_ok-records.ensures;
 }

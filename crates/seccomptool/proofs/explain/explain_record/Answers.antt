@@ -14,13 +14,14 @@ returns c =
     let reason = c.in_ok-reason.reason in
     let same : c.as_slice-entries.result.now ≡ filter.rules = c.as_slice-entries.ensures.value
     ∙ ap (λ (f : JsonFilter). f.rules) c.filter.view_is in
+    let word = c.from.ensures ∙ ap word_of c.action_of.ensures in
     let why = subst (λ entries. IsReason target entries call reason) same c.in_ok-reason.ensures.reason in
     record {
       reason = reason;
       is = refl;
       why = why;
       only = subst (λ entries. (other : Reason) → IsReason target entries call other → other ≡ reason) same c.in_ok-reason.ensures.only;
-      action = c.action_of.ensures;
-      decided = λ policy is_policy. subst (λ a. IsDecision policy call (word_of a)) (sym c.action_of.ensures)
+      word = word;
+      decided = λ policy is_policy. subst (IsDecision policy call) (sym word)
           (reason_decides target call filter policy is_policy (c.requires.matched policy is_policy call) reason why);
     }

@@ -1,17 +1,14 @@
-use Rattle.std.proofs.Common.{[], ℕ, List, get_or}
+use Rattle.std.proofs.Common.{[], get_or}
 use Rattle.std.proofs.lemmas.List.{get_or_default}
-use Rattle.seccompiler.specs.declared.machine.Outcome.{Outcome}
-use Rattle.seccomp_compare.specs.Machine.{Ends}
+use Rattle.seccomptool.specs.Explain.{IsReturned}
 use Rattle.seccomptool.proofs.Pairs.{one_more}
 use Rattle.seccomptool.proofs.run.returned.Goals as goal
 
-pub loop-record-preserved : goal.loop-record-preserved
-loop-record-preserved c =
-    let l = c.loop-record in
-    let program = c.args.program.now in
+pub loop-call-preserved : goal.loop-call-preserved
+loop-call-preserved c =
+    let l = c.loop-call in
     let records = c.args.records.now in
-    let call = get_or records l.record-index [] in
+    let call = get_or records l.call-index [] in
     rw c.in_ok-push.ensures.items
-    (one_more (λ (r : List ℕ) (outcome : Outcome). Ends program r outcome.steps outcome.word) records l.outcomes.items l.record-index call
-    c.run.result c.loop-record-test.true (get_or_default records l.record-index [] call c.loop-record-test.true)
-    l.invariant c.run.ensures.ends)
+    (one_more (IsReturned c.args.program.now) records l.all.items l.call-index call c.returned_for.result c.loop-call-test.true
+    (get_or_default records l.call-index [] call c.loop-call-test.true) l.invariant c.returned_for.ensures)

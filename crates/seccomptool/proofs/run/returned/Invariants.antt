@@ -1,6 +1,8 @@
 use Rattle.std.proofs.Common.{take}
-use Rattle.seccomptool.specs.Run.{AreReturned}
+use Rattle.std.specs.List.{AllZip}
+use Rattle.seccomptool.specs.Explain.{IsReturned}
 use Rattle.seccomptool.proofs.run.returned.Given as goal
 
-abbrev pub invariant-loop-record : goal.invariant-loop-record
-invariant-loop-record l = AreReturned l.program (take l.record-index l.records) l.outcomes.items
+-- the records so far are explained
+abbrev pub invariant-loop-call : goal.invariant-loop-call
+invariant-loop-call l = AllZip (IsReturned l.program) (take l.call-index l.records) l.all.items

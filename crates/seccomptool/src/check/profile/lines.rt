@@ -38,11 +38,7 @@ pub(crate) fn profile_diagnostics(
     let mut ordered = BTreeMap::new(alloc);
     for (nth, warning) in checked.warnings.iter().enumerate() {
         let spot = spot_of(target, warning, nth);
-        let entry = match spot.entry {
-            Some(entry) => entry.saturating_add(1),
-            None => 0,
-        };
-        let order = (entry, spot.rank, code_of(warning).name());
+        let order = (spot.entry, spot.rank, code_of(warning).name());
         if !ordered.contains_key(&order) {
             drop(ordered.insert(order, diagnostic_of(alloc, told, warning, spot)?)?);
         }
@@ -140,8 +136,26 @@ fn spot_of_part<'a>(target: TargetArch, subject: Subject, part: ProfilePart) -> 
     }
 }
 
-// The way to what a line is about, of a warning of this code.
-fn path_of(alloc: Global, spot: Spot<'_>, code: Code) -> Result<Vec<Step>, AllocError> {
+// What is said of a warning that is about this.
+fn diagnostic_of(
+    alloc: Global,
+    told: Told<'_>,
+    warning: &ProfileWarning,
+    spot: Spot<'_>,
+) -> Result<Diagnostic, AllocError> {
+    let code = code_of(warning);
+    let said = match warning {
+        ProfileWarning::Doubtful(doubt) => said_of_doubt(alloc, told, *doubt)?,
+        ProfileWarning::Flags => String::from_str(
+            alloc,
+            "crun sets them, and runc 1.1 starts no container with them; leave them out for runc",
+        )?,
+        ProfileWarning::UnknownKey(_) => String::from_str(
+            alloc,
+            "the key is passed over; leave it out, or correct it, also its letter case",
+        )?,
+        ProfileWarning::OfEntries(_, _) => String::from_str(alloc, said_of_entries(code))?,
+    };
     let mut path = Vec::new(alloc);
     if let Some(entry) = spot.entry {
         path.push(key(alloc, "syscalls")?)?;
@@ -156,41 +170,17 @@ fn path_of(alloc: Global, spot: Spot<'_>, code: Code) -> Result<Vec<Step>, Alloc
             path.push(key(alloc, "valueTwo")?)?;
         }
     }
-    Ok(path)
-}
-
-// What is said of a warning that is about this.
-fn diagnostic_of(
-    alloc: Global,
-    told: Told<'_>,
-    warning: &ProfileWarning,
-    spot: Spot<'_>,
-) -> Result<Diagnostic, AllocError> {
-    let code = code_of(warning);
-    let (said, place) = match warning {
-        ProfileWarning::Doubtful(doubt) => (said_of_doubt(alloc, told, *doubt)?, Place::Value),
-        ProfileWarning::Flags => {
-            let said =
-                "crun sets them, and runc 1.1 starts no container with them; leave them out for runc";
-            (String::from_str(alloc, said)?, Place::Value)
-        }
-        ProfileWarning::UnknownKey(_) => {
-            let said = "the key is passed over; leave it out, or correct it, also its letter case";
-            (String::from_str(alloc, said)?, Place::Key)
-        }
-        ProfileWarning::OfEntries(_, _) => {
-            (
-                String::from_str(alloc, said_of_entries(code))?,
-                Place::Value,
-            )
-        }
+    let place = match warning {
+        ProfileWarning::UnknownKey(_) => Place::Key,
+        _ => Place::Value,
     };
-    let path = path_of(alloc, spot, code)?;
     let mut diagnostic = Diagnostic::new("warning", code.name(), path, said, place);
     if let Some(number) = spot.number {
-        let target = told.target;
-        let name = CallName { target, number };
-        diagnostic.call = Some(format!(in alloc; "{name}")?);
+        let name = CallName {
+            target: told.target,
+            number,
+        };
+        diagnostic.call = Some(name.to_string(alloc)?);
     }
     Ok(diagnostic)
 }

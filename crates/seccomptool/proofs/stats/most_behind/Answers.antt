@@ -1,7 +1,7 @@
 use Rattle.std.proofs.Common.{◌≢◌, arith}
 use Rattle.std.proofs.lemmas.Bool.Decides.{nat_tests}
-use Rattle.seccomptool.proofs.stats.ways.LongestWays.{greatest_of_rest}
-use Rattle.seccomptool.proofs.stats.ways.most_behind.Goals as goal
+use Rattle.seccomptool.proofs.stats.LongestWays.{greatest_of_rest}
+use Rattle.seccomptool.proofs.stats.most_behind.Goals as goal
 
 pub returns-in_default : goal.returns-in_default
 returns-in_default c =

@@ -3,7 +3,7 @@ use Rattle.std.proofs.lemmas.Option.{slice_get-get_or, slice_get_within}
 use Rattle.seccomp_compare.specs.Machine.{IsFine, IsUnfitAt, none, not_fine, too_many, no_return}
 use Rattle.seccompiler.specs.declared.bpf.sock_filter.{sock_filter}
 use Rattle.seccomptool.specs.RunParts.{CantStand}
-use Rattle.seccomptool.proofs.run.unfit.refuse_unfit.Goals as goal
+use Rattle.seccomptool.proofs.run.program.refuse_unfit.Goals as goal
 
 -- What is amiss in a program of some instructions is so at one of them.
 unfit_within : (program : List sock_filter) (place : ℕ) → 1 ≤ length program → IsUnfitAt program place → place < length program

@@ -1,7 +1,7 @@
 use Rattle.std.proofs.Common.{◌≡◌, ℕ, List, ◌++◌, Option, Some, None, IfSome, codes, sym, ap, ◌∙◌}
 use Rattle.seccomp_command_line.specs.Numbers.{IsWritten}
 use Rattle.seccomptool.specs.Numbers.{IsNumber, hexadecimal}
-use Rattle.seccomptool.proofs.numbers.read_number.Goals as goal
+use Rattle.seccomptool.proofs.record.read_number.Goals as goal
 
 -- What the digits behind the prefix write, the text does.
 behind_prefix : (text digits : List ℕ) (r : Option ℕ) → text ≡ codes "0x" ++ digits → IfSome r (IsWritten 16 digits)

@@ -1,6 +1,6 @@
 use Rattle.seccomp_tree.specs.Layouts.{as_linear, as_tree}
-use Rattle.seccomptool.proofs.findings.Programs.{stands_for}
-use Rattle.seccomptool.proofs.findings.fitting.fitting_program.Goals as goal
+use Rattle.seccomptool.proofs.sides.Filters.{stands_for}
+use Rattle.seccomptool.proofs.sides.fitting_program.Goals as goal
 
 pub returns : goal.returns
 returns c =

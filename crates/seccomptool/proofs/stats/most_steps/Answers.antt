@@ -2,9 +2,9 @@ use Rattle.std.proofs.Common.{◌≡◌, ◌+◌, ◌-◌, ◌<◌, ◌≤◌, l
 use Rattle.std.proofs.lemmas.List.{get_or_default}
 use Rattle.std.proofs.lemmas.Option.{slice_get-get_or}
 use Rattle.seccomptool.specs.Ways.{IsLongest}
-use Rattle.seccomptool.proofs.stats.ways.LongestWays.{AreLongest, longest_return, longest_behind, few_behind, longest_more, most_of}
-use Rattle.seccomptool.proofs.stats.ways.most_steps.Goals as goal
-use Rattle.seccomptool.proofs.stats.ways.most_steps.Goals.{then-instruction-eq-RETURN, else-instruction-eq-RETURN}
+use Rattle.seccomptool.proofs.stats.LongestWays.{AreLongest, longest_return, longest_behind, few_behind, longest_more, most_of}
+use Rattle.seccomptool.proofs.stats.most_steps.Goals as goal
+use Rattle.seccomptool.proofs.stats.most_steps.Goals.{then-instruction-eq-RETURN, else-instruction-eq-RETURN}
 
 pub overflow_add-behind : goal.overflow_add-behind
 overflow_add-behind c = elim c.if-instruction-eq-RETURN.branch [

@@ -5,7 +5,7 @@ use Rattle.seccomptool.specs.Rulings.{AreDecided}
 use Rattle.seccomptool.specs.Diff.{other_parts}
 use Rattle.seccomptool.proofs.findings.Decided.{decided_on}
 use Rattle.seccomptool.proofs.diff.Others.{others_covered}
-use Rattle.seccomptool.proofs.diff.pair.compare_pair.Goals as goal
+use Rattle.seccomptool.proofs.diff.compare_pair.Goals as goal
 
 pub returns : goal.returns
 returns g c = λ by_new by_old of_new of_old.

@@ -1,0 +1,2 @@
+-- Lemmas for the functions of `run::program`.
+pub mod Misplaced

@@ -129,28 +129,13 @@ fn explain_each(
 {
     let mut all = Vec::new(alloc);
     for call in records {
-        all.push(explain_record(alloc, target, filter, call)?)?;
+        let reason = reason_of(alloc, target, filter.rules.as_slice(), call)?;
+        all.push(Explained {
+            word: u32::from(action_of(filter, reason)),
+            why: Why::Filter(reason),
+        })?;
     }
     Ok(all)
-}
-
-// What a filter decides on a record, and why.
-fn explain_record(
-    alloc: Global,
-    target: TargetArch,
-    filter: &JsonFilter,
-    call: &[u8; 64],
-) -> Result<Explained, AllocError>
-    requires fine { All (IsFineEntry target) filter.now.rules }
-    requires matched { AreMatched target filter.now }
-    ensures { IfOk result (IsExplainedBy target filter.now call.now) }
-{
-    let entries = filter.rules.as_slice();
-    let reason = reason_of(alloc, target, entries, call)?;
-    Ok(Explained {
-        word: u32::from(action_of(filter, reason)),
-        why: Why::Filter(reason),
-    })
 }
 
 // The action of a filter for a reason.

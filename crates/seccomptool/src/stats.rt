@@ -11,9 +11,9 @@ ghost use Rattle.seccomptool.specs.Ways.{IsGreatestNext, IsMost};
 
 use crate::chosen::some_text;
 use crate::error::ToolError;
+use crate::findings::lines::push_filter;
 use crate::json::{push_item, text_or_null};
 use crate::profile::compiled_of;
-use seccomp_command_line::readable::{TextKind, push_readable};
 use seccomp_compare::machine::run;
 use seccomp_oci::Container;
 use seccomp_tree::{FilterError, Layout, to_bpf_in};
@@ -197,8 +197,7 @@ pub(crate) fn filters_text(
         let name = name.as_str();
         if asked.unwrap_or(name) == name {
             if !json {
-                text.extend_from_slice(b"filter ")?;
-                push_readable(&mut text, name, TextKind::Name)?;
+                push_filter(&mut text, name)?;
                 text.push(b'\n')?;
             }
             text.extend_from_slice(&measure_text(alloc, json, name, Some("linear"), *linear)?)?;

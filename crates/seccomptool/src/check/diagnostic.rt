@@ -68,13 +68,12 @@ pub(crate) fn key(alloc: Global, name: &str) -> Result<Step, AllocError> {
 pub(crate) fn path_text(alloc: Global, path: &[Step]) -> Result<String, AllocError> {
     let mut text = String::new(alloc);
     for (place, step) in path.iter().enumerate() {
-        match step {
-            Step::Item(item) => text.push_str(format!(in alloc; "[{item}]")?.as_str())?,
-            Step::Key(name) => {
-                text.push_str(if place > 0 { "." } else { "" })?;
-                text.push_str(name.as_str())?;
-            }
-        }
+        let piece = match step {
+            Step::Item(item) => format!(in alloc; "[{item}]")?,
+            Step::Key(name) if place > 0 => format!(in alloc; ".{name}")?,
+            Step::Key(name) => name.clone()?,
+        };
+        text.push_str(piece.as_str())?;
     }
     Ok(text)
 }

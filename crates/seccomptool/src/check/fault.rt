@@ -21,7 +21,12 @@ pub(crate) fn fault_diagnostic(
     let told = format!(in alloc; "{error}")?;
     let (code, place) = match &error {
         ToolError::Library(Error::JsonFrontend(JsonFrontendError::RepeatedKey)) => {
-            return of_repeated(alloc, text, told);
+            // Where it stands the second time.
+            let (path, place) = match Outline::of(alloc, text)?.repeated.take() {
+                Some((path, position)) => (path, Place::At(position)),
+                None => (Vec::new(alloc), Place::None),
+            };
+            return Ok(Diagnostic::new("error", "repeated-key", path, told, place));
         }
         ToolError::Profile(CompileError::Profile(ProfileError::NotAProfile(_))) => {
             return of_profile(alloc, told.as_str());
@@ -72,41 +77,19 @@ fn of_fault(alloc: Global, text: &[u8], fault: Fault) -> Result<Diagnostic, Allo
     Ok(diagnostic)
 }
 
-// A key that is repeated, where it stands the second time.
-fn of_repeated(alloc: Global, text: &[u8], told: String) -> Result<Diagnostic, AllocError> {
-    let (path, place) = match Outline::of(alloc, text)?.repeated.take() {
-        Some((path, position)) => (path, Place::At(position)),
-        None => (Vec::new(alloc), Place::None),
-    };
-    Ok(Diagnostic::new("error", "repeated-key", path, told, place))
-}
-
 // A fault of a profile, whose text has the path in front: of names without colons, and of places.
 fn of_profile(alloc: Global, told: &str) -> Result<Diagnostic, AllocError> {
     let (front, message) = told.split_once(": ").unwrap_or(("", told));
     let mut path = Vec::new(alloc);
     if front != "the profile" {
-        for part in front.split('.') {
-            push_part(&mut path, alloc, part)?;
+        for piece in front.split(['.', '[', ']']) {
+            match piece.parse::<usize>() {
+                Ok(place) => path.push(Step::Item(place))?,
+                Err(_) if piece.is_empty() => {}
+                Err(_) => path.push(key(alloc, piece)?)?,
+            }
         }
     }
     let message = String::from_str(alloc, message)?;
     Ok(Diagnostic::new("error", "not-a-profile", path, message, Place::Value))
-}
-
-// Adds the steps of a name, with the places behind it.
-fn push_part(path: &mut Vec<Step>, alloc: Global, part: &str) -> Result<(), AllocError> {
-    let mut pieces = part.split('[');
-    if let Some(name) = pieces.next() {
-        if !name.is_empty() {
-            path.push(key(alloc, name)?)?;
-        }
-    }
-    for piece in pieces {
-        let digits = piece.strip_suffix(']').unwrap_or(piece);
-        if let Ok(place) = digits.parse::<usize>() {
-            path.push(Step::Item(place))?;
-        }
-    }
-    Ok(())
 }

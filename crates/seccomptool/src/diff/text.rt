@@ -1,14 +1,13 @@
 // What is written of a comparison: lines, or JSON.
 
 use crate::diff::{Diff, Found, NamedFound, Pair, verdict_found};
-use crate::findings::lines::{
-    Shown, part_value, push_filter, push_finding, push_verdict, verdict_name,
-};
+use crate::findings::lines::{Shown, part_value, push_filter, push_finding, verdict_name};
 use crate::findings::{Answer, Finding, Part, Terms, Verdict, verdict_of};
 use crate::json::{push_item, said_or_null, text_or_null, written};
 use crate::kind::Subject;
 use crate::sides::Side;
 use seccomp_command_line::readable::{TextKind, push_readable};
+use seccomp_compare::Relation;
 use seccompiler::TargetArch;
 use serde_json::{Value, json};
 use std::alloc::{AllocError, Global};
@@ -112,11 +111,16 @@ fn push_compared(
     if json {
         return push_item(text, alloc, &value_of(alloc, target, found)?);
     }
-    match found.names {
-        [_, None] => return text.extend_from_slice(b": only in OLD\n"),
-        [None, _] => return text.extend_from_slice(b": only in NEW\n"),
-        _ => push_verdict(text, terms.relation, found.verdict)?,
-    }
+    let told: &[u8] = match (found.names, terms.relation, found.verdict) {
+        ([_, None], _, _) => b": only in OLD\n",
+        ([None, _], _, _) => b": only in NEW\n",
+        (_, Relation::Alike, Verdict::Same) => b": same\n",
+        (_, Relation::Alike, Verdict::Different) => b": different\n",
+        (_, Relation::AtMostAsPermissive, Verdict::Same) => b": nowhere more permissive\n",
+        (_, Relation::AtMostAsPermissive, Verdict::Different) => b": more permissive\n",
+        (_, _, Verdict::Undecided) => b": undecided\n",
+    };
+    text.extend_from_slice(told)?;
     for of_named in turns {
         for finding in found.findings {
             let is_named = matches!(finding.part, Part::Named { .. });

@@ -7,7 +7,7 @@ use crate::findings::parts::{X32, name_of};
 use crate::findings::{Answer, Finding, Part, Verdict};
 use crate::json::{call_or_null, text_or_null};
 use seccomp_command_line::readable::{TextKind, push_readable};
-use seccomp_compare::{Relation, rank};
+use seccomp_compare::rank;
 use seccomp_names::error_name;
 use seccompiler::TargetArch;
 use serde_json::{Value, json};
@@ -27,21 +27,6 @@ pub(crate) struct Shown {
 pub(crate) fn push_filter(text: &mut Vec<u8>, name: &str) -> Result<(), AllocError> {
     text.extend_from_slice(b"filter ")?;
     push_readable(text, name, TextKind::Name)
-}
-
-/// Adds a verdict in words.
-pub(crate) fn push_verdict(
-    text: &mut Vec<u8>,
-    relation: Relation,
-    verdict: Verdict,
-) -> Result<(), AllocError> {
-    text.extend_from_slice(match (relation, verdict) {
-        (Relation::Alike, Verdict::Same) => b": same\n",
-        (Relation::Alike, Verdict::Different) => b": different\n",
-        (Relation::AtMostAsPermissive, Verdict::Same) => b": nowhere more permissive\n",
-        (Relation::AtMostAsPermissive, Verdict::Different) => b": more permissive\n",
-        (_, Verdict::Undecided) => b": undecided\n",
-    })
 }
 
 /// Adds the line of what is found on a part: none if the relation holds.

@@ -6,7 +6,7 @@ ghost use Rattle.seccomptool.specs.declared.findings.Verdict.TheVariants.{Same};
 ghost use Rattle.seccomptool.specs.declared.kind.Subject.TheVariants.{Policy};
 
 use crate::chosen::{chosen_of, refuse_name};
-use crate::compile::{NamedProgram, ProgramFormat, program_text, too_large};
+use crate::compile::{NamedProgram, program_text, too_large};
 use crate::diff::diff_of;
 use crate::diff::text::diff_text;
 use crate::error::{FaultAt, ToolError};

@@ -1,4 +1,4 @@
--- For `explain_record`: the policy of a JSON filter decides what the reason says.
+-- For `explain_each`: the policy of a JSON filter decides what the reason says.
 use Rattle.std.proofs.Common.{◌≡◌, ℕ, pos, ◌∷◌, [], List, map, Option, Some, None, refl, sym, subst, ap, ◌∙◌}
 use Rattle.std.specs.Prelude.{◌↔◌, All, Any}
 use Rattle.std.proofs.lemmas.List.Elements.{All-contains, All-map, All-nil, All-same, All-cons, All-head, All-tail}

@@ -1,6 +1,6 @@
 -- Look-ups by name in lists of values, in order or not, and what is made of such a list value by value.
 use Rattle.std.proofs.Common.{◌≡◌, ℕ, ◌++◌, List, [], ◌∷◌, true, false, cond, Option, Some, None, String, Global, Less, string_bytes}
-use Rattle.std.proofs.Common.{string_cmp, string_eq, bytes_eq, refl, sym, ap, ◌∙◌, subst, append_assoc, append-nil, arith}
+use Rattle.std.proofs.Common.{string_cmp, string_eq, bytes_eq, refl, sym, ap, ◌∙◌, subst, append_assoc, append-nil, arith, length}
 use Rattle.std.specs.BTreeMap.{BTreeMap, is_at}
 use Rattle.std.specs.BTreeMap as tree
 use Rattle.std.specs.HashMap.{HashMap}
@@ -12,6 +12,7 @@ use Rattle.std.specs.Option.{MatchOption}
 use Rattle.std.specs.Ordering.{eq_by_cmp}
 use Rattle.std.specs.String.{string_eq_equiv, string_cmp_total}
 use Rattle.std.proofs.lemmas.List.Elements.{Contains-append_right}
+use Rattle.std.proofs.lemmas.List.{nil_from_length}
 use Rattle.std.proofs.lemmas.Map.{lookup-none}
 use Rattle.std.proofs.lemmas.Map.Entries.{place_from_lookup, none_below_head}
 use Rattle.std.proofs.lemmas.Map.Keys.{IsDistinct-from_sorted, sorted_tail}
@@ -19,15 +20,12 @@ use Rattle.std.proofs.lemmas.Map.Made.{update_all_none}
 use Rattle.std.proofs.lemmas.Map.Text.{is_eq-slice_cmp, text_cmp}
 use Rattle.std.proofs.lemmas.Map.Views.{lookup-from_Contains}
 use Rattle.std.proofs.lemmas.Slice.Eq.{bytes_eq-Decides}
+use Rattle.seccompiler.specs.JsonFilters.{under}
 use Rattle.seccompiler.specs.SyscallTable.{ComesBefore}
 
 -- Values, each with its name.
 abbrev pub ByName : Type 0 → Type 0
 ByName X = List (String Global × X)
-
--- The value under a name, if there is one.
-abbrev pub under : {X : Type 0} → ByName X → List ℕ → Option X
-under values name = lookup (λ key. bytes_eq name (string_bytes key)) values
 
 -- The names stand in byte order, and each stands once.
 abbrev pub AreInOrder : {X : Type 0} → ByName X → Type 0
@@ -93,7 +91,7 @@ module _ {X : Type 0} where
   hashed xs m order made = same_by_name m.entries xs (λ key. made.0 key
       ∙ update_all_none string_eq_equiv string_eq (λ x y. refl) xs key (once xs order))
 
-  ordered : (xs : ByName X) (m : BTreeMap (String Global) X) → AreInOrder xs → tree.IsFromIterResult string_cmp xs m
+  pub ordered : (xs : ByName X) (m : BTreeMap (String Global) X) → AreInOrder xs → tree.IsFromIterResult string_cmp xs m
       → (q : List ℕ) → tree.get_by_text m q ≡ under xs q
   ordered xs m order made q = by_text q m.entries ∙ same_by_name m.entries xs found q
     where
@@ -103,11 +101,6 @@ module _ {X : Type 0} where
       found : (key : String Global) → lookup (string_eq key) m.entries ≡ lookup (string_eq key) xs
       found key = sym (by_text (string_bytes key) m.entries) ∙ made.0 key
           ∙ update_all_none string_eq_equiv (eq_by_cmp string_cmp) ties xs key (once xs order)
-
-  -- A map that is made of an ordered one finds what that has.
-  pub rehashed : {S : Type 0} (n : BTreeMap (String Global) X) (m : HashMap (String Global) X S) → AreInOrder n.entries
-      → hash.IsFromIterResult string_eq n.entries m → (q : List ℕ) → hash.get_by_text m q ≡ tree.get_by_text n q
-  rehashed n m order made q = hashed n.entries m order made q ∙ sym (by_text q n.entries)
 
 -- Of each value one is made that R relates to it, under the same name.
 abbrev pub AreMade : {X Y : Type 0} → (X → Y → Type 0) → ByName X → ByName Y → Type 0
@@ -157,13 +150,11 @@ module _ {X Y : Type 0} (R : X → Y → Type 0) where
       made = subst (AreMade R (so_far.done ++ x ∷ [])) (sym added) (made_more so_far.done ys x y so_far.made name own);
     }
 
-    -- In the end all are made, and the map of them finds them.
-    pub making_done : (m : BTreeMap (String Global) Y) → left ≡ [] → AreInOrder given → tree.IsFromIterResult string_cmp ys m
-        → AreMade R given ys × ((q : List ℕ) → tree.get_by_text m q ≡ under ys q)
-    making_done m none order collected =
-        let whole = so_far.all ∙ ap (λ es. so_far.done ++ es) none ∙ append-nil so_far.done in
-        let made = subst (λ xs. AreMade R xs ys) (sym whole) so_far.made in
-        (made, ordered ys m (same_order given ys made order) collected)
+    -- In the end all of what was given are made, in the same order.
+    pub making_done : (listed : ByName X) → given ≡ listed → length left ≡ 0 → AreInOrder listed → AreMade R listed ys × AreInOrder ys
+    making_done listed gives none order =
+        let rest = ap (λ es. so_far.done ++ es) (nil_from_length left none) ∙ append-nil so_far.done in
+        let all = subst (λ xs. AreMade R xs ys) (sym (sym gives ∙ so_far.all ∙ rest)) so_far.made in (all, same_order listed ys all order)
 
   -- Under a name there is what is made of the value that is found; where none is found, there is nothing.
   pub made_under : (xs : ByName X) (ys : ByName Y) → AreMade R xs ys → (q : List ℕ)

@@ -1,11 +1,10 @@
 -- From what a text is read as to what is told of it, and what a value has under its names.
 use Rattle.std.proofs.Common.{◌≡◌, ℕ, ◌++◌, List, ◌∷◌, Option, String, Global, [], Some, None, IfSome, string_bytes}
 use Rattle.std.proofs.Common.{refl, sym, ap, ◌∙◌, subst}
-use Rattle.std.specs.BTreeMap.{BTreeMap, get_by_text}
 use Rattle.serde_json.specs.Data.{Data}
 use Rattle.serde_json.specs.Find.{get}
-use Rattle.seccompiler.proofs.ByName.{ByName, under, AreInOrder, AreMade, by_text, found_there, found_in_front, made_under}
-use Rattle.seccompiler.specs.JsonFilters.{AreFound, IsLeast}
+use Rattle.seccompiler.proofs.ByName.{ByName, AreInOrder, AreMade, found_there, found_in_front, made_under}
+use Rattle.seccompiler.specs.JsonFilters.{AreFound, IsLeast, under}
 use Rattle.seccompiler.specs.JsonShape.{Under}
 use Rattle.seccompiler.specs.Reads.{Reads}
 
@@ -30,34 +29,29 @@ value_under {X} P find d are name x there = by (get name d) refl
 pub reads_this : (known : Option (List ℕ)) (P : List ℕ → Type 0) (text : List ℕ) → IfSome known (λ k. text ≡ k) → P text → Reads known P
 reads_this known P text is own = (text, is, own)
 
--- What is made, value by value, of what a map has of a value's parts.
-module _ {X Y : Type 0} (P : Data → X → Type 0) (R : X → Y → Type 0) (given : BTreeMap (String Global) X) (d : Data)
-    (are : AreFound P (get_by_text given) d) where
+-- What is made, value by value, of what a list has of a value's parts.
+module _ {X Y : Type 0} (P : Data → X → Type 0) (R : X → Y → Type 0) (given : ByName X) (d : Data) (are : AreFound P (under given) d) where
   -- What is made of all of it is the value's, where it is so of one.
-  pub all_made : (ys : ByName Y) → AreMade R given.entries ys → (found : List ℕ → Option Y) → ((name : List ℕ) → found name ≡ under ys name)
-      → (Q : Data → Y → Type 0) → ((value : Data) (x : X) (y : Y) → P value x → R x y → Q value y) → AreFound Q found d
-  all_made ys h found same Q one = record {
+  pub all_made : (ys : ByName Y) → AreMade R given ys → (Q : Data → Y → Type 0)
+      → ((value : Data) (x : X) (y : Y) → P value x → R x y → Q value y) → AreFound Q (under ys) d
+  all_made ys h Q one = record {
     is_object = are.is_object;
     each = λ name value there.
         let known = are.each name value there in
-        let made = made_under R given.entries ys h name in
-        let made = rw (sym (by_text name given.entries) ∙ known.there) at made in
-        record { found = made.0; there = same name ∙ made.1; own = one value known.found made.0 known.own made.2 };
-    no_other = λ name none.
-        let made = made_under R given.entries ys h name in
-        same name ∙ rw (sym (by_text name given.entries) ∙ are.no_other name none) at made;
+        let made = rw known.there at (made_under R given ys h name) in
+        record { found = made.0; there = made.1; own = one value known.found made.0 known.own made.2 };
+    no_other = λ name none. rw (are.no_other name none) at (made_under R given ys h name);
   }
 
   -- Behind parts of which something is made, one that is at fault is that of the least name.
-  pub least_wrong : (front : ByName X) (entry : String Global × X) (back : ByName X) → given.entries ≡ front ++ entry ∷ back
-      → AreInOrder given.entries → (ys : ByName Y) → AreMade R front ys → (Wrong : X → Type 0) → Wrong entry.1
+  pub least_wrong : (front : ByName X) (entry : String Global × X) (back : ByName X) → given ≡ front ++ entry ∷ back
+      → AreInOrder given → (ys : ByName Y) → AreMade R front ys → (Wrong : X → Type 0) → Wrong entry.1
       → (Q : Data → Type 0) → ((value : Data) (x : X) (y : Y) → P value x → R x y → Q value)
       → IsLeast (λ value. (x : X) × P value x × Wrong x) Q d (string_bytes entry.0)
   least_wrong front entry back whole sorted ys h Wrong wrong Q one =
       let order = subst (λ (es : ByName X). AreInOrder es) whole sorted in
-      let listed : (name : List ℕ) → get_by_text given name ≡ under (front ++ entry ∷ back) name =
-      λ name. by_text name given.entries ∙ ap (λ (es : ByName X). under es name) whole in
-      let own = value_under P (get_by_text given) d are (string_bytes entry.0) entry.1
+      let listed : (name : List ℕ) → under given name ≡ under (front ++ entry ∷ back) name = λ name. ap (λ es. under es name) whole in
+      let own = value_under P (under given) d are (string_bytes entry.0) entry.1
       (listed (string_bytes entry.0) ∙ found_there front entry back order) in
       record {
         value = own.0;

@@ -1,9 +1,15 @@
 -- The filters of a JSON text, under their names.
-use Rattle.std.specs.Prelude.{◌≡◌, ℕ, List, Option, Some, None}
+use Rattle.std.specs.Prelude.{◌≡◌, ℕ, List, Option, Some, None, String, string_bytes, bytes_eq}
+use Rattle.std.specs.Global.{Global}
+use Rattle.std.specs.Map.{lookup}
 use Rattle.serde_json.specs.Data.{Data}
 use Rattle.seccompiler.specs.JsonShape.{IsObject, Has, Lacks, IsFilter}
 use Rattle.seccompiler.specs.JsonTypes.{JsonFilter}
 use Rattle.seccompiler.specs.SyscallTable.{ComesBefore}
+
+-- What stands under a name in a list of values with their names.
+abbrev pub under : {X : Type 0} → List (String Global × X) → List ℕ → Option X
+under values name = lookup (λ key. bytes_eq name (string_bytes key)) values
 
 -- What is found under the name is, as P says, what the value is.
 pub record IsFound {X : Type 0} (P : Data → X → Type 0) (find : List ℕ → Option X) (name : List ℕ) (value : Data) : Type 0 where

@@ -6,8 +6,7 @@ use Rattle.seccompiler.specs.Compiled.{IsCompiled, IsCompilable, IsTooLarge}
 use Rattle.seccompiler.specs.JsonAnswers.{HasPolicy, HasSomePolicy, OfValue, TellsFrontendFault}
 use Rattle.seccompiler.specs.JsonFilters.{AreFound, AreAll, IsLeast}
 use Rattle.seccompiler.specs.Policy.{Filter}
-use Rattle.seccompiler.specs.declared.backend.BackendError.{BackendError}
-use Rattle.seccompiler.specs.declared.backend.BackendError.TheVariants.{FilterTooLarge, OutOfMemory as NoMemory}
+use Rattle.seccompiler.specs.declared.backend.BackendError.TheVariants.{FilterTooLarge}
 use Rattle.seccompiler.specs.declared.backend.TargetArch.{TargetArch}
 use Rattle.seccompiler.specs.declared.bpf.sock_filter.{sock_filter}
 use Rattle.seccompiler.specs.declared.error.Error.{Error}
@@ -29,12 +28,6 @@ abbrev pub IsLeastTooLarge : TargetArch → ℕ → Data → Type 0
 IsLeastTooLarge arch n d = AreAll (HasSomePolicy arch) d × (name : List ℕ)
     × IsLeast (λ value. (policy : Filter) × HasPolicy arch value policy × IsTooLarge policy n)
     (λ value. (policy : Filter) × HasPolicy arch value policy × IsCompilable policy) d name
-
--- The backend's error reports that. Lack of memory may come in its place, and no other error comes.
-abbrev pub TellsTooLarge : TargetArch → Data → BackendError → Type 0
-TellsTooLarge arch d (FilterTooLarge n) = IsLeastTooLarge arch n d
-TellsTooLarge arch d NoMemory = ⊤
-TellsTooLarge arch d e = ⊥
 
 -- The error reports what is at fault in the text, and nothing that comes earlier in the order of faults is: all
 -- faults of the front end, and then the least name's policy that is too large. Lack of memory may come in place of

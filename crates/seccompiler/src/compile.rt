@@ -1,21 +1,22 @@
 // From a JSON text to programs.
 
-ghost use Rattle.std.specs.Prelude.{◌≡◌, ℕ, List, IfSome, IfOk, IfErr};
+ghost use Rattle.std.specs.Prelude.{◌≡◌, ℕ, List, IfSome, IfOk, IfErr, string_cmp};
 ghost use Rattle.std.specs.BTreeMap as tree;
 ghost use Rattle.std.specs.HashMap as hash;
-ghost use Rattle.serde_json.specs.Data.{Data};
+ghost use Rattle.std.specs.List.Sorted.{IsStrictlySortedBy};
+ghost use Rattle.std.specs.Map.{keys_of};
 ghost use Rattle.seccompiler.specs.Machine.{IsChecked};
 ghost use Rattle.seccompiler.specs.Errors.{IsNoMemoryInside};
-ghost use Rattle.seccompiler.specs.JsonAnswers.{ArePoliciesOf, OfValue};
-ghost use Rattle.seccompiler.specs.JsonPrograms.{AreProgramsOf, TellsFirstFault, TellsTooLarge};
+ghost use Rattle.seccompiler.specs.JsonAnswers.{OfValue};
+ghost use Rattle.seccompiler.specs.JsonFilters.{under};
+ghost use Rattle.seccompiler.specs.JsonPrograms.{AreProgramsOf, TellsFirstFault};
 ghost use Rattle.seccompiler.specs.Reads.{Reads};
-ghost use Rattle.seccompiler.specs.declared.backend.TargetArch.{TargetArch};
 
-use crate::backend::{BackendError, TargetArch};
+use crate::backend::TargetArch;
 use crate::bpf::BpfProgram;
 use crate::error::Result;
-use crate::filter::SeccompFilter;
 use crate::json::{read_policies, text_of};
+use serde_json::Value;
 use std::alloc::Global;
 use std::collections::{BTreeMap, HashMap};
 use std::io::Read;
@@ -59,8 +60,8 @@ pub fn compile_from_json<R: Read + Drop>(
     ensures memory { IfErr result IsNoMemoryInside }
 {
     let text = text_of(alloc, reader)?;
-    let (_source, policies) = read_policies(alloc, arch, text.as_slice())?;
-    let programs = programs_under(alloc, policies)?;
+    let (_value, programs) = listed_programs(alloc, text.as_slice(), arch)?;
+    drop(text);
     Ok(programs.into_iter().collect(alloc)?)
 }
 
@@ -89,22 +90,26 @@ pub fn programs_of(
     ensures fault { IfErr result (TellsFirstFault arch text.now) }
     ensures memory { IfErr result IsNoMemoryInside }
 {
-    let (_source, policies) = read_policies(alloc, arch, text)?;
-    Ok(programs_under(alloc, policies)?)
+    let (_value, programs) = listed_programs(alloc, text, arch)?;
+    Ok(programs.into_iter().collect(alloc)?)
 }
 
-// The programs of policies, under their names.
-fn programs_under(
+// The same in the order of their names, and what they were read from.
+fn listed_programs(
     alloc: Global,
-    policies: BTreeMap<String, SeccompFilter>,
-) -> std::result::Result<BTreeMap<String, BpfProgram>, BackendError>
-    ensures programs { IfOk result (λ m. (arch : TargetArch) (d : Data) → ArePoliciesOf arch (tree.get_by_text policies) d → AreProgramsOf arch (tree.get_by_text m) d) }
-    ensures refused { IfErr result (λ e. (arch : TargetArch) (d : Data) → ArePoliciesOf arch (tree.get_by_text policies) d → TellsTooLarge arch d e) }
+    text: &[u8],
+    arch: TargetArch,
+) -> Result<(Value, Vec<(String, BpfProgram)>)>
+    ensures order { IfOk result (λ made. IsStrictlySortedBy string_cmp (keys_of made.1.items)) }
+    ensures programs { IfOk result (λ made. OfValue text.now (AreProgramsOf arch (under made.1.items))) }
+    ensures fault { IfErr result (TellsFirstFault arch text.now) }
+    ensures memory { IfErr result IsNoMemoryInside }
 {
-    let mut found = Vec::new(alloc);
+    let (value, policies) = read_policies(alloc, arch, text)?;
+    let mut programs = Vec::with_capacity(alloc, policies.len())?;
     for (name, policy) in policies {
         let program = policy.to_bpf(alloc)?;
-        found.push((name, program))?;
+        programs.push((name, program))?;
     }
-    Ok(found.into_iter().collect(alloc)?)
+    Ok((value, programs))
 }

@@ -140,23 +140,27 @@ impl SyscallTable {
     /// The same number, which is found soon if the name stands behind that which was found last, or is the same.
     ///
     /// `near` is that place. It says where to look first and nothing else: any number may stand there.
+    #[inline(always)]
     pub(crate) fn number_near(&self, near: &mut usize, name: &str) -> Option<i64>
         ensures { result ≡ number_of (table_of self.now) name.now }
     {
         let pairs = self.pairs();
         let last = *near;
-        *near = last.wrapping_add(1);
-        for turn in 0..3 {
-            if *near < pairs.len() {
-                let pair = &pairs[*near];
+        for place in [last.wrapping_add(1), last] {
+            if place < pairs.len() {
+                let pair = &pairs[place];
                 if pair.0 == name {
+                    *near = place;
                     return Some(pair.1);
                 }
             }
-            *near = match turn {
-                0 => last,
-                _ => pairs.partition_point(|pair| pair.0 < name),
-            };
+        }
+        *near = pairs.partition_point(|pair| pair.0 < name);
+        if *near < pairs.len() {
+            let pair = &pairs[*near];
+            if pair.0 == name {
+                return Some(pair.1);
+            }
         }
         self.get_syscall_nr(name)
     }

@@ -1,5 +1,5 @@
 -- For `unfit_number`: which keys of a map are call numbers, and the least that is none.
-use Rattle.std.proofs.Common.{◌≡◌, ℤ, pos, negsuc, ◌≤ℤ◌, ◌<ℤ◌, None, IsSome, false, Ordering, Less, Equal, Greater, refl, sym, subst}
+use Rattle.std.proofs.Common.{◌≡◌, ℤ, pos, negsuc, ◌≤ℤ◌, ◌<ℤ◌, None, Some, IsSome, false, Ordering, Less, Equal, Greater, refl, sym, subst}
 use Rattle.std.proofs.Common.{◌↔◌, ◌⊎◌, inl, inr, arith, get_or}
 use Rattle.std.specs.Prelude.{All, Contains}
 use Rattle.std.specs.BTreeMap.{BTreeMap, get, keys}
@@ -38,6 +38,15 @@ fits_or_large m = by (int_cmp (pos 4294967296) m) (int_ranks (pos 4294967296) m)
     by Less r is = inl (rw is refl)
     by Equal r is = inl (rw is refl)
     by Greater r is = inr r
+
+-- A map's least key, if it is below 0, is the least that is no call number.
+pub negative : {X : Type 0} (m : BTreeMap ℤ X) (n : ℤ) (x : X) → All (IsLeBy int_cmp n) (keys m) → get int_cmp m n ≡ Some x → n <ℤ pos 0
+    → IsLeastUnfit (keys m) n
+negative m n x from there below = record {
+  among = (btree_map_contains_key_iff int_cmp_total exact m n).0 (rw there refl);
+  unfit = λ call. absurd (omega (arith, ints, below, call.1));
+  least = λ q among bad. at_most n q (All-contains (IsLeBy int_cmp n) (keys m) q from among);
+}
 
 -- The keys of a map from a least one on, which is not below 0.
 module _ {X : Type 0} (m : BTreeMap ℤ X) (least : ℤ) (from : All (IsLeBy int_cmp least) (keys m)) (positive : pos 0 ≤ℤ least) where

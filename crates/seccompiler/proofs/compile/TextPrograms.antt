@@ -1,15 +1,15 @@
--- For `programs_under` and `programs_of`: the programs of a value's policies, and the refusal of the least name's.
+-- For `listed_programs` and `programs_of`: the programs of a value's policies, and the refusal of the least name's.
 use Rattle.std.proofs.Common.{◌≡◌, ℕ, ℤ, pos, negsuc, ◌++◌, List, ◌∷◌, Option, Some, None, String, Global, Vec, string_bytes, refl, IfSome}
 use Rattle.std.proofs.Common.{arith, ap, ◌∙◌, subst, All}
-use Rattle.std.specs.BTreeMap.{BTreeMap, get_by_text}
 use Rattle.std.proofs.lemmas.Int.{ints}
 use Rattle.std.proofs.lemmas.List.Elements.{All-contains}
 use Rattle.serde_json.specs.Data.{Data}
-use Rattle.seccompiler.proofs.ByName.{ByName, AreInOrder, under, AreMade, by_text, found_there}
+use Rattle.seccompiler.proofs.ByName.{ByName, AreInOrder, AreMade, found_there}
 use Rattle.seccompiler.specs.Machine.{IsChecked}
 use Rattle.seccompiler.specs.Errors.{from_backend, from_frontend}
 use Rattle.seccompiler.specs.JsonAnswers.{IsValueOf, HasPolicy, ArePoliciesOf, TellsFrontendFault}
-use Rattle.seccompiler.specs.JsonPrograms.{AreProgramsOf, IsLeastTooLarge, TellsFirstFault, TellsTooLarge}
+use Rattle.seccompiler.specs.JsonFilters.{under}
+use Rattle.seccompiler.specs.JsonPrograms.{AreProgramsOf, IsLeastTooLarge, TellsFirstFault}
 use Rattle.seccompiler.specs.Policy.{Filter, IsCallNumber}
 use Rattle.seccompiler.specs.Compiled.{numbers_of, IsCompiled, IsCompilable, IsRefusal, IsTooLarge}
 use Rattle.seccompiler.specs.SyscallTable.{IsTableNumber}
@@ -32,16 +32,14 @@ pub record Compiles (policy : Filter) (program : Vec sock_filter Global) : Type 
   pub compilable : IsCompilable policy
   pub compiled : IsCompiled policy program.items
 
-module _ (arch : TargetArch) (d : Data) (policies : BTreeMap (String Global) Filter)
-    (are : ArePoliciesOf arch (get_by_text policies) d) where
+module _ (arch : TargetArch) (d : Data) (policies : ByName Filter) (are : ArePoliciesOf arch (under policies) d) where
   -- The programs for the value's policies are the value's.
-  pub are_programs : (made : ByName (Vec sock_filter Global)) → AreMade Compiles policies.entries made
-      → (find : List ℕ → Option (Vec sock_filter Global)) → ((name : List ℕ) → find name ≡ under made name) → AreProgramsOf arch find d
-  are_programs made h find same = all_made (HasPolicy arch) Compiles policies d are made h find same _
+  pub are_programs : (made : ByName (Vec sock_filter Global)) → AreMade Compiles policies made → AreProgramsOf arch (under made) d
+  are_programs made h = all_made (HasPolicy arch) Compiles policies d are made h _
       (λ value policy program has made. record { policy = policy; is_policy = has; compiled = made.compiled })
 
   module _ (front : ByName Filter) (entry : String Global × Filter) (back : ByName Filter)
-      (whole : policies.entries ≡ front ++ entry ∷ back) (order : AreInOrder policies.entries)
+      (whole : policies ≡ front ++ entry ∷ back) (order : AreInOrder policies)
       (made : ByName (Vec sock_filter Global)) (h : AreMade Compiles front made) where
     -- Behind policies that are compiled, one that is too large is that of the least name.
     least_too_large : (n : ℕ) → IsTooLarge entry.1 n → IsLeastTooLarge arch n d
@@ -52,25 +50,19 @@ module _ (arch : TargetArch) (d : Data) (policies : BTreeMap (String Global) Fil
           (λ value policy program has own. (policy, has, own.compilable)),
     )
 
-    -- Its refusal is that of the value, whose policies have numbers of a table.
-    pub refusal_of : (e : BackendError) → IsRefusal entry.1 e → TellsTooLarge arch d e
-    refusal_of (b.FilterTooLarge n) wrong = least_too_large n wrong
-    refusal_of (b.InvalidSyscallNumber n) wrong =
-        let there : get_by_text policies (string_bytes entry.0) ≡ Some entry.1 =
-        by_text (string_bytes entry.0) policies.entries ∙ ap (λ (es : ByName Filter). under es (string_bytes entry.0)) whole
+    -- Its refusal is the first fault of a text of the value, whose policies have numbers of a table.
+    pub refusal_of : (text : List ℕ) → IsValueOf text d → (e : BackendError) → IsRefusal entry.1 e
+        → TellsFirstFault arch text (from_backend e)
+    refusal_of text is (b.FilterTooLarge n) wrong = (d, is, least_too_large n wrong)
+    refusal_of text is (b.InvalidSyscallNumber n) wrong =
+        let there : under policies (string_bytes entry.0) ≡ Some entry.1 =
+        ap (λ (es : ByName Filter). under es (string_bytes entry.0)) whole
         ∙ found_there front entry back (subst (λ (es : ByName Filter). AreInOrder es) whole order) in
         let own : All IsTableNumber (numbers_of entry.1.chains) =
-        rw there at (have_table_numbers arch d (get_by_text policies) are (string_bytes entry.0)) in
+        rw there at (have_table_numbers arch d (under policies) are (string_bytes entry.0)) in
         absurd (wrong.unfit (table_number_fits n (All-contains IsTableNumber (numbers_of entry.1.chains) n own wrong.among)))
-    refusal_of b.OutOfMemory wrong = tt
-    refusal_of e wrong = absurd wrong
-
--- Its refusal is the text's first fault.
-pub refused_told : (arch : TargetArch) (d : Data) (text : List ℕ) → IsValueOf text d → (e : BackendError) → TellsTooLarge arch d e
-    → TellsFirstFault arch text (from_backend e)
-refused_told arch d text is (b.FilterTooLarge n) h = (d, is, h)
-refused_told arch d text is b.OutOfMemory h = tt
-refused_told arch d text is e h = absurd h
+    refusal_of text is b.OutOfMemory wrong = tt
+    refusal_of text is e wrong = absurd wrong
 
 -- A fault of the front end is the first.
 pub told_by_frontend : (arch : TargetArch) (text : List ℕ) (e : JsonFrontendError) → TellsFrontendFault arch text e

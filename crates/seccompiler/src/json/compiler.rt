@@ -1,17 +1,16 @@
 // From JSON filters, and from a text of them, to filters.
 
-ghost use Rattle.std.specs.Prelude.{◌≡◌, ◌↔◌, ◌⊎◌, ℕ, ℤ, List, All, Contains, IfSome, IfOk, IfErr, OnOk, MatchResult, Err, alloc_error};
+ghost use Rattle.std.specs.Prelude.{◌≡◌, ◌↔◌, ◌⊎◌, ℕ, ℤ, List, All, Contains, IfSome, IfOk, IfErr, OnOk, MatchResult, Err, alloc_error, string_cmp};
 ghost use Rattle.std.specs.BTreeMap as tree;
 ghost use Rattle.std.specs.HashMap.{get_by_text};
 ghost use Rattle.std.specs.List.Sorted.{IsStrictlySortedBy};
+ghost use Rattle.std.specs.Map.{keys_of};
 ghost use Rattle.std.specs.Ordering.{int_cmp};
-ghost use Rattle.serde_json.specs.Data.{Data};
 ghost use Rattle.seccompiler.specs.Errors.{IsNoMemoryInFrontend};
-ghost use Rattle.seccompiler.specs.JsonAnswers.{IsLeastRefused, OfValue, ArePoliciesOf, TellsFrontendFault};
+ghost use Rattle.seccompiler.specs.JsonAnswers.{OfValue, ArePoliciesOf, TellsFrontendFault};
 ghost use Rattle.seccompiler.specs.JsonEntries.{PoliciesMatchEntries};
-ghost use Rattle.seccompiler.specs.JsonFilters.{AreFound};
-ghost use Rattle.seccompiler.specs.JsonShape.{IsFilter};
-ghost use Rattle.seccompiler.specs.JsonSteps.{IsNoFailedRead, IsPolicyRefusal, Tells};
+ghost use Rattle.seccompiler.specs.JsonFilters.{under};
+ghost use Rattle.seccompiler.specs.JsonSteps.{IsNoFailedRead, IsPolicyRefusal};
 ghost use Rattle.seccompiler.specs.Reads.{Reads};
 ghost use Rattle.seccompiler.specs.Policy.{Filter};
 ghost use Rattle.seccompiler.specs.Compiled.{numbers_of};
@@ -23,7 +22,6 @@ use crate::backend::TargetArch;
 use crate::filter::SeccompFilter;
 use crate::json::error::JsonFrontendError;
 use crate::json::filter_map::lent_filters;
-use crate::json::lent::LentFilter;
 use crate::json::policy::{lent_seccomp_filter, seccomp_filter, widened_numbers};
 use crate::json::texts::{text_of, value_of};
 use crate::json::types::JsonFilter;
@@ -160,8 +158,8 @@ impl JsonCompiler {
         ensures no_reader { IfErr result IsNoFailedRead }
         ensures memory { IfErr result IsNoMemoryInFrontend }
     {
-        let (_source, policies) = read_policies(alloc, self.arch, text)?;
-        Ok(policies)
+        let (_value, policies) = read_policies(alloc, self.arch, text)?;
+        Ok(policies.into_iter().collect(alloc)?)
     }
 
     /// Reads a text of JSON filters to its end, and makes each filter, as `make_seccomp_filter` does.
@@ -203,51 +201,33 @@ impl JsonCompiler {
         ensures memory { IfErr result IsNoMemoryInFrontend }
     {
         let text = text_of(alloc, reader)?;
-        let (_source, policies) = read_policies(alloc, self.arch, text.as_slice())?;
+        let (_value, policies) = read_policies(alloc, self.arch, text.as_slice())?;
+        drop(text);
         Ok(policies.into_iter().collect(alloc)?)
     }
 }
 
-/// What policies were read from.
+/// The policies of a text in the order of their names, and the value that they were read from.
 ///
-/// It is dropped last, as it is many small pieces of memory: an allocator joins those that were given back
-/// whenever a large one is asked for or given back.
-#[derive(Drop)]
-pub(crate) struct Source {
-    value: Value,
-}
-
-/// The policies of a text under their names, and what they were read from.
+/// It is dropped last, even after the text, as it is many small pieces of memory: an allocator joins those
+/// that were given back whenever a large one is asked for or given back.
 pub(crate) fn read_policies(
     alloc: Global,
     arch: TargetArch,
     text: &[u8],
-) -> Result<(Source, BTreeMap<String, SeccompFilter>), JsonFrontendError>
-    ensures policies { IfOk result (λ read. OfValue text.now (ArePoliciesOf arch (tree.get_by_text read.1))) }
+) -> Result<(Value, Vec<(String, SeccompFilter)>), JsonFrontendError>
+    ensures order { IfOk result (λ read. IsStrictlySortedBy string_cmp (keys_of read.1.items)) }
+    ensures policies { IfOk result (λ read. OfValue text.now (ArePoliciesOf arch (under read.1.items))) }
     ensures fault { IfErr result (TellsFrontendFault arch text.now) }
     ensures no_reader { IfErr result IsNoFailedRead }
     ensures memory { IfErr result IsNoMemoryInFrontend }
 {
     let value = value_of(alloc, text)?;
-    let source = Source { value };
-    let filters = lent_filters(alloc, &source.value)?;
-    let policies = policies_under(alloc, arch, filters)?;
-    Ok((source, policies))
-}
-
-// The policies of JSON filters, under their names.
-fn policies_under(
-    alloc: Global,
-    arch: TargetArch,
-    filters: BTreeMap<String, LentFilter<'_>>,
-) -> Result<BTreeMap<String, SeccompFilter>, JsonFrontendError>
-    ensures policies { IfOk result (λ m. (d : Data) → AreFound IsFilter (tree.get_by_text filters.entry) d → ArePoliciesOf arch (tree.get_by_text m) d) }
-    ensures refused { IfErr result (λ e. (d : Data) → AreFound IsFilter (tree.get_by_text filters.entry) d → Tells (λ fault. IsLeastRefused arch fault d) e) }
-{
-    let mut found = Vec::new(alloc);
+    let filters = lent_filters(alloc, &value)?;
+    let mut policies = Vec::with_capacity(alloc, filters.len())?;
     for (name, filter) in filters {
         let policy = lent_seccomp_filter(alloc, arch, &filter)?;
-        found.push((name, policy))?;
+        policies.push((name, policy))?;
     }
-    Ok(found.into_iter().collect(alloc)?)
+    Ok((value, policies))
 }

@@ -1,10 +1,11 @@
 // The filters of a JSON value. docs/JSON.md has the format.
 
-ghost use Rattle.std.specs.Prelude.{◌≡◌, IfOk, IfErr};
-ghost use Rattle.std.specs.BTreeMap.{get_by_text};
+ghost use Rattle.std.specs.Prelude.{◌≡◌, IfOk, IfErr, string_cmp};
+ghost use Rattle.std.specs.List.Sorted.{IsStrictlySortedBy};
+ghost use Rattle.std.specs.Map.{keys_of};
 ghost use Rattle.serde_json.specs.Data.{Data};
 ghost use Rattle.serde_json.specs.View.{view};
-ghost use Rattle.seccompiler.specs.JsonFilters.{AreFound};
+ghost use Rattle.seccompiler.specs.JsonFilters.{AreFound, under};
 ghost use Rattle.seccompiler.specs.JsonSteps.{AreFilters, IsShapeRefusal};
 ghost use Rattle.seccompiler.specs.JsonShape.{IsFilter};
 ghost use Rattle.seccompiler.specs.JsonTypes.{JsonFilter};
@@ -15,7 +16,6 @@ use crate::json::parts::read_filter;
 use crate::json::types::JsonFilterMap;
 use serde_json::Value;
 use std::alloc::Global;
-use std::collections::BTreeMap;
 
 /// Reads a JSON value as filters under their names.
 ///
@@ -43,25 +43,27 @@ pub fn read_filters(alloc: Global, value: &Value) -> Result<JsonFilterMap, JsonF
     // A value is at most one filter.
     ensures one_filter { (d : Data) (f g : JsonFilter) → IsFilter d f → IsFilter d g → f ≡ g }
 {
-    let mut found = Vec::new(alloc);
-    for (name, filter) in lent_filters(alloc, value)? {
+    let filters = lent_filters(alloc, value)?;
+    let mut found = Vec::with_capacity(alloc, filters.len())?;
+    for (name, filter) in filters {
         found.push((name, owned(alloc, filter)?))?;
     }
     Ok(JsonFilterMap(found.into_iter().collect(alloc)?))
 }
 
-/// The same, with the names of calls that the value has.
+/// The same, in the order of their names, with the names of calls that the value has.
 pub fn lent_filters(
     alloc: Global,
     value: &Value,
-) -> Result<BTreeMap<String, LentFilter<'_>>, JsonFrontendError>
-    ensures filters { IfOk result (λ filters. AreFound IsFilter (get_by_text filters) (view value.now)) }
+) -> Result<Vec<(String, LentFilter<'_>)>, JsonFrontendError>
+    ensures order { IfOk result (λ filters. IsStrictlySortedBy string_cmp (keys_of filters.items)) }
+    ensures filters { IfOk result (λ filters. AreFound IsFilter (under filters.items) (view value.now)) }
     ensures refusal { IfErr result (IsShapeRefusal (view value.now)) }
 {
     let Value::Object(members) = value else {
         return Err(JsonFrontendError::NotAnObject);
     };
-    let mut found = Vec::new(alloc);
+    let mut found = Vec::with_capacity(alloc, members.len())?;
     for (key, member) in members.iter() {
         let name = key.clone()?;
         match read_filter(alloc, member)? {
@@ -69,5 +71,5 @@ pub fn lent_filters(
             None => return Err(JsonFrontendError::Shape(name)),
         }
     }
-    Ok(found.into_iter().collect(alloc)?)
+    Ok(found)
 }

@@ -58,3 +58,25 @@ pub fn owned(alloc: Global, filter: LentFilter<'_>) -> Result<JsonFilter, AllocE
         rules,
     })
 }
+
+/// The same filter, with names that it lends.
+pub fn lent(alloc: Global, filter: &JsonFilter) -> Result<LentFilter<'_>, AllocError>
+    ensures { IfOk result (λ f. f ≡ filter.now) }
+{
+    let mut rules = Vec::with_capacity(alloc, filter.rules.len())?;
+    for rule in &filter.rules {
+        let conditions = match &rule.conditions {
+            Some(conditions) => Some(conditions.clone()?),
+            None => None,
+        };
+        rules.push(LentRule {
+            syscall: rule.syscall.as_str(),
+            conditions,
+        })?;
+    }
+    Ok(LentFilter {
+        mismatch_action: filter.mismatch_action,
+        match_action: filter.match_action,
+        rules,
+    })
+}

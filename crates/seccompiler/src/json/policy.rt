@@ -1,13 +1,13 @@
 // From JSON filters to filters.
 
-ghost use Rattle.std.specs.Prelude.{◌≡◌, ◌≢◌, ◌↔◌, ◌&&◌, ℤ, [], ◌∷◌, Some, None, All, Contains, IfOk, IfErr, OnOk, map, if◌then◌else◌};
+ghost use Rattle.std.specs.Prelude.{◌≡◌, ◌≢◌, ◌↔◌, ◌&&◌, ℤ, [], ◌∷◌, Some, None, All, Contains, IfOk, IfErr, OnOk, map, if◌then◌else◌, length};
 ghost use Rattle.std.specs.List.{list_any};
 ghost use Rattle.std.specs.List.Sorted.{IsStrictlySortedBy};
 ghost use Rattle.std.specs.Option.{is_some};
 ghost use Rattle.std.specs.Ordering.{int_cmp, int_eq};
 ghost use Rattle.seccompiler.specs.Policy.{chains_of};
 ghost use Rattle.seccompiler.specs.JsonPolicyOf.{chain_at, condition_of, AreFineArgs, IsFaultIn, IsFaultOf, IsFineEntry, IsFirstOf, IsPolicyOf};
-ghost use Rattle.seccompiler.specs.JsonGathered.{added, entry_of, AreGathered, HasAdded, HasChains, is_always_at, rules_at};
+ghost use Rattle.seccompiler.specs.JsonGathered.{added, AreGathered, HasChains};
 ghost use Rattle.seccompiler.specs.JsonWidened.{IsWidened};
 ghost use Rattle.seccompiler.specs.JsonSteps.{IsPolicyRefusal, Tells};
 
@@ -15,8 +15,8 @@ use crate::backend::{BackendError, TargetArch};
 use crate::condition::SeccompCondition;
 use crate::filter::SeccompFilter;
 use crate::json::error::JsonFrontendError;
-use crate::json::lent::{LentFilter, LentRule};
-use crate::json::types::{JsonCondition, JsonFilter, JsonRule};
+use crate::json::lent::{LentFilter, LentRule, lent};
+use crate::json::types::{JsonCondition, JsonFilter};
 use crate::rule::SeccompRule;
 use crate::syscall_table::SyscallTable;
 use std::alloc::{AllocError, Global};
@@ -55,8 +55,6 @@ struct Gathered {
     rules: BTreeMap<i64, Vec<SeccompRule>>,
     // Whether a number is one of a call of an entry without conditions.
     always: [bool; NUMBERS],
-    // Where the table has the last call's name: the next is often the same one, or the one behind it.
-    near: usize,
 }
 
 // The rule of the conditions, in their order.
@@ -91,61 +89,8 @@ fn add_rule(
     Ok(())
 }
 
-// Adds what the entry stands for: its rule at the end of those of its call's number, or that number.
-#[tactic(auto, using(crate::proofs::json::policy::EntryFaults::unknown_entry))]
-fn add_entry(
-    alloc: Global,
-    arch: TargetArch,
-    gathered: &mut Gathered,
-    name: &str,
-    conditions: &Option<Vec<JsonCondition>>,
-) -> Result<(), JsonFrontendError>
-    ensures fine { OnOk result (IsFineEntry arch (entry_of name.now conditions.now)) }
-    ensures added { OnOk result (HasAdded arch (entry_of name.now conditions.now) gathered.old gathered.new) }
-    ensures refused { IfErr result (Tells (IsFaultOf arch (entry_of name.now conditions.now))) }
-{
-    let table = SyscallTable::new(arch);
-    let Some(number) = table.number_near(&mut gathered.near, name) else {
-        let name = String::from_str(alloc, name)?;
-        return Err(JsonFrontendError::SyscallName(name, arch));
-    };
-    match conditions {
-        Some(conditions) => {
-            let rule = rule_of(alloc, conditions.as_slice())?;
-            add_rule(alloc, &mut gathered.rules, number, rule)?;
-            Ok(())
-        }
-        None => {
-            gathered.always[number as usize] = true;
-            Ok(())
-        }
-    }
-}
-
 // What the entries stand for.
 fn gather(
-    alloc: Global,
-    arch: TargetArch,
-    entries: &[JsonRule],
-) -> Result<Gathered, JsonFrontendError>
-    ensures fine { OnOk result (All (IsFineEntry arch) entries.now) }
-    ensures gathered { IfOk result (AreGathered arch entries.now) }
-    ensures refused { IfErr result (Tells (IsFirstOf arch entries.now)) }
-{
-    let mut gathered = Gathered {
-        rules: BTreeMap::new(alloc),
-        always: [false; NUMBERS],
-        near: 0,
-    };
-    for entry in entries {
-        let name = entry.syscall.as_str();
-        add_entry(alloc, arch, &mut gathered, name, &entry.conditions)?;
-    }
-    Ok(gathered)
-}
-
-// The same of entries whose names are lent.
-fn gather_lent(
     alloc: Global,
     arch: TargetArch,
     entries: &[LentRule<'_>],
@@ -154,15 +99,24 @@ fn gather_lent(
     ensures gathered { IfOk result (AreGathered arch entries.now) }
     ensures refused { IfErr result (Tells (IsFirstOf arch entries.now)) }
 {
-    let mut gathered = Gathered {
-        rules: BTreeMap::new(alloc),
-        always: [false; NUMBERS],
-        near: 0,
-    };
+    let table = SyscallTable::new(arch);
+    let mut rules = BTreeMap::new(alloc);
+    let mut always = [false; NUMBERS];
+    let mut near = 0;
     for entry in entries {
-        add_entry(alloc, arch, &mut gathered, entry.syscall, &entry.conditions)?;
+        let Some(number) = table.number_near(&mut near, entry.syscall) else {
+            let name = String::from_str(alloc, entry.syscall)?;
+            return Err(JsonFrontendError::SyscallName(name, arch));
+        };
+        match &entry.conditions {
+            Some(conditions) => {
+                let rule = rule_of(alloc, conditions.as_slice())?;
+                add_rule(alloc, &mut rules, number, rule)?;
+            }
+            None => always[number as usize] = true,
+        }
     }
-    Ok(gathered)
+    Ok(Gathered { rules, always })
 }
 
 // The chain of each number: the empty one where some entry has the number and no conditions, else the
@@ -170,25 +124,20 @@ fn gather_lent(
 fn chains_of_numbers(
     alloc: Global,
     gathered: Gathered,
+    entries: usize,
 ) -> Result<BTreeMap<i64, Vec<SeccompRule>>, AllocError>
     ensures { IfOk result (HasChains gathered) }
 {
-    let Gathered {
-        mut rules,
-        always,
-        ..
-    } = gathered;
-    // To make a map of ascending numbers takes less than to insert each.
-    let mut found = Vec::with_capacity(alloc, NUMBERS)?;
+    let Gathered { rules, always } = gathered;
+    // To make a map of all takes less than to insert each. Of two chains of a number the last one stays.
+    let mut found: Vec<(i64, Vec<SeccompRule>)> = rules.into_iter().collect(alloc)?;
+    found.reserve(entries.min(NUMBERS))?;
     for number in 0..NUMBERS {
-        if !always[number] {
-            continue;
+        if always[number] {
+            found.push((number as i64, Vec::new(alloc)))?;
         }
-        found.push((number as i64, Vec::new(alloc)))?;
     }
-    let mut empty: BTreeMap<i64, Vec<SeccompRule>> = found.into_iter().collect(alloc)?;
-    rules.append(&mut empty)?;
-    Ok(rules)
+    Ok(found.into_iter().collect(alloc)?)
 }
 
 /// The filter of a JSON filter on an architecture.
@@ -200,9 +149,8 @@ pub fn seccomp_filter(
     ensures policy { IfOk result (IsPolicyOf arch filter.now) }
     ensures refused { IfErr result (IsPolicyRefusal arch filter.now) }
 {
-    let gathered = gather(alloc, arch, filter.rules.as_slice())?;
-    let chains = chains_of_numbers(alloc, gathered)?;
-    Ok(SeccompFilter::new(chains, filter.mismatch_action, filter.match_action, arch)?)
+    let lent = lent(alloc, filter)?;
+    lent_seccomp_filter(alloc, arch, &lent)
 }
 
 /// The same of a filter whose names are lent.
@@ -214,8 +162,8 @@ pub fn lent_seccomp_filter(
     ensures policy { IfOk result (IsPolicyOf arch filter.now) }
     ensures refused { IfErr result (IsPolicyRefusal arch filter.now) }
 {
-    let gathered = gather_lent(alloc, arch, filter.rules.as_slice())?;
-    let chains = chains_of_numbers(alloc, gathered)?;
+    let gathered = gather(alloc, arch, filter.rules.as_slice())?;
+    let chains = chains_of_numbers(alloc, gathered, filter.rules.len())?;
     Ok(SeccompFilter::new(chains, filter.mismatch_action, filter.match_action, arch)?)
 }
 
@@ -230,11 +178,12 @@ pub fn widened_numbers(
     ensures faultless { OnOk result (All (IsFineEntry arch) filter.now.rules × (filter.now.mismatch_action ≢ filter.now.match_action)) }
     ensures refused { IfErr result (IsPolicyRefusal arch filter.now) }
 {
-    let gathered = gather(alloc, arch, filter.rules.as_slice())?;
+    let lent = lent(alloc, filter)?;
+    let gathered = gather(alloc, arch, lent.rules.as_slice())?;
     if filter.mismatch_action == filter.match_action {
         return Err(JsonFrontendError::Backend(BackendError::IdenticalActions));
     }
-    let Gathered { rules, always, .. } = gathered;
+    let Gathered { rules, always } = gathered;
     let mut numbers = Vec::new(alloc);
     for number in 0..NUMBERS {
         if !always[number] {

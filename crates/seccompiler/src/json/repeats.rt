@@ -1,11 +1,12 @@
 // Whether a text has more colons outside strings than its value has names.
 
 ghost use Rattle.std.specs.Prelude.{◌≡◌, ℕ, ◌-◌, ◌==◌, ◌<◌, ◌≤◌, ◌↔◌, IsTrue, count_by, length};
-ghost use Rattle.serde_json.specs.View.{view};
+ghost use Rattle.serde_json.specs.View.{view, items_view};
 ghost use Rattle.seccompiler.specs.ColonCount.{from_outside, from_inside};
-ghost use Rattle.seccompiler.specs.JsonRepeats.{Repeats, HasColons, names_in};
+ghost use Rattle.seccompiler.specs.JsonRepeats.{Repeats, HasColons, names_in, names_in_items};
 
 use serde_json::Value;
+use std::slice::from_ref;
 
 // How many bytes are counted in one byte.
 const PART: usize = 255;
@@ -31,34 +32,33 @@ pub fn repeats_key(text: &[u8], value: &Value) -> bool
 {
     // Which of them stand in strings is asked only if there are more than names.
     let all = all_colons(text);
-    let left = after_names(value, all);
+    let left = after_names(from_ref(value), all);
     if left == 0 {
         return false;
     }
     all - left < colons(text)
 }
 
-// How many of `left` are left after one for each name in the value.
-fn after_names(value: &Value, mut left: usize) -> usize
-    ensures { result ≡ left - names_in (view value.now) }
+// How many of `left` are left after one for each name in the values.
+fn after_names(values: &[Value], mut left: usize) -> usize
+    ensures { result ≡ left - names_in_items (items_view values.now) }
 {
-    match value {
-        Value::Array(items) => {
-            for item in items {
-                left = after_names(item, left);
-            }
-        }
-        Value::Object(members) => {
-            left = left.saturating_sub(members.len());
-            for (_, member) in members.iter() {
-                // Most members have no names of their own.
-                match member {
-                    Value::Array(_) | Value::Object(_) => left = after_names(member, left),
-                    _ => {}
+    for value in values {
+        match value {
+            Value::Array(items) => left = after_names(items.as_slice(), left),
+            Value::Object(members) => {
+                left = left.saturating_sub(members.len());
+                for (_, member) in members.iter() {
+                    // Most members have no names of their own.
+                    match member {
+                        Value::Array(items) => left = after_names(items.as_slice(), left),
+                        Value::Object(_) => left = after_names(from_ref(member), left),
+                        _ => {}
+                    }
                 }
             }
+            _ => {}
         }
-        _ => {}
     }
     left
 }

@@ -9,7 +9,7 @@ use std::marker::Model;
 ///
 /// Nothing is yet known of the index: `SeccompCondition` is the condition whose index is one of an
 /// argument. Two conditions are equal if their four parts are.
-#[derive(Debug, PartialEq, Drop)]
+#[derive(Clone, Copy, Debug, PartialEq)]
 pub struct JsonCondition {
     /// The argument's index, from 0: `index` in the text.
     pub arg_index: u8,

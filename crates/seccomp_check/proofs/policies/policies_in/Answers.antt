@@ -1,26 +1,17 @@
-use Rattle.std.proofs.Common.{◌∷◌, ◌++◌, [], String, Global, string_cmp, sym, ap, ◌∙◌, subst, append_assoc, append-nil, rules, inr, refl}
+use Rattle.std.proofs.Common.{◌∷◌, ◌++◌, [], String, Global, string_cmp, sym, ap, ◌∙◌, subst, append_assoc, append-nil, rules, inr}
 use Rattle.std.specs.BTreeMap.{get_by_text, IsFromIterResult}
-use Rattle.std.specs.Bool.{⊤}
 use Rattle.std.specs.List.{AllZip}
 use Rattle.std.specs.List.Sorted.{IsStrictlySortedBy}
 use Rattle.std.specs.Map.{keys_of}
 use Rattle.std.proofs.lemmas.Result.{err_from_is_err_and}
 use Rattle.std.proofs.lemmas.Slice.Zip.{all_zipped_more}
-use Rattle.seccompiler.proofs.ByName.{AreMade, making_done}
+use Rattle.seccompiler.proofs.ByName.{ordered}
 use Rattle.seccompiler.specs.JsonPolicyOf.{IsPolicyOf}
 use Rattle.seccompiler.specs.JsonSteps.{IsPolicyRefusal}
 use Rattle.seccompiler.specs.JsonTypes.{JsonFilter}
 use Rattle.seccompiler.specs.Policy.{Filter}
 use Rattle.seccomp_check.proofs.MadePolicies.{Filters, IsMade, Policies, are_faultless, are_policies, made_in_order}
 use Rattle.seccomp_check.proofs.policies.policies_in.Goals as goal
-
--- Each policy is made of itself.
-abbrev Same : Filter → Filter → Type 0
-Same x y = ⊤
-
-themselves : (policies : Policies) → AreMade Same policies policies
-themselves [] = tt
-themselves (p ∷ policies) = ((refl, tt), themselves policies)
 
 pub loop-name-preserved : goal.loop-name-preserved
 loop-name-preserved c =
@@ -63,7 +54,5 @@ returns-clause-policies c =
     let made = subst (λ es. AllZip (IsMade c.args.target) es l.found.items) (sym all) l.invariant.made in
     let order : IsStrictlySortedBy string_cmp (keys_of filters.0.entries) = search rules in
     let collected : IsFromIterResult string_cmp l.found.items m = search rules in
-    let found = making_done Same {given = l.found.items} {left = []} {ys = l.found.items}
-    (record { done = l.found.items; all = sym (append-nil l.found.items); made = themselves l.found.items }) m refl
-    (made_in_order c.args.target filters.0.entries l.found.items made order) collected in
-    are_policies c.args.target filters l.found.items made (get_by_text m) found.1
+    let found = ordered l.found.items m (made_in_order c.args.target filters.0.entries l.found.items made order) collected in
+    are_policies c.args.target filters l.found.items made (get_by_text m) found

@@ -1,12 +1,11 @@
 use Rattle.std.proofs.Common.{string_eq, rules, sym, subst}
 use Rattle.std.specs.HashMap.{IsFromIterResult, get_by_text}
 use Rattle.std.proofs.lemmas.Result.{err_from_is_err_and}
-use Rattle.seccompiler.specs.Errors.{from_backend, from_frontend}
 use Rattle.seccompiler.specs.JsonAnswers.{OfValue}
 use Rattle.seccompiler.specs.JsonPrograms.{AreProgramsOf, TellsFirstFault}
-use Rattle.seccompiler.proofs.ByName.{rehashed}
+use Rattle.seccompiler.proofs.ByName.{hashed}
 use Rattle.seccompiler.proofs.TextFilters.{reads_some, reads_this}
-use Rattle.seccompiler.proofs.compile.TextPrograms.{all_checked, refused_told, told_by_frontend}
+use Rattle.seccompiler.proofs.compile.TextPrograms.{all_checked, told_by_frontend}
 use Rattle.seccompiler.proofs.compile.compile_from_json.Goals as goal
 
 pub returns-in_err-text-clause-fault : goal.returns-in_err-text-clause-fault
@@ -15,24 +14,11 @@ returns-in_err-text-clause-fault g c =
     rw (p.1, p.2) (reads_some (g.R.Read.remaining c.args.reader) _
     (λ text. told_by_frontend c.args.arch text c.in_err-text.field-0.0 (c.in_err-text.ensures.fault c.args.arch text)))
 
-pub returns-in_err-_source-clause-fault : goal.returns-in_err-_source-clause-fault
-returns-in_err-_source-clause-fault g c =
-    let p = err_from_is_err_and c.from_residual-in_err-_source.result c.from_residual-in_err-_source.ensures.1 in
-    let arch = c.args.arch in
-    let cause = c.in_err-_source.field-0.0 in
-    let text = c.in_ok-text.text.items in
-    rw (p.1, p.2) (reads_this (g.R.Read.remaining c.args.reader) (λ text. TellsFirstFault arch text (from_frontend cause)) text
-    c.in_ok-text.ensures.text (told_by_frontend arch text cause (rw c.as_slice.ensures.value at c.in_err-_source.ensures.fault)))
-
-pub returns-in_err-programs-clause-fault : goal.returns-in_err-programs-clause-fault
-returns-in_err-programs-clause-fault g c =
-    let p = err_from_is_err_and c.from_residual-in_err-programs.result c.from_residual-in_err-programs.ensures.1 in
-    let arch = c.args.arch in
-    let cause = c.in_err-programs.field-0.0 in
-    let text = c.in_ok-text.text.items in
-    let read = rw c.as_slice.ensures.value at c.in_ok-_source.ensures.policies in
-    rw (p.1, p.2) (reads_this (g.R.Read.remaining c.args.reader) (λ text. TellsFirstFault arch text (from_backend cause)) text
-    c.in_ok-text.ensures.text (refused_told arch read.0 text read.1 cause (c.in_err-programs.ensures.refused arch read.0 read.2)))
+pub returns-in_err-_value-clause-fault : goal.returns-in_err-_value-clause-fault
+returns-in_err-_value-clause-fault g c =
+    let p = err_from_is_err_and c.from_residual-in_err-_value.result c.from_residual-in_err-_value.ensures.1 in
+    rw (p.1, p.2) (reads_this (g.R.Read.remaining c.args.reader) (λ text. TellsFirstFault c.args.arch text c.in_err-_value.field-0.0)
+    c.in_ok-text.text.items c.in_ok-text.ensures.text (rw c.as_slice.ensures.value at c.in_err-_value.ensures.fault))
 
 pub returns-in_err-collect-clause-fault : goal.returns-in_err-collect-clause-fault
 returns-in_err-collect-clause-fault g c =
@@ -43,13 +29,11 @@ pub returns : goal.returns
 returns g c =
     let arch = c.args.arch in
     let text = c.in_ok-text.text.items in
-    let ordered = c.in_ok-programs.programs in
     let m = c.in_ok-collect.field-0 in
-    let made : IsFromIterResult string_eq ordered.entries m = search rules in
-    let same = rehashed ordered m c.into_iter.ensures.into_iter_gives.5 made in
-    let read = rw c.as_slice.ensures.value at c.in_ok-_source.ensures.policies in
+    let made : IsFromIterResult string_eq c.in_ok-_value.programs.items m = search rules in
+    let same = hashed _ m c.in_ok-_value.ensures.order made in
     let are = subst (λ find. OfValue text (AreProgramsOf arch find)) (λ i q. sym (same q) i)
-    (read.0, read.1, c.in_ok-programs.ensures.programs arch read.0 read.2) in
+    (rw c.as_slice.ensures.value at c.in_ok-_value.ensures.programs) in
     record {
       programs = reads_this (g.R.Read.remaining c.args.reader) (λ text. OfValue text (AreProgramsOf arch (get_by_text m))) text
           c.in_ok-text.ensures.text are;

@@ -1,11 +1,10 @@
--- For `policies_under` and `policies_of`: the policies of a value's filters, and the refusal of the least name's.
+-- For `read_policies` and `policies_of`: the policies of a value's filters, and the refusal of the least name's.
 use Rattle.std.proofs.Common.{◌≡◌, ℕ, ◌++◌, List, ◌∷◌, Option, Some, None, String, Global, IfSome, All, string_bytes, refl}
-use Rattle.std.specs.BTreeMap.{BTreeMap, get_by_text}
 use Rattle.serde_json.specs.Data.{Data}
-use Rattle.seccompiler.proofs.ByName.{ByName, AreInOrder, AreMade, under}
+use Rattle.seccompiler.proofs.ByName.{ByName, AreInOrder, AreMade}
 use Rattle.seccompiler.specs.Errors.{IsNoMemoryInFrontend}
 use Rattle.seccompiler.specs.JsonAnswers.{IsValueOf, HasPolicy, HasSomePolicy, ArePoliciesOf, IsLeastRefused, TellsFrontendFault}
-use Rattle.seccompiler.specs.JsonFilters.{AreFound}
+use Rattle.seccompiler.specs.JsonFilters.{AreFound, under}
 use Rattle.seccompiler.specs.JsonPolicyOf.{Fault, IsPolicyOf, IsFirstFault}
 use Rattle.seccompiler.specs.JsonSteps.{IsNoFailedRead, Tells}
 use Rattle.seccompiler.specs.JsonShape.{IsFilter}
@@ -20,21 +19,19 @@ use Rattle.seccompiler.proofs.TextFilters.{all_made, least_wrong, value_under}
 use Rattle.seccompiler.proofs.json.policy.Policies.{numbers_in_range}
 
 module _ (arch : TargetArch) (d : Data) where
-  module _ (m : BTreeMap (String Global) JsonFilter) (are : AreFound IsFilter (get_by_text m) d) where
+  module _ (filters : ByName JsonFilter) (are : AreFound IsFilter (under filters) d) where
     -- The policies of the value's filters are the value's.
-    pub are_policies : (made : ByName Filter) → AreMade (IsPolicyOf arch) m.entries made → (find : List ℕ → Option Filter)
-        → ((name : List ℕ) → find name ≡ under made name) → ArePoliciesOf arch find d
-    are_policies made h find same = all_made IsFilter (IsPolicyOf arch) m d are made h find same
-        (HasPolicy arch) (λ value f policy is own. (f, is, own))
+    pub are_policies : (made : ByName Filter) → AreMade (IsPolicyOf arch) filters made → ArePoliciesOf arch (under made) d
+    are_policies made h = all_made IsFilter (IsPolicyOf arch) filters d are made h (HasPolicy arch) (λ value f policy is own. (f, is, own))
 
     -- Behind filters that have policies, the first fault of one that has none is that of the least name.
     pub least_refused : (front : ByName JsonFilter) (entry : String Global × JsonFilter) (back : ByName JsonFilter)
-        → m.entries ≡ front ++ entry ∷ back → AreInOrder m.entries → (made : ByName Filter)
+        → filters ≡ front ++ entry ∷ back → AreInOrder filters → (made : ByName Filter)
         → AreMade (IsPolicyOf arch) front made → (fault : Fault) → IsFirstFault arch entry.1 fault → IsLeastRefused arch fault d
     least_refused front entry back whole order made h fault first = (
       record { is_object = are.is_object; each = λ name value there. let known = are.each name value there in (known.found, known.own) },
       string_bytes entry.0,
-      least_wrong IsFilter (IsPolicyOf arch) m d are front entry back whole order made h (λ f. IsFirstFault arch f fault) first
+      least_wrong IsFilter (IsPolicyOf arch) filters d are front entry back whole order made h (λ f. IsFirstFault arch f fault) first
           (HasSomePolicy arch) (λ value f policy is own. (policy, (f, is, own))),
     )
 

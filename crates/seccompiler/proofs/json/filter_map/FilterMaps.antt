@@ -1,16 +1,15 @@
--- For `filters_in`: the map of the filters that an object's members are, and its least name that is no filter's.
-use Rattle.std.proofs.Common.{◌≡◌, ℕ, List, ◌∷◌, ◌++◌, Option, Some, None, option_map, BTreeMap, String, Global, string_bytes}
+-- For `lent_filters`: the filters that an object's members are, and its least name that is no filter's.
+use Rattle.std.proofs.Common.{◌≡◌, ℕ, List, ◌∷◌, ◌++◌, Option, Some, None, option_map, string_bytes}
 use Rattle.std.proofs.Common.{refl, sym, ap, ◌∙◌, subst}
-use Rattle.std.specs.BTreeMap.{get_by_text}
 use Rattle.serde_json.specs.Data.{Data, object}
 use Rattle.serde_json.specs.Find.{get_member}
 use Rattle.serde_json.specs.View.{view, members_view}
 use Rattle.serde_json.specs.declared.value.Value.{Value}
 use Rattle.serde_json.proofs.Views.{Entry, view-lookup}
-use Rattle.seccompiler.specs.JsonFilters.{AreFound, IsLeastFault}
+use Rattle.seccompiler.specs.JsonFilters.{AreFound, IsLeastFault, under}
 use Rattle.seccompiler.specs.JsonShape.{IsFilter}
 use Rattle.seccompiler.specs.JsonTypes.{JsonFilter}
-use Rattle.seccompiler.proofs.ByName.{ByName, AreInOrder, AreMade, under, by_text, found_there, found_in_front, made_under}
+use Rattle.seccompiler.proofs.ByName.{ByName, AreInOrder, AreMade, by_text, found_there, found_in_front, made_under}
 
 -- The value is this filter.
 abbrev pub IsRead : Value → JsonFilter → Type 0
@@ -28,17 +27,16 @@ not_viewed : (o : Option Value) → option_map view o ≡ None → o ≡ None
 not_viewed None h = refl
 not_viewed (Some v) h = cc
 
--- The map of what the members are has the object's filters.
-pub are_filters : (entries : List Entry) (made : ByName JsonFilter) (m : BTreeMap (String Global) JsonFilter) → AreMade IsRead entries made
-    → ((name : List ℕ) → get_by_text m name ≡ under made name) → AreFound IsFilter (get_by_text m) (object (members_view entries))
-are_filters entries made m are same = record {
+-- What the members are has the object's filters.
+pub are_filters : (entries : List Entry) (made : ByName JsonFilter) → AreMade IsRead entries made
+    → AreFound IsFilter (under made) (object (members_view entries))
+are_filters entries made are = record {
   is_object = (members_view entries, refl);
   each = λ name d there.
       let found = viewed (under entries name) d (sym (has name entries) ∙ there) in
       let own = rw found.1 at (made_under IsRead entries made are name) in
-      record { found = own.0; there = same name ∙ own.1; own = subst (λ d. IsFilter d own.0) found.2 own.2 };
-  no_other = λ name lacks. same name ∙ rw (not_viewed (under entries name) (sym (has name entries) ∙ lacks)) at
-      (made_under IsRead entries made are name);
+      record { found = own.0; there = own.1; own = subst (λ d. IsFilter d own.0) found.2 own.2 };
+  no_other = λ name no. rw (not_viewed (under entries name) (sym (has name entries) ∙ no)) at (made_under IsRead entries made are name);
 }
 
 -- The value behind those that are filters, if it is none, is the least that is none.

@@ -1,15 +1,16 @@
--- For `add_rule`, `both_kinds` and `chains_of_numbers`: the chains of a map, after one was written or some were put in.
+-- For `add_rule`, `widened_numbers` and `chains_of_numbers`: the chains of a map, after one was written or some were put in.
 use Rattle.std.proofs.Common.{◌≡◌, ℤ, ◌++◌, List, [], ◌∷◌, Vec, Global, Bool, true, false, ◌||◌, cond, Option, Some, None, option_map, refl}
 use Rattle.std.proofs.Common.{sym, ap, ◌∙◌, unwrap_or}
-use Rattle.std.specs.BTreeMap.{BTreeMap, is_at, InsertsAll, IsFromIterResult}
+use Rattle.std.specs.BTreeMap.{BTreeMap, is_at, IsFromIterResult}
 use Rattle.std.specs.Map.{lookup, keys_of, update, update_all}
-use Rattle.std.specs.Option.{is_some, option_or}
+use Rattle.std.specs.List.Sorted.{IsStrictlySortedBy}
+use Rattle.std.specs.Option.{is_some}
 use Rattle.std.specs.Ordering.{int_cmp, int_eq}
 use Rattle.std.proofs.lemmas.Bool.Decides.{Decides-int_eq}
 use Rattle.std.proofs.lemmas.Cmp.{int_eq_equiv}
 use Rattle.std.proofs.lemmas.List.Sums.{fold_push}
 use Rattle.std.proofs.lemmas.Map.Keys.{IsDistinct-from_sorted}
-use Rattle.std.proofs.lemmas.Map.Made.{lookup-map_values, update_all_distinct}
+use Rattle.std.proofs.lemmas.Map.Made.{lookup-map_values, update_all_none}
 use Rattle.seccompiler.specs.Policy.{Rule, Chain, chains_of}
 use Rattle.seccompiler.specs.JsonGathered.{added, chain_of}
 use Rattle.seccompiler.specs.JsonPolicyOf.{chain_at}
@@ -59,37 +60,30 @@ chain_with_rule old new number before after start rule q written found empty lon
 abbrev pub made_at : Pairs → ℤ → Option Chain
 made_at pairs number = list_of (update_all int_eq (λ _. None) pairs number)
 
+-- In the map that is made of a map's entries it is the one under it.
+pub made_of_rules : (rules : BTreeMap ℤ (Vec Rule Global)) → IsStrictlySortedBy int_cmp (keys_of rules.entries) → (q : ℤ)
+    → made_at rules.entries q ≡ chain_at (chains_of rules.entries) q
+made_of_rules rules order q = ap list_of (update_all_none int_eq_equiv int_eq (λ x y. refl) rules.entries q
+    (IsDistinct-from_sorted int_cmp (keys_of rules.entries) order)) ∙ sym (chain_held rules.entries q)
+
 -- A number more has the empty chain.
-pub made_more : (pairs : Pairs) (number : ℤ) (empty : Vec Rule Global) (q : ℤ) (so_far : Bool) → empty.items ≡ []
-    → made_at pairs q ≡ chain_of so_far None → made_at (pairs ++ (number, empty) ∷ []) q ≡ chain_of (so_far || int_eq q number) None
-made_more pairs number empty q so_far is_empty made =
+pub made_more : (pairs : Pairs) (number : ℤ) (empty : Vec Rule Global) (q : ℤ) (so_far : Bool) (chain : Option Chain) → empty.items ≡ []
+    → made_at pairs q ≡ chain_of so_far chain → made_at (pairs ++ (number, empty) ∷ []) q ≡ chain_of (so_far || int_eq q number) chain
+made_more pairs number empty q so_far chain is_empty made =
     ap (λ g. list_of (g q)) (fold_push (λ g p. update int_eq g p.0 (Some p.1)) (λ _. None) pairs (number, empty))
-    ∙ by_case (int_eq number q) so_far made ∙ ap (λ b. chain_of (so_far || b) None) (int_eq_equiv.symm number q)
+    ∙ by_case (int_eq number q) so_far made ∙ ap (λ b. chain_of (so_far || b) chain) (int_eq_equiv.symm number q)
   where
-    by_case : (here before : Bool) → made_at pairs q ≡ chain_of before None
-        → list_of (cond here (Some empty) (update_all int_eq (λ _. None) pairs q)) ≡ chain_of (before || here) None
+    by_case : (here before : Bool) → made_at pairs q ≡ chain_of before chain
+        → list_of (cond here (Some empty) (update_all int_eq (λ _. None) pairs q)) ≡ chain_of (before || here) chain
     by_case false true is = is
     by_case false false is = is
     by_case true true is = ap Some is_empty
     by_case true false is = ap Some is_empty
 
--- The map of the numbers that match always was put into that of the rules.
-pub chains_with_empty : (rules empty all : BTreeMap ℤ (Vec Rule Global)) (pairs : Pairs) (always : ℤ → Bool)
-    → IsFromIterResult int_cmp pairs empty → InsertsAll int_cmp rules empty.entries all
-    → ((q : ℤ) → made_at pairs q ≡ chain_of (always q) None)
-    → (q : ℤ) → chain_at (chains_of all.entries) q ≡ chain_of (always q) (chain_at (chains_of rules.entries) q)
-chains_with_empty rules empty all pairs always made put each q =
-    chain_held all.entries q ∙ ap list_of (put.0 q ∙ update_all_distinct int_eq_equiv int_eq (λ x y. refl) (held rules.entries)
-    empty.entries q (IsDistinct-from_sorted int_cmp (keys_of empty.entries) made.1))
-    ∙ by_case (held empty.entries q) (held rules.entries q) (always q) (ap list_of (made.0 q) ∙ each q)
-    ∙ ap (chain_of (always q)) (sym (chain_held rules.entries q))
-  where
-    by_case : (own other : Option (Vec Rule Global)) (b : Bool) → list_of own ≡ chain_of b None
-        → list_of (option_or own other) ≡ chain_of b (list_of other)
-    by_case None other false h = refl
-    by_case None other true h = cc
-    by_case (Some v) other false h = cc
-    by_case (Some v) other true h = h
+-- The map finds what it is made of.
+pub made_found : (pairs : Pairs) (all : BTreeMap ℤ (Vec Rule Global)) → IsFromIterResult int_cmp pairs all → (q : ℤ)
+    → chain_at (chains_of all.entries) q ≡ made_at pairs q
+made_found pairs all made q = chain_held all.entries q ∙ ap list_of (made.0 q)
 
 -- A number has rules where the map holds some.
 pub some_held : (entries : Pairs) (number : ℤ) → is_some (chain_at (chains_of entries) number) ≡ is_some (held entries number)

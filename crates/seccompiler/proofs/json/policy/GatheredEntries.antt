@@ -41,18 +41,21 @@ gathered_push arch entries entry old new so_far more = record {
 pub record AreDone (arch : TargetArch) (entries : List JsonRule) (made : Gathered) : Type 0 where
   pub fine : All (IsFineEntry arch) entries
   pub gathered : AreGathered arch entries made
+  pub long : length made.always ≡ 463
 
 -- The next entry, by its place and as it was named.
 module _ (arch : TargetArch) (entries : List JsonRule) (k : ℕ) (entry named : JsonRule) (old : Gathered) (within : k < length entries)
     (is : entry ≡ get_or entries k entry) (same : named ≡ entry) (so_far : AreDone arch (take k entries) old) where
-  pub next_done : (new : Gathered) → IsFineEntry arch named → HasAdded arch named old new → AreDone arch (take (k + 1) entries) new
-  next_done new fine more =
+  pub next_done : (new : Gathered) → length new.always ≡ 463 → IsFineEntry arch named → HasAdded arch named old new
+      → AreDone arch (take (k + 1) entries) new
+  next_done new long fine more =
       subst (λ (es : List JsonRule). AreDone arch es new)
       (ap (λ (x : JsonRule). take k entries ++ x ∷ []) is ∙ sym (take_more entries k entry within))
       (record {
         fine = All-push (IsFineEntry arch) (take k entries) entry so_far.fine (subst (IsFineEntry arch) same fine);
         gathered = gathered_push arch (take k entries) entry old new so_far.gathered
             (subst (λ (e : JsonRule). HasAdded arch e old new) same more);
+        long = long;
       })
 
   pub next_wrong : (error : JsonFrontendError) → Tells (IsFaultOf arch named) error → Tells (IsFirstOf arch entries) error

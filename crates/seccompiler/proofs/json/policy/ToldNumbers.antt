@@ -1,4 +1,4 @@
--- For `add_entry`, `gather`, `chains_of_numbers` and `both_kinds`: what is told of numbers, in an array over them.
+-- For `add_entry`, `gather`, `chains_of_numbers` and `widened_numbers`: what is told of numbers, in an array over them.
 use Rattle.std.proofs.Common.{◌≡◌, ℕ, ◌+◌, ◌<◌, ◌≤◌, ℤ, pos, negsuc, List, [], ◌∷◌, ◌++◌, length, get_or, replicate, Bool, true, false}
 use Rattle.std.proofs.Common.{◌||◌, ◌&&◌, nat_lt, refl, sym, ap, ◌∙◌, inl, inr, arith, w64, to_z, of_z, Some, cond, append-nil}
 use Rattle.std.specs.Prelude.{slice_set}
@@ -63,6 +63,11 @@ told_more told n (negsuc m) within = refl
 abbrev pub told_below : List Bool → ℕ → ℤ → Bool
 told_below told n (pos m) = nat_lt m n && get_or told m false
 told_below told n (negsuc m) = false
+
+-- Below 0 none is told.
+pub told_start : (told : List Bool) (q : ℤ) → told_below told 0 q ≡ false
+told_start told (pos m) = rw (le-ltb m 0 (omega arith)) refl
+told_start told (negsuc m) = refl
 
 next_below : (m n : ℕ) → (m ≡ n → ⊥) → nat_lt m (n + 1) ≡ nat_lt m n
 next_below m n other = elim (cases_lt m n) [
@@ -146,11 +151,7 @@ pub record AreListed (told : List Bool) (has : ℤ → Bool) (n : ℕ) (numbers 
 module _ (told : List Bool) (has : ℤ → Bool) where
   pub none_listed : AreListed told has 0 []
   unfolding IsStrictlySortedBy
-  none_listed = record { listed = nothing; ascending = tt; below = tt }
-    where
-      nothing : (q : ℤ) → false ≡ (told_below told 0 q && has q)
-      nothing (pos n) = rw (le-ltb n 0 (omega arith)) refl
-      nothing (negsuc n) = refl
+  none_listed = record { listed = λ q. rw (told_start told q) refl; ascending = tt; below = tt }
 
   -- The next number is no such one.
   pub next_not_listed : (n : ℕ) (numbers : List ℤ) → (get_or told n false && has (pos n)) ≡ false → AreListed told has n numbers

@@ -1,14 +1,25 @@
--- For `after_names`: the names in an object are its own and those inside its members.
-use Rattle.std.proofs.Common.{◌≡◌, ℕ, ◌+◌, List, [], ◌∷◌, length, refl, arith}
-use Rattle.serde_json.specs.View.{view, members_view}
+-- For `after_names`: the names in a value and those behind it, and those in an object, its own and those inside its members.
+use Rattle.std.proofs.Common.{◌≡◌, ℕ, ◌+◌, ◌<◌, List, [], ◌∷◌, length, drop, get_or, refl, sym, ap, ◌∙◌, arith}
+use Rattle.std.proofs.lemmas.List.{at_drop_more}
+use Rattle.serde_json.specs.View.{view, items_view, members_view}
+use Rattle.serde_json.specs.declared.value.Value.{Value}
 use Rattle.serde_json.proofs.Views.{Entry}
-use Rattle.seccompiler.specs.JsonRepeats.{names_in, names_in_members}
+use Rattle.seccompiler.specs.JsonRepeats.{names_in, names_in_items, names_in_members}
+
+-- How many names values have from a place on.
+abbrev pub names_from : List Value → ℕ → ℕ
+names_from values i = names_in_items (items_view (drop i values))
+
+pub names_next : (values : List Value) (i : ℕ) (value : Value) → i < length values → value ≡ get_or values i value
+    → names_from values i ≡ names_in (view value) + names_from values (i + 1)
+names_next values i value within is = at_drop_more (λ vs. names_in_items (items_view vs)) values i value within
+    ∙ ap (λ v. names_in (view v) + names_from values (i + 1)) (sym is)
 
 -- How many names the values of some members have.
-abbrev pub names_inside : List Entry → ℕ
-names_inside [] = 0
-names_inside (e ∷ entries) = names_in (view e.1) + names_inside entries
+abbrev pub names_below : List Entry → ℕ
+names_below [] = 0
+names_below (e ∷ entries) = names_in (view e.1) + names_below entries
 
-pub own_and_inside : (entries : List Entry) → names_in_members (members_view entries) ≡ length entries + names_inside entries
+pub own_and_inside : (entries : List Entry) → names_in_members (members_view entries) ≡ length entries + names_below entries
 own_and_inside [] = refl
 own_and_inside (e ∷ entries) = let rest = own_and_inside entries in omega (arith, rest)

@@ -23,28 +23,26 @@ refused took f h e words None = tt
 refused took f h e words (Some text) = λ plain ok. absurd (false≢true ok)
 
 pub returns-in-Backend : goal.returns-in-Backend
-returns-in-Backend g c = let writes = c.write.ensures.writes in
-    record { writes = rw c.in-Backend.is writes; text = λ plain ok. rw c.in-Backend.is (_, refl, writes plain ok) }
+returns-in-Backend g c = let w = c.write.ensures.writes in rw c.in-Backend.is (record { writes = w; text = λ p ok. (_, refl, w p ok) })
 
 pub returns-in-EmptyFilter : goal.returns-in-EmptyFilter
-returns-in-EmptyFilter g c = let writes = c.write_str.ensures.writes in
-    record { writes = rw c.in-EmptyFilter.is writes; text = λ plain ok. rw c.in-EmptyFilter.is (_, refl, writes plain ok) }
+returns-in-EmptyFilter g c = let w = c.write_str.ensures.writes in
+    rw c.in-EmptyFilter.is (record { writes = w; text = λ p ok. (_, refl, w p ok) })
 
 pub returns-in-Prctl : goal.returns-in-Prctl
-returns-in-Prctl g c = let writes = c.write-in-Prctl.ensures.writes in
-    record { writes = rw c.in-Prctl.is writes; text = λ plain ok. rw c.in-Prctl.is (_, refl, writes plain ok) }
+returns-in-Prctl g c = let w = c.write-in-Prctl.ensures.writes in rw c.in-Prctl.is (record { writes = w; text = λ p ok. (_, refl, w p ok) })
 
 pub returns-in-Seccomp : goal.returns-in-Seccomp
-returns-in-Seccomp g c = let writes = c.write-in-Seccomp.ensures.writes in
-    record { writes = rw c.in-Seccomp.is writes; text = λ plain ok. rw c.in-Seccomp.is (_, refl, writes plain ok) }
+returns-in-Seccomp g c = let w = c.write-in-Seccomp.ensures.writes in
+    rw c.in-Seccomp.is (record { writes = w; text = λ p ok. (_, refl, w p ok) })
 
 pub returns-in-ThreadSync : goal.returns-in-ThreadSync
-returns-in-ThreadSync g c = let writes = c.write-in-ThreadSync.ensures.writes in
-    record { writes = rw c.in-ThreadSync.is writes; text = λ plain ok. rw c.in-ThreadSync.is (_, refl, writes plain ok) }
+returns-in-ThreadSync g c = let w = c.write-in-ThreadSync.ensures.writes in
+    rw c.in-ThreadSync.is (record { writes = w; text = λ p ok. (_, refl, w p ok) })
 
 pub returns-in-OutOfMemory : goal.returns-in-OutOfMemory
-returns-in-OutOfMemory g c = let writes = c.write_str-in-OutOfMemory.ensures.writes in
-    record { writes = rw c.in-OutOfMemory.is writes; text = λ plain ok. rw c.in-OutOfMemory.is (_, refl, writes plain ok) }
+returns-in-OutOfMemory g c = let w = c.write_str-in-OutOfMemory.ensures.writes in
+    rw c.in-OutOfMemory.is (record { writes = w; text = λ p ok. (_, refl, w p ok) })
 
 pub returns-in-Ok-clause-writes : goal.returns-in-Ok-clause-writes
 returns-in-Ok-clause-writes g c = rw c.in-JsonFrontend.is (prefixed g.W.Write.write_str_gives _ _ _ _ _ (json_text c.in-JsonFrontend.error)

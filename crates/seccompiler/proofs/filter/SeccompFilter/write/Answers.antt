@@ -24,12 +24,13 @@ four [] = omega arith
 four (e ∷ chains) = omega arith
 
 -- what is written of a filter that has chains has room for five instructions and theirs, and is as long as a program may be
-lengths : (g : Filter) (entries : List (ℤ × Vec Rule Global)) {front guard : List sock_filter} (xs : List sock_filter) (d : sock_filter)
-    → chains_of entries ≡ g.chains → (length entries ≡ 0 → false ≡ true) → length xs ≡ counted_length g → counted_length g ≤ 4096
-    → front ≡ guard → length guard ≡ 3 → let first = set (front ++ drop 3 xs) 3 d in
+lengths : {f : Filter} (g : Filter) (entries : List (ℤ × Vec Rule Global)) {front guard : List sock_filter} (xs : List sock_filter)
+    (d : sock_filter) → chains_of entries ≡ f.chains → f ≡ g → (length entries ≡ 0 → false ≡ true) → length xs ≡ counted_length g
+    → counted_length g ≤ 4096 → front ≡ guard → length guard ≡ 3 → let first = set (front ++ drop 3 xs) 3 d in
     (5 ≤ length first) × (length first ≤ 4096) × (length (take (length first - 1 - 4) (drop 4 first)) ≡ chains_length (chains_of entries))
-lengths g entries {front} xs d same some room few is three = let first = set (front ++ drop 3 xs) 3 d in
-    let counted = counted_full entries g.chains same (let none = λ (e : length entries ≡ 0). false≢true (some e) in omega (arith, none)) in
+lengths g entries {front} xs d same view some room few is three = let first = set (front ++ drop 3 xs) 3 d in
+    let counted = counted_full entries g.chains (same ∙ ap (λ (f : Filter). f.chains) view)
+    (let none = λ (e : length entries ≡ 0). false≢true (some e) in omega (arith, none)) in
     let whole : length first ≡ length xs = length-set (front ++ drop 3 xs) 3 d
     ∙ omega (arith, length-append front (drop 3 xs), length-drop 3 xs, ap length is, three, room, counted) in
     let part = length-part 4 (length first - 1) first (omega (arith, whole, room, counted)) (omega arith) in
@@ -59,35 +60,31 @@ returns-then-is_empty c = let none : length c.self.inside.rules.entries ≡ 0 = 
     }
 
 pub overflow_sub-last : goal.overflow_sub-last
-overflow_sub-last c = let s = lengths c.args.self.now c.self.inside.rules.entries c.args.program.now c.load_word.result
-    (ap (λ (f : Filter). f.chains) c.self.view_is) c.if-is_empty.ensures.1 c.requires.room c.requires.compilable.short
-    c.copy_from_slice.ensures.after (ap length c.arch_guard.ensures) in
+overflow_sub-last c = let s = lengths c.args.self.now c.self.inside.rules.entries c.args.program.now c.load_word.result refl c.self.view_is
+    c.if-is_empty.ensures.1 c.requires.room c.requires.compilable.short c.copy_from_slice.ensures.after (ap length c.arch_guard.ensures) in
     omega (arith, s.0)
 
 pub write_chains-requires-clause-room : goal.write_chains-requires-clause-room
-write_chains-requires-clause-room c = let s = lengths c.args.self.now c.self.inside.rules.entries c.args.program.now c.load_word.result
-    (ap (λ (f : Filter). f.chains) c.self.view_is) c.if-is_empty.ensures.1 c.requires.room c.requires.compilable.short
-    c.copy_from_slice.ensures.after (ap length c.arch_guard.ensures) in
-    s.2
+write_chains-requires-clause-room c =
+    (lengths c.args.self.now c.self.inside.rules.entries c.args.program.now c.load_word.result refl c.self.view_is
+    c.if-is_empty.ensures.1 c.requires.room c.requires.compilable.short c.copy_from_slice.ensures.after (ap length c.arch_guard.ensures)).2
 
 pub write_chains-requires-clause-short : goal.write_chains-requires-clause-short
 write_chains-requires-clause-short c = let first = set (c.copy_from_slice.new.self ++ drop 3 c.args.program.now) 3 c.load_word.result in
-    let s = lengths c.args.self.now c.self.inside.rules.entries c.args.program.now c.load_word.result
-    (ap (λ (f : Filter). f.chains) c.self.view_is) c.if-is_empty.ensures.1 c.requires.room c.requires.compilable.short
-    c.copy_from_slice.ensures.after (ap length c.arch_guard.ensures) in
+    let s = lengths c.args.self.now c.self.inside.rules.entries c.args.program.now c.load_word.result refl c.self.view_is
+    c.if-is_empty.ensures.1 c.requires.room c.requires.compilable.short c.copy_from_slice.ensures.after (ap length c.arch_guard.ensures) in
     omega (arith, s.0, s.1, length-part 4 (length first - 1) first (omega (arith, s.0)) (omega arith))
 
 pub offset_bounds-program-last : goal.offset_bounds-program-last
-offset_bounds-program-last c = let s = lengths c.args.self.now c.self.inside.rules.entries c.args.program.now c.load_word.result
-    (ap (λ (f : Filter). f.chains) c.self.view_is) c.if-is_empty.ensures.1 c.requires.room c.requires.compilable.short
-    c.copy_from_slice.ensures.after (ap length c.arch_guard.ensures) in
+offset_bounds-program-last c =
+    let s = lengths c.args.self.now c.self.inside.rules.entries c.args.program.now c.load_word.result refl c.self.view_is
+    c.if-is_empty.ensures.1 c.requires.room c.requires.compilable.short c.copy_from_slice.ensures.after (ap length c.arch_guard.ensures) in
     omega (arith, s.1)
 
 pub bounds-program-last : goal.bounds-program-last
 bounds-program-last c = let first = set (c.copy_from_slice.new.self ++ drop 3 c.args.program.now) 3 c.load_word.result in
-    let s = lengths c.args.self.now c.self.inside.rules.entries c.args.program.now c.load_word.result
-    (ap (λ (f : Filter). f.chains) c.self.view_is) c.if-is_empty.ensures.1 c.requires.room c.requires.compilable.short
-    c.copy_from_slice.ensures.after (ap length c.arch_guard.ensures) in
+    let s = lengths c.args.self.now c.self.inside.rules.entries c.args.program.now c.load_word.result refl c.self.view_is
+    c.if-is_empty.ensures.1 c.requires.room c.requires.compilable.short c.copy_from_slice.ensures.after (ap length c.arch_guard.ensures) in
     omega (arith, s.0, same_len_mid 4 (length first - 1 - 4) first c.write_chains.new.part c.write_chains.auto.part)
 
 pub write_chains-requires-clause-numbers : goal.write_chains-requires-clause-numbers

@@ -1,6 +1,13 @@
+use Rattle.std.proofs.Common.{String, Global, rules, refl, sym, ◌∙◌, arith}
 use Rattle.std.proofs.lemmas.Result.{err_from_is_err_and}
 use Rattle.serde_json.specs.View.{view}
-use Rattle.seccompiler.proofs.json.compiler.TextPolicies.{refused_told}
+use Rattle.seccompiler.specs.JsonAnswers.{IsLeastRefused}
+use Rattle.seccompiler.specs.JsonPolicyOf.{IsPolicyOf, IsFirstFault}
+use Rattle.seccompiler.specs.JsonTypes.{JsonFilter}
+use Rattle.seccompiler.specs.Policy.{Filter}
+use Rattle.seccompiler.proofs.ByName.{at_next, making_none, making_more, making_done}
+use Rattle.seccompiler.proofs.json.compiler.TextPolicies.{are_policies, least_refused, refused_told}
+use Rattle.seccompiler.proofs.json.policy.EntryFaults.{tells_more}
 use Rattle.seccompiler.proofs.json.compiler.read_policies.Goals as goal
 
 pub returns-in_err-value-clause-fault : goal.returns-in_err-value-clause-fault
@@ -8,14 +15,35 @@ returns-in_err-value-clause-fault c =
     let p = err_from_is_err_and c.from_residual.result c.from_residual.ensures.1 in
     rw (p.1, p.2) (c.in_err-value.ensures.fault c.args.arch)
 
-pub returns-in_err-policies : goal.returns-in_err-policies
-returns-in_err-policies c =
-    let p = err_from_is_err_and c.from_residual-in_err-policies.result c.from_residual-in_err-policies.ensures.1 in
-    let d = view c.in_ok-value.value in
-    let told = refused_told c.args.arch d c.args.text.now c.in_ok-value.ensures.value c.in_err-policies.field-0.0
-    (c.in_err-policies.ensures.refused d c.in_ok-filters.ensures.filters) in
-    rw (p.1, p.2) (record { policies = tt; fault = told.0; no_reader = told.1; memory = told.2 })
+pub loop-name-init : goal.loop-name-init
+loop-name-init c = making_none _ _ _ _ refl (search rules)
 
-pub returns-clause-policies : goal.returns-clause-policies
-returns-clause-policies c = let d = view c.in_ok-value.value in
-    (d, c.in_ok-value.ensures.value, c.in_ok-policies.ensures.policies d c.in_ok-filters.ensures.filters)
+pub loop-name-preserved : goal.loop-name-preserved
+loop-name-preserved c =
+    let e : String Global × JsonFilter = (c.in-Some.name, c.in-Some.filter) in
+    let entry : String Global × Filter = (c.in-Some.name, c.in_ok-policy.policy) in
+    making_more (IsPolicyOf c.args.arch) c.loop-name.invariant e entry _ _ c.in-Some.ensures.steps.0 c.in_ok-push.ensures.items
+    refl c.in_ok-policy.ensures.policy
+
+pub returns-in_err-policy : goal.returns-in_err-policy
+returns-in_err-policy c =
+    let p = err_from_is_err_and c.from_residual-in_err-policy.result c.from_residual-in_err-policy.ensures.1 in
+    let so_far = c.loop-name.invariant in
+    let arch = c.args.arch in
+    let d = view c.in_ok-value.value in
+    let e : String Global × JsonFilter = (c.in-Some.name, c.in-Some.filter) in
+    let gives = c.into_iter-name-iterator.ensures.into_iter_gives.0 in
+    let all = at_next (IsPolicyOf arch) so_far e _ c.in-Some.ensures.steps.0 in
+    let refused = tells_more (IsFirstFault arch e.1) (λ fault. IsLeastRefused arch fault d)
+    (least_refused arch d _ c.in_ok-filters.ensures.filters so_far.done e _ (sym gives ∙ all) c.in_ok-filters.ensures.order
+    c.loop-name.policies.items so_far.made) c.in_err-policy.field-0.0 c.in_err-policy.ensures.refused in
+    let told = refused_told arch d c.args.text.now c.in_ok-value.ensures.value c.in_err-policy.field-0.0 refused in
+    rw (p.1, p.2) (record { order = tt; policies = tt; fault = told.0; no_reader = told.1; memory = told.2 })
+
+pub returns : goal.returns
+returns c =
+    let filters = c.in_ok-filters.filters.items in
+    let all = making_done (IsPolicyOf c.args.arch) c.loop-name.invariant filters c.into_iter-name-iterator.ensures.into_iter_gives.0
+    (grind (arith, c.in-None.ensures.steps.0)) c.in_ok-filters.ensures.order in
+    let are = are_policies c.args.arch _ filters c.in_ok-filters.ensures.filters c.loop-name.policies.items all.0 in
+    record { order = all.1; policies = (_, c.in_ok-value.ensures.value, are); fault = tt; no_reader = tt; memory = tt }

@@ -1,5 +1,4 @@
-use Rattle.std.proofs.Common.{◌≡◌, String, Global, string_cmp, refl, rules, ◌∙◌, sym, ◌∷◌, ◌++◌}
-use Rattle.std.specs.BTreeMap.{IsFromIterResult}
+use Rattle.std.proofs.Common.{◌≡◌, String, Global, rules, refl, ◌∙◌, sym, ◌∷◌, ◌++◌}
 use Rattle.serde_json.proofs.Views.{Entry, view-Object}
 use Rattle.seccompiler.specs.JsonTypes.{JsonFilter}
 use Rattle.seccompiler.proofs.ByName.{at_next, making_none, making_more, making_done}
@@ -7,7 +6,7 @@ use Rattle.seccompiler.proofs.json.filter_map.FilterMaps.{IsRead, are_filters, l
 use Rattle.seccompiler.proofs.json.filter_map.lent_filters.Goals as goal
 
 pub loop-key-init : goal.loop-key-init
-loop-key-init c = making_none IsRead _ _ _ refl c.new-found.ensures.items
+loop-key-init c = making_none IsRead _ _ _ refl (search rules)
 
 pub loop-key-preserved : goal.loop-key-preserved
 loop-key-preserved c =
@@ -28,11 +27,9 @@ returns-in-None-2-clause-refusal c =
     c.loop-key.found.items (rw all at c.iter-key-items.ensures.ordered)
     so_far.made (rw c.in-None-2.is at c.in_ok-filter.ensures.none))
 
-pub returns-clause-filters : goal.returns-clause-filters
-returns-clause-filters c =
-    let so_far = c.loop-key.invariant in
-    let m = c.in_ok-collect.field-0 in
+pub returns : goal.returns
+returns c =
     let given = c.into_iter-key-iterator.ensures.into_iter_gives ∙ c.iter-key-items.ensures.rest in
-    let collected : IsFromIterResult string_cmp c.loop-key.found.items m = search rules in
-    let all = making_done IsRead so_far m c.in-None.ensures.steps.0 (rw given c.iter-key-items.ensures.ordered) collected in
-    rw (c.in-Object.is, view-Object c.in-Object.members, ← given) (are_filters _ c.loop-key.found.items m all.0 all.1)
+    let all = making_done IsRead c.loop-key.invariant c.in-Object.members.entries given (rw c.in-None.ensures.steps.0 refl)
+    c.iter-key-items.ensures.ordered in
+    record { order = all.1; filters = rw (c.in-Object.is, view-Object c.in-Object.members) (are_filters _ _ all.0); refusal = tt }

@@ -1,19 +1,10 @@
-use Rattle.std.proofs.Common.{arith, sym}
-use Rattle.std.proofs.lemmas.Bool.{true≢false}
+use Rattle.std.proofs.Common.{arith}
 use Rattle.seccompiler.proofs.json.members.ObjectNames.{one_more, another, at_end, found_or}
 use Rattle.seccompiler.proofs.json.members.members_under.Goals as goal
 
-pub returns-then-place-count : goal.returns-then-place-count
-returns-then-place-count c = record {
-  names = λ given. absurd (true≢false (sym given));
-  first = tt;
-  second = tt;
-  third = tt;
-  fourth = tt;
-  fifth = tt;
-  none = another (c.in-Some.name.now, c.in-Some.member.now) _ _ _ _ _ _ _ c.requires.count
-      c.as_str.ensures.value c.place_among-place.ensures (rw c.in-Some.ensures.steps at c.loop-name.invariant) c.if-place-count.true;
-}
+pub returns-then-place-count-clause-none : goal.returns-then-place-count-clause-none
+returns-then-place-count-clause-none c = another (c.in-Some.name.now, c.in-Some.member.now) _ _ _ _ _ _ _ c.requires.count
+    c.as_str.ensures.value c.place_among-place.ensures (rw c.in-Some.ensures.steps at c.loop-name.invariant) c.if-place-count.true
 
 pub loop-name-preserved-in-0 : goal.loop-name-preserved-in-0
 loop-name-preserved-in-0 c = rw (c.or-first.ensures, found_or c.loop-name.first c.in-Some.member)

@@ -1,6 +1,6 @@
 use Rattle.std.proofs.Common.{◌≡◌, ℕ, ◌^◌, ◌-◌, codes, sym, ap, ◌∙◌}
 use Rattle.serde_json.specs.Data.{Data, object, Members}
-use Rattle.serde_json.specs.View.{view, members_view}
+use Rattle.serde_json.specs.View.{view}
 use Rattle.serde_json.proofs.Views.{view-Object}
 use Rattle.seccompiler.specs.declared.backend.SeccompAction.{SeccompAction}
 use Rattle.seccompiler.specs.declared.backend.SeccompAction.TheVariants.{Errno, Trace}
@@ -17,7 +17,5 @@ no_action d given is errno trace a h = let e = sym is ∙ h in cc
 
 pub returns-in_err-number_alone-in-None-clause-none : goal.returns-in_err-number_alone-in-None-clause-none
 returns-in_err-number_alone-in-None-clause-none c =
-    let members = members_view c.in-Object.field-0.entries in
-    let is : view c.args.value.now ≡ object members = ap view c.in-Object.is ∙ view-Object c.in-Object.field-0 in
-    rw c.from_residual.ensures
-    (no_action (view c.args.value.now) members is c.in-None.ensures.none c.in_err-number_alone-in-None.ensures.none)
+    let is = ap view c.in-Object.is ∙ view-Object c.in-Object.field-0 in
+    rw c.from_residual.ensures (no_action _ _ is c.in-None.ensures.none c.in_err-number_alone-in-None.ensures.none)

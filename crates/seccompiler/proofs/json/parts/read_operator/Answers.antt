@@ -1,6 +1,6 @@
 use Rattle.std.proofs.Common.{◌≡◌, ℕ, ◌^◌, ◌-◌, codes, sym, ap, ◌∙◌}
 use Rattle.serde_json.specs.Data.{Data, object, Members}
-use Rattle.serde_json.specs.View.{view, members_view}
+use Rattle.serde_json.specs.View.{view}
 use Rattle.serde_json.proofs.Views.{view-Object}
 use Rattle.seccompiler.specs.declared.backend.SeccompCmpOp.{SeccompCmpOp}
 use Rattle.seccompiler.specs.declared.backend.SeccompCmpOp.TheVariants.{MaskedEq}
@@ -15,6 +15,5 @@ no_operator d given is masked op h = let e = sym is ∙ h in cc
 
 pub returns-in_err-number_alone-in-Object-clause-none : goal.returns-in_err-number_alone-in-Object-clause-none
 returns-in_err-number_alone-in-Object-clause-none c =
-    let members = members_view c.in-Object.field-0.entries in
-    let is : view c.args.value.now ≡ object members = ap view c.in-Object.is ∙ view-Object c.in-Object.field-0 in
-    rw c.from_residual.ensures (no_operator (view c.args.value.now) members is c.in_err-number_alone-in-Object.ensures.none)
+    let is = ap view c.in-Object.is ∙ view-Object c.in-Object.field-0 in
+    rw c.from_residual.ensures (no_operator _ _ is c.in_err-number_alone-in-Object.ensures.none)

@@ -2,7 +2,7 @@ use Rattle.std.proofs.Common.{string_eq, rules, sym, subst}
 use Rattle.std.specs.HashMap.{IsFromIterResult, get_by_text}
 use Rattle.std.proofs.lemmas.Result.{err_from_is_err_and}
 use Rattle.seccompiler.specs.JsonAnswers.{OfValue, ArePoliciesOf, TellsFrontendFault}
-use Rattle.seccompiler.proofs.ByName.{rehashed}
+use Rattle.seccompiler.proofs.ByName.{hashed}
 use Rattle.seccompiler.proofs.TextFilters.{reads_some, reads_this}
 use Rattle.seccompiler.proofs.json.compiler.TextPolicies.{have_table_numbers}
 use Rattle.seccompiler.proofs.json.compiler.JsonCompiler.compile.Goals as goal
@@ -12,23 +12,22 @@ returns-in_err-text-clause-fault g c =
     let p = err_from_is_err_and c.from_residual.result c.from_residual.ensures.1 in
     rw (p.1, p.2) (reads_some (g.R.Read.remaining c.args.reader) _ (c.in_err-text.ensures.fault c.args.self.now))
 
-pub returns-in_err-_source-clause-fault : goal.returns-in_err-_source-clause-fault
-returns-in_err-_source-clause-fault g c =
-    let p = err_from_is_err_and c.from_residual-in_err-_source.result c.from_residual-in_err-_source.ensures.1 in
+pub returns-in_err-_value-clause-fault : goal.returns-in_err-_value-clause-fault
+returns-in_err-_value-clause-fault g c =
+    let p = err_from_is_err_and c.from_residual-in_err-_value.result c.from_residual-in_err-_value.ensures.1 in
     rw (p.1, p.2, ← c.self.view_is) (reads_this (g.R.Read.remaining c.args.reader)
-    (λ text. TellsFrontendFault c.self.inside.arch text c.in_err-_source.field-0.0) c.in_ok-text.text.items c.in_ok-text.ensures.text
-    (rw c.as_slice.ensures.value at c.in_err-_source.ensures.fault))
+    (λ text. TellsFrontendFault c.self.inside.arch text c.in_err-_value.field-0.0) c.in_ok-text.text.items c.in_ok-text.ensures.text
+    (rw c.as_slice.ensures.value at c.in_err-_value.ensures.fault))
 
 pub returns : goal.returns
 returns g c =
     let arch = c.self.inside.arch in
     let text = c.in_ok-text.text.items in
-    let ordered = c.in_ok-_source.policies in
     let m = c.in_ok-collect.field-0 in
-    let made : IsFromIterResult string_eq ordered.entries m = search rules in
-    let same = rehashed ordered m c.into_iter.ensures.into_iter_gives.5 made in
+    let made : IsFromIterResult string_eq c.in_ok-_value.policies.items m = search rules in
+    let same = hashed _ m c.in_ok-_value.ensures.order made in
     let read = subst (λ find. OfValue text (ArePoliciesOf arch find)) (λ i q. sym (same q) i)
-    (rw c.as_slice.ensures.value at c.in_ok-_source.ensures.policies) in
+    (rw c.as_slice.ensures.value at c.in_ok-_value.ensures.policies) in
     rw (← c.self.view_is) (record {
       policies = reads_this (g.R.Read.remaining c.args.reader) (λ text. OfValue text (ArePoliciesOf arch (get_by_text m))) text
           c.in_ok-text.ensures.text read;

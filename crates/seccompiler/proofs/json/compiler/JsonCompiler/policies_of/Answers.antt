@@ -1,9 +1,16 @@
-use Rattle.std.specs.BTreeMap.{get_by_text}
+use Rattle.std.proofs.Common.{string_cmp, rules, sym, subst}
+use Rattle.std.specs.BTreeMap.{IsFromIterResult, get_by_text}
+use Rattle.seccompiler.specs.JsonAnswers.{OfValue, ArePoliciesOf}
+use Rattle.seccompiler.proofs.ByName.{ordered}
 use Rattle.seccompiler.proofs.json.compiler.TextPolicies.{have_table_numbers}
 use Rattle.seccompiler.proofs.json.compiler.JsonCompiler.policies_of.Goals as goal
 
 pub returns : goal.returns
 returns c =
-    let read = c.in_ok-_source.ensures.policies in
-    let numbers = have_table_numbers c.self.inside.arch read.0 (get_by_text c.in_ok-_source.policies) read.2 in
+    let arch = c.self.inside.arch in
+    let m = c.in_ok-collect.field-0 in
+    let collected : IsFromIterResult string_cmp c.in_ok-_value.policies.items m = search rules in
+    let same = ordered _ m c.in_ok-_value.ensures.order collected in
+    let read = subst (λ find. OfValue c.args.text.now (ArePoliciesOf arch find)) (λ i q. sym (same q) i) c.in_ok-_value.ensures.policies in
+    let numbers = have_table_numbers arch read.0 (get_by_text m) read.2 in
     rw (← c.self.view_is) (record { policies = read; numbers = numbers; fault = tt; no_reader = tt; memory = tt })

@@ -1,0 +1,42 @@
+use Rattle.std.proofs.Common.{String, Global, Vec, rules, refl, sym, ◌∙◌, arith}
+use Rattle.std.proofs.lemmas.Result.{err_from_is_err_and}
+use Rattle.seccompiler.specs.Policy.{Filter}
+use Rattle.seccompiler.specs.declared.bpf.sock_filter.{sock_filter}
+use Rattle.seccompiler.proofs.ByName.{at_next, making_none, making_more, making_done}
+use Rattle.seccompiler.proofs.compile.TextPrograms.{Compiles, are_programs, refusal_of, told_by_frontend}
+use Rattle.seccompiler.proofs.compile.listed_programs.Goals as goal
+
+pub returns-in_err-value-clause-fault : goal.returns-in_err-value-clause-fault
+returns-in_err-value-clause-fault c =
+    let p = err_from_is_err_and c.from_residual.result c.from_residual.ensures.1 in
+    rw (p.1, p.2) (told_by_frontend c.args.arch c.args.text.now c.in_err-value.field-0.0 c.in_err-value.ensures.fault)
+
+pub loop-name-init : goal.loop-name-init
+loop-name-init c = making_none _ _ _ _ refl (search rules)
+
+pub loop-name-preserved : goal.loop-name-preserved
+loop-name-preserved c =
+    let e : String Global × Filter = (c.in-Some.name, c.in-Some.policy) in
+    let entry : String Global × Vec sock_filter Global = (c.in-Some.name, c.in_ok-program.program) in
+    let of = c.in_ok-program.ensures in
+    making_more Compiles c.loop-name.invariant e entry _ _ c.in-Some.ensures.steps.0 c.in_ok-push.ensures.items refl
+    (record { compilable = of.compilable; compiled = of.compiled })
+
+pub returns-in_err-program-clause-fault : goal.returns-in_err-program-clause-fault
+returns-in_err-program-clause-fault c =
+    let p = err_from_is_err_and c.from_residual-in_err-program.result c.from_residual-in_err-program.ensures.1 in
+    let so_far = c.loop-name.invariant in
+    let read = c.in_ok-value.ensures.policies in
+    let e : String Global × Filter = (c.in-Some.name, c.in-Some.policy) in
+    let all = sym c.into_iter-name-iterator.ensures.into_iter_gives.0 ∙ at_next Compiles so_far e _ c.in-Some.ensures.steps.0 in
+    rw (p.1, p.2) (refusal_of c.args.arch read.0 c.in_ok-value.policies.items read.2 so_far.done e _ all c.in_ok-value.ensures.order
+    c.loop-name.programs.items so_far.made c.args.text.now read.1 c.in_err-program.field-0.0 c.in_err-program.ensures.refused)
+
+pub returns : goal.returns
+returns c =
+    let read = c.in_ok-value.ensures.policies in
+    let policies = c.in_ok-value.policies.items in
+    let all = making_done Compiles c.loop-name.invariant policies c.into_iter-name-iterator.ensures.into_iter_gives.0
+    (grind (arith, c.in-None.ensures.steps.0)) c.in_ok-value.ensures.order in
+    let are = are_programs c.args.arch read.0 policies read.2 c.loop-name.programs.items all.0 in
+    record { order = all.1; programs = (read.0, read.1, are); fault = tt; memory = tt }

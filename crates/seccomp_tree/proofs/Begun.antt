@@ -1,6 +1,6 @@
 -- Steps that ascend: what they have for a number, and one step more.
-use Rattle.seccomp_tree.proofs.Common.{◌≡◌, ℕ, zero, suc, ◌+◌, ◌-◌, ◌^◌, ◌<◌, ◌≤◌, ◌≢◌, List, [], ◌∷◌, ◌++◌, length, get_or, true, false}
-use Rattle.seccomp_tree.proofs.Common.{refl, ap, nat_le, if◌then◌else◌, arith, length-append, nat_tests, Bool}
+use Rattle.seccomp_tree.proofs.Common.{◌≡◌, ℕ, zero, suc, ◌+◌, ◌-◌, ◌^◌, ◌<◌, ◌≤◌, ◌≢◌, List, [], ◌∷◌, ◌++◌, length, drop, get_or, true}
+use Rattle.seccomp_tree.proofs.Common.{false, refl, ap, ◌∙◌, ◌⊎◌, inl, inr, nat_le, if◌then◌else◌, arith, length-append, nat_tests, Bool}
 use Rattle.seccomp_tree.proofs.Common.{sock_filter, Target, Step, found_from, found_in, AreOver, AscendFrom, AreSteps, TightFrom, IsPushed}
 use Rattle.seccomp_tree.proofs.Common.{IsIn, AreIn}
 use Rattle.seccomp_tree.specs.Steps.{first_start}
@@ -101,6 +101,65 @@ pub found_in_code : (code : List sock_filter) (steps : List Step) (a : ℕ) → 
 found_in_code code [] a some h = absurd (omega arith)
 found_in_code code (x ∷ steps) a some h =
     in_from code x.target steps a (h 0 x (omega arith)) (λ k d lt. h (suc k) d (omega arith))
+
+-- ---- what is left of steps from a number on
+
+-- Steps that begin with what a number has.
+abbrev pub IsFrom : ℕ → ℕ → List Step → Type 0
+IsFrom size number [] = ⊥
+IsFrom size number (x ∷ rest) = AscendFrom size (number + 1) rest
+
+pub record AreLeft (size : ℕ) (steps : List Step) (number : ℕ) (rest : List Step) : Type 0 where
+  pub within : number ≤ size
+  pub from : number < size → IsFrom size number rest
+  pub same : (a : ℕ) → number ≤ a → a < size → found_in steps a ≡ found_in rest a
+
+pub left_begins : (size : ℕ) (steps : List Step) → 0 < size → AreSteps size steps → AreLeft size steps 0 steps
+left_begins size [] some h = absurd (omega (arith, h.first))
+left_begins size (x ∷ steps) some h =
+    record { within = omega arith; from = λ less. rw h.first at h.ascend.1.1; same = λ a le lt. refl }
+
+-- where the next of them starts
+pub left_end : {size number : ℕ} {steps : List Step} (rest : List Step) → AreLeft size steps number rest → number < size
+    → (number < first_start size (drop 1 rest)) × ((first_start size (drop 1 rest) ≤ size) × (1 ≤ length rest))
+left_end [] h some = absurd (h.from some)
+left_end (x ∷ []) h some = (some, (omega arith, omega arith))
+left_end (x ∷ y ∷ rest) h some = let up = h.from some in (omega (arith, up.0), (omega (arith, up.1.0), omega arith))
+
+-- numbers up to there have what the first of them has
+pub left_has : {size number : ℕ} {steps : List Step} (rest : List Step) (d : Step) (a : ℕ) → AreLeft size steps number rest → number < size
+    → number ≤ a → a < first_start size (drop 1 rest) → found_in steps a ≡ (get_or rest 0 d).target
+left_has [] d a h some le lt = absurd (h.from some)
+left_has {size} (x ∷ rest) d a h some le lt =
+    h.same a le (omega (arith, lt, (left_end (x ∷ rest) h some).1.0)) ∙ found_until size x.target rest a lt
+
+-- What is left at the next number: the others, if the first ends there.
+abbrev pub HasMoved : ℕ → ℕ → List Step → List Step → Type 0
+HasMoved next end rest back = ((next ≡ end) × (back ≡ drop 1 rest)) ⊎ ((next ≢ end) × (back ≡ rest))
+
+pub left_on : {size number : ℕ} {steps : List Step} (next end : ℕ) (rest back : List Step) → AreLeft size steps number rest
+    → number < size → end ≡ first_start size (drop 1 rest) → number < next → next ≤ end → HasMoved next end rest back
+    → AreLeft size steps next back
+left_on next end [] back h some ends up le moved = absurd (h.from some)
+left_on next end (x ∷ []) back h some ends up le (inl (at, is)) =
+    rw is record { within = omega arith; from = λ less. absurd (omega arith); same = λ a le lt. absurd (omega arith) }
+left_on {size} next end (x ∷ y ∷ rest) back h some ends up le (inl (at, is)) =
+    let rise = h.from some in
+    let start : next ≡ y.start = at ∙ ends in
+    rw (is, start) record {
+      within = omega (arith, rise.1.0);
+      from = λ less. rise.1.1;
+      same = λ a le lt. h.same a (omega arith) lt ∙ found_behind size x.target (y ∷ rest) a le lt;
+    }
+left_on {size} {number} next end (x ∷ rest) back h some ends up le (inr (not, is)) = rw is record {
+  within = omega (arith, (left_end (x ∷ rest) h some).1.0);
+  from = λ less. later rest (h.from some) (omega arith);
+  same = λ a le lt. h.same a (omega arith) lt;
+}
+  where
+    later : (l : List Step) → AscendFrom size (number + 1) l → next < first_start size l → AscendFrom size (next + 1) l
+    later [] rise lt = tt
+    later (y ∷ l) rise lt = (omega arith, rise.1)
 
 -- ---- one step more
 

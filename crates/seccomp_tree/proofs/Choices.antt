@@ -1,11 +1,11 @@
 -- Comparisons as steps, laid over others.
-use Rattle.seccomp_tree.proofs.Common.{◌≡◌, ◌≢◌, ℕ, ◌+◌, ◌^◌, ◌<◌, ◌≤◌, List, [], ◌∷◌, length, drop, get_or, true, ◌⊎◌, inl, inr, ◌∙◌}
+use Rattle.seccomp_tree.proofs.Common.{◌≡◌, ℕ, ◌+◌, ◌^◌, ◌<◌, ◌≤◌, List, [], ◌∷◌, length, drop, get_or, true, ◌⊎◌, inl, inr}
 use Rattle.seccomp_tree.proofs.Common.{arith, refl, nat_tests, nat_eq, nat_lt, if◌then◌else◌, cases_lt, cases_eq, bit_and, sock_filter}
 use Rattle.seccomp_tree.proofs.Common.{SeccompCmpArgLen, SeccompCmpOp, Dword, Qword, ◌%◌, MaskedEq, Condition, Compares, part_of, Target}
-use Rattle.seccomp_tree.proofs.Common.{Step, found_in, AscendFrom, AreSteps, IsPushed, IsIn, AreIn, is_plain, IsChosen, AreLaid}
+use Rattle.seccomp_tree.proofs.Common.{Step, found_in, AreSteps, IsPushed, IsIn, AreIn, is_plain, IsChosen, AreLaid}
 use Rattle.seccomp_tree.specs.Steps.{first_start}
 use Rattle.seccomp_tree.specs.Conditions.{IsTurn, numbers_of}
-use Rattle.seccomp_tree.proofs.Begun.{steps_more, are_in_below, found_until, found_behind}
+use Rattle.seccomp_tree.proofs.Begun.{AreLeft, HasMoved, are_in_below, left_begins, left_has, left_on, steps_more}
 
 -- ---- comparing
 
@@ -29,19 +29,12 @@ numbers_many l = grind arith
 
 -- ---- the loop of `laid`
 
--- Steps that begin with what a number has.
-abbrev pub IsFrom : ℕ → ℕ → List Step → Type 0
-IsFrom size number [] = ⊥
-IsFrom size number (x ∷ rest) = AscendFrom size (number + 1) rest
-
 -- How many further parts of numbers that compare alike there are.
 abbrev pub parts_left : ℕ → ℕ → ℕ
 parts_left value number = if nat_lt number value then 2 else if nat_eq number value then 1 else 0
 
 pub record Laying (c : Condition) (target : Target) (others : List Step) (number : ℕ) (rest steps : List Step) : Type 0 where
-  pub within : number ≤ numbers_of c.arg_len
-  pub from : number < numbers_of c.arg_len → IsFrom (numbers_of c.arg_len) number rest
-  pub same : (a : ℕ) → number ≤ a → a < numbers_of c.arg_len → found_in others a ≡ found_in rest a
+  pub left : AreLeft (numbers_of c.arg_len) others number rest
   pub are : AreSteps number steps
   pub each : (a : ℕ) → a < number → IsChosen (Compares c.operator a (part_of c.arg_len c.value)) target (found_in others a)
       (found_in steps a)
@@ -49,16 +42,12 @@ pub record Laying (c : Condition) (target : Target) (others : List Step) (number
 
 pub laying_begins : (c : Condition) (target : Target) (others : List Step) → AreSteps (numbers_of c.arg_len) others
     → Laying c target others 0 others []
-laying_begins c target [] h = absurd (omega (arith, h.first, numbers_many c.arg_len))
-laying_begins c target (x ∷ others) h =
-    record {
-      within = omega arith;
-      from = λ some. rw h.first at h.ascend.1.1;
-      same = λ a le lt. refl;
-      are = record { first = refl; ascend = tt; tight = tt };
-      each = λ a lt. absurd (omega arith);
-      few = grind arith;
-    }
+laying_begins c target others h = record {
+  left = left_begins (numbers_of c.arg_len) others (omega (arith, numbers_many c.arg_len)) h;
+  are = record { first = refl; ascend = tt; tight = tt };
+  each = λ a lt. absurd (omega arith);
+  few = grind arith;
+}
 
 -- a step more: numbers that compare alike, and have one of the others' targets
 pub laying_on : (c : Condition) (target : Target) (others rest back steps more : List Step) (value end number next : ℕ) (d : Step)
@@ -66,27 +55,16 @@ pub laying_on : (c : Condition) (target : Target) (others rest back steps more :
     → is_plain c.operator ≡ true → Laying c target others number rest steps → number < numbers_of c.arg_len
     → value ≡ part_of c.arg_len c.value → end ≡ first_start (numbers_of c.arg_len) (drop 1 rest) → IsTurn value number end next
     → IsChosen (Compares c.operator number (part_of c.arg_len c.value)) target (get_or rest 0 d).target t → IsPushed steps number t more
-    → ((next ≡ end) × (back ≡ drop 1 rest)) ⊎ ((next ≢ end) × (back ≡ rest)) → Laying c target others next back more
+    → HasMoved next end rest back → Laying c target others next back more
 laying_on c target others [] back steps more value end number next d t plain h some part ends turn chosen pushed moved =
-    absurd (h.from some)
+    absurd (h.left.from some)
 laying_on c target others (x ∷ rest) back steps more value end number next d t plain h some part ends turn chosen pushed moved = record {
-  within = omega (arith, last, turn.within);
-  from = λ less. elim moved [
-    | inl on ↦ rw on.1 (begins rest (on.0 ∙ ends) up less)
-    | inr not ↦ rw not.1 (later rest (omega (arith, ends, not.0, turn.within)) up)
-  ];
-  same = λ a le lt. elim moved [
-    | inl on ↦ rw on.1 (h.same a (omega (arith, turn.above)) lt
-        ∙ found_behind (numbers_of c.arg_len) x.target rest a (omega (arith, ends, on.0)) lt)
-    | inr not ↦ rw not.1 (h.same a (omega (arith, turn.above)) lt)
-  ];
+  left = left_on next end (x ∷ rest) back h.left some ends turn.above turn.within moved;
   are = steps_more (number + 1) next more (omega arith) (omega (arith, turn.above)) pushed.are;
   each = λ a lt. elim (cases_lt a number) [
     | inl below ↦ rw (pushed.below a below) (h.each a below)
     | inr le ↦
-        let other : found_in others a ≡ x.target =
-        h.same a le (omega (arith, last, turn.within))
-        ∙ found_until (numbers_of c.arg_len) x.target rest a (omega (arith, ends, turn.within)) in
+        let other = left_has (x ∷ rest) d a h.left some le (omega (arith, ends, turn.within)) in
         let side = rw part at (turn.alike a le lt) in
         rw (pushed.from a le, other) record {
           met = λ is. chosen.met (alike_on c.operator a number (part_of c.arg_len c.value) plain (grind (arith, side, le)) is);
@@ -99,32 +77,11 @@ laying_on c target others (x ∷ rest) back steps more value end number next d t
     | inr not ↦ rw not.1 (grind (arith, nat_tests, h.few, pushed.few, turn.cut, turn.within, not.0, part))
   ];
 }
-  where
-    up : AscendFrom (numbers_of c.arg_len) (number + 1) rest
-    up = h.from some
-
-    last : end ≤ numbers_of c.arg_len
-    last = rw ends (inside rest up)
-      where
-        inside : (l : List Step) → AscendFrom (numbers_of c.arg_len) (number + 1) l
-            → first_start (numbers_of c.arg_len) l ≤ numbers_of c.arg_len
-        inside [] up = omega arith
-        inside (y ∷ l) up = omega (arith, up.1.0)
-
-    begins : (l : List Step) → next ≡ first_start (numbers_of c.arg_len) l → AscendFrom (numbers_of c.arg_len) (number + 1) l
-        → next < numbers_of c.arg_len → IsFrom (numbers_of c.arg_len) next l
-    begins [] is up less = absurd (omega arith)
-    begins (y ∷ l) is up less = rw is up.1.1
-
-    later : (l : List Step) → next < first_start (numbers_of c.arg_len) l → AscendFrom (numbers_of c.arg_len) (number + 1) l
-        → AscendFrom (numbers_of c.arg_len) (next + 1) l
-    later [] lt up = tt
-    later (y ∷ l) lt up = (omega arith, up.1)
 
 pub laying_ends : (c : Condition) (target : Target) (others rest steps : List Step) (number : ℕ) → is_plain c.operator ≡ true
     → Laying c target others number rest steps → numbers_of c.arg_len ≤ number → AreLaid c target others steps
 laying_ends c target others rest steps number plain h all =
-    let end : number ≡ numbers_of c.arg_len = omega (arith, h.within) in
+    let end : number ≡ numbers_of c.arg_len = omega (arith, h.left.within) in
     record { are = rw end at h.are; each = λ a lt. h.each a (omega arith); few = omega (arith, h.few); plain = plain }
 
 -- what is laid over targets of the code are targets of the code

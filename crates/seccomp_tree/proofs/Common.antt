@@ -1,5 +1,5 @@
 -- The names that the proofs share, of std, of the library and of the definitions.
-pub use Rattle.seccomp_tree.specs.Code.{AreFine, AreIn, DoesAs, GoesOn, Grows, IsHalf, IsIn, IsPart, IsReached, IsSound, IsTested, IsTree}
+pub use Rattle.seccomp_tree.specs.Code.{AreFine, AreIn, DoesAs, GoesOn, Grows, IsHalfTurn, IsIn, IsPart, IsReached, IsSound, IsTested, IsTree}
 pub use Rattle.seccomp_tree.specs.Code.{Leads, LeadsAlways, Returns, Says, Starts, StartsAlways, chosen, gives, near, part_length}
 pub use Rattle.seccomp_tree.specs.Code.{part_steps, tail_at, to_place, to_return}
 pub use Rattle.seccomp_tree.specs.Conditions.{AreLaid, HasBits, IsChosen, IsConditionMet, IsMet, condition_length, condition_steps}

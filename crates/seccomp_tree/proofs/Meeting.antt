@@ -46,8 +46,8 @@ rule_or_not (c ∷ q) r = elim (holds_or_not c r) [
 -- ---- parts
 
 pub part_of_word : (old new : List sock_filter) (index : ℕ) (steps : List Step) (t : Target)
-    → IsPart old Dword (3 * length steps - 2) (λ r. word_at r (16 + 8 * index)) steps t new
-    → IsPart old Dword (part_length Dword (length steps)) (λ r. part_of Dword (argument_at r index)) steps t new
+    → IsPart old Dword (λ r. word_at r (16 + 8 * index)) steps t new
+    → IsPart old Dword (λ r. part_of Dword (argument_at r index)) steps t new
 part_of_word old new index steps t word = record {
   grows = word.grows;
   inside = word.inside;
@@ -75,7 +75,7 @@ chosen_plain c r fit unfit t plain h = rw (plain_operator c.arg_len c.operator p
 
 pub met_by_steps : (old new : List sock_filter) (c : Condition) (fit unfit t : Target) (steps : List Step)
     → AreLaid c fit (single unfit) steps
-    → IsPart old c.arg_len (part_length c.arg_len (length steps)) (λ r. part_of c.arg_len (argument_at r c.arg_index)) steps t new
+    → IsPart old c.arg_len (λ r. part_of c.arg_len (argument_at r c.arg_index)) steps t new
     → IsConditionMet old c fit unfit t new
 met_by_steps old new c fit unfit t steps h part = record {
   grows = grows_on _ part.grows (grows_not new 0) (omega (arith, cost.1, shorter_part c.arg_len (length steps) 3 few));

@@ -1,5 +1,5 @@
 -- The theorem: what is written answers every record as is decided.
-use Rattle.seccomp_tree.proofs.Common.{◌≡◌, ℕ, ◌+◌, ◌-◌, ◌*◌, ◌≤◌, ◌^◌, List, [], ◌∷◌, length, Bool, true, false, Option, Some, None, refl}
+use Rattle.seccomp_tree.proofs.Common.{◌≡◌, ℕ, ◌+◌, ◌*◌, ◌≤◌, ◌^◌, List, [], ◌∷◌, length, Bool, true, false, Option, Some, None, refl}
 use Rattle.seccomp_tree.proofs.Common.{ap, inl, inr, arith, nat_eq, if◌then◌else◌, suc, zero, nat_tests, All-nil, sock_filter, IsRecord}
 use Rattle.seccomp_tree.proofs.Common.{word_at, audit_word, Condition, Holds, Target, Give, Step, AreIn, AreOver, StartsAlways, to_return}
 use Rattle.seccomp_tree.proofs.Common.{LeadsAlways, IsPart, IsSound, Returns, chosen, part_steps, Dword, Ruling, First, nothing, Takes}
@@ -80,7 +80,7 @@ pub record IsWritten (d : DecisionSet) (p : List sock_filter) : Type 0 where
   pub answers : AreCallSteps (give 0x80000000 ∷ []) d steps mid
   pub calls : Target
   pub behind : List sock_filter
-  pub word : IsPart mid Dword (3 * length steps - 2) (λ r. word_at r 0) steps calls behind
+  pub word : IsPart mid Dword (λ r. word_at r 0) steps calls behind
   pub test : Target
   pub tested : List sock_filter
   pub tests : IsTested behind Equal (audit_word d.target_arch) calls (Give 0x80000000) test tested

@@ -257,7 +257,7 @@ found_one _ a b few = refl
 -- one step needs no load
 pub word_one : (old new : List sock_filter) (byte : ℕ) (steps : List Step) (t : Target) → length steps ≡ 1
     → IsTree old steps t new
-    → IsPart old Dword (3 * length steps - 2) (λ r. word_at r byte) steps t new
+    → IsPart old Dword (λ r. word_at r byte) steps t new
 word_one old new byte steps t one h = record {
   grows = grows_on _ h.grows (grows_not new 0) (omega arith);
   inside = h.inside;
@@ -273,7 +273,7 @@ load_run r code byte a w n is inside h = goes_on (load byte) code a (word_at r b
 
 pub word_more : (old mid new : List sock_filter) (byte : ℕ) (steps : List Step) (u t : Target) → byte ≤ 60 → 2 ≤ length steps
     → IsTree old steps u mid → new ≡ load byte ∷ mid → t ≡ At (length new - 1)
-    → IsPart old Dword (3 * length steps - 2) (λ r. word_at r byte) steps t new
+    → IsPart old Dword (λ r. word_at r byte) steps t new
 word_more old mid new byte steps u t inside some h written last = record {
   grows = rw written (grows_on (3 * length steps - 2) h.grows (grows_one mid (load byte)) (omega arith));
   inside = last_in new t last (omega (arith, ap length written));

@@ -1,8 +1,8 @@
 -- Code that is written from its end to its front: what a run from a place of it returns, and what stays so.
-use Rattle.std.specs.Prelude.{◌≡◌, ℕ, suc, ◌+◌, ◌-◌, ◌*◌, ◌<◌, ◌≤◌, ◌^◌, List, [], ◌∷◌, ◌++◌, length, drop, ⊤, nat_eq, nat_le}
+use Rattle.std.specs.Prelude.{◌≡◌, ℕ, suc, ◌+◌, ◌-◌, ◌*◌, ◌/◌, ◌%◌, ◌<◌, ◌≤◌, ◌^◌, List, [], ◌∷◌, ◌++◌, length, drop, ⊤, nat_eq, nat_le}
 use Rattle.std.specs.Prelude.{slice_index_or, if◌then◌else◌}
 use Rattle.seccompiler.specs.declared.bpf.sock_filter.{sock_filter}
-use Rattle.seccompiler.specs.Machine.{IsRecord, Does, IsFine, IsInRange, word_at}
+use Rattle.seccompiler.specs.Machine.{IsRecord, Does, IsFine, IsInRange}
 use Rattle.seccompiler.specs.declared.backend.SeccompCmpArgLen.{SeccompCmpArgLen}
 use Rattle.seccompiler.specs.declared.backend.SeccompCmpArgLen.TheVariants.{Dword, Qword}
 use Rattle.seccompiler.specs.Code.{give}
@@ -11,7 +11,7 @@ use Rattle.seccomp_tree.specs.declared.steps.Target.TheVariants.{Give, At}
 use Rattle.seccomp_tree.specs.declared.steps.Step.{Step}
 use Rattle.seccomp_tree.specs.declared.code.Test.{Test}
 use Rattle.seccomp_tree.specs.declared.code.Test.TheVariants.{Equal, AtLeast}
-use Rattle.seccomp_tree.specs.Steps.{AreSteps, found_in, row}
+use Rattle.seccomp_tree.specs.Steps.{found_in, row}
 
 -- Each instruction is one of the seven, within its fields' ranges, and its jumps lead to instructions after it.
 abbrev pub AreFine : List sock_filter → Type 0
@@ -126,19 +126,19 @@ part_steps Qword k = 5 + 4 * k
 
 -- The target goes on as the steps say for a number of the record, whatever the accumulator holds, in the machine's steps for a
 -- number of this length.
-pub record IsPart (old : List sock_filter) (l : SeccompCmpArgLen) (most : ℕ) (number : List ℕ → ℕ) (steps : List Step) (t : Target)
+pub record IsPart (old : List sock_filter) (l : SeccompCmpArgLen) (number : List ℕ → ℕ) (steps : List Step) (t : Target)
     (new : List sock_filter) : Type 0 where
-  pub grows : Grows old most new
+  pub grows : Grows old (part_length l (length steps)) new
   pub inside : IsIn new t
   pub leads : (r : List ℕ) → IsRecord r → (w n k : ℕ) → length steps ≤ 2 ^ k → LeadsAlways old r (found_in steps (number r)) w n
       → StartsAlways new r t w (n + part_steps l k)
 
--- A high half goes on as steps over its low halves say, and those behind it, up to the next, as the last of these steps says.
-pub record IsHalf (old : List sock_filter) (index : ℕ) (lows : List Step) (high next : ℕ) (highs more : List Step) (last : Target)
-    (new : List sock_filter) : Type 0 where
-  pub are : AreSteps next more
-  pub few : length more ≤ length highs + 2
-  pub below : (h : ℕ) → h < high → found_in more h ≡ found_in highs h
-  pub own : IsPart old Dword (3 * length lows - 2) (λ r. word_at r (16 + 8 * index)) lows (found_in more high) new
-  pub behind : (h : ℕ) → high < h → h < next → found_in more h ≡ last
-  pub ends : (a : ℕ) → 2 ^ 32 ≤ a → found_in lows a ≡ last
+-- Numbers of 64 bits from one up to the next: up to the end if that has the same high half, else up to the next high half, or, if
+-- the number is the first of its high half, up to that of the end.
+pub record IsHalfTurn (number end next : ℕ) : Type 0 where
+  pub above : number < next
+  pub within : next ≤ end
+  pub inside : number / 2 ^ 32 ≡ end / 2 ^ 32 → next ≡ end
+  pub behind : number / 2 ^ 32 < end / 2 ^ 32 → next % 2 ^ 32 ≡ 0
+  pub first : number / 2 ^ 32 < end / 2 ^ 32 → number % 2 ^ 32 ≡ 0 → next / 2 ^ 32 ≡ end / 2 ^ 32
+  pub later : number / 2 ^ 32 < end / 2 ^ 32 → 0 < number % 2 ^ 32 → next / 2 ^ 32 ≡ number / 2 ^ 32 + 1

@@ -10,7 +10,7 @@ use Rattle.seccomp_tree.specs.declared.steps.Target.TheVariants.{Give}
 use Rattle.seccomp_tree.specs.declared.steps.Step.{Step}
 use Rattle.seccomp_tree.specs.Steps.{AreSteps, single, found_in}
 use Rattle.seccomp_tree.specs.Conditions.{numbers_of, IsMet}
-use Rattle.seccomp_tree.specs.Code.{IsIn, AreIn, Grows, LeadsAlways, part_length, IsPart}
+use Rattle.seccomp_tree.specs.Code.{IsIn, AreIn, Grows, LeadsAlways, IsPart}
 use Rattle.seccomp_tree.specs.Decisions.{Ruling, First, Takes, rules_length, conditions_length, conditions_steps}
 use Rattle.seccomp_tree.specs.declared.decisions.DefaultValue.{DefaultValue}
 use Rattle.seccomp_tree.specs.Decided.{DecisionSet, default_for, rulings_for}
@@ -39,7 +39,7 @@ IsTooMany length e = e ≡ TooLarge → greatest_length < length
 abbrev pub IsSettled : List sock_filter → Option Condition → List Step → Target → List sock_filter → Type 0
 IsSettled old None steps t new = (steps ≡ single t) × (new ≡ old)
 IsSettled old (Some c) steps t new =
-    IsPart old c.arg_len (part_length c.arg_len (length steps)) (λ r. part_of c.arg_len (argument_at r c.arg_index)) steps t new
+    IsPart old c.arg_len (λ r. part_of c.arg_len (argument_at r c.arg_index)) steps t new
 
 -- ---- steps over call numbers
 

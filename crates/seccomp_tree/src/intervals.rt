@@ -48,8 +48,8 @@ fn turn(value: u128, number: u128, end: u128) -> u128
     if number <= value { turn.min(end) } else { end }
 }
 
-// Where the first of the steps starts, or the size.
-fn first_start(steps: &[Step], size: u128) -> u128
+/// Where the first of the steps starts, or the size.
+pub(crate) fn first_start(steps: &[Step], size: u128) -> u128
     ensures { result ≡ first_start size steps.now }
 {
     steps.first().map_or(size, |step| u128::from(step.start))

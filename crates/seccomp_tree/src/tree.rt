@@ -65,7 +65,7 @@ impl Code {
         requires inside_record { byte ≤ 60 }
         requires over { AreOver steps.now }
         requires inside { AreIn self.old steps.now }
-        ensures { IfOk result (λ t. IsPart self.old Dword (3 * length steps.now - 2) (λ r. word_at r byte) steps.now t self.new) }
+        ensures { IfOk result (λ t. IsPart self.old Dword (λ r. word_at r byte) steps.now t self.new) }
     {
         let tested = self.tree(steps)?;
         if steps.len() == 1 {

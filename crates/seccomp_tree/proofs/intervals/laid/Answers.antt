@@ -1,7 +1,8 @@
-use Rattle.seccomp_tree.proofs.Common.{◌≡◌, ◌≢◌, ◌⊎◌, List, Step, ◌-◌, ◌%◌, ap, ◌∙◌, inl, inr, drop, length, refl, take, sym, false≢true}
+use Rattle.seccomp_tree.proofs.Common.{◌≡◌, List, Step, ◌-◌, ◌%◌, ap, ◌∙◌, inl, inr, drop, length, refl, take, sym, false≢true}
 use Rattle.seccomp_tree.proofs.Common.{get_or, Give, Compares, part_of}
 use Rattle.seccomp_tree.specs.Steps.{first_start}
 use Rattle.seccomp_tree.specs.Conditions.{IsChosen, numbers_of}
+use Rattle.seccomp_tree.proofs.Begun.{HasMoved}
 use Rattle.seccomp_tree.proofs.Trees.{all_behind}
 use Rattle.seccomp_tree.proofs.Choices.{Laying, laying_begins, laying_on, laying_ends, part_left}
 use Rattle.seccomp_tree.proofs.intervals.laid.Goals.{After-turn-number, then-is_met, else-is_met}
@@ -39,8 +40,7 @@ chosen c =
 
 -- a step more
 on : (c : After-turn-number) (back : List Step)
-    → ((c.turn-number.result ≡ c.first_start-end.result) × (back ≡ drop 1 c.loop-number.rest.now))
-    ⊎ ((c.turn-number.result ≢ c.first_start-end.result) × (back ≡ c.loop-number.rest.now))
+    → HasMoved c.turn-number.result c.first_start-end.result c.loop-number.rest.now back
     → Laying c.args.condition.now c.args.target c.args.others.now c.turn-number.result back c.push_step.new.steps.items
 on c back moved = laying_on c.args.condition.now c.args.target c.args.others.now c.loop-number.rest.now back c.loop-number.steps.items
     c.push_step.new.steps.items _ _ c.loop-number.number c.turn-number.result _ _ c.requires.plain c.loop-number.invariant

@@ -1,7 +1,9 @@
-use Rattle.seccomp_tree.proofs.Common.{ℕ, drop}
-use Rattle.seccomp_tree.proofs.Halves.{AreHalves}
+use Rattle.seccomp_tree.proofs.Common.{◌-◌, ◌^◌}
+use Rattle.seccomp_tree.proofs.Halves.{Halving}
 use Rattle.seccomp_tree.proofs.code.Code.argument.Given as goal
 
-abbrev pub invariant-loop-step : goal.invariant-loop-step
-invariant-loop-step l = (bound : ℕ)
-    × AreHalves l.initial.self l.index l.steps (drop l.step-index l.step-items) l.lows.items l.high bound 0 l.highs.items l.self
+abbrev pub invariant-loop-number : goal.invariant-loop-number
+invariant-loop-number l = Halving l.initial.self l.index l.steps l.number l.rest l.lows.items l.highs.items l.self
+
+abbrev pub decreases-loop-number : goal.decreases-loop-number
+decreases-loop-number l = 2 ^ 64 - l.number

@@ -26,15 +26,15 @@ pub record NextSoFar (defaults : List DefaultValue) (calls : List (ℕ × List R
   pub within : next ≤ 2 ^ 32
   pub none : (k : ℕ) (d : DefaultValue) → k < i → k < length defaults
       → ((get_or defaults k d).start ≤ number) ⊎ (next ≤ (get_or defaults k d).start)
-  pub no_calls : (n : ℕ) → number < n → n < next → rulings_for calls n ≡ []
+  pub rulings : (n : ℕ) → number ≤ n → n < next → rulings_for calls n ≡ rulings_for calls number
 
 pub next_is : (defaults : List DefaultValue) (calls : List (ℕ × List Ruling)) (number next i : ℕ) → length defaults ≤ i
     → NextSoFar defaults calls number next i → IsNextStart defaults calls number next
 next_is defaults calls number next i all h = record {
   above = h.above;
   within = h.within;
-  same = λ n le less. same_from 0 defaults n number (λ k d inside. grind (arith, h.none k d (omega arith) inside, h.above));
-  none = h.no_calls;
+  default = λ n le less. same_from 0 defaults n number (λ k d inside. grind (arith, h.none k d (omega arith) inside, h.above));
+  rulings = h.rulings;
 }
 
 answer_grown : (old new : List sock_filter) (most default : ℕ) (rulings : List Ruling) (t : Target) → Grows old most new
@@ -79,33 +79,6 @@ below_one (e ∷ calls) n m lt = grind (arith, nat_tests, below_one calls n m lt
 
 -- ---- the loop of `call_steps`
 
--- A number after this one, up to which calls are answered as those of this one.
-pub record IsNextNumber (d : DecisionSet) (number next : ℕ) : Type 0 where
-  pub above : number < next
-  pub within : next ≤ 2 ^ 32
-  pub default : (n : ℕ) → number ≤ n → n < next → default_for d.defaults n ≡ default_for d.defaults number
-  pub rulings : (n : ℕ) → number ≤ n → n < next → rulings_for d.calls n ≡ rulings_for d.calls number
-
-pub next_alone : (d : DecisionSet) (number : ℕ) → number < 2 ^ 32 → IsNextNumber d number (number + 1)
-next_alone d number fits = record {
-  above = omega arith;
-  within = omega arith;
-  default = λ n le lt. let same : n ≡ number = omega arith in rw same refl;
-  rulings = λ n le lt. let same : n ≡ number = omega arith in rw same refl;
-}
-
-pub next_start : (d : DecisionSet) (number next : ℕ) → IsNextStart d.defaults d.calls number next → rulings_for d.calls number ≡ []
-    → IsNextNumber d number next
-next_start d number next h own = record {
-  above = h.above;
-  within = h.within;
-  default = h.same;
-  rulings = λ n le lt. elim (cases_lt number n) [
-    | inl more ↦ h.none n more lt ∙ sym own
-    | inr less ↦ let same : n ≡ number = omega arith in rw same refl
-  ];
-}
-
 pub record CallsOn (d : DecisionSet) (old : List sock_filter) (next : ℕ) (steps : List Step) (code : List sock_filter) : Type 0 where
   pub within : next ≤ 2 ^ 32
   pub grows : Grows old (below_length d.calls next) code
@@ -132,7 +105,7 @@ answered_rules old new default rulings t none h = record {
 
 pub calls_on : (d : DecisionSet) (old mid new : List sock_filter) (steps more : List Step) (number next : ℕ) (t : Target)
     → CallsOn d old number steps mid → IsAnswered mid (default_for d.defaults number) (rulings_for d.calls number) t new
-    → IsPushed steps number t more → IsNextNumber d number next → CallsOn d old next more new
+    → IsPushed steps number t more → IsNextStart d.defaults d.calls number next → CallsOn d old next more new
 calls_on d old mid new steps more number next t h answered pushed on = record {
   within = on.within;
   grows = grows_on _ h.grows answered.grows (below_one d.calls number next on.above);

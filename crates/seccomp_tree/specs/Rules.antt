@@ -51,12 +51,12 @@ pub record IsAnswer (code : List sock_filter) (default : ℕ) (rulings : List Ru
   pub own : one_value default rulings ≡ None → (r : List ℕ) → IsRecord r → (w n : ℕ) → First default r rulings w
       → Takes r [] rulings n → LeadsAlways code r t w (n + 1)
 
--- A number after this one, up to which the default is the same, and up from this one there are no rulings.
+-- A number after this one, up to which calls are answered as those of this one.
 pub record IsNextStart (defaults : List DefaultValue) (calls : List (ℕ × List Ruling)) (number next : ℕ) : Type 0 where
   pub above : number < next
   pub within : next ≤ 2 ^ 32
-  pub same : (n : ℕ) → number ≤ n → n < next → default_for defaults n ≡ default_for defaults number
-  pub none : (n : ℕ) → number < n → n < next → rulings_for calls n ≡ []
+  pub default : (n : ℕ) → number ≤ n → n < next → default_for defaults n ≡ default_for defaults number
+  pub rulings : (n : ℕ) → number ≤ n → n < next → rulings_for calls n ≡ rulings_for calls number
 
 -- The steps over the numbers below one answer each of them.
 pub record AreAnswers (d : DecisionSet) (next : ℕ) (code : List sock_filter) (steps : List Step) : Type 0 where

@@ -61,12 +61,7 @@ impl Decisions {
                 None => code.rules(alloc, rulings, default)?,
             };
             push_step(&mut steps, next, target)?;
-            // The next number that may be answered otherwise.
-            next = if rulings.is_empty() {
-                next_start(&self.defaults, &self.calls, number)
-            } else {
-                next + 1
-            };
+            next = next_start(&self.defaults, &self.calls, number);
         }
         Ok(steps)
     }
@@ -84,13 +79,13 @@ fn one_value(rulings: &[Decision], default: u32) -> Option<u32>
     }
 }
 
-// The next number after this one that has rulings or at which a default starts, or 2^32.
+// The next number after this one that may be answered otherwise: it or this one has rulings, or a default starts at it; or 2^32.
 fn next_start(defaults: &[DefaultValue], calls: &BTreeMap<u32, Vec<Decision>>, number: u32) -> u64
     ensures { IsNextStart defaults.now (calls_of calls.now.entries) number result }
 {
-    let mut after = calls.range((Bound::Excluded(number), Bound::Unbounded));
-    let mut next = match after.next() {
-        Some((next, _)) => u64::from(*next),
+    let mut from_here = calls.range((Bound::Included(number), Bound::Unbounded));
+    let mut next = match from_here.next() {
+        Some((next, _)) => u64::from(*next).max(u64::from(number) + 1),
         None => WORDS,
     };
     for default in defaults {

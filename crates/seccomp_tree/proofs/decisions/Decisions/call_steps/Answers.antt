@@ -1,6 +1,6 @@
-use Rattle.seccomp_tree.proofs.Common.{◌≡◌, ◌+◌, ◌∷◌, [], List, Ruling, length, refl, arith, nat_tests, ap, sym, ◌∙◌, DecisionSet}
+use Rattle.seccomp_tree.proofs.Common.{◌≡◌, ap, sym, ◌∙◌, DecisionSet}
 use Rattle.seccomp_tree.proofs.Common.{default_for, rulings_for}
-use Rattle.seccomp_tree.proofs.CallsPushed.{IsAnswered, answered_one, answered_rules, calls_on, next_alone, next_start}
+use Rattle.seccomp_tree.proofs.CallsPushed.{IsAnswered, answered_one, answered_rules, calls_on}
 use Rattle.seccomp_tree.proofs.decisions.Decisions.call_steps.Goals.{After-push_step, in-Some, in-None+in_ok-target-in-None}
 use Rattle.seccomp_tree.proofs.decisions.Decisions.call_steps.Goals as goal
 
@@ -20,24 +20,11 @@ answered c = rw (← default c, ← c.rulings_for-rulings.ensures) (elim c.match
       ∙ w.in-None.is) w.in_ok-target-in-None.ensures.ok)
 ])
 
-none : (rulings : List Ruling) → length rulings ≡ 0 → rulings ≡ []
-none [] is = refl
-none (d ∷ rulings) is = absurd (omega arith)
-
 pub loop-next-preserved : goal.loop-next-preserved
 loop-next-preserved c =
-    calls_on c.args.self.now c.args.code.now c.loop-next.code c.match-one_value.code c.loop-next.steps.items c.push_step.new.steps.items
-    c.loop-next.next (c.loop-next.next + 1) c.match-one_value.target c.loop-next.invariant
-    (answered ((goal.at.loop-next-preserved c).After-push_step)) c.in_ok-push_step.ensures
-    (next_alone c.args.self.now c.loop-next.next c.loop-next-test.true)
-
-pub loop-next-preserved-then-is_empty : goal.loop-next-preserved-then-is_empty
-loop-next-preserved-then-is_empty c =
-    let defaults = c.deref-then-is_empty.ensures.value ∙ ap (λ (x : DecisionSet). x.defaults) c.self.view_is in
+    let defaults = c.deref-in-loop-next.ensures.value ∙ ap (λ (x : DecisionSet). x.defaults) c.self.view_is in
     let calls = ap (λ (x : DecisionSet). x.calls) c.self.view_is in
-    let empty : length c.rulings_for-rulings.result.now ≡ 0 = grind (arith, nat_tests, c.is_empty.ensures, c.if-is_empty.true) in
     calls_on c.args.self.now c.args.code.now c.loop-next.code c.match-one_value.code c.loop-next.steps.items c.push_step.new.steps.items
     c.loop-next.next _ c.match-one_value.target c.loop-next.invariant
-    (answered ((goal.at.loop-next-preserved-then-is_empty c).After-push_step)) c.in_ok-push_step.ensures
-    (next_start c.args.self.now c.loop-next.next _ (rw (defaults, calls) at c.next_start-next.ensures)
-    (sym c.rulings_for-rulings.ensures ∙ none c.rulings_for-rulings.result.now empty))
+    (answered ((goal.at.loop-next-preserved c).After-push_step)) c.in_ok-push_step.ensures
+    (rw (defaults, calls) at c.next_start-next.ensures)

@@ -32,12 +32,13 @@ over_zero [] h = absurd (omega (arith, h.first))
 over_zero (x ∷ steps) h =
     ascend_more (2 ^ 32) (2 ^ 32) (x.start + 1) 1 steps (omega arith) (omega (arith, h.first)) h.ascend.1.1
 
--- starts rise
-pub starts_rise : (m from : ℕ) (steps : List Step) (k : ℕ) (d : Step) → AscendFrom m from steps → k < length steps
-    → (from + k ≤ (get_or steps k d).start) × ((get_or steps k d).start < m)
-starts_rise m from [] k d h lt = absurd (omega arith)
-starts_rise m from (x ∷ steps) zero d h lt = (omega (arith, h.0), h.1.0)
-starts_rise m from (x ∷ steps) (suc k) d h lt = grind (arith, starts_rise m (x.start + 1) steps k d h.1.1, h.0, lt)
+-- steps in front of one ascend up to its start, and those behind it from there on
+pub ascend_parts : (m from : ℕ) (front : List Step) (x : Step) (back : List Step) → AscendFrom m from (front ++ x ∷ back)
+    → AscendFrom x.start from front × ((from ≤ x.start) × ((x.start < m) × AscendFrom m (x.start + 1) back))
+ascend_parts m from [] x back h = (tt, (h.0, h.1))
+ascend_parts m from (y ∷ front) x back h =
+    let rest = ascend_parts m (y.start + 1) front x back h.1.1 in
+    ((h.0, (omega (arith, rest.1.0), rest.0)), (omega (arith, h.0, rest.1.0), rest.1.1))
 
 -- ---- targets
 
@@ -55,6 +56,19 @@ pub found_behind : (m : ℕ) (t : Target) (steps : List Step) (a : ℕ) → firs
     → found_from t steps a ≡ found_in steps a
 found_behind m t [] a le lt = absurd (omega arith)
 found_behind m t (x ∷ steps) a le lt = grind (arith, nat_tests)
+
+-- numbers below the start of a step have what those in front of it have, and others what it and those behind it have
+pub found_front : (t : Target) (front : List Step) (x : Step) (back : List Step) (a : ℕ) → a < x.start
+    → found_from t (front ++ x ∷ back) a ≡ found_from t front a
+found_front t [] x back a below = grind (arith, nat_tests)
+found_front t (y ∷ front) x back a below =
+    ap (λ v. if nat_le y.start a then v else t) (found_front y.target front x back a below)
+
+pub found_back : (t : Target) (from : ℕ) (front : List Step) (x : Step) (back : List Step) (a : ℕ) → AscendFrom x.start from front
+    → x.start ≤ a → found_from t (front ++ x ∷ back) a ≡ found_from x.target back a
+found_back t from [] x back a h le = grind (arith, nat_tests)
+found_back t from (y ∷ front) x back a h le =
+    grind (arith, nat_tests, h.1.0, found_back y.target (y.start + 1) front x back a h.1.1 le)
 
 -- the last step decides from all starts on
 last_from : (m from : ℕ) (steps : List Step) (a : ℕ) (y d : Step) → AscendFrom m from steps → m ≤ a
@@ -168,15 +182,6 @@ ascend_push : (from : ℕ) (steps : List Step) (x : Step) → from ≤ x.start �
 ascend_push from [] x le h = (le, (omega arith, tt))
 ascend_push from (y ∷ steps) x le h = (h.0, (omega (arith, h.1.0), ascend_push (y.start + 1) steps x (omega (arith, h.1.0)) h.1.1))
 
-below_push : (t : Target) (steps : List Step) (x : Step) (a : ℕ) → a < x.start → found_from t (steps ++ x ∷ []) a ≡ found_from t steps a
-below_push t [] x a below = grind (arith, nat_tests)
-below_push t (y ∷ steps) x a below = ap (λ v. if nat_le y.start a then v else t) (below_push y.target steps x a below)
-
-from_push : (t : Target) (from : ℕ) (steps : List Step) (x : Step) (a : ℕ) → AscendFrom x.start from steps → x.start ≤ a
-    → found_from t (steps ++ x ∷ []) a ≡ x.target
-from_push t from [] x a h le = grind (arith, nat_tests)
-from_push t from (y ∷ steps) x a h le = grind (arith, nat_tests, h.1.0, from_push y.target (y.start + 1) steps x a h.1.1 le)
-
 tight_from : (t : Target) (from : ℕ) (steps : List Step) (x : Step) → AscendFrom x.start from steps
     → (found_from t steps x.start ≢ x.target) → TightFrom t steps → TightFrom t (steps ++ x ∷ [])
 tight_from t from [] x h not tight = (not, tt)
@@ -197,8 +202,8 @@ pushed_more (y ∷ old) x h not = record {
     ascend = ascend_push 0 (y ∷ old) x (omega arith) h.ascend;
     tight = tight_from y.target (y.start + 1) old x h.ascend.1.1 (not (omega arith)) h.tight;
   };
-  from = λ a le. from_push y.target (y.start + 1) old x a h.ascend.1.1 le;
-  below = λ a lt. below_push y.target old x a lt;
+  from = λ a le. found_back y.target (y.start + 1) old x [] a h.ascend.1.1 le;
+  below = λ a lt. found_front y.target old x [] a lt;
   few = omega (arith, length-append old (x ∷ []));
 }
 

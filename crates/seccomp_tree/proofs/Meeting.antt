@@ -158,7 +158,7 @@ masked_some old mid new byte m value fit unfit t low small tested is = rw is rec
         let run = tested.leads r x w n x_small (rw which (leads_grown (grows_not old 0) (lead x x_small))) in
         starts_more (n + 4) (omega arith)
         (leads_by (starts_last refl (omega arith) (load_run r (mask m ∷ mid) byte a w (suc (suc n)) rec low
-        (goes_on (mask m) mid (word_at r byte) x w (suc n) 0 (masks refl refl refl) x_small run))))
+        (goes_on (mask m) mid (word_at r byte) x w (suc n) 0 (λ p. masks refl (omega arith) refl) x_small run))))
 
 -- a condition with a mask holds if the halves of the argument have the value's bits
 pub mask_dword : (c : Condition) (m : ℕ) → c.arg_len ≡ Dword → c.operator ≡ MaskedEq m → (r : List ℕ) → IsRecord r

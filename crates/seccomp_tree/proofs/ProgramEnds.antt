@@ -1,24 +1,12 @@
 -- The two ends of the theorem: sound code is a checked program, and a run that returns a word ends with it there.
 use Rattle.seccomp_tree.proofs.Common.{◌≡◌, ℕ, zero, suc, ◌+◌, ◌-◌, ◌<◌, ◌≤◌, ◌^◌, List, [], ◌∷◌, ◌++◌, length, drop, Some, length-append}
-use Rattle.seccomp_tree.proofs.Common.{length-drop, refl, sym, ap, ◌∙◌, arith, add-one, slice_get, drop-drop, sock_filter, give, Does}
-use Rattle.seccomp_tree.proofs.Common.{loads, masks, jumps, is_equal, is_not_equal, is_greater, is_not_greater, is_at_least, is_less, Goes}
+use Rattle.seccomp_tree.proofs.Common.{length-drop, refl, sym, ap, ◌∙◌, arith, add-one, slice_get, drop-drop, sock_filter, give}
+use Rattle.seccomp_tree.proofs.Common.{Goes}
 use Rattle.seccomp_tree.proofs.Common.{stays, then_step, IsFine, IsInRange, IsChecked, greatest_length, fine_load, fine_mask, fine_jump}
 use Rattle.seccomp_tree.proofs.Common.{fine_equal, fine_greater, fine_at_least, fine_return, AreFine, IsSound, Returns, gives}
 use Rattle.seccomp_tree.specs.Code.{goes_on}
 use Rattle.seccomp_tree.specs.TreeProgram.{EndsWithin}
 use Rattle.seccomp_tree.proofs.Runs.{returns_more}
-
--- an instruction does the same further on
-does_there : (i : sock_filter) (r : List ℕ) (place a d a' : ℕ) → Does i r 0 a (1 + d) a' → Does i r place a (place + (1 + d)) a'
-does_there i r place a d a' (loads c h e f) = loads c h (omega arith) f
-does_there i r place a d a' (masks c e f) = masks c (omega arith) f
-does_there i r place a d a' (jumps c e f) = jumps c (omega arith) f
-does_there i r place a d a' (is_equal c t e f) = is_equal c t (omega arith) f
-does_there i r place a d a' (is_not_equal c t e f) = is_not_equal c t (omega arith) f
-does_there i r place a d a' (is_greater c t e f) = is_greater c t (omega arith) f
-does_there i r place a d a' (is_not_greater c t e f) = is_not_greater c t (omega arith) f
-does_there i r place a d a' (is_at_least c t e f) = is_at_least c t (omega arith) f
-does_there i r place a d a' (is_less c t e f) = is_less c t (omega arith) f
 
 get_at : (p : List sock_filter) (place : ℕ) (i : sock_filter) (rest : List sock_filter) → drop place p ≡ i ∷ rest
     → slice_get p place ≡ Some i
@@ -58,7 +46,7 @@ ends_from p r tail place m a w n at goes small (goes_on i rest b a' v n' d does 
       here = get_at p place i rest at;
       before = small;
       after = small';
-      does = does_there i r place a d a' does;
+      does = does place;
     } in
     let over : 1 + d ≡ suc d = omega arith in
     let at' : drop (place + (1 + d)) p ≡ drop d rest =

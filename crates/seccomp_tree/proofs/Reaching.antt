@@ -27,7 +27,7 @@ does_run {code} {r} h small (to_return w a zero some) = absurd (omega arith)
 does_run h small (to_return w a (suc n) some) = rw h.here (gives h.instruction h.rest a w n h.says.0 h.says.1)
 does_run {code} {r} {t} {place} h small (to_place m w a n inside run) =
     let at = jump_from code place h.instruction.k m h.instruction h.rest h.inside h.here h.says.1 in
-    rw h.here (goes_on h.instruction h.rest a a w n h.instruction.k (jumps h.says.0 (omega arith) refl) small (rw at run))
+    rw h.here (goes_on h.instruction h.rest a a w n h.instruction.k (λ p. jumps h.says.0 (omega arith) refl) small (rw at run))
 does_run h small (near m w a n inside close run) = absurd (omega arith)
 
 -- a place by itself
@@ -94,16 +94,17 @@ code_of AtLeast = 0x35
 -- What a test does: it goes on as is chosen.
 abbrev Chooses : Test → sock_filter → List ℕ → ℕ → Target → Target → Type 0
 Chooses test i r a met other =
-    ((chosen test i.k met other a ≡ met) × Does i r 0 a (1 + i.jt) a) ⊎ ((chosen test i.k met other a ≡ other) × Does i r 0 a (1 + i.jf) a)
+    ((chosen test i.k met other a ≡ met) × ((p : ℕ) → Does i r p a (p + (1 + i.jt)) a))
+    ⊎ ((chosen test i.k met other a ≡ other) × ((p : ℕ) → Does i r p a (p + (1 + i.jf)) a))
 
 chooses : (test : Test) (i : sock_filter) (r : List ℕ) (a : ℕ) (met other : Target) → i.code ≡ code_of test → Chooses test i r a met other
 chooses Equal i r a met other is = elim (cases_eq a i.k) [
-  | inl e ↦ inl (grind (arith, nat_tests), is_equal is e (omega arith) refl)
-  | inr e ↦ inr (grind (arith, nat_tests), is_not_equal is e (omega arith) refl)
+  | inl e ↦ inl (grind (arith, nat_tests), λ p. is_equal is e (omega arith) refl)
+  | inr e ↦ inr (grind (arith, nat_tests), λ p. is_not_equal is e (omega arith) refl)
 ]
 chooses AtLeast i r a met other is = elim (cases_lt a i.k) [
-  | inl e ↦ inr (grind (arith, nat_tests), is_less is e (omega arith) refl)
-  | inr e ↦ inl (grind (arith, nat_tests), is_at_least is e (omega arith) refl)
+  | inl e ↦ inr (grind (arith, nat_tests), λ p. is_less is e (omega arith) refl)
+  | inr e ↦ inl (grind (arith, nat_tests), λ p. is_at_least is e (omega arith) refl)
 ]
 
 -- a test whose targets are reached, the one first
@@ -122,6 +123,6 @@ tested old mid code test i met other y n new t is over_yes over_no h k written l
       (chooses test i r a met other is));
 }
   where
-    jumps_on : (r : List ℕ) (a w m : ℕ) → a < 2 ^ 32 → (d place : ℕ) → d + place + 1 ≡ length code → Does i r 0 a (1 + d) a
+    jumps_on : (r : List ℕ) (a w m : ℕ) → a < 2 ^ 32 → (d place : ℕ) → d + place + 1 ≡ length code → ((p : ℕ) → Does i r p a (p + (1 + d)) a)
         → Returns r (tail_at code place) a w m → Returns r (i ∷ code) a w (suc m)
     jumps_on r a w m small d place over does h = goes_on i code a a w m d does small (rw (jump_to code d place over) h)

@@ -2,89 +2,72 @@
 use Rattle.seccomp_tree.proofs.Common.{◌≡◌, ℕ, zero, suc, ◌+◌, ◌-◌, ◌*◌, ◌/◌, ◌^◌, ◌<◌, ◌≤◌, List, [], ◌∷◌, length, take, drop, get_or}
 use Rattle.seccomp_tree.proofs.Common.{true, false, refl, sym, ap, ◌∙◌, subst, nat_le, if◌then◌else◌, arith, length-drop, Bool, nat_eq, ◌⊎◌}
 use Rattle.seccomp_tree.proofs.Common.{inl, inr, get_or-drop, get_or-take, length-take, length-take-le, take_all, nat_tests, pow-succ'}
-use Rattle.seccomp_tree.proofs.Common.{sock_filter, Target, Step, found_from, found_in, AscendFrom, AreOver, single, same}
+use Rattle.seccomp_tree.proofs.Common.{sock_filter, Target, Step, found_in, AreOver, single, same}
 use Rattle.seccomp_tree.proofs.Common.{second_stands_out, row, AreIn, Grows, GoesOn, chosen, IsTested, IsTree, Returns, IsPart, and_parts}
-use Rattle.seccomp_tree.proofs.Common.{At, Test, Dword, IsRecord, word_at, loads, load, word_fits}
+use Rattle.seccomp_tree.proofs.Common.{◌++◌, drop_more, Give, At, Test, Dword, IsRecord, word_at, loads, load, word_fits}
 use Rattle.seccomp_tree.specs.Code.{goes_on}
-use Rattle.seccomp_tree.proofs.Begun.{ascend_more, starts_rise, found_before}
+use Rattle.std.proofs.lemmas.List.{take-append-drop}
+use Rattle.seccomp_tree.proofs.Begun.{ascend_more, ascend_parts, found_back, found_before, found_front}
 use Rattle.seccomp_tree.specs.declared.code.Test.TheVariants.{Equal, AtLeast}
 use Rattle.seccomp_tree.proofs.Runs.{grows_not, grows_on, last_in, starts_more, starts_last, leads_by, leads_grown, grows_one, runs_last}
 
--- ---- the first ones
-
-ascend_take : (m from n : ℕ) (steps : List Step) → AscendFrom m from steps → AscendFrom m from (take n steps)
-ascend_take m from (suc n) (x ∷ steps) h = (h.0, (h.1.0, ascend_take m (x.start + 1) n steps h.1.1))
-ascend_take m from _ steps h = tt
+-- ---- parts of steps
 
 pub over_some : (steps : List Step) → AreOver steps → 1 ≤ length steps
 over_some [] h = absurd h
 over_some (x ∷ steps) h = omega arith
 
-pub over_take : (n : ℕ) (steps : List Step) → 1 ≤ n → AreOver steps → AreOver (take n steps)
-over_take (suc n) (x ∷ steps) some h = ascend_take (2 ^ 32) 1 n steps h
-over_take zero steps some h = absurd (omega arith)
-over_take (suc n) [] some h = absurd h
-
 pub in_take : (code : List sock_filter) (n : ℕ) (steps : List Step) → AreIn code steps → AreIn code (take n steps)
 in_take code n steps h k d lt =
     let long = length-take n steps in rw (get_or-take n steps k d (omega (arith, long))) (h k d (omega (arith, long)))
 
--- a number below the start of the next step has the target that the first ones have
-from_take : (t : Target) (steps : List Step) (n a : ℕ) (d : Step) → n < length steps → a < (get_or steps n d).start
-    → found_from t steps a ≡ found_from t (take n steps) a
-from_take t [] n a d lt below = absurd (omega arith)
-from_take t (x ∷ steps) zero a d lt below = grind (arith, nat_tests)
-from_take t (x ∷ steps) (suc n) a d lt below =
-    ap (λ v. if nat_le x.start a then v else t) (from_take x.target steps n a d (omega arith) below)
-
-pub found_take : (steps : List Step) (n a : ℕ) (d : Step) → 1 ≤ n → n < length steps → a < (get_or steps n d).start
-    → found_in steps a ≡ found_in (take n steps) a
-found_take [] n a d some lt below = absurd (omega arith)
-found_take (x ∷ steps) zero a d some lt below = absurd (omega arith)
-found_take (x ∷ steps) (suc n) a d some lt below = from_take x.target steps n a d (omega arith) below
-
--- ---- the others
-
-over_behind : (from n : ℕ) (steps : List Step) → 0 < from → n < length steps → AscendFrom (2 ^ 32) from steps
-    → AreOver (drop n steps)
-over_behind from n [] above lt h = absurd (omega arith)
-over_behind from zero (x ∷ steps) above lt h =
-    ascend_more (2 ^ 32) (2 ^ 32) (x.start + 1) 1 steps (omega arith) (omega (arith, h.0)) h.1.1
-over_behind from (suc n) (x ∷ steps) above lt h =
-    over_behind (x.start + 1) n steps (omega (arith, h.0)) (omega arith) h.1.1
-
-over_drop : (n : ℕ) (steps : List Step) → n < length steps → AreOver steps → AreOver (drop n steps)
-over_drop zero steps lt h = h
-over_drop (suc n) [] lt h = absurd h
-over_drop (suc n) (x ∷ steps) lt h = over_behind 1 n steps (omega arith) (omega arith) h
-
--- the starts of all but the first
-pub over_starts : (k : ℕ) (steps : List Step) (d : Step) → AreOver steps → 1 ≤ k → k < length steps
-    → (0 < (get_or steps k d).start) × ((get_or steps k d).start < 2 ^ 32)
-over_starts (suc k) (x ∷ steps) d h some lt =
-    let rise = starts_rise (2 ^ 32) 1 steps k d h (omega arith) in (omega (arith, rise.0), rise.1)
-over_starts _ _ d h some lt = absurd (omega arith)
-
-pub in_drop : (code : List sock_filter) (n : ℕ) (steps : List Step) → AreIn code steps → AreIn code (drop n steps)
+in_drop : (code : List sock_filter) (n : ℕ) (steps : List Step) → AreIn code steps → AreIn code (drop n steps)
 in_drop code n steps h k d lt = rw (get_or-drop n steps k d) (h (n + k) d (omega (arith, length-drop n steps)))
 
--- a number from the start of the next step on has the target that the others have
-pub from_drop : (m from : ℕ) (t : Target) (steps : List Step) (n a : ℕ) (d : Step) → AscendFrom m from steps → n < length steps
-    → (get_or steps n d).start ≤ a → found_from t steps a ≡ found_in (drop n steps) a
-from_drop m from t [] n a d h lt above = absurd (omega arith)
-from_drop m from t (x ∷ steps) zero a d h lt above = grind (arith, nat_tests)
-from_drop m from t (x ∷ steps) (suc n) a d h lt above =
-    grind (arith, nat_tests, starts_rise m (x.start + 1) steps n d h.1.1, from_drop m (x.start + 1) x.target steps n a d h.1.1)
+over_parts : (front : List Step) (x : Step) (back : List Step) → 1 ≤ length front → AreOver (front ++ x ∷ back)
+    → AreOver front × (AreOver (x ∷ back) × ((0 < x.start) × (x.start < 2 ^ 32)))
+over_parts [] x back some h = absurd (omega arith)
+over_parts (y ∷ front) x back some h =
+    let p = ascend_parts (2 ^ 32) 1 front x back h in (
+      ascend_more x.start (2 ^ 32) 1 1 front (omega (arith, p.1.1.0)) (omega arith) p.0,
+      (ascend_more (2 ^ 32) (2 ^ 32) (x.start + 1) 1 back (omega arith) (omega arith) p.1.1.1, (omega (arith, p.1.0), p.1.1.0)),
+    )
 
-pub found_drop : (steps : List Step) (n a : ℕ) (d : Step) → AreOver steps → n < length steps → (get_or steps n d).start ≤ a
-    → found_in steps a ≡ found_in (drop n steps) a
-found_drop (x ∷ steps) (suc n) a d h lt above = from_drop (2 ^ 32) 1 x.target steps n a d h (omega arith) above
-found_drop steps zero a d h lt above = refl
-found_drop [] n a d h lt above = absurd (omega arith)
+found_parts : (front : List Step) (x : Step) (back : List Step) (a : ℕ) → 1 ≤ length front → AreOver (front ++ x ∷ back)
+    → found_in (front ++ x ∷ back) a ≡ (if nat_le x.start a then found_in (x ∷ back) a else found_in front a)
+found_parts [] x back a some h = absurd (omega arith)
+found_parts (y ∷ front) x back a some h = grind (
+  arith,
+  nat_tests,
+  found_front y.target front x back a,
+  found_back y.target 1 front x back a (ascend_parts (2 ^ 32) 1 front x back h).0,
+)
+
+module _ (steps : List Step) (n : ℕ) (d : Step) (some : 1 ≤ n) (lt : n < length steps) (over : AreOver steps) where
+  cut : drop n steps ≡ get_or steps n d ∷ drop (n + 1) steps
+  cut = drop_more steps n d lt
+
+  whole : steps ≡ take n steps ++ get_or steps n d ∷ drop (n + 1) steps
+  whole = sym (ap (λ l. take n steps ++ l) (sym cut) ∙ take-append-drop n steps)
+
+  front_some : 1 ≤ length (take n steps)
+  front_some = omega (arith, length-take-le n steps)
+
+  -- the first ones and the others, and where these start
+  pub over_halves : AreOver (take n steps) × (AreOver (drop n steps) × ((0 < (get_or steps n d).start) × ((get_or steps n d).start < 2 ^ 32)))
+  over_halves = rw cut (over_parts (take n steps) (get_or steps n d) (drop (n + 1) steps) front_some (subst AreOver whole over))
+
+  pub found_halves : (a : ℕ) → found_in steps a
+      ≡ (if nat_le (get_or steps n d).start a then found_in (drop n steps) a else found_in (take n steps) a)
+  found_halves a = rw cut (ap (λ l. found_in l a) whole
+      ∙ found_parts (take n steps) (get_or steps n d) (drop (n + 1) steps) a front_some (subst AreOver whole over))
 
 -- the rest of a slice is what is left of the list
 pub all_behind : (steps : List Step) (n : ℕ) → take (length steps - n) (drop n steps) ≡ drop n steps
 all_behind steps n = take_all (length steps - n) (drop n steps) (omega (arith, length-drop n steps))
+
+abbrev pub none : Step
+none = record { start = 0; target = Give 0 }
 
 pub rest_of : (code : List sock_filter) (n t : ℕ) (steps : List Step) → 1 ≤ n → n < length steps → length steps ≤ t
     → AreOver steps → AreIn code steps
@@ -92,7 +75,7 @@ pub rest_of : (code : List sock_filter) (n t : ℕ) (steps : List Step) → 1 �
     × (AreOver (take (length steps - n) (drop n steps)) × AreIn code (take (length steps - n) (drop n steps))))
 rest_of code n t steps some lt all_in over inside =
     let long = length-drop n steps in
-    rw (all_behind steps n) (omega (arith, long), (omega (arith, long), (over_drop n steps lt over, in_drop code n steps inside)))
+    rw (all_behind steps n) (omega (arith, long), (omega (arith, long), ((over_halves steps n none some lt over).1.0, in_drop code n steps inside)))
 
 -- the number of halvings of a half is one less
 pub halvings : (n m k : ℕ) → 2 ≤ n → n ≤ 2 ^ k → m ≤ n - n / 2 → (j : ℕ) × (k ≡ suc j) × (m ≤ 2 ^ j)
@@ -222,7 +205,8 @@ tree_halves old mid both new steps n d u v t half over some long upper lower h =
   leads = λ k le r a w m small lead.
       let j = halvings (length steps) (length steps - length steps / 2) k some le (omega arith) in
       starts_more (m + 2 * k) (omega (arith, j.1)) (test_goes old both new steps (drop n steps) (take n steps) AtLeast
-      ((get_or steps n d).start) u v t (suc (2 * j.0)) halved
+      ((get_or steps n d).start) u v t (suc (2 * j.0))
+      (λ a fits. found_halves steps n d (omega arith) (omega arith) over a)
       (λ r a w m small own. starts_more (m + suc (2 * j.0)) (omega arith)
       (leads_grown lower.grows (leads_by (upper.leads j.0 (omega (arith, high, j.2)) r a w m small own))))
       (λ r a w m small own. starts_more (m + suc (2 * j.0)) (omega arith)
@@ -235,18 +219,6 @@ tree_halves old mid both new steps n d u v t half over some long upper lower h =
 
     low : length (take n steps) ≡ n
     low = length-take-le n steps (omega arith)
-
-    halved : (a : ℕ) → a < 2 ^ 32 → found_in steps a
-        ≡ chosen AtLeast ((get_or steps n d).start) (found_in (drop n steps) a) (found_in (take n steps) a) a
-    halved a small =
-        let start = over_starts n steps d over (omega arith) (omega arith) in
-        grind (
-          arith,
-          nat_tests,
-          start,
-          found_take steps n a d (omega arith) (omega arith),
-          found_drop steps n a d over (omega arith),
-        )
 
 -- ---- after the load of a word
 
@@ -269,7 +241,7 @@ word_one old new byte steps t one h = record {
 pub load_run : (r : List ℕ) (code : List sock_filter) (byte a w n : ℕ) → IsRecord r → byte ≤ 60 → Returns r code (word_at r byte) w n
     → Returns r (load byte ∷ code) a w (suc n)
 load_run r code byte a w n is inside h = goes_on (load byte) code a (word_at r byte) w n 0
-    (loads refl (omega (arith, is.long)) (omega arith) refl) (word_fits r byte is) h
+    (λ p. loads refl (omega (arith, is.long)) (omega arith) refl) (word_fits r byte is) h
 
 pub word_more : (old mid new : List sock_filter) (byte : ℕ) (steps : List Step) (u t : Target) → byte ≤ 60 → 2 ≤ length steps
     → IsTree old steps u mid → new ≡ load byte ∷ mid → t ≡ At (length new - 1)

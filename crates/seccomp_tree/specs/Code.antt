@@ -32,7 +32,8 @@ tail_at code place = drop (length code - (place + 1)) code
 -- A run that begins at the head of the code, with this accumulator, returns the word w in at most n steps.
 pub data Returns (r : List ℕ) : List sock_filter → ℕ → ℕ → ℕ → Type 0 where
   gives : (i : sock_filter) (rest : List sock_filter) (a w n : ℕ) → i.code ≡ 0x06 → i.k ≡ w → Returns r (i ∷ rest) a w (suc n)
-  goes_on : (i : sock_filter) (rest : List sock_filter) (a a' w n d : ℕ) → Does i r 0 a (1 + d) a' → a' < 2 ^ 32
+  goes_on : (i : sock_filter) (rest : List sock_filter) (a a' w n d : ℕ) → ((place : ℕ) → Does i r place a (place + (1 + d)) a')
+      → a' < 2 ^ 32
       → Returns r (drop d rest) a' w n → Returns r (i ∷ rest) a w (suc n)
 
 -- A run that begins at a target returns the word w in at most n steps: by a return that is to be written, or from a place,

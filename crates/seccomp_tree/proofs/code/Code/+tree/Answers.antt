@@ -1,7 +1,6 @@
 use Rattle.seccomp_tree.proofs.Common.{◌/◌, length, refl, sym, ◌∙◌, arith, inl, inr, cases_lt, false≢true, row, IfOk-weaker, length-take-le}
-use Rattle.seccomp_tree.proofs.Common.{Give, Step}
 use Rattle.seccomp_tree.proofs.Runs.{is_in_grown}
-use Rattle.seccomp_tree.proofs.Trees.{over_starts, over_take, in_take, all_behind, rest_of, out_long, tree_single, tree_out, tree_first}
+use Rattle.seccomp_tree.proofs.Trees.{none, over_halves, in_take, all_behind, rest_of, out_long, tree_single, tree_out, tree_first}
 use Rattle.seccomp_tree.proofs.Trees.{tree_halves}
 use Rattle.seccomp_tree.proofs.code.Code.+tree.Goals as goal
 
@@ -22,20 +21,17 @@ tree-requires-then-not-is_row t c =
       (
         omega (arith, long, c.requires.some),
         (
-          over_take n steps (omega (arith, c.requires.some)) c.requires.over,
+          (over_halves steps n none (omega (arith, c.requires.some)) (omega (arith, c.requires.some)) c.requires.over).0,
           λ k d lt. is_in_grown _ c.in_ok-upper.ensures.grows (in_take c.args.self.now n steps c.requires.inside k d lt),
         ),
       ),
     )
 
-abbrev first : Step
-first = record { start = 0; target = Give 0 }
-
 pub overflow_cast-k : goal.overflow_cast-k
 overflow_cast-k t c = omega (
   arith,
-  (over_starts (length c.args.steps.now / 2) c.args.steps.now first c.requires.over (omega (arith, c.requires.some))
-      (omega (arith, c.requires.some))).1,
+  (over_halves c.args.steps.now (length c.args.steps.now / 2) none (omega (arith, c.requires.some)) (omega (arith, c.requires.some))
+      c.requires.over).1.1.1,
 )
 
 pub returns-then-not-is_row : goal.returns-then-not-is_row

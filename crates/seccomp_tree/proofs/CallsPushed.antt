@@ -28,18 +28,18 @@ pub record NextSoFar (defaults : List DefaultValue) (calls : List (ℕ × List R
       → ((get_or defaults k d).start ≤ number) ⊎ (next ≤ (get_or defaults k d).start)
   pub rulings : (n : ℕ) → number ≤ n → n < next → rulings_for calls n ≡ rulings_for calls number
 
-pub next_is : (defaults : List DefaultValue) (calls : List (ℕ × List Ruling)) (number next i : ℕ) → length defaults ≤ i
+pub next_is : {defaults : List DefaultValue} {calls : List (ℕ × List Ruling)} {number next i : ℕ} → length defaults ≤ i
     → NextSoFar defaults calls number next i → IsNextStart defaults calls number next
-next_is defaults calls number next i all h = record {
+next_is {defaults} {number = number} all h = record {
   above = h.above;
   within = h.within;
   default = λ n le less. same_from 0 defaults n number (λ k d inside. grind (arith, h.none k d (omega arith) inside, h.above));
   rulings = h.rulings;
 }
 
-answer_grown : (old new : List sock_filter) (most default : ℕ) (rulings : List Ruling) (t : Target) → Grows old most new
+answer_grown : {old new : List sock_filter} {most default : ℕ} {rulings : List Ruling} {t : Target} → Grows old most new
     → IsAnswer old default rulings t → IsAnswer new default rulings t
-answer_grown old new most default rulings t g h = record {
+answer_grown {t = t} g h = record {
   inside = is_in_grown t g h.inside;
   one = h.one;
   own = λ none r rec w n first takes a small. leads_grown g (h.own none r rec w n first takes a small);
@@ -89,30 +89,29 @@ pub record IsAnswered (old : List sock_filter) (default : ℕ) (rulings : List R
   pub grows : Grows old (rules_length rulings) new
   pub answer : IsAnswer new default rulings t
 
-pub answered_one : (code : List sock_filter) (default v : ℕ) (rulings : List Ruling) → v < 2 ^ 32 → one_value default rulings ≡ Some v
+pub answered_one : {code : List sock_filter} {default v : ℕ} {rulings : List Ruling} → v < 2 ^ 32 → one_value default rulings ≡ Some v
     → IsAnswered code default rulings (Give v) code
-answered_one code default v rulings fits is = record {
+answered_one {code} {rulings = rulings} fits is = record {
   grows = grows_not code (rules_length rulings);
   answer = record { inside = fits; one = λ w is'. ap Give (cc); own = λ none. absurd (cc) };
 }
 
-pub answered_rules : (old new : List sock_filter) (default : ℕ) (rulings : List Ruling) (t : Target) → one_value default rulings ≡ None
+pub answered_rules : {old new : List sock_filter} {default : ℕ} {rulings : List Ruling} {t : Target} → one_value default rulings ≡ None
     → AreRules old rulings default t new → IsAnswered old default rulings t new
-answered_rules old new default rulings t none h = record {
+answered_rules none h = record {
   grows = h.grows;
   answer = record { inside = h.inside; one = λ v is. absurd (cc); own = λ _ r rec w n first takes. h.leads r rec w n first takes };
 }
 
-pub calls_on : (d : DecisionSet) (old mid new : List sock_filter) (steps more : List Step) (number next : ℕ) (t : Target)
-    → CallsOn d old number steps mid → IsAnswered mid (default_for d.defaults number) (rulings_for d.calls number) t new
+pub calls_on : {d : DecisionSet} {old mid new : List sock_filter} {steps more : List Step} {number next : ℕ} {t : Target} → CallsOn d old number steps mid → IsAnswered mid (default_for d.defaults number) (rulings_for d.calls number) t new
     → IsPushed steps number t more → IsNextStart d.defaults d.calls number next → CallsOn d old next more new
-calls_on d old mid new steps more number next t h answered pushed on = record {
+calls_on {d} {number = number} {next} h answered pushed on = record {
   within = on.within;
   grows = grows_on _ h.grows answered.grows (below_one d.calls number next on.above);
   answers = record {
-    are = steps_more (number + 1) next more (omega arith) (omega (arith, on.above)) pushed.are;
+    are = steps_more (number + 1) next _ (omega arith) (omega (arith, on.above)) pushed.are;
     each = λ n lt. elim (cases_lt n number) [
-      | inl less ↦ rw (pushed.below n less) (answer_grown mid new _ _ _ _ answered.grows (h.answers.each n less))
+      | inl less ↦ rw (pushed.below n less) (answer_grown answered.grows (h.answers.each n less))
       | inr le ↦ rw (pushed.from n le, on.default n le lt, on.rulings n le lt) answered.answer
     ];
   };

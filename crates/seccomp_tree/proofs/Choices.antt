@@ -50,17 +50,15 @@ laying_begins c target others h = record {
 }
 
 -- a step more: numbers that compare alike, and have one of the others' targets
-pub laying_on : (c : Condition) (target : Target) (others rest back steps more : List Step) (value end number next : ℕ) (d : Step)
-    (t : Target)
-    → is_plain c.operator ≡ true → Laying c target others number rest steps → number < numbers_of c.arg_len
+pub laying_on : {c : Condition} {target t : Target} {others steps more : List Step} {value end number next : ℕ} (rest back : List Step)
+    (d : Step) → is_plain c.operator ≡ true → Laying c target others number rest steps → number < numbers_of c.arg_len
     → value ≡ part_of c.arg_len c.value → end ≡ first_start (numbers_of c.arg_len) (drop 1 rest) → IsTurn value number end next
     → IsChosen (Compares c.operator number (part_of c.arg_len c.value)) target (get_or rest 0 d).target t → IsPushed steps number t more
     → HasMoved next end rest back → Laying c target others next back more
-laying_on c target others [] back steps more value end number next d t plain h some part ends turn chosen pushed moved =
-    absurd (h.left.from some)
-laying_on c target others (x ∷ rest) back steps more value end number next d t plain h some part ends turn chosen pushed moved = record {
+laying_on [] back d plain h some part ends turn chosen pushed moved = absurd (h.left.from some)
+laying_on {c} {value = value} {end} {number} {next} (x ∷ rest) back d plain h some part ends turn chosen pushed moved = record {
   left = left_on next end (x ∷ rest) back h.left some ends turn.above turn.within moved;
-  are = steps_more (number + 1) next more (omega arith) (omega (arith, turn.above)) pushed.are;
+  are = steps_more (number + 1) next _ (omega arith) (omega (arith, turn.above)) pushed.are;
   each = λ a lt. elim (cases_lt a number) [
     | inl below ↦ rw (pushed.below a below) (h.each a below)
     | inr le ↦
@@ -78,9 +76,9 @@ laying_on c target others (x ∷ rest) back steps more value end number next d t
   ];
 }
 
-pub laying_ends : (c : Condition) (target : Target) (others rest steps : List Step) (number : ℕ) → is_plain c.operator ≡ true
+pub laying_ends : {c : Condition} {target : Target} {others rest steps : List Step} {number : ℕ} → is_plain c.operator ≡ true
     → Laying c target others number rest steps → numbers_of c.arg_len ≤ number → AreLaid c target others steps
-laying_ends c target others rest steps number plain h all =
+laying_ends {c} {number = number} plain h all =
     let end : number ≡ numbers_of c.arg_len = omega (arith, h.left.within) in
     record { are = rw end at h.are; each = λ a lt. h.each a (omega arith); few = omega (arith, h.few); plain = plain }
 

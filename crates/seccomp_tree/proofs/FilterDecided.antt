@@ -1,97 +1,78 @@
 -- The decisions of a filter decide every record as it does; and the calls that a loop makes of its chains.
-use Rattle.seccomp_tree.proofs.Common.{◌≡◌, ℕ, ℤ, pos, List, [], ◌∷◌, ◌++◌, ◌<◌, ◌<ℤ◌, arith, map, Vec, Global, Less, Greater, refl, sym}
-use Rattle.seccomp_tree.proofs.Common.{ap, ◌∙◌, subst, append_assoc, zero, suc, nat_eq, Option, Some, None, ◌⊎◌, inl, inr, Any, Ordering}
-use Rattle.seccomp_tree.proofs.Common.{All, unsigned_abs, int_cmp, nat_cmp, ordering_reverse, MatchOrdering, is_eq, int_ranks, ints}
-use Rattle.seccomp_tree.proofs.Common.{keys_of, insert_entry, is_at, nat_cmp_total, All-head, All-tail, All-nil, sorted_head, sorted_tail}
+use Rattle.seccomp_tree.proofs.Common.{◌≡◌, ℕ, ℤ, pos, List, [], ◌∷◌, ◌++◌, ◌<◌, arith, map, Vec, Global, Less, Greater, refl, sym}
+use Rattle.seccomp_tree.proofs.Common.{ap, ◌∙◌, subst, append_assoc, zero, suc, nat_eq, Option, Some, None, ◌⊎◌, inl, inr, Any}
+use Rattle.seccomp_tree.proofs.Common.{All, unsigned_abs, int_cmp, nat_cmp, ints}
+use Rattle.seccomp_tree.proofs.Common.{keys_of, insert_entry, is_at, All-head, All-tail, All-nil}
 use Rattle.seccomp_tree.proofs.Common.{Rule, IsCallNumber, chains_of, Condition, Holds, Chain, Filter, RuleHolds, ChainMatches, chain_under}
 use Rattle.seccomp_tree.proofs.Common.{IsDecision, policy_matches, policy_differs, word_of, AreCallNumbers, Ruling, First, here, behind}
 use Rattle.seccomp_tree.proofs.Common.{nothing, calls_of, IsDecided, other_architecture, decided, rulings_for, default_for, call_of}
 use Rattle.seccomp_tree.proofs.Common.{rulings_of, decisions_of, DecideAs, nat_tests, audit_word, word_at}
-use Rattle.std.proofs.Common.{Equal}
-use Rattle.std.specs.List.{AllByRecursion}
+use Rattle.std.specs.Prelude.{⊤, ◌≤◌, ◌+◌}
+use Rattle.std.proofs.lemmas.List.{map-append}
+use Rattle.std.proofs.lemmas.List.Elements.{All-push}
 use Rattle.std.specs.List.Sorted.{IsStrictlySortedBy}
 use Rattle.seccompiler.specs.Policy.{other_architecture as other}
 use Rattle.seccompiler.specs.Compiled.{numbers_of}
 use Rattle.seccomp_tree.proofs.Deciding.{decided_some}
 
--- ---- the numbers ascend
+-- ---- the loop of `calls_of`
 
--- call numbers that are above another are so as natural numbers
-above : (z : ℤ) (zs : List ℤ) → IsCallNumber z → All IsCallNumber zs → AllByRecursion (λ y. int_cmp z y ≡ Less) zs
-    → AllByRecursion (λ m. nat_cmp (unsigned_abs z) m ≡ Less) (map unsigned_abs zs)
-above z [] call calls h = tt
-above z (y ∷ zs) call calls h = (
-  one z y call (All-head IsCallNumber y zs calls) h.0,
-  above z zs call (All-tail IsCallNumber y zs calls) h.1,
-)
-  where
-    one : (z y : ℤ) → IsCallNumber z → IsCallNumber y → int_cmp z y ≡ Less → nat_cmp (unsigned_abs z) (unsigned_abs y) ≡ Less
-    one z y (n, is, small) (m, is', small') h =
-        let lt : z <ℤ y = subst (λ o. MatchOrdering o (z <ℤ y) (z ≡ y) (y <ℤ z)) h (int_ranks z y) in
-        let lower : n < m = omega (arith, ints, is, is', lt) in
-        rw (is, is') (grind arith)
+-- Chains' numbers are call numbers from one on, each above the one before it.
+abbrev pub RiseFrom : ℕ → List (ℤ × Vec Rule Global) → Type 0
+RiseFrom n [] = ⊤
+RiseFrom n (e ∷ entries) = IsCallNumber e.0 × ((n ≤ unsigned_abs e.0) × RiseFrom (unsigned_abs e.0 + 1) entries)
 
-numbers_ascend : (zs : List ℤ) → All IsCallNumber zs → IsStrictlySortedBy int_cmp zs → IsStrictlySortedBy nat_cmp (map unsigned_abs zs)
+rising : (n : ℕ) (e : ℤ × Vec Rule Global) (entries : List (ℤ × Vec Rule Global)) → AreCallNumbers (numbers_of (chains_of (e ∷ entries)))
+    → IsStrictlySortedBy int_cmp (keys_of (e ∷ entries)) → n ≤ unsigned_abs e.0 → RiseFrom n (e ∷ entries)
 unfolding IsStrictlySortedBy
-numbers_ascend [] calls h = tt
-numbers_ascend (z ∷ zs) calls h = (
-  above z zs (All-head IsCallNumber z zs calls) (All-tail IsCallNumber z zs calls) h.0,
-  numbers_ascend zs (All-tail IsCallNumber z zs calls) h.1,
-)
+rising n e [] calls h le = (All-head IsCallNumber e.0 [] calls, (le, tt))
+rising n e (f ∷ entries) calls h le =
+    let rest = All-tail IsCallNumber e.0 (numbers_of (chains_of (f ∷ entries))) calls in
+    let own = All-head IsCallNumber e.0 (numbers_of (chains_of (f ∷ entries))) calls in
+    let next = All-head IsCallNumber f.0 (numbers_of (chains_of entries)) rest in
+    (own, (le, rising (unsigned_abs e.0 + 1) f entries rest h.1 (above e.0 f.0 own next h.0.0)))
+  where
+    above : (z y : ℤ) → IsCallNumber z → IsCallNumber y → int_cmp z y ≡ Less → unsigned_abs z + 1 ≤ unsigned_abs y
+    above z y (n, is, small) (m, is', small') h = rw (is, is') (grind (arith, nat_tests, ints, rw (is, is') at h))
 
--- the keys of the calls of a map's chains
-keys_are : (w : ℕ) (entries : List (ℤ × Vec Rule Global))
-    → keys_of (map (call_of w) (chains_of entries)) ≡ map unsigned_abs (keys_of entries)
-keys_are w [] = refl
-keys_are w (e ∷ entries) = ap (λ ks. unsigned_abs e.0 ∷ ks) (keys_are w entries)
+pub record CallsSoFar (w : ℕ) (entries left : List (ℤ × Vec Rule Global)) (calls : List (ℕ × Vec Ruling Global)) : Type 0 where
+  pub made : calls_of calls ++ map (call_of w) (chains_of left) ≡ map (call_of w) (chains_of entries)
+  pub next : ℕ
+  pub below : All (λ x. x.0 < next) calls
+  pub rise : RiseFrom next left
 
-numbers_are : (entries : List (ℤ × Vec Rule Global)) → numbers_of (chains_of entries) ≡ keys_of entries
-numbers_are [] = refl
-numbers_are (e ∷ entries) = ap (λ ks. e.0 ∷ ks) (numbers_are entries)
-
-calls_ascend : (w : ℕ) (entries : List (ℤ × Vec Rule Global)) → AreCallNumbers (numbers_of (chains_of entries))
-    → IsStrictlySortedBy int_cmp (keys_of entries) → IsStrictlySortedBy nat_cmp (keys_of (map (call_of w) (chains_of entries)))
-calls_ascend w entries calls h = rw (keys_are w entries) (numbers_ascend (keys_of entries) (rw numbers_are at calls) h)
-
--- ---- each goes after those so far
-
--- what comes after others that are all above a number is above it
-above_middle : (n : ℕ) (front : List (ℕ × List Ruling)) (e : ℕ × List Ruling) (back : List (ℕ × List Ruling))
-    → AllByRecursion (λ m. nat_cmp n m ≡ Less) (keys_of (front ++ e ∷ back)) → nat_cmp n e.0 ≡ Less
-above_middle n [] e back all = all.0
-above_middle n (x ∷ front) e back all = above_middle n front e back all.1
+pub calls_begin : (w : ℕ) (entries : List (ℤ × Vec Rule Global)) → AreCallNumbers (numbers_of (chains_of entries))
+    → IsStrictlySortedBy int_cmp (keys_of entries) → CallsSoFar w entries entries []
+calls_begin w entries calls ascends =
+    record { made = refl; next = 0; below = λ k d lt. absurd (omega arith); rise = rise entries calls ascends }
+  where
+    rise : (es : List (ℤ × Vec Rule Global)) → AreCallNumbers (numbers_of (chains_of es)) → IsStrictlySortedBy int_cmp (keys_of es)
+        → RiseFrom 0 es
+    rise [] calls ascends = tt
+    rise (e ∷ es) calls ascends = rising 0 e es calls ascends (omega arith)
 
 -- a call whose number is above those so far goes last
-insert_last : (so_far : List (ℕ × Vec Ruling Global)) (n : ℕ) (q : Vec Ruling Global) (back : List (ℕ × List Ruling))
-    → IsStrictlySortedBy nat_cmp (keys_of (calls_of so_far ++ (n, q.items) ∷ back))
-    → calls_of (insert_entry nat_cmp so_far n q) ≡ calls_of so_far ++ (n, q.items) ∷ []
-insert_last [] n q back ascends = refl
-insert_last (x ∷ so_far) n q back ascends =
-    let rest = calls_of so_far ++ (n, q.items) ∷ back in
-    let below : nat_cmp x.0 n ≡ Less =
-    above_middle x.0 (calls_of so_far) (n, q.items) back (sorted_head nat_cmp x.0 (keys_of rest) ascends) in
-    let higher : nat_cmp n x.0 ≡ Greater = nat_cmp_total.antisymm n x.0 ∙ ap ordering_reverse below in
-    rw higher (ap (λ calls. (x.0, x.1.items) ∷ calls)
-    (insert_last so_far n q back (sorted_tail nat_cmp x.0 (keys_of rest) ascends)))
+insert_last : (calls : List (ℕ × Vec Ruling Global)) (next n : ℕ) (q : Vec Ruling Global) → All (λ x. x.0 < next) calls → next ≤ n
+    → insert_entry nat_cmp calls n q ≡ calls ++ (n, q) ∷ []
+insert_last [] next n q below le = refl
+insert_last (x ∷ calls) next n q below le =
+    let P = λ (y : ℕ × Vec Ruling Global). y.0 < next in
+    let less = All-head P x calls below in
+    let higher : nat_cmp n x.0 ≡ Greater = grind (arith, nat_tests) in
+    rw higher (ap (λ l. x ∷ l) (insert_last calls next n q (All-tail P x calls below) le))
 
--- the next chain of a map, as a call after those so far
-pub calls_next : (w n : ℕ) (z : ℤ) (chain : Vec Rule Global) (q : Vec Ruling Global)
-    (entries left back : List (ℤ × Vec Rule Global)) (so_far : List (ℕ × Vec Ruling Global))
-    → AreCallNumbers (numbers_of (chains_of entries))
-    → IsStrictlySortedBy int_cmp (keys_of entries)
-    → calls_of so_far ++ map (call_of w) (chains_of left) ≡ map (call_of w) (chains_of entries) → left ≡ (z, chain) ∷ back → z ≡ pos n
-    → q.items ≡ rulings_of w chain.items
-    → calls_of (insert_entry nat_cmp so_far n q) ++ map (call_of w) (chains_of back) ≡ map (call_of w) (chains_of entries)
-calls_next w n z chain q entries left back so_far calls ascends made next is same =
-    let rest = map (call_of w) (chains_of back) in
-    let head : (n, q.items) ∷ rest ≡ map (call_of w) (chains_of left) =
-    ap (λ items. (n, items) ∷ rest) same ∙ ap (λ y. (unsigned_abs y, rulings_of w chain.items) ∷ rest) (sym is)
-    ∙ ap (λ es. map (call_of w) (chains_of es)) (sym next) in
-    let whole : calls_of so_far ++ (n, q.items) ∷ rest ≡ map (call_of w) (chains_of entries) =
-    ap (λ es. calls_of so_far ++ es) head ∙ made in
-    let in_order : IsStrictlySortedBy nat_cmp (keys_of (calls_of so_far ++ (n, q.items) ∷ rest)) =
-    rw whole (calls_ascend w entries calls ascends) in
-    ap (λ es. es ++ rest) (insert_last so_far n q rest in_order) ∙ append_assoc (calls_of so_far) ((n, q.items) ∷ []) rest ∙ whole
+pub calls_next : (w n : ℕ) (z : ℤ) (chain : Vec Rule Global) (q : Vec Ruling Global) (entries back : List (ℤ × Vec Rule Global))
+    (calls : List (ℕ × Vec Ruling Global)) → CallsSoFar w entries ((z, chain) ∷ back) calls → z ≡ pos n → q.items ≡ rulings_of w chain.items
+    → CallsSoFar w entries back (insert_entry nat_cmp calls n q)
+calls_next w n z chain q entries back calls h is same =
+    let rise = rw is at h.rise in
+    rw (insert_last calls h.next n q h.below rise.1.0) record {
+      made = rw (map-append, append_assoc, same) (rw is at h.made);
+      next = n + 1;
+      below = All-push (λ (x : ℕ × Vec Ruling Global). x.0 < n + 1) calls (n, q)
+          (λ k d lt. omega (arith, h.below k d lt, rise.1.0)) (omega arith);
+      rise = rise.1.1;
+    }
 
 -- ---- the first of a chain's rulings
 
@@ -134,11 +115,7 @@ found_rulings w None = []
 found_rulings w (Some chain) = rulings_of w chain
 
 at_same : (n m : ℕ) → is_at (int_cmp (pos n)) (pos m) ≡ nat_eq n m
-at_same n m = go (int_cmp (pos n) (pos m)) (int_ranks (pos n) (pos m))
-  where
-    go : (o : Ordering) → MatchOrdering o (pos n <ℤ pos m) (pos n ≡ pos m) (pos m <ℤ pos n) → is_eq o ≡ nat_eq n m
-    go Equal e = let same : n ≡ m = cc in grind (arith, nat_tests)
-    go _ lt = grind (arith, nat_tests, ints)
+at_same n m = grind (arith, nat_tests, ints)
 
 rulings_found : (w : ℕ) (chains : List (ℤ × Chain)) (n : ℕ) → AreCallNumbers (numbers_of chains)
     → rulings_for (map (call_of w) chains) n ≡ found_rulings w (chain_under chains n)

@@ -45,10 +45,10 @@ rule_or_not (c ∷ q) r = elim (holds_or_not c r) [
 
 -- ---- parts
 
-pub part_of_word : (old new : List sock_filter) (index : ℕ) (steps : List Step) (t : Target)
+pub part_of_word : {old new : List sock_filter} {steps : List Step} {t : Target} (index : ℕ)
     → IsPart old Dword (λ r. word_at r (16 + 8 * index)) steps t new
     → IsPart old Dword (λ r. part_of Dword (argument_at r index)) steps t new
-part_of_word old new index steps t word = record {
+part_of_word index word = record {
   grows = word.grows;
   inside = word.inside;
   leads = λ r rec w n k few lead. word.leads r rec w n k few (rw (← low_word r index rec) lead);
@@ -73,11 +73,9 @@ pub chosen_plain : (c : Condition) (r : List ℕ) (fit unfit t : Target) → is_
     → IsChosen (Holds c r) fit unfit t
 chosen_plain c r fit unfit t plain h = rw (plain_operator c.arg_len c.operator plain) h
 
-pub met_by_steps : (old new : List sock_filter) (c : Condition) (fit unfit t : Target) (steps : List Step)
-    → AreLaid c fit (single unfit) steps
-    → IsPart old c.arg_len (λ r. part_of c.arg_len (argument_at r c.arg_index)) steps t new
-    → IsConditionMet old c fit unfit t new
-met_by_steps old new c fit unfit t steps h part = record {
+pub met_by_steps : {old new : List sock_filter} {c : Condition} {fit unfit t : Target} {steps : List Step} → AreLaid c fit (single unfit) steps
+    → IsPart old c.arg_len (λ r. part_of c.arg_len (argument_at r c.arg_index)) steps t new → IsConditionMet old c fit unfit t new
+met_by_steps {old} {new} {c} {fit} {unfit} {t} {steps} h part = record {
   grows = grows_on _ part.grows (grows_not new 0) (omega (arith, cost.1, shorter_part c.arg_len (length steps) 3 few));
   inside = part.inside;
   met = λ r rec is w n lead. goes r rec w n (rw ((own r rec).met is) lead);
@@ -134,15 +132,15 @@ met_both {s = s} most steps which both room time h g = record {
 -- ---- masks
 
 -- a mask of nothing is met by each word
-pub masked_none : (old : List sock_filter) (byte m value : ℕ) (fit unfit : Target) → m ≡ 0 → IsIn old fit
+pub masked_none : {old : List sock_filter} (byte m value : ℕ) (fit unfit : Target) → m ≡ 0 → IsIn old fit
     → IsMet (HasBits byte m value) 5 4 old fit unfit fit old
-masked_none old byte m value fit unfit z inside = met_now fit unfit fit inside (λ r is. refl)
+masked_none byte m value fit unfit z inside = met_now fit unfit fit inside (λ r is. refl)
     (λ r not. absurd (not (rw (z, and_zero_r (word_at r byte), and_zero_r value) refl)))
 
-pub masked_some : (old mid new : List sock_filter) (byte m value : ℕ) (fit unfit t : Target) → byte ≤ 60 → m < 2 ^ 32
+pub masked_some : {old mid new : List sock_filter} {fit unfit t : Target} (byte m value : ℕ) → byte ≤ 60 → m < 2 ^ 32
     → IsTested old Equal (bit_and value m) fit unfit t mid → new ≡ load byte ∷ mask m ∷ mid
     → IsMet (HasBits byte m value) 5 4 old fit unfit (At (length new - 1)) new
-masked_some old mid new byte m value fit unfit t low small tested is = rw is record {
+masked_some {old} {mid} {fit = fit} {unfit = unfit} byte m value low small tested is = rw is record {
   grows = grows_on 5 tested.grows (grows_on 2 (grows_one mid (mask m)) (grows_one (mask m ∷ mid) (load byte)) (omega arith)) (omega arith);
   inside = omega arith;
   met = λ r rec same. goes r rec fit (ap (λ v. if v then fit else unfit) (eq-eqb (bit_and (word_at r byte) m) (bit_and value m) same));
@@ -181,9 +179,9 @@ pub mask_qword : (c : Condition) (m : ℕ) → c.arg_len ≡ Qword → c.operato
 mask_qword c m long is r rec =
     rw (long, is, ← high_word r c.arg_index rec, ← low_word r c.arg_index rec) (mask_parts (argument_at r c.arg_index) c.value m)
 
-pub masked_dword : (old new : List sock_filter) (c : Condition) (m : ℕ) (fit unfit t : Target) → c.arg_len ≡ Dword → c.operator ≡ MaskedEq m
+pub masked_dword : {old new : List sock_filter} {fit unfit t : Target} (c : Condition) (m : ℕ) → c.arg_len ≡ Dword → c.operator ≡ MaskedEq m
     → IsMet (HasBits (16 + 8 * c.arg_index) (m % 2 ^ 32) (c.value % 2 ^ 32)) 5 4 old fit unfit t new → IsConditionMet old c fit unfit t new
-masked_dword old new c m fit unfit t short is h =
+masked_dword c m short is h =
     let cost : (condition_length c.arg_len c.operator ≡ 5) × (condition_steps c.arg_len c.operator ≡ 3) = rw (short, is) (refl, refl) in
     rw (cost.0, cost.1) record {
       grows = h.grows;
@@ -192,10 +190,10 @@ masked_dword old new c m fit unfit t short is h =
       unmet = λ r rec not. h.unmet r rec (λ has. not ((mask_dword c m short is r rec).1 has));
     }
 
-pub masked_qword : (old mid new : List sock_filter) (c : Condition) (m : ℕ) (fit unfit one t : Target) → c.arg_len ≡ Qword → c.operator ≡
-    MaskedEq m
+pub masked_qword : {old mid new : List sock_filter} {fit unfit one t : Target} (c : Condition) (m : ℕ) → c.arg_len ≡ Qword
+    → c.operator ≡ MaskedEq m
     → IsMet (HasBits (16 + 8 * c.arg_index) (m % 2 ^ 32) (c.value % 2 ^ 32)) 5 4 old fit unfit one mid
     → IsMet (HasBits (20 + 8 * c.arg_index) (m / 2 ^ 32) (c.value / 2 ^ 32)) 5 4 mid one unfit t new → IsConditionMet old c fit unfit t new
-masked_qword old mid new c m fit unfit one t long is low high =
+masked_qword c m long is low high =
     met_both _ _ (λ r. cases_eq (bit_and (word_at r (20 + 8 * c.arg_index)) (m / 2 ^ 32)) (bit_and (c.value / 2 ^ 32) (m / 2 ^ 32)))
     (mask_qword c m long is) (rw (long, is) (omega arith)) (rw (long, is) (omega arith)) low high

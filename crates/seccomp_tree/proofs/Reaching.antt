@@ -14,9 +14,9 @@ abbrev pub IsFar : List sock_filter → Target → Type 0
 IsFar code t = (m : ℕ) → t ≡ At m → m + 255 < length code
 
 -- what was written at a place, as the code has it
-pub written_does : (back code : List sock_filter) (place : ℕ) (t : Target) (i : sock_filter) → reverse back ≡ code → place < length code
-    → i ≡ get_or back place i → Says t i place → DoesAs code t place
-written_does back code place t i view inside here says =
+pub written_does : {code : List sock_filter} {t : Target} (back : List sock_filter) (place : ℕ) (i : sock_filter) → reverse back ≡ code
+    → place < length code → i ≡ get_or back place i → Says t i place → DoesAs code t place
+written_does back place i view inside here says =
     let at = tail_written back place i (omega (arith, ap length view, length-reverse back)) here in
     record { inside = inside; instruction = i; rest = at.0; here = ap (λ l. tail_at l place) (sym view) ∙ at.1; says = says }
 
@@ -40,9 +40,9 @@ reached_itself code m inside close =
     record { grows = grows_not code 1; inside = inside; near = close; leads = λ r a w n small h. run_itself h }
 
 -- an instruction that does what the target says, which is far itself
-pub reached_by : (code : List sock_filter) (t : Target) (place : ℕ) (new : List sock_filter) → Grows code 1 new → IsFar code t
-    → DoesAs new t place → length new ≤ place + 255 → IsReached code t place new
-reached_by code t place new g far does close = record {
+pub reached_by : {code new : List sock_filter} {t : Target} {place : ℕ} → Grows code 1 new → IsFar code t → DoesAs new t place
+    → length new ≤ place + 255 → IsReached code t place new
+reached_by g far does close = record {
   grows = g;
   inside = does.inside;
   near = close;
@@ -50,11 +50,11 @@ reached_by code t place new g far does close = record {
 }
 
 -- an instruction that is written for it
-pub reached_new : (code : List sock_filter) (t : Target) (i : sock_filter) (new : List sock_filter) (place : ℕ) → IsFar code t
-    → new ≡ i ∷ code → place + 1 ≡ length new → Says t i (length code) → IsReached code t place new
-reached_new code t i new place far written last says =
+pub reached_new : {code new : List sock_filter} {t : Target} {place : ℕ} (i : sock_filter) → IsFar code t → new ≡ i ∷ code
+    → place + 1 ≡ length new → Says t i (length code) → IsReached code t place new
+reached_new {code} {place = place} i far written last says =
     let at : place ≡ length code = omega (arith, ap length written) in
-    rw (written, at) (reached_by code t (length code) (i ∷ code) (grows_one code i) far (record {
+    rw (written, at) (reached_by (grows_one code i) far (record {
       inside = omega arith;
       instruction = i;
       rest = code;
@@ -108,10 +108,9 @@ chooses AtLeast i r a met other is = elim (cases_lt a i.k) [
 ]
 
 -- a test whose targets are reached, the one first
-pub tested : (old mid code : List sock_filter) (test : Test) (i : sock_filter) (met other : Target) (y n : ℕ) (new : List sock_filter)
-    (t : Target) → i.code ≡ code_of test → i.jt + y + 1 ≡ length code → i.jf + n + 1 ≡ length code → IsReached old met y mid
+pub tested : {old mid code new : List sock_filter} {met other t : Target} {y n : ℕ} (test : Test) (i : sock_filter) → i.code ≡ code_of test → i.jt + y + 1 ≡ length code → i.jf + n + 1 ≡ length code → IsReached old met y mid
     → IsReached mid other n code → new ≡ i ∷ code → t ≡ At (length new - 1) → IsTested old test i.k met other t new
-tested old mid code test i met other y n new t is over_yes over_no h k written last = record {
+tested {old} {mid} {code} {new} {met} {other} {t} {y} {n} test i is over_yes over_no h k written last = record {
   grows = rw written (grows_on 3 (grows_on 2 h.grows k.grows (omega arith)) (grows_one code i) (omega arith));
   last = last;
   some = omega (arith, ap length written);

@@ -143,21 +143,20 @@ chosen_one Equal k a = either (nat_eq a k)
 chosen_one AtLeast k a = either (nat_le k a)
 
 -- a test between what goes on as some steps say, and what does as others
-test_goes : (old both new : List sock_filter) (steps high low : List Step) (test : Test) (k : ℕ) (u v t : Target) (m : ℕ)
+test_goes : {old both new : List sock_filter} {test : Test} {k : ℕ} {u v t : Target} (steps high low : List Step) (m : ℕ)
     → ((a : ℕ) → a < 2 ^ 32 → found_in steps a ≡ chosen test k (found_in high a) (found_in low a) a)
     → GoesOn old high m u both → GoesOn old low m v both → IsTested both test k u v t new → GoesOn old steps (suc m) t new
-test_goes old both new steps high low test k u v t m is above below h r a w n small lead =
+test_goes {test = test} {k = k} {u = u} {v = v} steps high low m is above below h r a w n small lead =
     starts_more (n + suc m) (omega arith) (starts_last h.last h.some (h.leads r a w (n + m) small (elim (chosen_one test k a) [
       | inl e ↦ rw (e u v) (above r a w n small (rw (is a small ∙ e (found_in high a) (found_in low a)) at lead))
       | inr e ↦ rw (e u v) (below r a w n small (rw (is a small ∙ e (found_in high a) (found_in low a)) at lead))
     ])))
 
 -- a test of a row, and the rest of it
-row_tree : (old mid new : List sock_filter) (steps rest : List Step) (test : Test) (k : ℕ) (u v x t : Target)
-    → IsTree old rest x mid
-    → IsTested mid test k u v t new → row steps ≡ suc (row rest) → row steps ≤ 6 → 1 ≤ length rest → length rest < length steps
+row_tree : {old mid new : List sock_filter} {rest : List Step} {test : Test} {k : ℕ} {u v x t : Target} (steps : List Step)
+    → IsTree old rest x mid → IsTested mid test k u v t new → row steps ≡ suc (row rest) → row steps ≤ 6 → 1 ≤ length rest → length rest < length steps
     → GoesOn old steps (suc (row rest)) t new → IsTree old steps t new
-row_tree old mid new steps rest test k u v x t tree h one six some less run = record {
+row_tree {new = new} {t = t} steps tree h one six some less run = record {
   grows = grows_on _ tree.grows h.grows (omega arith);
   inside = last_in new t h.last h.some;
   last = λ two. h.last;
@@ -167,45 +166,39 @@ row_tree old mid new steps rest test k u v x t tree h one six some less run = re
 }
 
 -- the two tests that begin a row
-pub tree_out : (old mid new : List sock_filter) (steps : List Step) (d : Step) (x t : Target) → AreOver steps
+pub tree_out : {old mid new : List sock_filter} {x t : Target} (steps : List Step) (d : Step) → AreOver steps
     → second_stands_out steps ≡ true → row steps ≤ 6 → IsTree old (drop 2 steps) x mid
     → IsTested mid Equal ((get_or steps 1 d).start) (get_or steps 1 d).target x t new → IsTree old steps t new
-tree_out old mid new (a ∷ b ∷ c ∷ steps) d x t over out six tree h =
+tree_out {old} {mid} (a ∷ b ∷ c ∷ steps) d over out six tree h =
     let one : row (a ∷ b ∷ c ∷ steps) ≡ suc (row (c ∷ steps)) = grind (arith, out) in
-    row_tree old mid new (a ∷ b ∷ c ∷ steps) (c ∷ steps) Equal (b.start) b.target x x t tree h one six (omega arith)
-    (omega arith)
-    (test_goes old mid new (a ∷ b ∷ c ∷ steps) (single b.target) (c ∷ steps) Equal (b.start) b.target x t (row (c ∷ steps))
-    (λ i small. stands_beside i a b c steps over out) (plain_goes old mid b.target (row (c ∷ steps)) tree.grows)
-    (tree.soon (omega (arith, one))) h)
-tree_out old mid new _ d x t over out six tree h = absurd (cc)
+    row_tree (a ∷ b ∷ c ∷ steps) tree h one six (omega arith) (omega arith)
+    (test_goes (a ∷ b ∷ c ∷ steps) (single b.target) (c ∷ steps) (row (c ∷ steps)) (λ i small. stands_beside i a b c steps over out)
+    (plain_goes old mid b.target (row (c ∷ steps)) tree.grows) (tree.soon (omega (arith, one))) h)
+tree_out _ d over out six tree h = absurd (cc)
 
-pub tree_first : (old mid new : List sock_filter) (steps : List Step) (d : Step) (x t : Target) → 2 ≤ length steps
+pub tree_first : {old mid new : List sock_filter} {x t : Target} (steps : List Step) (d : Step) → 2 ≤ length steps
     → AreOver steps → second_stands_out steps ≡ false → row steps ≤ 6 → IsTree old (drop 1 steps) x mid
     → IsTested mid AtLeast ((get_or steps 1 d).start) x (get_or steps 0 d).target t new → IsTree old steps t new
-tree_first old mid new (a ∷ b ∷ steps) d x t some over out six tree h =
-    row_tree old mid new (a ∷ b ∷ steps) (b ∷ steps) AtLeast (b.start) x a.target x t tree h (one steps out) six
-    (omega arith) (omega arith)
-    (test_goes old mid new (a ∷ b ∷ steps) (b ∷ steps) (single a.target) AtLeast (b.start) x a.target t (row (b ∷ steps))
-    (λ i small. grind (arith, nat_tests, over.0))
+tree_first {old} {mid} (a ∷ b ∷ steps) d some over out six tree h =
+    row_tree (a ∷ b ∷ steps) tree h (one steps out) six (omega arith) (omega arith)
+    (test_goes (a ∷ b ∷ steps) (b ∷ steps) (single a.target) (row (b ∷ steps)) (λ i small. grind (arith, nat_tests, over.0))
     (tree.soon (omega (arith, one steps out))) (plain_goes old mid a.target (row (b ∷ steps)) tree.grows) h)
   where
     one : (l : List Step) → second_stands_out (a ∷ b ∷ l) ≡ false → row (a ∷ b ∷ l) ≡ suc (row (b ∷ l))
     one l out = grind (arith, out)
-tree_first old mid new _ d x t some over out six tree h = absurd (omega arith)
+tree_first _ d some over out six tree h = absurd (omega arith)
 
 -- a test in front of two halves
-pub tree_halves : (old mid both new : List sock_filter) (steps : List Step) (n : ℕ) (d : Step) (u v t : Target)
-    → n ≡ length steps / 2
+pub tree_halves : {old mid both new : List sock_filter} {u v t : Target} (steps : List Step) (n : ℕ) (d : Step) → n ≡ length steps / 2
     → AreOver steps → 2 ≤ length steps → 6 < row steps → IsTree old (drop n steps) u mid → IsTree mid (take n steps) v both
     → IsTested both AtLeast ((get_or steps n d).start) u v t new → IsTree old steps t new
-tree_halves old mid both new steps n d u v t half over some long upper lower h = record {
+tree_halves {new = new} {t = t} steps n d half over some long upper lower h = record {
   grows = grows_on _ (grows_on (3 * (length steps - 2)) upper.grows lower.grows (omega (arith, high, low))) h.grows (omega arith);
   inside = last_in new t h.last h.some;
   last = λ two. h.last;
   leads = λ k le r a w m small lead.
       let j = halvings (length steps) (length steps - length steps / 2) k some le (omega arith) in
-      starts_more (m + 2 * k) (omega (arith, j.1)) (test_goes old both new steps (drop n steps) (take n steps) AtLeast
-      ((get_or steps n d).start) u v t (suc (2 * j.0))
+      starts_more (m + 2 * k) (omega (arith, j.1)) (test_goes steps (drop n steps) (take n steps) (suc (2 * j.0))
       (λ a fits. found_halves steps n d (omega arith) (omega arith) over a)
       (λ r a w m small own. starts_more (m + suc (2 * j.0)) (omega arith)
       (leads_grown lower.grows (leads_by (upper.leads j.0 (omega (arith, high, j.2)) r a w m small own))))
@@ -227,10 +220,9 @@ found_one (x ∷ y ∷ steps) a b few = absurd (omega arith)
 found_one _ a b few = refl
 
 -- one step needs no load
-pub word_one : (old new : List sock_filter) (byte : ℕ) (steps : List Step) (t : Target) → length steps ≡ 1
-    → IsTree old steps t new
+pub word_one : {old new : List sock_filter} {steps : List Step} {t : Target} (byte : ℕ) → length steps ≡ 1 → IsTree old steps t new
     → IsPart old Dword (λ r. word_at r byte) steps t new
-word_one old new byte steps t one h = record {
+word_one {new = new} {steps = steps} byte one h = record {
   grows = grows_on _ h.grows (grows_not new 0) (omega arith);
   inside = h.inside;
   leads = λ r is w n k le always a small. starts_more (n + (1 + 2 * k)) (omega arith) (h.leads k le r a w n small
@@ -243,10 +235,10 @@ pub load_run : (r : List ℕ) (code : List sock_filter) (byte a w n : ℕ) → I
 load_run r code byte a w n is inside h = goes_on (load byte) code a (word_at r byte) w n 0
     (λ p. loads refl (omega (arith, is.long)) (omega arith) refl) (word_fits r byte is) h
 
-pub word_more : (old mid new : List sock_filter) (byte : ℕ) (steps : List Step) (u t : Target) → byte ≤ 60 → 2 ≤ length steps
+pub word_more : {old mid new : List sock_filter} {steps : List Step} {u t : Target} (byte : ℕ) → byte ≤ 60 → 2 ≤ length steps
     → IsTree old steps u mid → new ≡ load byte ∷ mid → t ≡ At (length new - 1)
     → IsPart old Dword (λ r. word_at r byte) steps t new
-word_more old mid new byte steps u t inside some h written last = record {
+word_more {mid = mid} {new = new} {steps = steps} {t = t} byte inside some h written last = record {
   grows = rw written (grows_on (3 * length steps - 2) h.grows (grows_one mid (load byte)) (omega arith));
   inside = last_in new t last (omega (arith, ap length written));
   leads = λ r is w n k le always a small.

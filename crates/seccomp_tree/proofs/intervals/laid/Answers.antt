@@ -42,8 +42,7 @@ chosen c =
 on : (c : After-turn-number) (back : List Step)
     → HasMoved c.turn-number.result c.first_start-end.result c.loop-number.rest.now back
     → Laying c.args.condition.now c.args.target c.args.others.now c.turn-number.result back c.push_step.new.steps.items
-on c back moved = laying_on c.args.condition.now c.args.target c.args.others.now c.loop-number.rest.now back c.loop-number.steps.items
-    c.push_step.new.steps.items _ _ c.loop-number.number c.turn-number.result _ _ c.requires.plain c.loop-number.invariant
+on c back moved = laying_on c.loop-number.rest.now back _ c.requires.plain c.loop-number.invariant
     (rw (c.numbers-size.ensures.numbers, c.arg_len.ensures) at c.loop-number-test.true) (value_is c) (end_is c) c.turn-number.ensures
     (chosen c) c.in_ok-push_step.ensures moved
 
@@ -56,7 +55,5 @@ pub loop-number-preserved : goal.loop-number-preserved
 loop-number-preserved c = on ((goal.at.loop-number-preserved c).After-turn-number) _ (inr (c.if-number-end.false, refl))
 
 pub returns : goal.returns
-returns c =
-    laying_ends c.args.condition.now c.args.target c.args.others.now c.loop-number.rest.now c.loop-number.steps.items
-    c.loop-number.number c.requires.plain c.loop-number.invariant
+returns c = laying_ends c.requires.plain c.loop-number.invariant
     (rw (c.numbers-size.ensures.numbers, c.arg_len.ensures) at c.loop-number-test.false)

@@ -34,5 +34,4 @@ loop-default-init c = elim c.match-next.branch [
 ]
 
 pub returns : goal.returns
-returns c = next_is c.args.defaults.now (calls_of c.args.calls.now.entries) c.args.number c.loop-default.next _ c.loop-default-test.false
-    c.loop-default.invariant
+returns c = next_is c.loop-default-test.false c.loop-default.invariant

@@ -39,9 +39,7 @@ returns-then-not-is_row t c =
     let steps = c.args.steps.now in
     let all = all_behind steps (length steps / 2) in
     IfOk-weaker c.test.result _ _
-    (λ u h.
-    tree_halves c.args.self.now c.tree.new.self c.tree-then-not-is_row.new.self c.test.new.self steps (length steps / 2) _
-    c.in_ok-upper.upper c.in_ok-lower.lower u refl c.requires.over (omega (arith, c.requires.some))
+    (λ u h. tree_halves steps (length steps / 2) _ refl c.requires.over (omega (arith, c.requires.some))
     (elim (cases_lt 6 (row steps)) [ inl lt ↦ lt | inr le ↦ absurd (false≢true (c.if-not-is_row.ensures.1 le)) ])
     (rw all at c.in_ok-upper.ensures) c.in_ok-lower.ensures h)
     c.test.ensures
@@ -58,10 +56,7 @@ returns-then-stands_out t c =
     let steps = c.args.steps.now in
     let all = all_behind steps 2 in
     IfOk-weaker c.test-then-stands_out.result _ _
-    (λ u h.
-    tree_out c.args.self.now c.tree-then-stands_out.new.self c.test-then-stands_out.new.self steps _ c.in_ok-rest.rest u
-    c.requires.over
-    (sym c.stands_out.ensures ∙ c.if-stands_out.true) (c.is_row.ensures.0 c.if-not-is_row.false) (rw all at c.in_ok-rest.ensures) h)
+    (λ u h. tree_out steps _ c.requires.over (sym c.stands_out.ensures ∙ c.if-stands_out.true) (c.is_row.ensures.0 c.if-not-is_row.false) (rw all at c.in_ok-rest.ensures) h)
     c.test-then-stands_out.ensures
 
 pub tree-requires-2 : goal.tree-requires-2
@@ -74,9 +69,6 @@ returns t c =
     let steps = c.args.steps.now in
     let all = all_behind steps 1 in
     IfOk-weaker c.test-2.result _ _
-    (λ u h.
-    tree_first c.args.self.now c.tree-2.new.self c.test-2.new.self steps _ c.in_ok-rest-2.rest u
-    (omega (arith, c.requires.some)) c.requires.over (sym c.stands_out.ensures
-    ∙ c.if-stands_out.false) (c.is_row.ensures.0 c.if-not-is_row.false)
+    (λ u h. tree_first steps _ (omega (arith, c.requires.some)) c.requires.over (sym c.stands_out.ensures ∙ c.if-stands_out.false) (c.is_row.ensures.0 c.if-not-is_row.false)
     (rw all at c.in_ok-rest-2.ensures) h)
     c.test-2.ensures

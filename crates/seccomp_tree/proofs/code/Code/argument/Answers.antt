@@ -10,8 +10,7 @@ use Rattle.seccomp_tree.proofs.code.Code.argument.Goals as goal
 
 pub returns-in-Dword : goal.returns-in-Dword
 returns-in-Dword c =
-    rw c.in-Dword.is (IfOk-weaker c.word.result _ _
-    (λ t h. part_of_word c.args.self.now c.word.new.self c.args.index c.args.steps.now t h) c.word.ensures)
+    rw c.in-Dword.is (IfOk-weaker c.word.result _ _ (λ t h. part_of_word c.args.index h) c.word.ensures)
 
 pub loop-number-init : goal.loop-number-init
 loop-number-init c = rw (c.new-lows.ensures.items, c.new-highs.ensures.items) (halving_begins c.args.self.now c.args.index c.args.steps.now

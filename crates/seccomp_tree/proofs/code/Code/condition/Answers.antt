@@ -1,4 +1,4 @@
-use Rattle.seccomp_tree.proofs.Common.{refl, sym, ◌∙◌, single, IsConditionMet, IfOk-weaker}
+use Rattle.seccomp_tree.proofs.Common.{refl, sym, ◌∙◌, single, IfOk-weaker}
 use Rattle.seccomp_tree.proofs.Choices.{laid_in}
 use Rattle.seccomp_tree.proofs.Meeting.{met_now, met_by_steps, masked_dword, masked_qword}
 use Rattle.seccomp_tree.proofs.code.Code.condition.Goals as goal
@@ -8,20 +8,16 @@ returns-then-is c =
     met_now c.args.yes c.args.no c.args.yes c.requires.yes (λ r is. refl) (λ r not. sym (c.is.ensures.0 c.if-is.true))
 
 pub returns-in-Dword : goal.returns-in-Dword
-returns-in-Dword c =
-    let h = rw (c.arg_index-index.ensures.index, c.split_value-high_value.ensures) at c.in_ok-yes.ensures in
-    masked_dword c.args.self.now c.masked.new.self c.args.condition.now c.in-MaskedEq.mask c.args.yes c.args.no c.in_ok-yes.yes
-    (sym c.in-Dword.ensures) (sym c.operator.ensures ∙ c.in-MaskedEq.is) h
+returns-in-Dword c = masked_dword c.args.condition.now c.in-MaskedEq.mask (sym c.in-Dword.ensures)
+    (sym c.operator.ensures ∙ c.in-MaskedEq.is)
+    (rw (c.arg_index-index.ensures.index, c.split_value-high_value.ensures) at c.in_ok-yes.ensures)
 
 pub returns-in-Qword : goal.returns-in-Qword
 returns-in-Qword c =
-    let h = rw (c.arg_index-index.ensures.index, c.split_value-high_value.ensures) at c.in_ok-yes.ensures in
-    IfOk-weaker c.masked-in-Qword.result _
-    (λ t. IsConditionMet c.args.self.now c.args.condition.now c.args.yes c.args.no t c.masked-in-Qword.new.self)
-    (λ t k. masked_qword c.args.self.now c.masked.new.self c.masked-in-Qword.new.self c.args.condition.now c.in-MaskedEq.mask c.args.yes
-    c.args.no c.in_ok-yes.yes t (sym c.in-Qword.ensures) (sym c.operator.ensures ∙ c.in-MaskedEq.is) h
-    (rw (c.arg_index-index.ensures.index, c.split_value-high_value.ensures) at k))
-    c.masked-in-Qword.ensures
+    IfOk-weaker c.masked-in-Qword.result _ _
+    (λ t k. masked_qword c.args.condition.now c.in-MaskedEq.mask (sym c.in-Qword.ensures) (sym c.operator.ensures ∙ c.in-MaskedEq.is)
+    (rw (c.arg_index-index.ensures.index, c.split_value-high_value.ensures) at c.in_ok-yes.ensures)
+    (rw (c.arg_index-index.ensures.index, c.split_value-high_value.ensures) at k)) c.masked-in-Qword.ensures
 
 pub argument-requires : goal.argument-requires
 argument-requires c =
@@ -36,5 +32,5 @@ argument-requires c =
 pub returns : goal.returns
 returns c =
     let h = rw (c.deref.ensures.value, c.in_ok-no.ensures) at c.in_ok-steps.ensures in
-    IfOk-weaker c.argument.result _ _ (λ t k. met_by_steps c.args.self.now c.argument.new.self c.args.condition.now c.args.yes c.args.no t
-    c.in_ok-steps.steps.items h (rw (c.arg_len-2.ensures, c.arg_index.ensures.index, c.deref-2.ensures.value) at k)) c.argument.ensures
+    IfOk-weaker c.argument.result _ _
+    (λ t k. met_by_steps h (rw (c.arg_len-2.ensures, c.arg_index.ensures.index, c.deref-2.ensures.value) at k)) c.argument.ensures

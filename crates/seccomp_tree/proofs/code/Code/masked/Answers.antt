@@ -1,18 +1,15 @@
-use Rattle.seccomp_tree.proofs.Common.{◌≡◌, ◌-◌, ◌<◌, ◌^◌, ◌∷◌, sym, subst, arith, load, mask, At, HasBits, IsMet}
+use Rattle.seccomp_tree.proofs.Common.{◌≡◌, ◌-◌, ◌∷◌, sym, subst, arith, load, mask, At, HasBits, IsMet}
 use Rattle.seccomp_tree.proofs.Meeting.{masked_none, masked_some}
 use Rattle.seccomp_tree.proofs.code.Code.masked.Goals as goal
 
 pub returns-then-mask-eq0 : goal.returns-then-mask-eq0
-returns-then-mask-eq0 c =
-    masked_none c.args.self.now c.args.byte c.args.mask c.args.value c.args.yes c.args.no c.if-mask-eq0.true c.requires.yes
+returns-then-mask-eq0 c = masked_none c.args.byte c.args.mask c.args.value c.args.yes c.args.no c.if-mask-eq0.true c.requires.yes
 
 pub returns : goal.returns
 returns c =
     let new = c.push-2.new.self in
     let is : new ≡ load c.args.byte ∷ mask c.args.mask ∷ c.test.new.self =
     cc (c.in_ok-push-2.ensures, c.in_ok-push.ensures, c.bpf_stmt.ensures, c.bpf_stmt-2.ensures) in
-    let small : c.args.mask < 2 ^ 32 = omega arith in
     subst (λ n. IsMet (HasBits c.args.byte c.args.mask c.args.value) 5 4 c.args.self.now c.args.yes c.args.no (At (n - 1)) new)
     (sym c.len.ensures.len)
-    (masked_some c.args.self.now c.test.new.self new c.args.byte c.args.mask c.args.value c.args.yes c.args.no c.in_ok-test.field-0
-    c.requires.inside_record small c.in_ok-test.ensures is)
+    (masked_some c.args.byte c.args.mask c.args.value c.requires.inside_record (omega arith) c.in_ok-test.ensures is)

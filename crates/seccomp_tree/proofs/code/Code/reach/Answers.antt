@@ -1,4 +1,4 @@
-use Rattle.seccomp_tree.proofs.Common.{◌≡◌, ◌-◌, sym, ◌∙◌, arith}
+use Rattle.seccomp_tree.proofs.Common.{◌≡◌, sym, ◌∙◌, arith}
 use Rattle.seccomp_tree.proofs.Runs.{grows_not}
 use Rattle.seccomp_tree.proofs.Reaching.{StandsIn, jump_stands, reached_itself, reached_by, reached_new, return_stands}
 use Rattle.seccomp_tree.proofs.code.Code.reach.Goals.{After-twin, in-Give, in-At+else-over-le-REACH}
@@ -32,11 +32,9 @@ push-requires c =
 pub returns-in-Some : goal.returns-in-Some
 returns-in-Some c =
     let b = (goal.at.returns-in-Some c).After-twin in
-    reached_by c.args.self.now c.args.target c.in-Some.place c.args.self.now (grows_not c.args.self.now 1) (stands b).far
-    (rw (same b) at c.in-Some.ensures.does) c.in-Some.ensures.near
+    reached_by (grows_not c.args.self.now 1) (stands b).far (rw (same b) at c.in-Some.ensures.does) c.in-Some.ensures.near
 
 pub returns : goal.returns
 returns c =
     let h = stands ((goal.at.returns c).After-twin) in
-    reached_new c.args.self.now c.args.target c.match-target.instruction c.push.new.self (c.len.result - 1) h.far c.in_ok-push.ensures
-    (omega (arith, c.len.ensures.len, c.len.ensures.some)) h.says
+    reached_new c.match-target.instruction h.far c.in_ok-push.ensures (omega (arith, c.len.ensures.len, c.len.ensures.some)) h.says

@@ -12,6 +12,5 @@ returns c =
       | in-Equal w ↦ w.code-is ∙ ap code_of (sym w.in-Equal.is)
       | in-AtLeast w ↦ w.code-is ∙ ap code_of (sym w.in-AtLeast.is)
     ] in
-    tested c.args.self.now c.reach.new.self code c.args.test i c.args.yes c.args.no c.in_ok-yes.yes c.in_ok-no.no c.push.new.self _ is
-    c.over.ensures.over c.over-2.ensures.over c.in_ok-yes.ensures c.in_ok-no.ensures
+    tested c.args.test i is c.over.ensures.over c.over-2.ensures.over c.in_ok-yes.ensures c.in_ok-no.ensures
     (c.in_ok-push.ensures ∙ ap (λ x. x ∷ code) c.bpf_jump.ensures) (ap (λ n. At (n - 1)) c.len.ensures.len)

@@ -12,19 +12,14 @@ answered : (c : After-push_step) → IsAnswered c.loop-next.code (default_for c.
     (rulings_for c.args.self.now.calls c.loop-next.next) c.match-one_value.target c.match-one_value.code
 answered c = rw (← default c, ← c.rulings_for-rulings.ensures) (elim c.match-one_value.branch [
   | in-Some w ↦ rw (w.target-is, w.code-is)
-      (answered_one c.loop-next.code c.default_for-default.result w.in-Some.value c.rulings_for-rulings.result.now w.in-Some.ensures.fits
-      (sym c.one_value.ensures.value ∙ w.in-Some.is))
+      (answered_one w.in-Some.ensures.fits (sym c.one_value.ensures.value ∙ w.in-Some.is))
   | in-None+in_ok-target-in-None w ↦ rw (w.target-is, w.code-is)
-      (answered_rules c.loop-next.code w.rules.new.self c.default_for-default.result
-      c.rulings_for-rulings.result.now w.in_ok-target-in-None.target (sym c.one_value.ensures.value
-      ∙ w.in-None.is) w.in_ok-target-in-None.ensures.ok)
+      (answered_rules (sym c.one_value.ensures.value ∙ w.in-None.is) w.in_ok-target-in-None.ensures.ok)
 ])
 
 pub loop-next-preserved : goal.loop-next-preserved
 loop-next-preserved c =
     let defaults = c.deref-in-loop-next.ensures.value ∙ ap (λ (x : DecisionSet). x.defaults) c.self.view_is in
     let calls = ap (λ (x : DecisionSet). x.calls) c.self.view_is in
-    calls_on c.args.self.now c.args.code.now c.loop-next.code c.match-one_value.code c.loop-next.steps.items c.push_step.new.steps.items
-    c.loop-next.next _ c.match-one_value.target c.loop-next.invariant
-    (answered ((goal.at.loop-next-preserved c).After-push_step)) c.in_ok-push_step.ensures
+    calls_on c.loop-next.invariant (answered ((goal.at.loop-next-preserved c).After-push_step)) c.in_ok-push_step.ensures
     (rw (defaults, calls) at c.next_start-next.ensures)

@@ -1,6 +1,6 @@
 // From a JSON text to programs.
 
-ghost use Rattle.std.specs.Prelude.{◌≡◌, ℕ, List, IfSome, IfOk, IfErr, string_cmp};
+ghost use Rattle.std.specs.Prelude.{◌≡◌, ℕ, List, IfSome, IfOk, IfErr, MatchResult, string_cmp};
 ghost use Rattle.std.specs.BTreeMap as tree;
 ghost use Rattle.std.specs.HashMap as hash;
 ghost use Rattle.std.specs.List.Sorted.{IsStrictlySortedBy};
@@ -100,9 +100,9 @@ fn listed_programs(
     text: &[u8],
     arch: TargetArch,
 ) -> Result<(Value, Vec<(String, BpfProgram)>)>
-    ensures order { IfOk result (λ made. IsStrictlySortedBy string_cmp (keys_of made.1.items)) }
-    ensures programs { IfOk result (λ made. OfValue text.now (AreProgramsOf arch (under made.1.items))) }
-    ensures fault { IfErr result (TellsFirstFault arch text.now) }
+    ensures programs { MatchResult result
+        (λ made. IsStrictlySortedBy string_cmp (keys_of made.1.items) × OfValue text.now (AreProgramsOf arch (under made.1.items)))
+        (TellsFirstFault arch text.now) }
     ensures memory { IfErr result IsNoMemoryInside }
 {
     let (value, policies) = read_policies(alloc, arch, text)?;

@@ -216,11 +216,9 @@ pub(crate) fn read_policies(
     arch: TargetArch,
     text: &[u8],
 ) -> Result<(Value, Vec<(String, SeccompFilter)>), JsonFrontendError>
-    ensures order { IfOk result (λ read. IsStrictlySortedBy string_cmp (keys_of read.1.items)) }
-    ensures policies { IfOk result (λ read. OfValue text.now (ArePoliciesOf arch (under read.1.items))) }
-    ensures fault { IfErr result (TellsFrontendFault arch text.now) }
-    ensures no_reader { IfErr result IsNoFailedRead }
-    ensures memory { IfErr result IsNoMemoryInFrontend }
+    ensures { MatchResult result
+        (λ read. IsStrictlySortedBy string_cmp (keys_of read.1.items) × OfValue text.now (ArePoliciesOf arch (under read.1.items)))
+        (λ e. TellsFrontendFault arch text.now e × IsNoFailedRead e × IsNoMemoryInFrontend e) }
 {
     let value = value_of(alloc, text)?;
     let filters = lent_filters(alloc, &value)?;

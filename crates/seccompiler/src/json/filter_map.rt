@@ -1,6 +1,6 @@
 // The filters of a JSON value. docs/JSON.md has the format.
 
-ghost use Rattle.std.specs.Prelude.{◌≡◌, IfOk, IfErr, string_cmp};
+ghost use Rattle.std.specs.Prelude.{◌≡◌, IfOk, IfErr, MatchResult, string_cmp};
 ghost use Rattle.std.specs.List.Sorted.{IsStrictlySortedBy};
 ghost use Rattle.std.specs.Map.{keys_of};
 ghost use Rattle.serde_json.specs.Data.{Data};
@@ -35,7 +35,6 @@ use std::alloc::Global;
 /// let filters = read_filters(alloc, &value)?;
 /// let main_thread = filters.0.get("main_thread");
 /// ```
-#[tactic(auto, using(crate::proofs::json::parts::OneFilter::one_filter))]
 pub fn read_filters(alloc: Global, value: &Value) -> Result<JsonFilterMap, JsonFrontendError>
     ensures filters { IfOk result (AreFilters (view value.now)) }
     ensures refusal { IfErr result (IsShapeRefusal (view value.now)) }
@@ -56,9 +55,9 @@ pub fn lent_filters(
     alloc: Global,
     value: &Value,
 ) -> Result<Vec<(String, LentFilter<'_>)>, JsonFrontendError>
-    ensures order { IfOk result (λ filters. IsStrictlySortedBy string_cmp (keys_of filters.items)) }
-    ensures filters { IfOk result (λ filters. AreFound IsFilter (under filters.items) (view value.now)) }
-    ensures refusal { IfErr result (IsShapeRefusal (view value.now)) }
+    ensures { MatchResult result
+        (λ filters. IsStrictlySortedBy string_cmp (keys_of filters.items) × AreFound IsFilter (under filters.items) (view value.now))
+        (IsShapeRefusal (view value.now)) }
 {
     let Value::Object(members) = value else {
         return Err(JsonFrontendError::NotAnObject);

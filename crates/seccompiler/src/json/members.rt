@@ -1,7 +1,7 @@
 // What the readers of a JSON object share: its members, its numbers and its comment.
 
 ghost use Rattle.std.specs.Prelude.{◌≡◌, ◌↔◌, ◌≤◌, ℕ, [], ◌∷◌, false, codes, IsTrue, IsSome, IfSome, IfNone, take, option_map};
-ghost use Rattle.std.specs.List.{list_any, position_or_len};
+ghost use Rattle.std.specs.List.{AllZip, list_any, position_or_len};
 ghost use Rattle.std.specs.Str.{bytes_eq};
 ghost use Rattle.serde_json.specs.Find.{get};
 ghost use Rattle.serde_json.specs.View.{view};
@@ -42,11 +42,7 @@ pub fn members_under<'v>(
     requires count { count ≤ 5 }
     requires apart { AreApart (names.0.now ∷ names.1.now ∷ names.2.now ∷ names.3.now ∷ names.4.now ∷ []) }
     ensures names { IsSome result → HasOnly (view value.now) (take count (names.entry.0.now ∷ names.entry.1.now ∷ names.entry.2.now ∷ names.entry.3.now ∷ names.entry.4.now ∷ [])) }
-    ensures first { IfSome result (λ found. option_map (λ v. view v.now) found.0 ≡ get names.entry.0.now (view value.now)) }
-    ensures second { IfSome result (λ found. option_map (λ v. view v.now) found.1 ≡ get names.entry.1.now (view value.now)) }
-    ensures third { IfSome result (λ found. option_map (λ v. view v.now) found.2 ≡ get names.entry.2.now (view value.now)) }
-    ensures fourth { IfSome result (λ found. option_map (λ v. view v.now) found.3 ≡ get names.entry.3.now (view value.now)) }
-    ensures fifth { IfSome result (λ found. option_map (λ v. view v.now) found.4 ≡ get names.entry.4.now (view value.now)) }
+    ensures found { IfSome result (λ o. AllZip (λ member name. option_map (λ v. view v.now) member ≡ get name (view value.now)) (o.0 ∷ o.1 ∷ o.2 ∷ o.3 ∷ o.4 ∷ []) (names.entry.0.now ∷ names.entry.1.now ∷ names.entry.2.now ∷ names.entry.3.now ∷ names.entry.4.now ∷ [])) }
     ensures none { IfNone result (HasOnly (view value.now) (take count (names.entry.0.now ∷ names.entry.1.now ∷ names.entry.2.now ∷ names.entry.3.now ∷ names.entry.4.now ∷ [])) → ⊥) }
 {
     let Value::Object(members) = value else {

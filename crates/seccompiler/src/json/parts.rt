@@ -1,9 +1,8 @@
 // From JSON values to the parts of a filter. A value that is no such part gives `None`.
 //
-// Each reader has two clauses: what it gives is what the value is (`found`), and where it gives
-// nothing, the value is no such part (`none`).
+// What each reader gives is what the value is, and where it gives nothing, the value is no such part.
 
-ghost use Rattle.std.specs.Prelude.{List, [], ◌∷◌, Option, option_map, codes, IfOk, IfSome, IfNone, IsSome};
+ghost use Rattle.std.specs.Prelude.{List, [], ◌∷◌, Option, option_map, codes, IfOk, IfSome, IfNone, IsSome, MatchOption};
 ghost use Rattle.serde_json.specs.Find.{get};
 ghost use Rattle.serde_json.specs.View.{view, items_view};
 ghost use Rattle.seccompiler.specs.JsonShape.{HasOnly, IsAction, IsOperator, IsArgLen, IsCondition, OneByOne, IsListOf, IsArgs, IsEntry, IsOneAction, IsFilter};
@@ -112,20 +111,31 @@ pub fn read_operator(value: &Value) -> Option<SeccompCmpOp>
 }
 
 fn read_condition(value: &Value) -> Option<JsonCondition>
-    ensures found { IfSome result (IsCondition (view value.now)) }
-    ensures none { IfNone result ((c : JsonCondition) → IsCondition (view value.now) c → ⊥) }
+    ensures { MatchOption result ((c : JsonCondition) → IsCondition (view value.now) c → ⊥) (IsCondition (view value.now)) }
 {
     let names = ("index", "type", "op", "val", "comment");
-    let (index, arg_len, operator, value, comment) = members_under(value, names, 5)?;
+    let Some((index, arg_len, operator, value, comment)) = members_under(value, names, 5) else {
+        return None;
+    };
     if !is_comment(comment) {
         return None;
     }
-    let arg_index = whole_number(index?, GREATEST_INDEX)? as u8;
-    let arg_len = read_arg_len(arg_len?)?;
-    let operator = read_operator(operator?)?;
-    let value = whole_number(value?, u64::MAX)?;
+    let (Some(index), Some(arg_len), Some(operator), Some(value)) = (
+        index, arg_len, operator, value,
+    ) else {
+        return None;
+    };
+    let parts = (
+        whole_number(index, GREATEST_INDEX),
+        read_arg_len(arg_len),
+        read_operator(operator),
+        whole_number(value, u64::MAX),
+    );
+    let (Some(arg_index), Some(arg_len), Some(operator), Some(value)) = parts else {
+        return None;
+    };
     Some(JsonCondition {
-        arg_index,
+        arg_index: arg_index as u8,
         arg_len,
         operator,
         value,
@@ -156,10 +166,9 @@ fn read_args(
     alloc: Global,
     args: Option<&Value>,
 ) -> Result<Option<Option<Vec<JsonCondition>>>, AllocError>
-    ensures found { IfOk result (λ o. IfSome o
+    ensures { IfOk result (λ o. MatchOption o
+        ((c : Option (List JsonCondition)) → IsArgs (option_map (λ v. view v.now) args.entry) c → ⊥)
         (λ c. IsArgs (option_map (λ v. view v.now) args.entry) (option_map (λ v. v.items) c))) }
-    ensures none { IfOk result (λ o. IfNone o
-        ((c : Option (List JsonCondition)) → IsArgs (option_map (λ v. view v.now) args.entry) c → ⊥)) }
 {
     match args {
         None | Some(Value::Null) => Ok(Some(None)),
@@ -172,8 +181,7 @@ fn read_args(
 }
 
 fn read_entry(alloc: Global, value: &Value) -> Result<Option<LentRule<'_>>, AllocError>
-    ensures found { IfOk result (λ o. IfSome o (IsEntry (view value.now))) }
-    ensures none { IfOk result (λ o. IfNone o ((r : JsonRule) → IsEntry (view value.now) r → ⊥)) }
+    ensures { IfOk result (λ o. MatchOption o ((r : JsonRule) → IsEntry (view value.now) r → ⊥) (IsEntry (view value.now))) }
 {
     // An entry has the first three.
     let names = ("syscall", "args", "comment", "op", "val");
@@ -196,8 +204,9 @@ fn read_entry(alloc: Global, value: &Value) -> Result<Option<LentRule<'_>>, Allo
 }
 
 fn read_rules(alloc: Global, value: &Value) -> Result<Option<Vec<LentRule<'_>>>, AllocError>
-    ensures found { IfOk result (λ o. IfSome o (λ all. IsListOf IsEntry (view value.now) all.items)) }
-    ensures none { IfOk result (λ o. IfNone o ((all : List JsonRule) → IsListOf IsEntry (view value.now) all → ⊥)) }
+    ensures { IfOk result (λ o. MatchOption o
+        ((all : List JsonRule) → IsListOf IsEntry (view value.now) all → ⊥)
+        (λ all. IsListOf IsEntry (view value.now) all.items)) }
 {
     let Value::Array(items) = value else {
         return Ok(None);
@@ -214,11 +223,8 @@ fn read_rules(alloc: Global, value: &Value) -> Result<Option<Vec<LentRule<'_>>>,
 
 // The action under the one of two names that is there. Both together are a fault.
 fn read_one_action(first: Option<&Value>, second: Option<&Value>) -> Option<SeccompAction>
-    ensures found { IfSome result (IsOneAction (option_map (λ v. view v.now) first.entry)
-        (option_map (λ v. view v.now) second.entry)) }
-    ensures none { IfNone result ((a : SeccompAction) →
-        IsOneAction (option_map (λ v. view v.now) first.entry)
-        (option_map (λ v. view v.now) second.entry) a → ⊥) }
+    ensures { let IsOne : SeccompAction → Type 0 = IsOneAction (option_map (λ v. view v.now) first.entry)
+        (option_map (λ v. view v.now) second.entry) in MatchOption result ((a : SeccompAction) → IsOne a → ⊥) IsOne }
 {
     match (first, second) {
         (Some(value), None) | (None, Some(value)) => read_action(value),
@@ -228,8 +234,7 @@ fn read_one_action(first: Option<&Value>, second: Option<&Value>) -> Option<Secc
 
 /// The filter that the value is, or `None` if it is none; an error only if memory runs out.
 pub fn read_filter(alloc: Global, value: &Value) -> Result<Option<LentFilter<'_>>, AllocError>
-    ensures found { IfOk result (λ o. IfSome o (IsFilter (view value.now))) }
-    ensures none { IfOk result (λ o. IfNone o ((f : JsonFilter) → IsFilter (view value.now) f → ⊥)) }
+    ensures { IfOk result (λ o. MatchOption o ((f : JsonFilter) → IsFilter (view value.now) f → ⊥) (IsFilter (view value.now))) }
 {
     let names = (
         "mismatch_action",

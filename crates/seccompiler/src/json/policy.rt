@@ -1,6 +1,6 @@
 // From JSON filters to filters.
 
-ghost use Rattle.std.specs.Prelude.{◌≡◌, ◌≢◌, ◌↔◌, ◌&&◌, ℤ, [], ◌∷◌, Some, None, All, Contains, IfOk, IfErr, OnOk, map, if◌then◌else◌, length};
+ghost use Rattle.std.specs.Prelude.{◌≡◌, ◌≢◌, ◌↔◌, ◌&&◌, ℤ, [], ◌∷◌, Some, None, All, Contains, IfOk, IfErr, OnOk, MatchResult, map, if◌then◌else◌, length};
 ghost use Rattle.std.specs.List.{list_any};
 ghost use Rattle.std.specs.List.Sorted.{IsStrictlySortedBy};
 ghost use Rattle.std.specs.Option.{is_some};
@@ -59,9 +59,8 @@ struct Gathered {
 
 // The rule of the conditions, in their order.
 fn rule_of(alloc: Global, conditions: &[JsonCondition]) -> Result<SeccompRule, JsonFrontendError>
-    ensures made { IfOk result (λ rule. rule ≡ map condition_of conditions.now) }
-    ensures fine { OnOk result (AreFineArgs conditions.now) }
-    ensures refused { IfErr result (Tells (IsFaultIn conditions.now)) }
+    ensures { MatchResult result (λ rule. (rule ≡ map condition_of conditions.now) × AreFineArgs conditions.now)
+        (Tells (IsFaultIn conditions.now)) }
 {
     let mut found = Vec::with_capacity(alloc, conditions.len())?;
     for condition in conditions {
@@ -95,9 +94,8 @@ fn gather(
     arch: TargetArch,
     entries: &[LentRule<'_>],
 ) -> Result<Gathered, JsonFrontendError>
-    ensures fine { OnOk result (All (IsFineEntry arch) entries.now) }
-    ensures gathered { IfOk result (AreGathered arch entries.now) }
-    ensures refused { IfErr result (Tells (IsFirstOf arch entries.now)) }
+    ensures { MatchResult result (λ gathered. All (IsFineEntry arch) entries.now × AreGathered arch entries.now gathered)
+        (Tells (IsFirstOf arch entries.now)) }
 {
     let table = SyscallTable::new(arch);
     let mut rules = BTreeMap::new(alloc);
@@ -159,8 +157,7 @@ pub fn lent_seccomp_filter(
     arch: TargetArch,
     filter: &LentFilter<'_>,
 ) -> Result<SeccompFilter, JsonFrontendError>
-    ensures policy { IfOk result (IsPolicyOf arch filter.now) }
-    ensures refused { IfErr result (IsPolicyRefusal arch filter.now) }
+    ensures { MatchResult result (IsPolicyOf arch filter.now) (IsPolicyRefusal arch filter.now) }
 {
     let gathered = gather(alloc, arch, filter.rules.as_slice())?;
     let chains = chains_of_numbers(alloc, gathered, filter.rules.len())?;

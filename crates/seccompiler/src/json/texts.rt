@@ -1,6 +1,6 @@
 // From what a reader gives to a text, and from a text to its filters.
 
-ghost use Rattle.std.specs.Prelude.{◌≡◌, ℕ, List, IfOk, IfErr, IfSome};
+ghost use Rattle.std.specs.Prelude.{◌≡◌, ℕ, List, IfOk, IfErr, IfSome, MatchResult};
 ghost use Rattle.serde_json.specs.Data.{Data};
 ghost use Rattle.serde_json.specs.View.{view};
 ghost use Rattle.seccompiler.specs.Errors.{IsNoMemoryInFrontend};
@@ -68,6 +68,7 @@ pub fn text_of<R: Read + Drop>(alloc: Global, mut reader: R) -> Result<Vec<u8>, 
 /// let filters = filters_of(alloc, text)?;
 /// assert!(rt; filters.0.contains_key("main"));
 /// ```
+#[tactic(auto, using(crate::proofs::json::parts::OneFilter::one_filter))]
 pub fn filters_of(alloc: Global, text: &[u8]) -> Result<JsonFilterMap, JsonFrontendError>
     ensures filters { IfOk result (λ filters. OfValue text.now (λ d. AreFilters d filters)) }
     // On whichever architecture.
@@ -87,11 +88,8 @@ pub fn filters_of(alloc: Global, text: &[u8]) -> Result<JsonFilterMap, JsonFront
 
 /// The value of a text that repeats no name.
 pub fn value_of(alloc: Global, text: &[u8]) -> Result<Value, JsonFrontendError>
-    ensures value { IfOk result (λ value. IsValueOf text.now (view value)) }
-    ensures fault { IfErr result (λ e. (arch : TargetArch) → TellsFrontendFault arch text.now e) }
-    ensures cause { IfErr result IsBeforePolicies }
-    ensures no_reader { IfErr result IsNoFailedRead }
-    ensures memory { IfErr result IsNoMemoryInFrontend }
+    ensures { MatchResult result (λ value. IsValueOf text.now (view value)) (λ e. ((arch : TargetArch) → TellsFrontendFault arch text.now e)
+        × IsBeforePolicies e × IsNoFailedRead e × IsNoMemoryInFrontend e) }
 {
     match Value::from_slice(alloc, text) {
         Ok(value) if repeats_key(text, &value) => Err(JsonFrontendError::RepeatedKey),

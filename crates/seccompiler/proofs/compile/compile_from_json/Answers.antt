@@ -18,7 +18,7 @@ pub returns-in_err-_value-clause-fault : goal.returns-in_err-_value-clause-fault
 returns-in_err-_value-clause-fault g c =
     let p = err_from_is_err_and c.from_residual-in_err-_value.result c.from_residual-in_err-_value.ensures.1 in
     rw (p.1, p.2) (reads_this (g.R.Read.remaining c.args.reader) (λ text. TellsFirstFault c.args.arch text c.in_err-_value.field-0.0)
-    c.in_ok-text.text.items c.in_ok-text.ensures.text (rw c.as_slice.ensures.value at c.in_err-_value.ensures.fault))
+    c.in_ok-text.text.items c.in_ok-text.ensures.text (rw c.as_slice.ensures.value at c.in_err-_value.ensures.programs))
 
 pub returns-in_err-collect-clause-fault : goal.returns-in_err-collect-clause-fault
 returns-in_err-collect-clause-fault g c =
@@ -31,9 +31,9 @@ returns g c =
     let text = c.in_ok-text.text.items in
     let m = c.in_ok-collect.field-0 in
     let made : IsFromIterResult string_eq c.in_ok-_value.programs.items m = search rules in
-    let same = hashed _ m c.in_ok-_value.ensures.order made in
+    let same = hashed _ m c.in_ok-_value.ensures.programs.0 made in
     let are = subst (λ find. OfValue text (AreProgramsOf arch find)) (λ i q. sym (same q) i)
-    (rw c.as_slice.ensures.value at c.in_ok-_value.ensures.programs) in
+    (rw c.as_slice.ensures.value at c.in_ok-_value.ensures.programs.1) in
     record {
       programs = reads_this (g.R.Read.remaining c.args.reader) (λ text. OfValue text (AreProgramsOf arch (get_by_text m))) text
           c.in_ok-text.ensures.text are;

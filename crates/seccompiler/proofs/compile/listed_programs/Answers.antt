@@ -6,10 +6,10 @@ use Rattle.seccompiler.proofs.ByName.{at_next, making_none, making_more, making_
 use Rattle.seccompiler.proofs.compile.TextPrograms.{Compiles, are_programs, refusal_of, told_by_frontend}
 use Rattle.seccompiler.proofs.compile.listed_programs.Goals as goal
 
-pub returns-in_err-value-clause-fault : goal.returns-in_err-value-clause-fault
-returns-in_err-value-clause-fault c =
+pub returns-in_err-value-clause-programs : goal.returns-in_err-value-clause-programs
+returns-in_err-value-clause-programs c =
     let p = err_from_is_err_and c.from_residual.result c.from_residual.ensures.1 in
-    rw (p.1, p.2) (told_by_frontend c.args.arch c.args.text.now c.in_err-value.field-0.0 c.in_err-value.ensures.fault)
+    rw (p.1, p.2) (told_by_frontend c.args.arch c.args.text.now c.in_err-value.field-0.0 c.in_err-value.ensures.0)
 
 pub loop-name-init : goal.loop-name-init
 loop-name-init c = making_none _ _ _ _ refl (search rules)
@@ -22,21 +22,21 @@ loop-name-preserved c =
     making_more Compiles c.loop-name.invariant e entry _ _ c.in-Some.ensures.steps.0 c.in_ok-push.ensures.items refl
     (record { compilable = of.compilable; compiled = of.compiled })
 
-pub returns-in_err-program-clause-fault : goal.returns-in_err-program-clause-fault
-returns-in_err-program-clause-fault c =
+pub returns-in_err-program-clause-programs : goal.returns-in_err-program-clause-programs
+returns-in_err-program-clause-programs c =
     let p = err_from_is_err_and c.from_residual-in_err-program.result c.from_residual-in_err-program.ensures.1 in
     let so_far = c.loop-name.invariant in
-    let read = c.in_ok-value.ensures.policies in
+    let read = c.in_ok-value.ensures.1 in
     let e : String Global × Filter = (c.in-Some.name, c.in-Some.policy) in
     let all = sym c.into_iter-name-iterator.ensures.into_iter_gives.0 ∙ at_next Compiles so_far e _ c.in-Some.ensures.steps.0 in
-    rw (p.1, p.2) (refusal_of c.args.arch read.0 c.in_ok-value.policies.items read.2 so_far.done e _ all c.in_ok-value.ensures.order
+    rw (p.1, p.2) (refusal_of c.args.arch read.0 c.in_ok-value.policies.items read.2 so_far.done e _ all c.in_ok-value.ensures.0
     c.loop-name.programs.items so_far.made c.args.text.now read.1 c.in_err-program.field-0.0 c.in_err-program.ensures.refused)
 
 pub returns : goal.returns
 returns c =
-    let read = c.in_ok-value.ensures.policies in
+    let read = c.in_ok-value.ensures.1 in
     let policies = c.in_ok-value.policies.items in
     let all = making_done Compiles c.loop-name.invariant policies c.into_iter-name-iterator.ensures.into_iter_gives.0
-    (grind (arith, c.in-None.ensures.steps.0)) c.in_ok-value.ensures.order in
+    (grind (arith, c.in-None.ensures.steps.0)) c.in_ok-value.ensures.0 in
     let are = are_programs c.args.arch read.0 policies read.2 c.loop-name.programs.items all.0 in
-    record { order = all.1; programs = (read.0, read.1, are); fault = tt; memory = tt }
+    record { programs = (all.1, (read.0, read.1, are)); memory = tt }

@@ -10,7 +10,7 @@ pub returns : goal.returns
 returns c =
     let m = c.in_ok-collect.field-0 in
     let made : IsFromIterResult string_cmp c.in_ok-_value.programs.items m = search rules in
-    let same = ordered _ m c.in_ok-_value.ensures.order made in
+    let same = ordered _ m c.in_ok-_value.ensures.programs.0 made in
     let are = subst (λ find. OfValue c.args.text.now (AreProgramsOf c.args.arch find)) (λ i q. sym (same q) i)
-    c.in_ok-_value.ensures.programs in
+    c.in_ok-_value.ensures.programs.1 in
     record { programs = are; checked = all_checked c.args.arch (get_by_text m) are.0 are.2; fault = tt; memory = tt }

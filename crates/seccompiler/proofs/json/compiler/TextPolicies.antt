@@ -6,7 +6,7 @@ use Rattle.seccompiler.specs.Errors.{IsNoMemoryInFrontend}
 use Rattle.seccompiler.specs.JsonAnswers.{IsValueOf, HasPolicy, HasSomePolicy, ArePoliciesOf, IsLeastRefused, TellsFrontendFault}
 use Rattle.seccompiler.specs.JsonFilters.{AreFound, under}
 use Rattle.seccompiler.specs.JsonPolicyOf.{Fault, IsPolicyOf, IsFirstFault}
-use Rattle.seccompiler.specs.JsonSteps.{IsNoFailedRead, Tells}
+use Rattle.seccompiler.specs.JsonSteps.{IsNoFailedRead, IsShapeRefusal, Tells}
 use Rattle.seccompiler.specs.JsonShape.{IsFilter}
 use Rattle.seccompiler.specs.Policy.{Filter}
 use Rattle.seccompiler.specs.Compiled.{numbers_of}
@@ -53,3 +53,11 @@ module _ (arch : TargetArch) (d : Data) where
   refused_told text is (e.SyscallName name known) h = ((d, is, h), tt, tt)
   refused_told text is e.OutOfMemory h = (tt, tt, tt)
   refused_told text is e h = absurd h
+
+  -- So is the shape that the value has.
+  pub shape_told : (text : List ℕ) → IsValueOf text d → (e : JsonFrontendError) → IsShapeRefusal d e
+      → TellsFrontendFault arch text e × IsNoFailedRead e × IsNoMemoryInFrontend e
+  shape_told text is e.NotAnObject h = ((d, is, h), tt, tt)
+  shape_told text is (e.Shape name) h = ((d, is, h), tt, tt)
+  shape_told text is e.OutOfMemory h = (tt, tt, tt)
+  shape_told text is e h = absurd h

@@ -26,11 +26,6 @@ use Rattle.seccompiler.specs.JsonShape.{HasOnly, AreApart}
 abbrev pub data_of : Option (Bor Value) → Option Data
 data_of found = option_map (λ v. view v.now) found
 
--- What holds of the value under a name holds of what was found there.
-pub under : {x : Option Data} {v : Data} {found : Option (Bor Value)} {b : Bor Value} → data_of found ≡ x
-    → found ≡ Some b → x ≡ Some v → (P : Data → Type 0) → P v → P (view b.now)
-under {v = v} {b = b} is some has P h = let e = sym has ∙ sym is ∙ ap data_of some in let same : v ≡ view b.now = cc in subst P same h
-
 -- What an object has under each of some names is what was found of it, or else what is under it among the members that
 -- are left.
 abbrev pub AreSought : Data → List Entry → List (List ℕ) → List (Option Data) → Type 0

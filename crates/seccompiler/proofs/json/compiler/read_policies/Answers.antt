@@ -6,14 +6,19 @@ use Rattle.seccompiler.specs.JsonPolicyOf.{IsPolicyOf, IsFirstFault}
 use Rattle.seccompiler.specs.JsonTypes.{JsonFilter}
 use Rattle.seccompiler.specs.Policy.{Filter}
 use Rattle.seccompiler.proofs.ByName.{at_next, making_none, making_more, making_done}
-use Rattle.seccompiler.proofs.json.compiler.TextPolicies.{are_policies, least_refused, refused_told}
+use Rattle.seccompiler.proofs.json.compiler.TextPolicies.{are_policies, least_refused, refused_told, shape_told}
 use Rattle.seccompiler.proofs.json.policy.EntryFaults.{tells_more}
 use Rattle.seccompiler.proofs.json.compiler.read_policies.Goals as goal
 
-pub returns-in_err-value-clause-fault : goal.returns-in_err-value-clause-fault
-returns-in_err-value-clause-fault c =
+pub returns-in_err-value : goal.returns-in_err-value
+returns-in_err-value c =
     let p = err_from_is_err_and c.from_residual.result c.from_residual.ensures.1 in
-    rw (p.1, p.2) (c.in_err-value.ensures.fault c.args.arch)
+    rw (p.1, p.2) (c.in_err-value.ensures.0 c.args.arch, c.in_err-value.ensures.2, c.in_err-value.ensures.3)
+
+pub returns-in_err-filters : goal.returns-in_err-filters
+returns-in_err-filters c =
+    let p = err_from_is_err_and c.from_residual-in_err-filters.result c.from_residual-in_err-filters.ensures.1 in
+    rw (p.1, p.2) (shape_told c.args.arch _ c.args.text.now c.in_ok-value.ensures c.in_err-filters.field-0.0 c.in_err-filters.ensures)
 
 pub loop-name-init : goal.loop-name-init
 loop-name-init c = making_none _ _ _ _ refl (search rules)
@@ -23,7 +28,7 @@ loop-name-preserved c =
     let e : String Global × JsonFilter = (c.in-Some.name, c.in-Some.filter) in
     let entry : String Global × Filter = (c.in-Some.name, c.in_ok-policy.policy) in
     making_more (IsPolicyOf c.args.arch) c.loop-name.invariant e entry _ _ c.in-Some.ensures.steps.0 c.in_ok-push.ensures.items
-    refl c.in_ok-policy.ensures.policy
+    refl c.in_ok-policy.ensures
 
 pub returns-in_err-policy : goal.returns-in_err-policy
 returns-in_err-policy c =
@@ -35,15 +40,14 @@ returns-in_err-policy c =
     let gives = c.into_iter-name-iterator.ensures.into_iter_gives.0 in
     let all = at_next (IsPolicyOf arch) so_far e _ c.in-Some.ensures.steps.0 in
     let refused = tells_more (IsFirstFault arch e.1) (λ fault. IsLeastRefused arch fault d)
-    (least_refused arch d _ c.in_ok-filters.ensures.filters so_far.done e _ (sym gives ∙ all) c.in_ok-filters.ensures.order
-    c.loop-name.policies.items so_far.made) c.in_err-policy.field-0.0 c.in_err-policy.ensures.refused in
-    let told = refused_told arch d c.args.text.now c.in_ok-value.ensures.value c.in_err-policy.field-0.0 refused in
-    rw (p.1, p.2) (record { order = tt; policies = tt; fault = told.0; no_reader = told.1; memory = told.2 })
+    (least_refused arch d _ c.in_ok-filters.ensures.1 so_far.done e _ (sym gives ∙ all) c.in_ok-filters.ensures.0
+    c.loop-name.policies.items so_far.made) c.in_err-policy.field-0.0 c.in_err-policy.ensures in
+    rw (p.1, p.2) (refused_told arch d c.args.text.now c.in_ok-value.ensures c.in_err-policy.field-0.0 refused)
 
 pub returns : goal.returns
 returns c =
     let filters = c.in_ok-filters.filters.items in
     let all = making_done (IsPolicyOf c.args.arch) c.loop-name.invariant filters c.into_iter-name-iterator.ensures.into_iter_gives.0
-    (grind (arith, c.in-None.ensures.steps.0)) c.in_ok-filters.ensures.order in
-    let are = are_policies c.args.arch _ filters c.in_ok-filters.ensures.filters c.loop-name.policies.items all.0 in
-    record { order = all.1; policies = (_, c.in_ok-value.ensures.value, are); fault = tt; no_reader = tt; memory = tt }
+    (grind (arith, c.in-None.ensures.steps.0)) c.in_ok-filters.ensures.0 in
+    let are = are_policies c.args.arch _ filters c.in_ok-filters.ensures.1 c.loop-name.policies.items all.0 in
+    (all.1, (_, c.in_ok-value.ensures, are))

@@ -13,10 +13,10 @@ loop-key-preserved c =
     let e : Entry = (c.in-Some.key.now, c.in-Some.member.now) in
     let made : String Global × JsonFilter = (c.in_ok-name.name, c.in-Some-2.filter) in
     making_more IsRead c.loop-key.invariant e made _ _ c.in-Some.ensures.steps c.in_ok-push-in-Some-2.ensures.items
-    c.in_ok-name.ensures.cases (rw c.in-Some-2.is at c.in_ok-filter.ensures.found)
+    c.in_ok-name.ensures.cases (rw c.in-Some-2.is at c.in_ok-filter.ensures)
 
-pub returns-in-None-2-clause-refusal : goal.returns-in-None-2-clause-refusal
-returns-in-None-2-clause-refusal c =
+pub returns-in-None-2 : goal.returns-in-None-2
+returns-in-None-2 c =
     let so_far = c.loop-key.invariant in
     let e : Entry = (c.in-Some.key.now, c.in-Some.member.now) in
     let rest = c.next.new.self in
@@ -25,11 +25,11 @@ returns-in-None-2-clause-refusal c =
     ∙ at_next IsRead so_far e rest c.in-Some.ensures.steps in
     rw (c.in-Object.is, view-Object c.in-Object.members, all, c.in_ok-name.ensures.cases) (least_fault so_far.done e rest
     c.loop-key.found.items (rw all at c.iter-key-items.ensures.ordered)
-    so_far.made (rw c.in-None-2.is at c.in_ok-filter.ensures.none))
+    so_far.made (rw c.in-None-2.is at c.in_ok-filter.ensures))
 
 pub returns : goal.returns
 returns c =
     let given = c.into_iter-key-iterator.ensures.into_iter_gives ∙ c.iter-key-items.ensures.rest in
     let all = making_done IsRead c.loop-key.invariant c.in-Object.members.entries given (rw c.in-None.ensures.steps.0 refl)
     c.iter-key-items.ensures.ordered in
-    record { order = all.1; filters = rw (c.in-Object.is, view-Object c.in-Object.members) (are_filters _ _ all.0); refusal = tt }
+    (all.1, rw (c.in-Object.is, view-Object c.in-Object.members) (are_filters _ _ all.0))

@@ -2,9 +2,13 @@ use Rattle.std.proofs.Common.{arith}
 use Rattle.seccompiler.proofs.json.members.ObjectNames.{one_more, another, at_end, found_or}
 use Rattle.seccompiler.proofs.json.members.members_under.Goals as goal
 
-pub returns-then-place-count-clause-none : goal.returns-then-place-count-clause-none
-returns-then-place-count-clause-none c = another (c.in-Some.name.now, c.in-Some.member.now) _ _ _ _ _ _ _ c.requires.count
-    c.as_str.ensures.value c.place_among-place.ensures (rw c.in-Some.ensures.steps at c.loop-name.invariant) c.if-place-count.true
+pub returns-then-place-count : goal.returns-then-place-count
+returns-then-place-count c = record {
+  names = λ given. cc;
+  found = tt;
+  none = another (c.in-Some.name.now, c.in-Some.member.now) _ _ _ _ _ _ _ c.requires.count c.as_str.ensures.value
+      c.place_among-place.ensures (rw c.in-Some.ensures.steps at c.loop-name.invariant) c.if-place-count.true;
+}
 
 pub loop-name-preserved-in-0 : goal.loop-name-preserved-in-0
 loop-name-preserved-in-0 c = rw (c.or-first.ensures, found_or c.loop-name.first c.in-Some.member)
@@ -35,12 +39,4 @@ loop-name-preserved c = rw (c.or-fifth.ensures, found_or c.loop-name.fifth c.in-
 pub returns : goal.returns
 returns c =
     let end = at_end _ _ _ _ _ c.in-None.ensures.steps.0 c.loop-name.invariant in
-    record {
-      names = λ given. end.0;
-      first = end.1.0;
-      second = end.1.1.0;
-      third = end.1.1.1.0;
-      fourth = end.1.1.1.1.0;
-      fifth = end.1.1.1.1.1.0;
-      none = tt;
-    }
+    record { names = λ given. end.0; found = end.1; none = tt }

@@ -4,11 +4,11 @@ use Rattle.seccompiler.proofs.json.parts.read_conditions.Goals as goal
 
 pub loop-item-preserved : goal.loop-item-preserved
 loop-item-preserved c = rw c.in_ok-push-in-Some.ensures.items
-    (next_read IsCondition _ _ _ c.loop-item.invariant _ c.loop-item-test.true c.item-item.is _ c.in-Some.ensures.found)
+    (next_read IsCondition _ _ _ c.loop-item.invariant _ c.loop-item-test.true c.item-item.is _ c.in-Some.ensures)
 
 pub returns-in-None-clause-none : goal.returns-in-None-clause-none
 returns-in-None-clause-none c = rw (← c.deref-item-items.ensures.value)
-    (next_fails IsCondition _ _ _ c.loop-item.invariant _ c.loop-item-test.true c.item-item.is c.in-None.ensures.none)
+    (next_fails IsCondition _ _ _ c.loop-item.invariant _ c.loop-item-test.true c.item-item.is c.in-None.ensures)
 
 pub returns-clause-found : goal.returns-clause-found
 returns-clause-found c = rw (← c.deref-item-items.ensures.value)

@@ -6,13 +6,13 @@ use Rattle.seccompiler.proofs.json.parts.read_rules.Goals as goal
 pub loop-item-preserved : goal.loop-item-preserved
 loop-item-preserved c = rw c.in_ok-push-in-Some.ensures.items
     (next_read IsEntry _ _ _ c.loop-item.invariant _ c.loop-item-test.true c.item-item.is _
-    (rw c.in-Some.is at c.in_ok-rule.ensures.found))
+    (rw c.in-Some.is at c.in_ok-rule.ensures))
 
-pub returns-in-None-clause-none : goal.returns-in-None-clause-none
-returns-in-None-clause-none c = rw (c.in-Array.is, view-Array c.in-Array.items, ← c.deref-item-items.ensures.value)
+pub returns-in-None : goal.returns-in-None
+returns-in-None c = rw (c.in-Array.is, view-Array c.in-Array.items, ← c.deref-item-items.ensures.value)
     (next_fails IsEntry _ _ _ c.loop-item.invariant _ c.loop-item-test.true c.item-item.is
-    (rw c.in-None.is at c.in_ok-rule.ensures.none))
+    (rw c.in-None.is at c.in_ok-rule.ensures))
 
-pub returns-clause-found : goal.returns-clause-found
-returns-clause-found c = rw (c.in-Array.is, view-Array c.in-Array.items, ← c.deref-item-items.ensures.value)
+pub returns : goal.returns
+returns c = rw (c.in-Array.is, view-Array c.in-Array.items, ← c.deref-item-items.ensures.value)
     (all_read IsEntry _ _ _ c.loop-item.invariant c.loop-item-test.false)

@@ -34,6 +34,6 @@ returns-clause-numbers c =
     let gathered = c.in_ok-gathered.gathered in
     let told = gathered.always in
     let long : length told ≡ 463 = search rules in
-    both_gathered c.args.arch c.args.filter.now c.as_slice.result.now gathered _ (search rules) c.in_ok-gathered.ensures.gathered
+    both_gathered c.args.arch c.args.filter.now c.as_slice.result.now gathered _ (search rules) c.in_ok-gathered.ensures.1
     (λ q. c.loop-number.invariant.listed q ∙ ap (λ (b : Bool). b && is_some (rules_at gathered q))
     (told_all told _ q (omega (arith, long, c.loop-number-test.false))))

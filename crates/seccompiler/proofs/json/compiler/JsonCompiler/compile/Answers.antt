@@ -17,7 +17,7 @@ returns-in_err-_value-clause-fault g c =
     let p = err_from_is_err_and c.from_residual-in_err-_value.result c.from_residual-in_err-_value.ensures.1 in
     rw (p.1, p.2, ← c.self.view_is) (reads_this (g.R.Read.remaining c.args.reader)
     (λ text. TellsFrontendFault c.self.inside.arch text c.in_err-_value.field-0.0) c.in_ok-text.text.items c.in_ok-text.ensures.text
-    (rw c.as_slice.ensures.value at c.in_err-_value.ensures.fault))
+    (rw c.as_slice.ensures.value at c.in_err-_value.ensures.0))
 
 pub returns : goal.returns
 returns g c =
@@ -25,9 +25,9 @@ returns g c =
     let text = c.in_ok-text.text.items in
     let m = c.in_ok-collect.field-0 in
     let made : IsFromIterResult string_eq c.in_ok-_value.policies.items m = search rules in
-    let same = hashed _ m c.in_ok-_value.ensures.order made in
+    let same = hashed _ m c.in_ok-_value.ensures.0 made in
     let read = subst (λ find. OfValue text (ArePoliciesOf arch find)) (λ i q. sym (same q) i)
-    (rw c.as_slice.ensures.value at c.in_ok-_value.ensures.policies) in
+    (rw c.as_slice.ensures.value at c.in_ok-_value.ensures.1) in
     rw (← c.self.view_is) (record {
       policies = reads_this (g.R.Read.remaining c.args.reader) (λ text. OfValue text (ArePoliciesOf arch (get_by_text m))) text
           c.in_ok-text.ensures.text read;

@@ -10,7 +10,7 @@ returns c =
     let arch = c.self.inside.arch in
     let m = c.in_ok-collect.field-0 in
     let collected : IsFromIterResult string_cmp c.in_ok-_value.policies.items m = search rules in
-    let same = ordered _ m c.in_ok-_value.ensures.order collected in
-    let read = subst (λ find. OfValue c.args.text.now (ArePoliciesOf arch find)) (λ i q. sym (same q) i) c.in_ok-_value.ensures.policies in
+    let same = ordered _ m c.in_ok-_value.ensures.0 collected in
+    let read = subst (λ find. OfValue c.args.text.now (ArePoliciesOf arch find)) (λ i q. sym (same q) i) c.in_ok-_value.ensures.1 in
     let numbers = have_table_numbers arch read.0 (get_by_text m) read.2 in
     rw (← c.self.view_is) (record { policies = read; numbers = numbers; fault = tt; no_reader = tt; memory = tt })

@@ -16,10 +16,6 @@ pub not_none : (m : ℕ) (steps : List Step) → AreSteps m steps → 0 < m → 
 not_none m [] h some = absurd (omega (arith, h.first))
 not_none m (x ∷ steps) h some = omega arith
 
-pub above_none : (m from : ℕ) (steps : List Step) → AscendFrom m from steps → 1 ≤ length steps → 0 < m
-above_none m from [] h some = absurd (omega arith)
-above_none m from (x ∷ steps) h some = omega (arith, h.1.0)
-
 -- steps below a number are below a greater one
 pub steps_more : (m n : ℕ) (steps : List Step) → 0 < m → m ≤ n → AreSteps m steps → AreSteps n steps
 steps_more m n [] some le h = absurd (omega (arith, h.first))
@@ -47,15 +43,10 @@ pub found_before : (m from : ℕ) (t : Target) (steps : List Step) (a : ℕ) →
 found_before m from t [] a h lt = refl
 found_before m from t (x ∷ steps) a h lt = grind (arith, nat_tests, h.0)
 
--- what there is decides up to the first start, and from there on the steps do
+-- so for one below the first start
 pub found_until : (m : ℕ) (t : Target) (steps : List Step) (a : ℕ) → a < first_start m steps → found_from t steps a ≡ t
 found_until m t [] a lt = refl
 found_until m t (x ∷ steps) a lt = grind (arith, nat_tests)
-
-pub found_behind : (m : ℕ) (t : Target) (steps : List Step) (a : ℕ) → first_start m steps ≤ a → a < m
-    → found_from t steps a ≡ found_in steps a
-found_behind m t [] a le lt = absurd (omega arith)
-found_behind m t (x ∷ steps) a le lt = grind (arith, nat_tests)
 
 -- numbers below the start of a step have what those in front of it have, and others what it and those behind it have
 pub found_front : (t : Target) (front : List Step) (x : Step) (back : List Step) (a : ℕ) → a < x.start
@@ -163,7 +154,7 @@ left_on {size} next end (x ∷ y ∷ rest) back h some ends up le (inl (at, is))
     rw (is, start) record {
       within = omega (arith, rise.1.0);
       from = λ less. rise.1.1;
-      same = λ a le lt. h.same a (omega arith) lt ∙ found_behind size x.target (y ∷ rest) a le lt;
+      same = λ a le lt. h.same a (omega arith) lt ∙ grind (arith, nat_tests);
     }
 left_on {size} {number} next end (x ∷ rest) back h some ends up le (inr (not, is)) = rw is record {
   within = omega (arith, (left_end (x ∷ rest) h some).1.0);
@@ -210,8 +201,9 @@ pushed_more (y ∷ old) x h not = record {
 -- steps that end in the target need no step more
 pub pushed_same : (old : List Step) (start : ℕ) (target : Target) → AreSteps start old → 1 ≤ length old
     → ((a : ℕ) → start ≤ a → found_in old a ≡ target) → IsPushed old start target old
-pushed_same old start target h some same = record {
-  are = steps_more start (start + 1) old (above_none start 0 old h.ascend some) (omega arith) h;
+pushed_same [] start target h some same = absurd (omega arith)
+pushed_same (x ∷ old) start target h some same = record {
+  are = steps_more start (start + 1) (x ∷ old) (omega (arith, h.ascend.1.0)) (omega arith) h;
   from = same;
   below = λ a lt. refl;
   few = omega arith;

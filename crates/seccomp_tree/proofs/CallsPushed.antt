@@ -1,10 +1,9 @@
 -- Steps over call numbers: the numbers up to the next that is answered otherwise.
-use Rattle.seccomp_tree.proofs.Common.{◌≡◌, ℕ, ◌+◌, ◌<◌, ◌≤◌, ◌^◌, List, [], ◌∷◌, length, Option, Some, None, Vec, sym, ◌∙◌, arith}
-use Rattle.seccomp_tree.proofs.Common.{if◌then◌else◌, refl, suc, get_or, ◌⊎◌, inl, inr, nat_lt, IsSome, nat_tests, cases_lt, is_at, lookup}
-use Rattle.seccomp_tree.proofs.Common.{nat_cmp, Global, sock_filter, Target, Step, IsPushed, Grows, Ruling, rules_length, DecisionSet}
-use Rattle.seccomp_tree.proofs.Common.{default_for, rulings_for, calls_of, default_from, calls_length, DefaultValue, Give, AreRules, ap}
-use Rattle.seccomp_tree.proofs.Common.{one_value}
-use Rattle.seccomp_tree.specs.Rules.{IsAnswer, AreAnswers, AreCallSteps, IsNextStart}
+use Rattle.seccomp_tree.proofs.Common.{◌≡◌, ℕ, ◌+◌, ◌<◌, ◌≤◌, ◌^◌, List, [], ◌∷◌, length, Option, Some, None, Vec, sym, ◌∙◌, arith, refl}
+use Rattle.seccomp_tree.proofs.Common.{if◌then◌else◌, suc, get_or, ◌⊎◌, inl, inr, nat_lt, IsSome, nat_tests, cases_lt, is_at, lookup, Step}
+use Rattle.seccomp_tree.proofs.Common.{nat_cmp, Global, sock_filter, Target, IsPushed, Grows, Ruling, rules_length, DecisionSet, calls_of}
+use Rattle.seccomp_tree.proofs.Common.{default_for, rulings_for, default_from, calls_length, DefaultValue, Give, AreRules, ap, one_value}
+use Rattle.seccomp_tree.specs.Code.{IsAnswer, AreAnswers, AreCallSteps, IsNextStart}
 use Rattle.seccomp_tree.proofs.Runs.{grows_not, grows_on, is_in_grown, leads_grown}
 use Rattle.seccomp_tree.proofs.Begun.{steps_more}
 use Rattle.seccomp_tree.proofs.Deciding.{items_of, rulings_under}

@@ -4,7 +4,7 @@ use Rattle.seccomp_tree.proofs.Common.{arith, refl, nat_tests, nat_eq, nat_lt, i
 use Rattle.seccomp_tree.proofs.Common.{SeccompCmpArgLen, SeccompCmpOp, Dword, Qword, ◌%◌, MaskedEq, Condition, Compares, part_of, Target}
 use Rattle.seccomp_tree.proofs.Common.{Step, found_in, AreSteps, IsPushed, IsIn, AreIn, is_plain, IsChosen, AreLaid}
 use Rattle.seccomp_tree.specs.Steps.{first_start}
-use Rattle.seccomp_tree.specs.Conditions.{IsTurn, numbers_of}
+use Rattle.seccomp_tree.specs.Code.{IsTurn, numbers_of}
 use Rattle.seccomp_tree.proofs.Begun.{AreLeft, HasMoved, are_in_below, left_begins, left_has, left_on, steps_more}
 
 -- ---- comparing

@@ -1,17 +1,15 @@
 -- The names that the proofs share, of std, of the library and of the definitions.
-pub use Rattle.seccomp_tree.specs.Code.{AreFine, AreIn, DoesAs, GoesOn, Grows, IsHalfTurn, IsIn, IsPart, IsReached, IsSound, IsTested, IsTree}
-pub use Rattle.seccomp_tree.specs.Code.{Leads, LeadsAlways, Returns, Says, Starts, StartsAlways, chosen, gives, near, part_length}
-pub use Rattle.seccomp_tree.specs.Code.{part_steps, tail_at, to_place, to_return}
-pub use Rattle.seccomp_tree.specs.Conditions.{AreLaid, HasBits, IsChosen, IsConditionMet, IsMet, condition_length, condition_steps}
-pub use Rattle.seccomp_tree.specs.Conditions.{is_plain}
+pub use Rattle.seccomp_tree.specs.Code.{AreFine, AreIn, DoesAs, GoesOn, Grows, IsHalfTurn, IsIn, IsPart, IsReached, IsSound, IsTested, Says}
+pub use Rattle.seccomp_tree.specs.Code.{IsTree, Leads, LeadsAlways, Returns, Starts, StartsAlways, chosen, gives, near, tail_at, to_place}
+pub use Rattle.seccomp_tree.specs.Code.{to_return, AreLaid, HasBits, IsChosen, IsConditionMet, IsMet, AreFit, AreRules, IsRulingMet}
+pub use Rattle.seccomp_tree.specs.Code.{IsSettled}
+pub use Rattle.seccomp_tree.specs.Decisions.{part_length, part_steps, condition_length, condition_steps, is_plain, Enters, First, Ruling}
+pub use Rattle.seccomp_tree.specs.Decisions.{RunTakes, Takes, alike, begins, behind, by_conditions, by_steps, conditions_length, ends, here}
+pub use Rattle.seccomp_tree.specs.Decisions.{conditions_steps, joined, joins, nothing, only, passes, rules_length, same_length, stops}
 pub use Rattle.seccomp_tree.specs.Decided.{DecisionSet, IsDecided, StartAbove, calls_of, decided, default_for, default_from}
 pub use Rattle.seccomp_tree.specs.Decided.{other_architecture, rulings_for}
-pub use Rattle.seccomp_tree.specs.Decisions.{Enters, First, Ruling, RunTakes, Takes, alike, begins, behind, by_conditions, by_steps}
-pub use Rattle.seccomp_tree.specs.Decisions.{conditions_length, conditions_steps, ends, here, joined, joins, nothing, only, passes}
-pub use Rattle.seccomp_tree.specs.Decisions.{rules_length, same_length, stops}
 pub use Rattle.seccomp_tree.specs.FilterDecisions.{DecideAs, call_of, decisions_of, rulings_of}
 pub use Rattle.seccomp_tree.specs.Layouts.{AgreesInAll, IsCompiledIn}
-pub use Rattle.seccomp_tree.specs.Rules.{AreFit, AreRules, IsRulingMet, IsSettled}
 pub use Rattle.seccomp_tree.specs.Steps.{AreOver, AreSteps, AscendFrom, IsPushed, TightFrom, found_from, found_in, row, same}
 pub use Rattle.seccomp_tree.specs.Steps.{second_stands_out, single}
 pub use Rattle.seccomp_tree.specs.TreeProgram.{AreRanges, EndsAsDecided, IsTreeProgram, TakesOwn, calls_length, one, one_value, other, own}
@@ -28,9 +26,9 @@ pub use Rattle.seccompiler.specs.Architecture.{audit_word}
 pub use Rattle.seccompiler.specs.Code.{give, load, mask}
 pub use Rattle.seccompiler.specs.Compiled.{AreCallNumbers, EndsAtDecision}
 pub use Rattle.seccompiler.specs.Machine.{Does, Ends, Goes, IsChecked, IsFine, IsInRange, IsRecord, argument_at, fine_at_least, fine_equal}
-pub use Rattle.seccompiler.specs.Machine.{fine_greater, fine_jump, fine_load, fine_mask, fine_return, greatest_length, is_at_least}
-pub use Rattle.seccompiler.specs.Machine.{is_equal, is_greater, is_less, is_not_equal, is_not_greater, jumps, loads, masks, stays}
-pub use Rattle.seccompiler.specs.Machine.{then_step, word_at}
+pub use Rattle.seccompiler.specs.Machine.{fine_greater, fine_jump, fine_load, fine_mask, fine_return, greatest_length, is_at_least, is_less}
+pub use Rattle.seccompiler.specs.Machine.{is_equal, is_greater, is_not_equal, is_not_greater, jumps, loads, masks, stays, then_step}
+pub use Rattle.seccompiler.specs.Machine.{word_at}
 pub use Rattle.seccompiler.specs.Policy.{Chain, ChainMatches, Compares, Condition, Filter, Holds, IsCallNumber, IsDecision, Rule, RuleHolds}
 pub use Rattle.seccompiler.specs.Policy.{chain_under, chains_of, operator_part, part_of, policy_differs, policy_matches, word_of}
 pub use Rattle.seccompiler.specs.declared.backend.SeccompCmpArgLen.{SeccompCmpArgLen}
@@ -38,10 +36,10 @@ pub use Rattle.seccompiler.specs.declared.backend.SeccompCmpArgLen.TheVariants.{
 pub use Rattle.seccompiler.specs.declared.backend.SeccompCmpOp.{SeccompCmpOp}
 pub use Rattle.seccompiler.specs.declared.backend.SeccompCmpOp.TheVariants.{MaskedEq}
 pub use Rattle.seccompiler.specs.declared.bpf.sock_filter.{sock_filter}
-pub use Rattle.std.proofs.Common.{All, Any, Bool, Global, Greater, Less, List, None, Option, Ordering, Some, Vec, [], add-one, ap}
-pub use Rattle.std.proofs.Common.{append_assoc, arith, drop, false, get_or, if◌then◌else◌, inl, inr, length, length-append, length-drop}
-pub use Rattle.std.proofs.Common.{map, nat_eq, nat_le, pos, refl, reverse, rules, subst, suc, sym, take, true, zero, zero-add, ℕ, ℤ, ⊎_elim}
-pub use Rattle.std.proofs.Common.{◌%◌, ◌*◌, ◌++◌, ◌+◌, ◌-◌, ◌/◌, ◌<ℤ◌, ◌<◌, ◌^◌, ◌↔◌, ◌∙◌, ◌∷◌, ◌≡◌, ◌≢◌, ◌≤◌, ◌⊎◌}
+pub use Rattle.std.proofs.Common.{All, Any, Bool, Global, Greater, Less, List, None, Option, Ordering, Some, Vec, [], add-one, ap, arith, ℕ}
+pub use Rattle.std.proofs.Common.{append_assoc, drop, false, get_or, if◌then◌else◌, inl, inr, length, length-append, length-drop, map, pos}
+pub use Rattle.std.proofs.Common.{nat_eq, nat_le, refl, reverse, rules, subst, suc, sym, take, true, zero, zero-add, ℤ, ⊎_elim, ◌%◌, ◌*◌}
+pub use Rattle.std.proofs.Common.{◌++◌, ◌+◌, ◌-◌, ◌/◌, ◌<ℤ◌, ◌<◌, ◌^◌, ◌↔◌, ◌∙◌, ◌∷◌, ◌≡◌, ◌≢◌, ◌≤◌, ◌⊎◌}
 pub use Rattle.std.proofs.Math.Nat.{one-le-pow, pow-succ'}
 pub use Rattle.std.proofs.lemmas.Bool.{and_parts, cases_eq, cases_lt, eq-eqb, false≢true, ne_eqb, true≢false}
 pub use Rattle.std.proofs.lemmas.Bool.Decides.{nat_tests}

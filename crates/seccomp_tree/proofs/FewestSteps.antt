@@ -2,7 +2,7 @@
 use Rattle.seccomp_tree.proofs.Common.{◌≡◌, ℕ, ◌+◌, ◌-◌, ◌<◌, ◌≤◌, ◌^◌, List, [], ◌∷◌, length, Bool, true, false, refl, sym, ap, ◌∙◌, inl}
 use Rattle.seccomp_tree.proofs.Common.{inr, arith, nat_eq, nat_le, if◌then◌else◌, nat_tests, cases_eq, is_member, sock_filter, Target, Step}
 use Rattle.seccomp_tree.proofs.Common.{found_from, AscendFrom, TightFrom, DecisionSet, default_for, rulings_for, AreRanges}
-use Rattle.seccomp_tree.specs.Rules.{IsAnswer, AreAnswers}
+use Rattle.seccomp_tree.specs.Code.{IsAnswer, AreAnswers}
 use Rattle.seccomp_tree.proofs.Begun.{found_before}
 
 -- How many numbers are at a number or above it.

@@ -1,12 +1,11 @@
 -- The decisions of a filter decide every record as it does; and the calls that a loop makes of its chains.
-use Rattle.seccomp_tree.proofs.Common.{◌≡◌, ℕ, ℤ, pos, List, [], ◌∷◌, ◌++◌, ◌<◌, arith, map, Vec, Global, Less, Greater, refl, sym}
-use Rattle.seccomp_tree.proofs.Common.{ap, ◌∙◌, subst, append_assoc, zero, suc, nat_eq, Option, Some, None, ◌⊎◌, inl, inr, Any}
-use Rattle.seccomp_tree.proofs.Common.{All, unsigned_abs, int_cmp, nat_cmp, ints}
-use Rattle.seccomp_tree.proofs.Common.{keys_of, insert_entry, is_at, All-head, All-tail, All-nil}
-use Rattle.seccomp_tree.proofs.Common.{Rule, IsCallNumber, chains_of, Condition, Holds, Chain, Filter, RuleHolds, ChainMatches, chain_under}
-use Rattle.seccomp_tree.proofs.Common.{IsDecision, policy_matches, policy_differs, word_of, AreCallNumbers, Ruling, First, here, behind}
-use Rattle.seccomp_tree.proofs.Common.{nothing, calls_of, IsDecided, other_architecture, decided, rulings_for, default_for, call_of}
-use Rattle.seccomp_tree.proofs.Common.{rulings_of, decisions_of, DecideAs, nat_tests, audit_word, word_at}
+use Rattle.seccomp_tree.proofs.Common.{◌≡◌, ℕ, ℤ, pos, List, [], ◌∷◌, ◌++◌, ◌<◌, arith, map, Vec, Global, Less, Greater, refl, sym, ap, ◌∙◌}
+use Rattle.seccomp_tree.proofs.Common.{subst, append_assoc, zero, suc, nat_eq, Option, Some, None, ◌⊎◌, inl, inr, Any, All, unsigned_abs}
+use Rattle.seccomp_tree.proofs.Common.{int_cmp, nat_cmp, ints, keys_of, insert_entry, is_at, All-head, All-tail, All-nil, Rule, chains_of}
+use Rattle.seccomp_tree.proofs.Common.{IsCallNumber, Condition, Holds, Chain, Filter, RuleHolds, ChainMatches, chain_under, IsDecision}
+use Rattle.seccomp_tree.proofs.Common.{policy_matches, policy_differs, word_of, AreCallNumbers, Ruling, First, here, behind, nothing}
+use Rattle.seccomp_tree.proofs.Common.{calls_of, IsDecided, other_architecture, decided, rulings_for, default_for, call_of, rulings_of}
+use Rattle.seccomp_tree.proofs.Common.{decisions_of, DecideAs, nat_tests, audit_word, word_at}
 use Rattle.std.specs.Prelude.{⊤, ◌≤◌, ◌+◌}
 use Rattle.std.proofs.lemmas.List.{map-append}
 use Rattle.std.proofs.lemmas.List.Elements.{All-push}

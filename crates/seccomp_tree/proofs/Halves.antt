@@ -83,14 +83,13 @@ module _ {old code : List sock_filter} {index number end : ℕ} {steps lows push
     | inr more ↦ left_has rest d (high * 2 ^ 32 + a) h.left some (omega arith) (rw ends at lt) ∙ sym (p.from a more)
   ]
 
-  pub lows_over : AreOver pushed
-  lows_over = over_zero pushed (steps_more (number % 2 ^ 32 + 1) (2 ^ 32) pushed (omega arith) (omega arith) p.are)
-
-  pub lows_in : AreIn old steps → AreIn code pushed
-  lows_in inside = are_in_below code (number % 2 ^ 32 + 1) pushed (omega arith) p.are
-      (λ a lt. rw (held (number / 2 ^ 32) a (omega arith) (inl refl) (omega arith) (omega (arith, up.0))) at
-      (is_in_grown (found_in steps (number / 2 ^ 32 * 2 ^ 32 + a)) h.grows
-      (found_in_code old steps _ (omega (arith, h.few)) inside)))
+  pub lows_in : AreIn old steps → AreOver pushed × AreIn code pushed
+  lows_in inside = (
+    over_zero pushed (steps_more (number % 2 ^ 32 + 1) (2 ^ 32) pushed (omega arith) (omega arith) p.are),
+    are_in_below code (number % 2 ^ 32 + 1) pushed (omega arith) p.are
+        (λ a lt. rw (held (number / 2 ^ 32) a (omega arith) (inl refl) (omega arith) (omega (arith, up.0))) at
+        (is_in_grown (found_in steps (number / 2 ^ 32 * 2 ^ 32 + a)) h.grows (found_in_code old steps _ (omega (arith, h.few)) inside))),
+  )
 
   pub halving_on : (next : ℕ) (back : List Step) → IsHalfTurn number end next → HasMoved next end rest back
       → number / 2 ^ 32 ≡ end / 2 ^ 32 → Halving old index steps next back pushed highs code

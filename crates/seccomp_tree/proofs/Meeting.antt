@@ -7,8 +7,7 @@ use Rattle.seccomp_tree.proofs.Common.{load, mask, word_fits, number_halves, mas
 use Rattle.seccomp_tree.proofs.Common.{IsChosen, AreLaid, condition_length, condition_steps, IsMet, IsConditionMet, HasBits, LeadsAlways}
 use Rattle.seccomp_tree.proofs.Common.{IsIn, chosen, IsTested, part_length, part_steps, IsPart}
 use Rattle.seccomp_tree.specs.declared.code.Test.TheVariants.{Equal}
-use Rattle.seccomp_tree.specs.Conditions.{numbers_of}
-use Rattle.seccomp_tree.specs.Code.{goes_on}
+use Rattle.seccomp_tree.specs.Code.{goes_on, numbers_of}
 use Rattle.seccomp_tree.proofs.Runs.{grows_not, grows_one, grows_on, starts_more, leads_by, leads_grown, starts_last}
 use Rattle.seccomp_tree.proofs.Trees.{load_run}
 use Rattle.seccomp_tree.proofs.Choices.{compares_or_not}

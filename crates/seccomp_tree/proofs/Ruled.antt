@@ -2,11 +2,10 @@
 use Rattle.seccomp_tree.proofs.Common.{◌≡◌, ℕ, suc, ◌+◌, ◌*◌, ◌<◌, ◌≤◌, ◌^◌, List, [], ◌∷◌, length, drop, true, false, refl, sym, ap, ◌∙◌}
 use Rattle.seccomp_tree.proofs.Common.{Option, Some, None, arith, nat_tests, false≢true, true≢false, All-nil, All-cons, All-head, All-tail}
 use Rattle.seccomp_tree.proofs.Common.{sock_filter, SeccompCmpArgLen, IsRecord, argument_at, Condition, Holds, RuleHolds, part_of, Target}
-use Rattle.seccomp_tree.proofs.Common.{Give, Step, found_in, single, is_plain, AreLaid, IsConditionMet, LeadsAlways, to_return, Grows}
-use Rattle.seccomp_tree.proofs.Common.{part_length, part_steps, Ruling, First, only, alike, same_length, joins, joined, conditions_length}
-use Rattle.seccomp_tree.proofs.Common.{conditions_steps, rules_length, RunTakes, by_steps, by_conditions, Enters, begins, Takes, stops}
-use Rattle.seccomp_tree.proofs.Common.{passes, ends, IsRulingMet, AreFit, AreRules, greatest_length, IsSettled, IsChosen, IsIn, get_or}
-use Rattle.seccomp_tree.proofs.Common.{zero}
+use Rattle.seccomp_tree.proofs.Common.{Give, Step, found_in, single, is_plain, AreLaid, IsConditionMet, LeadsAlways, to_return, Grows, only}
+use Rattle.seccomp_tree.proofs.Common.{part_length, part_steps, Ruling, First, alike, same_length, joins, joined, conditions_length, Enters}
+use Rattle.seccomp_tree.proofs.Common.{conditions_steps, rules_length, RunTakes, by_steps, by_conditions, begins, Takes, stops, passes}
+use Rattle.seccomp_tree.proofs.Common.{ends, IsRulingMet, AreFit, AreRules, greatest_length, IsSettled, IsChosen, IsIn, get_or, zero}
 use Rattle.seccomp_tree.specs.Decisions.{goes_on}
 use Rattle.seccomp_tree.proofs.Runs.{grows_not, grows_on, leads_by, starts_more}
 use Rattle.seccomp_tree.proofs.Begun.{found_in_code, not_none}
@@ -16,14 +15,13 @@ use Rattle.seccomp_tree.proofs.Meeting.{holds_or_not, chosen_plain, part_fits, p
 
 -- ---- one ruling
 
-pub ruling_none : (old : List sock_filter) (value : ℕ) (after : Target) (conditions : List Condition) → conditions ≡ [] → value < 2 ^ 32
+pub ruling_none : {old : List sock_filter} {value : ℕ} {after : Target} (conditions : List Condition) → conditions ≡ [] → value < 2 ^ 32
     → IsRulingMet old conditions value after (Give value) old
-ruling_none old value after conditions empty fits = rw empty (met_now (Give value) after (Give value) fits (λ r is. refl)
+ruling_none {value = value} {after} conditions empty fits = rw empty (met_now (Give value) after (Give value) fits (λ r is. refl)
     (λ r not. absurd (not (All-nil (λ (c : Condition). Holds c r)))))
 
-pub ruling_one : (old mid new : List sock_filter) (value : ℕ) (after t u : Target) (c : Condition) (rest : List Condition)
-    → IsRulingMet old rest value after t mid → IsConditionMet mid c t after u new → IsRulingMet old (c ∷ rest) value after u new
-ruling_one old mid new value after t u c rest h one = met_both _ _ (holds_or_not c) (λ r rec. (
+pub ruling_one : {old mid new : List sock_filter} {value : ℕ} {after t u : Target} (c : Condition) (rest : List Condition) → IsRulingMet old rest value after t mid → IsConditionMet mid c t after u new → IsRulingMet old (c ∷ rest) value after u new
+ruling_one c rest h one = met_both _ _ (holds_or_not c) (λ r rec. (
   λ all. (All-head (λ (x : Condition). Holds x r) c rest all, All-tail (λ (x : Condition). Holds x r) c rest all),
   λ both. All-cons (λ (x : Condition). Holds x r) c rest both.0 both.1,
 )) (omega arith) (omega arith) h one
@@ -109,17 +107,6 @@ pub record IsBehind (old : List sock_filter) (default : ℕ) (q : List Condition
   pub leads : (r : List ℕ) → IsRecord r → (w n : ℕ) → First default r rulings w → Takes r q rulings n
       → LeadsAlways code r (found_in steps (looked_up like r)) w (n + 1)
 
-pub behind_none : (old : List sock_filter) (default : ℕ) → default < 2 ^ 32 → IsBehind old default [] [] None (single (Give default)) old
-behind_none old default fits = record {
-  own = refl;
-  before = 0;
-  grows = grows_not old 0;
-  room = omega arith;
-  few = omega arith;
-  fit = (Give default, refl, fits);
-  leads = λ r rec w n is takes a small. rw (first_nothing is) (to_return default a (n + 1) (omega arith));
-}
-
 module _ {old code : List sock_filter} {default : ℕ} where
   -- so for a ruling that compares what the steps are over
   pub behind_along : (p : List Condition) (rulings : List Ruling) (own like : Option Condition) (steps : List Step) → only p ≡ own
@@ -168,6 +155,13 @@ module _ {old code : List sock_filter} {default : ℕ} where
       one None = (t, refl, x.inside)
       one (Some c) =
           (record { first = refl; ascend = (omega arith, (omega (arith, numbers_many c.arg_len), tt)); tight = tt }, one_in)
+
+pub behind_none : (old : List sock_filter) (default : ℕ) → default < 2 ^ 32 → IsBehind old default [] [] None (single (Give default)) old
+behind_none old default fits = behind_fresh [] [] None (Give default) refl refl record {
+  grows = grows_not old 0;
+  inside = fits;
+  leads = λ r rec w n is takes a small. rw (first_nothing is) (to_return default a (n + 1) (omega arith));
+}
 
 -- ---- a ruling in front
 

@@ -1,21 +1,16 @@
 -- Code that grows: what starts at a place stays what it was, how long code is, and that it stays sound; and runs that begin at a target.
-use Rattle.seccomp_tree.proofs.Common.{◌≡◌, ℕ, suc, ◌+◌, ◌-◌, ◌<◌, List, [], ◌∷◌, ◌++◌, length, drop, get_or, length-append, zero-add, sym}
+use Rattle.seccomp_tree.proofs.Common.{◌≡◌, ℕ, suc, ◌+◌, ◌-◌, ◌<◌, List, [], ◌∷◌, ◌++◌, length, drop, get_or, length-append, sym}
 use Rattle.seccomp_tree.proofs.Common.{ap, ◌∙◌, arith, ◌≤◌, ◌^◌, append_assoc, refl, subst, zero, reverse, drop_more, drop-drop}
 use Rattle.seccomp_tree.proofs.Common.{get_or-reverse, length-reverse, sock_filter, tail_at, IsIn, Grows, Returns, gives, Starts, Leads}
 use Rattle.seccomp_tree.proofs.Common.{to_return, to_place, near, IsSound, Target, Give, At, IsFine, IsInRange}
 use Rattle.seccomp_tree.specs.Code.{goes_on}
-
-drop_behind : (front old : List sock_filter) (n : ℕ) → drop (length front + n) (front ++ old) ≡ drop n old
-drop_behind [] old n = ap (λ k. drop k old) (zero-add n)
-drop_behind (i ∷ front) old n =
-    let z : length (i ∷ front) + n ≡ suc (length front + n) = omega arith in
-    rw z (drop_behind front old n)
+use Rattle.std.proofs.Math.Seq.{drop-append-add}
 
 -- what starts at a place stays what it was
 pub tail_grown : (front old : List sock_filter) (m : ℕ) → m < length old → tail_at (front ++ old) m ≡ tail_at old m
 tail_grown front old m inside =
     let at : length (front ++ old) - (m + 1) ≡ length front + (length old - (m + 1)) = omega (arith, length-append front old) in
-    ap (λ k. drop k (front ++ old)) at ∙ drop_behind front old (length old - (m + 1))
+    ap (λ k. drop k (front ++ old)) at ∙ drop-append-add front old (length old - (m + 1))
 
 -- from the first place on there is all of it
 pub tail_whole : (code : List sock_filter) (m : ℕ) → m + 1 ≡ length code → tail_at code m ≡ code

@@ -1,5 +1,5 @@
 -- The theorem: what is written answers every record as is decided.
-use Rattle.seccomp_tree.proofs.Common.{◌≡◌, ℕ, ◌+◌, ◌*◌, ◌≤◌, ◌^◌, List, [], ◌∷◌, length, Bool, true, false, Option, Some, None, refl}
+use Rattle.seccomp_tree.proofs.Common.{◌≡◌, ℕ, ◌+◌, ◌*◌, ◌≤◌, ◌^◌, List, [], ◌∷◌, length, Option, Some, None, refl}
 use Rattle.seccomp_tree.proofs.Common.{ap, inl, inr, arith, nat_eq, if◌then◌else◌, suc, zero, nat_tests, All-nil, sock_filter, IsRecord}
 use Rattle.seccomp_tree.proofs.Common.{word_at, audit_word, Condition, Holds, Target, Give, Step, AreIn, AreOver, StartsAlways, to_return}
 use Rattle.seccomp_tree.proofs.Common.{LeadsAlways, IsPart, IsSound, Returns, chosen, part_steps, Dword, Ruling, First, nothing, Takes}
@@ -7,8 +7,9 @@ use Rattle.seccomp_tree.proofs.Common.{stops, passes, ends, Enters, begins, RunT
 use Rattle.seccomp_tree.proofs.Common.{conditions_steps, DecisionSet, default_for, rulings_for, IsDecided, other_architecture, decided}
 use Rattle.seccomp_tree.proofs.Common.{one_value, value_for, TakesOwn, other, one, own, EndsAsDecided, IsTreeProgram, AreRanges, IsTested}
 use Rattle.seccomp_tree.proofs.Common.{greatest_length, load, word_fits, pow-succ', one-le-pow, give}
+use Rattle.std.proofs.lemmas.Bool.{cases_Bool}
 use Rattle.seccomp_tree.specs.Decisions.{goes_on as runs_on}
-use Rattle.seccomp_tree.specs.Rules.{IsAnswer, AreCallSteps}
+use Rattle.seccomp_tree.specs.Code.{IsAnswer, AreCallSteps}
 use Rattle.seccomp_tree.proofs.Deciding.{first_here, decided_some}
 use Rattle.seccomp_tree.proofs.Begun.{are_in_below, not_none, over_zero}
 use Rattle.seccomp_tree.specs.TreeProgram.{length_by}
@@ -58,11 +59,10 @@ run_some conditions count = go (only conditions) refl
     go (Some c) is = (part_steps c.arg_len (2 * count + 1) + 1, by_steps c (2 * count + 1) is (power (2 * count + 1)))
 
 enters_some : (first : List Condition) (d : Ruling) (rest : List Ruling) → (n : ℕ) × Enters first d rest n
-enters_some first d rest = go (joins first d.conditions) refl
-  where
-    go : (b : Bool) → joins first d.conditions ≡ b → (n : ℕ) × Enters first d rest n
-    go true e = (0, runs_on e)
-    go false e = let x = run_some d.conditions (1 + joined d.conditions rest) in (x.0, begins x.0 e x.1)
+enters_some first d rest = elim (cases_Bool (joins first d.conditions)) [
+  | inl on ↦ (0, runs_on on)
+  | inr apart ↦ let x = run_some d.conditions (1 + joined d.conditions rest) in (x.0, begins x.0 apart x.1)
+]
 
 takes_some : (r : List ℕ) (first : List Condition) (rulings : List Ruling) → (n : ℕ) × Takes r first rulings n
 takes_some r first [] = (0, ends first)

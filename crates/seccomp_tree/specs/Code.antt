@@ -1,17 +1,25 @@
--- Code that is written from its end to its front: what a run from a place of it returns, and what stays so.
+-- What private functions promise each other: of code that is written from its end to its front, conditions, rulings and call numbers.
 use Rattle.std.specs.Prelude.{◌≡◌, ℕ, suc, ◌+◌, ◌-◌, ◌*◌, ◌/◌, ◌%◌, ◌<◌, ◌≤◌, ◌^◌, List, [], ◌∷◌, ◌++◌, length, drop, ⊤, nat_eq, nat_le}
-use Rattle.std.specs.Prelude.{slice_index_or, if◌then◌else◌}
+use Rattle.std.specs.Prelude.{slice_index_or, if◌then◌else◌, bit_and, Option, Some, None, true}
 use Rattle.seccompiler.specs.declared.bpf.sock_filter.{sock_filter}
-use Rattle.seccompiler.specs.Machine.{IsRecord, Does, IsFine, IsInRange}
+use Rattle.seccompiler.specs.Machine.{IsRecord, Does, IsFine, IsInRange, word_at, argument_at, greatest_length}
+use Rattle.seccompiler.specs.Policy.{Condition, Holds, Compares, RuleHolds, part_of}
 use Rattle.seccompiler.specs.declared.backend.SeccompCmpArgLen.{SeccompCmpArgLen}
 use Rattle.seccompiler.specs.declared.backend.SeccompCmpArgLen.TheVariants.{Dword, Qword}
 use Rattle.seccompiler.specs.Code.{give}
+use Rattle.seccomp_tree.specs.declared.error.TreeError.{TreeError}
+use Rattle.seccomp_tree.specs.declared.error.TreeError.TheVariants.{TooLarge}
+use Rattle.seccomp_tree.specs.declared.decisions.DefaultValue.{DefaultValue}
 use Rattle.seccomp_tree.specs.declared.steps.Target.{Target}
 use Rattle.seccomp_tree.specs.declared.steps.Target.TheVariants.{Give, At}
 use Rattle.seccomp_tree.specs.declared.steps.Step.{Step}
 use Rattle.seccomp_tree.specs.declared.code.Test.{Test}
 use Rattle.seccomp_tree.specs.declared.code.Test.TheVariants.{Equal, AtLeast}
-use Rattle.seccomp_tree.specs.Steps.{found_in, row}
+use Rattle.seccomp_tree.specs.Steps.{AreSteps, found_in, row, single}
+use Rattle.seccomp_tree.specs.Decisions.{Ruling, First, Takes, condition_length, condition_steps, conditions_length, conditions_steps, is_plain}
+use Rattle.seccomp_tree.specs.Decisions.{part_length, part_steps, rules_length}
+use Rattle.seccomp_tree.specs.Decided.{DecisionSet, default_for, rulings_for}
+use Rattle.seccomp_tree.specs.TreeProgram.{one_value, calls_length}
 
 -- Each instruction is one of the seven, within its fields' ranges, and its jumps lead to instructions after it.
 abbrev pub AreFine : List sock_filter → Type 0
@@ -115,16 +123,6 @@ pub record IsTree (old : List sock_filter) (steps : List Step) (t : Target) (new
   pub leads : (k : ℕ) → length steps ≤ 2 ^ k → GoesOn old steps (2 * k) t new
   pub soon : row steps ≤ 6 → GoesOn old steps (row steps) t new
 
--- How many instructions n steps over numbers of a length take at most.
-abbrev pub part_length : SeccompCmpArgLen → ℕ → ℕ
-part_length Dword n = 3 * n - 2
-part_length Qword n = 13 * n - 2
-
--- How many steps of the machine it takes to tell at most 2 ^ k steps apart: two for each halving, and the loads.
-abbrev pub part_steps : SeccompCmpArgLen → ℕ → ℕ
-part_steps Dword k = 1 + 2 * k
-part_steps Qword k = 5 + 4 * k
-
 -- The target goes on as the steps say for a number of the record, whatever the accumulator holds, in the machine's steps for a
 -- number of this length.
 pub record IsPart (old : List sock_filter) (l : SeccompCmpArgLen) (number : List ℕ → ℕ) (steps : List Step) (t : Target)
@@ -143,3 +141,101 @@ pub record IsHalfTurn (number end next : ℕ) : Type 0 where
   pub behind : number / 2 ^ 32 < end / 2 ^ 32 → next % 2 ^ 32 ≡ 0
   pub first : number / 2 ^ 32 < end / 2 ^ 32 → number % 2 ^ 32 ≡ 0 → next / 2 ^ 32 ≡ end / 2 ^ 32
   pub later : number / 2 ^ 32 < end / 2 ^ 32 → 0 < number % 2 ^ 32 → next / 2 ^ 32 ≡ number / 2 ^ 32 + 1
+
+-- ---- conditions
+
+-- How many numbers a length has.
+abbrev pub numbers_of : SeccompCmpArgLen → ℕ
+numbers_of Dword = 2 ^ 32
+numbers_of Qword = 2 ^ 64
+
+-- Of two things the first if something is so, and else the second.
+pub record IsChosen {A : Type 0} (Is : Type 0) (yes no t : A) : Type 0 where
+  pub met : Is → t ≡ yes
+  pub unmet : (Is → ⊥) → t ≡ no
+
+-- The numbers from one up to the next lie to the value as it does; it is the last, or the next is the value or the one after it.
+pub record IsTurn (value number end next : ℕ) : Type 0 where
+  pub above : number < next
+  pub within : next ≤ end
+  pub alike : (a : ℕ) → number ≤ a → a < next → (number < value → a < value) × (number ≡ value → a ≡ value)
+  pub cut : next < end → (number ≤ value) × ((number < value → next ≡ value) × (number ≡ value → next ≡ value + 1))
+
+-- The steps have the target for the numbers on which the condition's comparison holds, and else what others have; there are
+-- at most two more.
+pub record AreLaid (c : Condition) (target : Target) (others steps : List Step) : Type 0 where
+  pub are : AreSteps (numbers_of c.arg_len) steps
+  pub each : (a : ℕ) → a < numbers_of c.arg_len
+      → IsChosen (Compares c.operator a (part_of c.arg_len c.value)) target (found_in others a) (found_in steps a)
+  pub few : length steps ≤ length others + 2
+  pub plain : is_plain c.operator ≡ true
+
+-- The target goes on as `yes` says if something is so of the record, and else as `no` says, whatever the accumulator holds.
+pub record IsMet (Is : List ℕ → Type 0) (most steps : ℕ) (old : List sock_filter) (yes no t : Target) (new : List sock_filter) :
+    Type 0 where
+  pub grows : Grows old most new
+  pub inside : IsIn new t
+  pub met : (r : List ℕ) → IsRecord r → Is r → (w n : ℕ) → LeadsAlways old r yes w n → LeadsAlways new r t w (n + steps)
+  pub unmet : (r : List ℕ) → IsRecord r → (Is r → ⊥) → (w n : ℕ) → LeadsAlways old r no w n → LeadsAlways new r t w (n + steps)
+
+abbrev pub IsConditionMet : List sock_filter → Condition → Target → Target → Target → List sock_filter → Type 0
+IsConditionMet old c met unmet t new =
+    IsMet (Holds c) (condition_length c.arg_len c.operator) (condition_steps c.arg_len c.operator + 1) old met unmet t new
+
+-- The word of the record at this byte has the value's bits under the mask.
+abbrev pub HasBits : ℕ → ℕ → ℕ → List ℕ → Type 0
+HasBits byte mask value r = bit_and (word_at r byte) mask ≡ bit_and value mask
+
+-- ---- rulings
+
+-- The target returns the value if all the conditions hold, and else goes on as what comes after.
+abbrev pub IsRulingMet : List sock_filter → List Condition → ℕ → Target → Target → List sock_filter → Type 0
+IsRulingMet old q value after t new = IsMet (RuleHolds q) (conditions_length q) (conditions_steps q) old (Give value) after t new
+
+-- The target goes on as the first of the rulings that holds says, or returns the default.
+pub record AreRules (old : List sock_filter) (rulings : List Ruling) (default : ℕ) (t : Target) (new : List sock_filter) : Type 0 where
+  pub grows : Grows old (rules_length rulings) new
+  pub inside : IsIn new t
+  pub leads : (r : List ℕ) → IsRecord r → (w n : ℕ) → First default r rulings w → Takes r [] rulings n → LeadsAlways new r t w (n + 1)
+
+-- What comes after rulings: steps over what a condition compares, or one target if there is no condition.
+abbrev pub AreFit : List sock_filter → Option Condition → List Step → Type 0
+AreFit code None steps = (t : Target) × (steps ≡ single t) × IsIn code t
+AreFit code (Some c) steps = AreSteps (numbers_of c.arg_len) steps × AreIn code steps
+
+-- There are more rulings than a program has room for: this comes only if that is so, or of memory.
+abbrev pub IsTooMany : ℕ → TreeError → Type 0
+IsTooMany length e = e ≡ TooLarge → greatest_length < length
+
+-- The target goes on there.
+abbrev pub IsSettled : List sock_filter → Option Condition → List Step → Target → List sock_filter → Type 0
+IsSettled old None steps t new = (steps ≡ single t) × (new ≡ old)
+IsSettled old (Some c) steps t new =
+    IsPart old c.arg_len (λ r. part_of c.arg_len (argument_at r c.arg_index)) steps t new
+
+-- ---- steps over call numbers
+
+-- The target answers calls as their rulings do, whatever the accumulator holds; if one value answers them, it returns
+-- that.
+pub record IsAnswer (code : List sock_filter) (default : ℕ) (rulings : List Ruling) (t : Target) : Type 0 where
+  pub inside : IsIn code t
+  pub one : (v : ℕ) → one_value default rulings ≡ Some v → t ≡ Give v
+  pub own : one_value default rulings ≡ None → (r : List ℕ) → IsRecord r → (w n : ℕ) → First default r rulings w
+      → Takes r [] rulings n → LeadsAlways code r t w (n + 1)
+
+-- A number after this one, up to which calls are answered as those of this one.
+pub record IsNextStart (defaults : List DefaultValue) (calls : List (ℕ × List Ruling)) (number next : ℕ) : Type 0 where
+  pub above : number < next
+  pub within : next ≤ 2 ^ 32
+  pub default : (n : ℕ) → number ≤ n → n < next → default_for defaults n ≡ default_for defaults number
+  pub rulings : (n : ℕ) → number ≤ n → n < next → rulings_for calls n ≡ rulings_for calls number
+
+-- The steps over the numbers below one answer each of them.
+pub record AreAnswers (d : DecisionSet) (next : ℕ) (code : List sock_filter) (steps : List Step) : Type 0 where
+  pub are : AreSteps next steps
+  pub each : (n : ℕ) → n < next → IsAnswer code (default_for d.defaults n) (rulings_for d.calls n) (found_in steps n)
+
+-- Code was put in front, and the steps answer all numbers.
+pub record AreCallSteps (old : List sock_filter) (d : DecisionSet) (steps : List Step) (new : List sock_filter) : Type 0 where
+  pub grows : Grows old (calls_length d.calls) new
+  pub answers : AreAnswers d (2 ^ 32) new steps

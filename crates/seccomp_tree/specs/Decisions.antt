@@ -1,11 +1,11 @@
 -- Decisions on one call: rulings in order, of which the first that holds names the word.
 use Rattle.std.specs.Prelude.{◌≡◌, ℕ, suc, ◌+◌, ◌*◌, ◌≤◌, ◌^◌, List, [], ◌∷◌, Bool, true, false, ◌&&◌, nat_eq, if◌then◌else◌, Option, Some}
-use Rattle.std.specs.Prelude.{None}
+use Rattle.std.specs.Prelude.{None, ◌-◌}
 use Rattle.seccompiler.specs.declared.backend.SeccompCmpArgLen.{SeccompCmpArgLen}
 use Rattle.seccompiler.specs.declared.backend.SeccompCmpArgLen.TheVariants.{Dword, Qword}
 use Rattle.seccompiler.specs.Policy.{Condition, RuleHolds}
-use Rattle.seccomp_tree.specs.Conditions.{is_plain, condition_length, condition_steps}
-use Rattle.seccomp_tree.specs.Code.{part_steps}
+use Rattle.seccompiler.specs.declared.backend.SeccompCmpOp.{SeccompCmpOp}
+use Rattle.seccompiler.specs.declared.backend.SeccompCmpOp.TheVariants.{MaskedEq}
 
 -- Conditions, and the word that is returned if they all hold.
 pub record Ruling : Type 0 where
@@ -18,6 +18,11 @@ pub data First (default : ℕ) (r : List ℕ) : List Ruling → ℕ → Type 0 w
   behind : (d : Ruling) (rest : List Ruling) (w : ℕ) → (RuleHolds d.conditions r → ⊥) → First default r rest w → First default r (d ∷ rest)
       w
   nothing : First default r [] default
+
+-- Whether the operator compares without a mask: it holds on the numbers of one interval or two.
+abbrev pub is_plain : SeccompCmpOp → Bool
+is_plain (MaskedEq m) = false
+is_plain _ = true
 
 -- ---- runs: rulings that compare one argument, one after the other
 
@@ -50,6 +55,32 @@ joined first [] = 0
 joined first (d ∷ rest) = if joins first d.conditions then suc (joined d.conditions rest) else 0
 
 -- ---- what a promise counts
+
+-- How many instructions n steps over numbers of a length take at most.
+abbrev pub part_length : SeccompCmpArgLen → ℕ → ℕ
+part_length Dword n = 3 * n - 2
+part_length Qword n = 13 * n - 2
+
+-- How many steps of the machine it takes to tell at most 2 ^ k steps apart: two for each halving, and the loads.
+abbrev pub part_steps : SeccompCmpArgLen → ℕ → ℕ
+part_steps Dword k = 1 + 2 * k
+part_steps Qword k = 5 + 4 * k
+
+-- How many instructions a condition takes at most. It has three steps, or it has masks.
+abbrev pub mask_length : SeccompCmpArgLen → ℕ
+mask_length Dword = 5
+mask_length Qword = 10
+
+abbrev pub condition_length : SeccompCmpArgLen → SeccompCmpOp → ℕ
+condition_length l o = if is_plain o then part_length l 3 else mask_length l
+
+-- How many steps of the machine a condition takes at most.
+abbrev pub mask_steps : SeccompCmpArgLen → ℕ
+mask_steps Dword = 3
+mask_steps Qword = 7
+
+abbrev pub condition_steps : SeccompCmpArgLen → SeccompCmpOp → ℕ
+condition_steps l o = if is_plain o then part_steps l 2 else mask_steps l
 
 -- The lengths of conditions by themselves.
 abbrev pub conditions_length : List Condition → ℕ

@@ -3,11 +3,10 @@
 -- Between layers: what private functions promise each other. No promise rests on how these are worded.
 pub mod Steps
 pub mod Code
-pub mod Conditions
+-- Decisions, what they decide, and their program.
 pub mod Decisions
 pub mod Decided
 pub mod TreeProgram
-pub mod Rules
 -- Filters as decisions, and their programs in either layout.
 pub mod FilterDecisions
 pub mod Layouts

@@ -1,8 +1,7 @@
 // Conditions as targets: if one holds, the one target; else the other.
 
 ghost use Rattle.std.specs.Prelude.{◌≡◌, ◌≤◌, ◌%◌, IfOk};
-ghost use Rattle.seccomp_tree.specs.Code.{IsIn};
-ghost use Rattle.seccomp_tree.specs.Conditions.{HasBits, IsConditionMet, IsMet};
+ghost use Rattle.seccomp_tree.specs.Code.{HasBits, IsConditionMet, IsIn, IsMet};
 
 use crate::code::{Code, Test};
 use crate::intervals::laid;

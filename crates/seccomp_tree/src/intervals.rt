@@ -3,7 +3,8 @@
 ghost use Rattle.std.specs.Prelude.{◌≡◌, ◌≤◌, ◌<◌, ◌^◌, ◌↔◌, IsTrue, IfOk, true};
 ghost use Rattle.seccompiler.specs.Policy.{Compares};
 ghost use Rattle.seccomp_tree.specs.Steps.{AreSteps, first_start};
-ghost use Rattle.seccomp_tree.specs.Conditions.{AreLaid, IsTurn, is_plain, numbers_of};
+ghost use Rattle.seccomp_tree.specs.Code.{AreLaid, IsTurn, numbers_of};
+ghost use Rattle.seccomp_tree.specs.Decisions.{is_plain};
 
 use crate::steps::{Step, Target, push_step};
 use seccompiler::{SeccompCmpArgLen, SeccompCmpOp, SeccompCondition};

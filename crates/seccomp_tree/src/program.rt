@@ -3,7 +3,7 @@
 ghost use Rattle.std.specs.Prelude.{◌≡◌, ◌<◌, ◌^◌, IfOk, IfErr, IfSome};
 ghost use Rattle.seccomp_tree.specs.Decided.{calls_of};
 ghost use Rattle.seccomp_tree.specs.TreeProgram.{one_value};
-ghost use Rattle.seccomp_tree.specs.Rules.{IsNextStart, IsTooMany};
+ghost use Rattle.seccomp_tree.specs.Code.{IsNextStart, IsTooMany};
 
 use crate::code::{Code, Test};
 use crate::decisions::{Decision, Decisions, DefaultValue, KILL_PROCESS, default_for};
@@ -19,7 +19,7 @@ use std::ops::Bound;
 
 impl Decisions {
     ghost use Rattle.seccomp_tree.specs.TreeProgram.{IsTreeProgram, IsTooLargeFor, calls_length};
-    ghost use Rattle.seccomp_tree.specs.Rules.{AreCallSteps};
+    ghost use Rattle.seccomp_tree.specs.Code.{AreCallSteps};
 
     /// The program of these decisions: one tree of tests over call numbers, and after it the tests of their arguments.
     ///

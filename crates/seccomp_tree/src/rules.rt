@@ -1,9 +1,8 @@
 // Rulings as a target: what the first that holds says.
 
 ghost use Rattle.std.specs.Prelude.{◌≡◌, IfOk, IfErr};
-ghost use Rattle.seccomp_tree.specs.Code.{IsIn};
+ghost use Rattle.seccomp_tree.specs.Code.{AreFit, AreRules, IsIn, IsRulingMet, IsSettled, IsTooMany};
 ghost use Rattle.seccomp_tree.specs.Decisions.{alike, only, rules_length};
-ghost use Rattle.seccomp_tree.specs.Rules.{AreFit, AreRules, IsRulingMet, IsSettled, IsTooMany};
 
 use crate::code::Code;
 use crate::decisions::Decision;

@@ -1,7 +1,7 @@
 use Rattle.seccomp_tree.proofs.Common.{◌≡◌, List, Step, ◌-◌, ◌%◌, ap, ◌∙◌, inl, inr, drop, length, refl, take, sym, false≢true}
 use Rattle.seccomp_tree.proofs.Common.{get_or, Give, Compares, part_of}
 use Rattle.seccomp_tree.specs.Steps.{first_start}
-use Rattle.seccomp_tree.specs.Conditions.{IsChosen, numbers_of}
+use Rattle.seccomp_tree.specs.Code.{IsChosen, numbers_of}
 use Rattle.seccomp_tree.proofs.Begun.{HasMoved}
 use Rattle.seccomp_tree.proofs.Trees.{all_behind}
 use Rattle.seccomp_tree.proofs.Choices.{Laying, laying_begins, laying_on, laying_ends, part_left}

@@ -1,6 +1,6 @@
 use Rattle.seccomp_tree.proofs.Common.{◌-◌}
 use Rattle.seccomp_tree.proofs.Choices.{Laying}
-use Rattle.seccomp_tree.specs.Conditions.{numbers_of}
+use Rattle.seccomp_tree.specs.Code.{numbers_of}
 use Rattle.seccomp_tree.proofs.intervals.laid.Given as goal
 
 abbrev pub invariant-loop-number : goal.invariant-loop-number

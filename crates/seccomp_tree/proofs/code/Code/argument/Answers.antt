@@ -3,7 +3,7 @@ use Rattle.seccomp_tree.specs.Steps.{first_start}
 use Rattle.seccomp_tree.proofs.Begun.{HasMoved}
 use Rattle.seccomp_tree.proofs.Meeting.{part_of_word}
 use Rattle.seccomp_tree.proofs.Trees.{all_behind}
-use Rattle.seccomp_tree.proofs.Halves.{Halving, halving_begins, halving_on, halving_done, highs_in, is_argument, lows_in, lows_over}
+use Rattle.seccomp_tree.proofs.Halves.{Halving, halving_begins, halving_on, halving_done, highs_in, is_argument, lows_in}
 use Rattle.seccomp_tree.proofs.code.Code.argument.Goals.{After-first_start-end, After-turn-number}
 use Rattle.seccomp_tree.proofs.code.Code.argument.Goals.{then-high-end+in_ok-target+in_ok-push_step-2, else-high-end}
 use Rattle.seccomp_tree.proofs.code.Code.argument.Goals as goal
@@ -23,14 +23,11 @@ none = record { start = 0; target = Give 0 }
 end_is : (c : After-first_start-end) → c.first_start-end.result ≡ first_start (2 ^ 64) (drop 1 c.loop-number.rest.now)
 end_is c = c.first_start-end.ensures ∙ ap (first_start (2 ^ 64)) (all_behind c.loop-number.rest.now 1)
 
-pub word-requires-then-high-end-clause-over : goal.word-requires-then-high-end-clause-over
-word-requires-then-high-end-clause-over c = rw c.deref.ensures.value (lows_over c.loop-number.rest.now none c.loop-number.invariant
-    c.loop-number-test.true (end_is ((goal.at.word-requires-then-high-end-clause-over c).After-first_start-end)) c.in_ok-push_step.ensures)
-
-pub word-requires-then-high-end-clause-inside : goal.word-requires-then-high-end-clause-inside
-word-requires-then-high-end-clause-inside c = rw c.deref.ensures.value (lows_in c.loop-number.rest.now none c.loop-number.invariant
-    c.loop-number-test.true (end_is ((goal.at.word-requires-then-high-end-clause-inside c).After-first_start-end))
-    c.in_ok-push_step.ensures c.requires.inside)
+pub word-requires-then-high-end : goal.word-requires-then-high-end
+word-requires-then-high-end c =
+    let h = lows_in c.loop-number.rest.now none c.loop-number.invariant c.loop-number-test.true
+    (end_is ((goal.at.word-requires-then-high-end c).After-first_start-end)) c.in_ok-push_step.ensures c.requires.inside in
+    rw c.deref.ensures.value record { aligned = omega arith; inside_record = omega arith; over = h.0; inside = h.1 }
 
 -- a step more
 on : (c : After-turn-number) (back : List Step)

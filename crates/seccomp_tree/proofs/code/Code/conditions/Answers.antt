@@ -13,17 +13,14 @@ from_here c = drop_at c.args.conditions.now (c.loop-left.left - 1) c.index-condi
 pub loop-left-init : goal.loop-left-init
 loop-left-init c =
     let q = c.args.conditions.now in
-    let none = drop_all (length q) q (omega arith) in
-    (omega arith, ruling_none c.args.self.now c.args.value c.args.after (drop (length q) q) none c.ranges.value.fits)
+    (omega arith, ruling_none (drop (length q) q) (drop_all (length q) q (omega arith)) c.ranges.value.fits)
 
 pub loop-left-preserved : goal.loop-left-preserved
-loop-left-preserved c =
-    let l = c.loop-left in
-    let one = ruling_one c.args.self.now l.self c.condition.new.self c.args.value c.args.after l.target c.in_ok-target.target _
-    (drop l.left c.args.conditions.now) l.invariant.1 c.in_ok-target.ensures in
-    (omega (arith, l.invariant.0), rw (from_here ((goal.at.loop-left-preserved c).After-index-conditions-left)) one)
+loop-left-preserved c = (
+  omega (arith, c.loop-left.invariant.0),
+  rw (from_here ((goal.at.loop-left-preserved c).After-index-conditions-left))
+      (ruling_one _ (drop c.loop-left.left c.args.conditions.now) c.loop-left.invariant.1 c.in_ok-target.ensures),
+)
 
 pub returns : goal.returns
-returns c =
-    let none : c.loop-left.left ≡ 0 = omega arith in
-    rw none at c.loop-left.invariant.1
+returns c = let none : c.loop-left.left ≡ 0 = omega arith in rw none at c.loop-left.invariant.1

@@ -1,5 +1,4 @@
-use Rattle.seccomp_tree.proofs.Common.{◌≡◌, ap, sym, ◌∙◌, DecisionSet}
-use Rattle.seccomp_tree.proofs.Common.{default_for, rulings_for}
+use Rattle.seccomp_tree.proofs.Common.{◌≡◌, ap, sym, ◌∙◌, DecisionSet, default_for, rulings_for}
 use Rattle.seccomp_tree.proofs.CallsPushed.{IsAnswered, answered_one, answered_rules, calls_on}
 use Rattle.seccomp_tree.proofs.decisions.Decisions.call_steps.Goals.{After-push_step, in-Some, in-None+in_ok-target-in-None}
 use Rattle.seccomp_tree.proofs.decisions.Decisions.call_steps.Goals as goal

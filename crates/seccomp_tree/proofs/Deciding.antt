@@ -1,5 +1,5 @@
 -- What decisions decide: the first ruling that holds, the rulings of a number, the default.
-use Rattle.seccomp_tree.proofs.Common.{◌≡◌, ℕ, ◌+◌, ◌<◌, List, [], ◌∷◌, length, drop, get_or, refl, sym, ap, ◌∙◌, Option, Some, None, Vec}
+use Rattle.seccomp_tree.proofs.Common.{◌≡◌, ◌≤◌, ◌-◌, ℕ, ◌+◌, ◌<◌, List, [], ◌∷◌, length, drop, get_or, refl, sym, ap, ◌∙◌, Option, Some, None, Vec}
 use Rattle.seccomp_tree.proofs.Common.{inl, inr, arith, drop_more, nat_tests, is_at, lookup, nat_cmp, Global, RuleHolds, Ruling, First}
 use Rattle.seccomp_tree.proofs.Common.{here, behind, nothing, word_at, cases_eq, audit_word, DecisionSet, default_for, calls_of}
 use Rattle.seccomp_tree.proofs.Common.{rulings_for, IsDecided, other_architecture, decided}
@@ -10,6 +10,10 @@ use Rattle.seccomp_tree.proofs.Meeting.{rule_or_not}
 -- at an element there is it, and what is after
 pub drop_at : {A : Type 0} (l : List A) (i : ℕ) (x : A) → i < length l → x ≡ get_or l i x → drop i l ≡ x ∷ drop (i + 1) l
 drop_at l i x lt is = drop_more l i x lt ∙ ap (λ y. y ∷ drop (i + 1) l) (sym is)
+
+-- and in front of what there was
+pub drop_back : {A : Type 0} (l : List A) (n : ℕ) (x : A) → 0 < n → n ≤ length l → x ≡ get_or l (n - 1) x → drop (n - 1) l ≡ x ∷ drop n l
+drop_back l n x some le is = drop_at l (n - 1) x (omega arith) is ∙ ap (λ k. x ∷ drop k l) (omega arith)
 
 -- ---- the first ruling that holds
 

@@ -8,7 +8,6 @@ pub mod Trees
 pub mod ProgramEnds
 pub mod Deciding
 pub mod CallsPushed
-pub mod FewestSteps
 pub mod Theorem
 pub mod FilterDecided
 pub mod Begun

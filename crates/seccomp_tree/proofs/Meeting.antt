@@ -75,7 +75,7 @@ chosen_plain c r fit unfit t plain h = rw (plain_operator c.arg_len c.operator p
 pub met_by_steps : {old new : List sock_filter} {c : Condition} {fit unfit t : Target} {steps : List Step} → AreLaid c fit (single unfit) steps
     → IsPart old c.arg_len (λ r. part_of c.arg_len (argument_at r c.arg_index)) steps t new → IsConditionMet old c fit unfit t new
 met_by_steps {old} {new} {c} {fit} {unfit} {t} {steps} h part = record {
-  grows = grows_on _ part.grows (grows_not new 0) (omega (arith, cost.1, shorter_part c.arg_len (length steps) 3 few));
+  grows = grows_on _ part.grows (grows_not new 0) (omega (arith, cost.1, shorter_part c.arg_len (length steps) 3 (omega (arith, h.few))));
   inside = part.inside;
   met = λ r rec is w n lead. goes r rec w n (rw ((own r rec).met is) lead);
   unmet = λ r rec not w n lead. goes r rec w n (rw ((own r rec).unmet not) lead);
@@ -85,18 +85,17 @@ met_by_steps {old} {new} {c} {fit} {unfit} {t} {steps} h part = record {
         × (condition_length c.arg_len c.operator ≡ part_length c.arg_len 3)
     cost = plain_cost c.arg_len c.operator h.plain
 
-    few : length steps ≤ 3
-    few = omega (arith, h.few)
+    number : List ℕ → ℕ
+    number r = part_of c.arg_len (argument_at r c.arg_index)
 
-    own : (r : List ℕ) → IsRecord r → IsChosen (Holds c r) fit unfit (found_in steps (part_of c.arg_len (argument_at r c.arg_index)))
-    own r rec = chosen_plain c r fit unfit _ h.plain
-        (h.each (part_of c.arg_len (argument_at r c.arg_index)) (part_fits c.arg_len r c.arg_index rec))
+    own : (r : List ℕ) → IsRecord r → IsChosen (Holds c r) fit unfit (found_in steps (number r))
+    own r rec = chosen_plain c r fit unfit _ h.plain (h.each (number r) (part_fits c.arg_len r c.arg_index rec))
 
-    goes : (r : List ℕ) → IsRecord r → (w n : ℕ) → LeadsAlways old r (found_in steps (part_of c.arg_len (argument_at r c.arg_index))) w n
+    goes : (r : List ℕ) → IsRecord r → (w n : ℕ) → LeadsAlways old r (found_in steps (number r)) w n
         → LeadsAlways new r t w (n + (condition_steps c.arg_len c.operator + 1))
     goes r rec w n lead a fits =
         starts_more (n + (condition_steps c.arg_len c.operator + 1)) (omega (arith, cost.0))
-        (leads_by (part.leads r rec w n 2 (omega (arith, few)) lead a fits))
+        (leads_by (part.leads r rec w n 2 (omega (arith, h.few)) lead a fits))
 
 -- ---- conditions joined by and
 
@@ -172,12 +171,6 @@ mask_parts x v m =
     let b = mask_halves v m in
     (λ e. (omega (arith, small x, small v), omega (arith, small x, small v)), λ e. omega (arith, e.0, e.1))
 
-pub mask_qword : (c : Condition) (m : ℕ) → c.arg_len ≡ Qword → c.operator ≡ MaskedEq m → (r : List ℕ) → IsRecord r
-    → Holds c r
-    ↔ (HasBits (20 + 8 * c.arg_index) (m / 2 ^ 32) (c.value / 2 ^ 32) r × HasBits (16 + 8 * c.arg_index) (m % 2 ^ 32) (c.value % 2 ^ 32) r)
-mask_qword c m long is r rec =
-    rw (long, is, ← high_word r c.arg_index rec, ← low_word r c.arg_index rec) (mask_parts (argument_at r c.arg_index) c.value m)
-
 pub masked_dword : {old new : List sock_filter} {fit unfit t : Target} (c : Condition) (m : ℕ) → c.arg_len ≡ Dword → c.operator ≡ MaskedEq m
     → IsMet (HasBits (16 + 8 * c.arg_index) (m % 2 ^ 32) (c.value % 2 ^ 32)) 5 4 old fit unfit t new → IsConditionMet old c fit unfit t new
 masked_dword c m short is h =
@@ -195,4 +188,5 @@ pub masked_qword : {old mid new : List sock_filter} {fit unfit one t : Target} (
     → IsMet (HasBits (20 + 8 * c.arg_index) (m / 2 ^ 32) (c.value / 2 ^ 32)) 5 4 mid one unfit t new → IsConditionMet old c fit unfit t new
 masked_qword c m long is low high =
     met_both _ _ (λ r. cases_eq (bit_and (word_at r (20 + 8 * c.arg_index)) (m / 2 ^ 32)) (bit_and (c.value / 2 ^ 32) (m / 2 ^ 32)))
-    (mask_qword c m long is) (rw (long, is) (omega arith)) (rw (long, is) (omega arith)) low high
+    (λ r rec. rw (long, is, ← high_word r c.arg_index rec, ← low_word r c.arg_index rec) (mask_parts (argument_at r c.arg_index) c.value m))
+    (rw (long, is) (omega arith)) (rw (long, is) (omega arith)) low high

@@ -1,6 +1,6 @@
 -- The two ends of the theorem: sound code is a checked program, and a run that returns a word ends with it there.
 use Rattle.seccomp_tree.proofs.Common.{◌≡◌, ℕ, zero, suc, ◌+◌, ◌-◌, ◌<◌, ◌≤◌, ◌^◌, List, [], ◌∷◌, ◌++◌, length, drop, Some, length-append}
-use Rattle.seccomp_tree.proofs.Common.{length-drop, refl, sym, ap, ◌∙◌, arith, add-one, slice_get, drop-drop, sock_filter, give, Goes}
+use Rattle.seccomp_tree.proofs.Common.{length-drop, subst, refl, sym, ap, ◌∙◌, arith, add-one, zero-add, slice_get, drop-drop, sock_filter, give, Goes}
 use Rattle.seccomp_tree.proofs.Common.{stays, then_step, IsFine, IsInRange, IsChecked, greatest_length, fine_load, fine_mask, fine_jump}
 use Rattle.seccomp_tree.proofs.Common.{fine_equal, fine_greater, fine_at_least, fine_return, AreFine, IsSound, Returns, gives}
 use Rattle.seccomp_tree.specs.Code.{goes_on}
@@ -50,14 +50,11 @@ ends_from p r tail place m a w n at goes small (goes_on i rest b a' v n' d does 
     let over : 1 + d ≡ suc d = omega arith in
     let at' : drop (place + (1 + d)) p ≡ drop d rest =
     sym (drop-drop (1 + d) place p) ∙ ap (λ l. drop (1 + d) l) at ∙ ap (λ k. drop k (i ∷ rest)) over in
-    let end = ends_from p r (drop d rest) (place + (1 + d)) (suc m) a' w n' at' step small' h in
-    record { steps = end.steps; few = omega (arith, end.few); ends = end.ends }
+    subst (EndsWithin p r v) (omega arith) (ends_from p r (drop d rest) (place + (1 + d)) (suc m) a' w n' at' step small' h)
 
 -- A program whose run returns a word ends with it.
 pub program_ends : (p : List sock_filter) (r : List ℕ) (w n : ℕ) → Returns r p 0 w n → EndsWithin p r w n
-program_ends p r w n h =
-    let end = ends_from p r p 0 0 0 w n refl stays (omega arith) h in
-    record { steps = end.steps; few = omega (arith, end.few); ends = end.ends }
+program_ends p r w n h = rw zero-add at (ends_from p r p 0 0 0 w n refl stays (omega arith) h)
 
 -- an instruction is as fine if one more comes in front
 fine_behind : (i : sock_filter) (place n : ℕ) → IsFine i place n → IsFine i (suc place) (suc n)

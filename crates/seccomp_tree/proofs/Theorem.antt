@@ -15,7 +15,7 @@ use Rattle.seccomp_tree.proofs.Begun.{are_in_below, not_none, over_zero}
 use Rattle.seccomp_tree.specs.TreeProgram.{length_by}
 use Rattle.seccomp_tree.proofs.Runs.{grown_long, returns_more}
 use Rattle.seccomp_tree.proofs.Trees.{load_run}
-use Rattle.seccomp_tree.proofs.FewestSteps.{fewest}
+use Rattle.seccomp_tree.proofs.CallsPushed.{fewest}
 use Rattle.seccomp_tree.specs.declared.code.Test.TheVariants.{Equal}
 use Rattle.seccomp_tree.proofs.Meeting.{rule_or_not}
 use Rattle.seccomp_tree.proofs.ProgramEnds.{program_ends, returns_short, sound_checked}

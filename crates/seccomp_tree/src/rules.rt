@@ -27,9 +27,7 @@ impl Code {
         // What comes after the rulings: steps over what the condition compares, or one target if there is none.
         let mut like = None;
         let mut steps = one(alloc, Target::Give(default))?;
-        let mut left = rulings.len();
-        while left > 0 {
-            left -= 1;
+        for left in (0..rulings.len()).rev() {
             let ruling = &rulings[left];
             let own = only(&ruling.conditions);
             if !is_alike(own, like) {
@@ -81,9 +79,7 @@ impl Code {
         ensures { IfOk result (λ t. IsRulingMet self.old conditions.now value after t self.new) }
     {
         let mut target = Target::Give(value);
-        let mut left = conditions.len();
-        while left > 0 {
-            left -= 1;
+        for left in (0..conditions.len()).rev() {
             target = self.condition(alloc, &conditions[left], target, after)?;
         }
         Ok(target)

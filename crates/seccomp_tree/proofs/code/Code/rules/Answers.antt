@@ -1,6 +1,6 @@
 use Rattle.seccomp_tree.proofs.Common.{◌≡◌, ◌-◌, ◌<◌, ◌^◌, ◌∷◌, List, Ruling, only, rules_length, length, drop, drop_all, ap, sym, ◌∙◌}
 use Rattle.seccomp_tree.proofs.Common.{arith}
-use Rattle.seccomp_tree.proofs.Deciding.{drop_at}
+use Rattle.seccomp_tree.proofs.Deciding.{drop_back}
 use Rattle.seccomp_tree.proofs.Ruled.{IsBehind, behind_none, behind_along, behind_fresh, behind_laid, behind_alone, behind_many, rules_less}
 use Rattle.seccomp_tree.proofs.Ruled.{settled}
 use Rattle.seccomp_tree.proofs.code.Code.rules.Goals.{After-len, then-not-is_alike+in_ok-settle+in_ok-steps-2, else-not-is_alike}
@@ -10,15 +10,15 @@ use Rattle.seccomp_tree.proofs.code.Code.rules.Goals as goal
 pub loop-left-init : goal.loop-left-init
 loop-left-init c =
     let none = drop_all (length c.args.rulings.now) c.args.rulings.now (omega arith) in
-    (omega arith, rw (none, c.in_ok-steps.ensures) (behind_none c.args.self.now c.args.default c.ranges.default.fits))
+    rw (none, c.in_ok-steps.ensures) (behind_none c.args.self.now c.args.default c.ranges.default.fits)
 
 -- the rulings behind this one, and what there is of it
 abbrev rest : After-len → List Ruling
 rest c = drop c.loop-left.left c.args.rulings.now
 
 from_here : (c : After-len) → drop (c.loop-left.left - 1) c.args.rulings.now ≡ c.index-rulings-left.result ∷ rest c
-from_here c = drop_at c.args.rulings.now (c.loop-left.left - 1) c.index-rulings-left.result (omega (arith, c.loop-left.invariant.0))
-    c.index-rulings-left.is ∙ ap (λ n. c.index-rulings-left.result ∷ drop n c.args.rulings.now) (omega arith)
+from_here c = drop_back c.args.rulings.now c.loop-left.left c.index-rulings-left.result c.loop-left-test.true c.loop-left.auto.left
+    c.index-rulings-left.is
 
 own_is : (c : After-len) → only c.index-rulings-left.result.conditions ≡ c.only-own.result
 own_is c =
@@ -34,7 +34,7 @@ fits c = rw (← value_is c) c.ruling.invariant
 ready : (c : After-len) → IsBehind c.args.self.now c.args.default c.index-rulings-left.result.conditions (rest c) c.only-own.result
     c.if-not-is_alike.steps.items c.if-not-is_alike.self
 ready c =
-    let h = c.loop-left.invariant.1 in
+    let h = c.loop-left.invariant in
     let d = c.index-rulings-left.result in
     elim c.if-not-is_alike.branch [
       | then-not-is_alike+in_ok-settle+in_ok-steps-2 w ↦
@@ -68,10 +68,10 @@ returns-then-len-gt-BPF_MAX_LEN-clause-err c = λ is.
 pub loop-left-preserved : goal.loop-left-preserved
 loop-left-preserved c =
     let b = (goal.at.loop-left-preserved c).After-len in
-    (omega (arith, c.loop-left.invariant.0), rw (from_here b) (front b))
+    rw (from_here b) (front b)
 
 pub returns-clause-ok : goal.returns-clause-ok
 returns-clause-ok c =
     let none : c.loop-left.left ≡ 0 = omega arith in
-    settled c.settle-2.new.self c.args.rulings.now c.loop-left.like _ (rw none at c.loop-left.invariant.1)
+    settled c.settle-2.new.self c.args.rulings.now c.loop-left.like _ (rw none at c.loop-left.invariant)
     (rw c.deref-2.ensures.value at c.in_ok-settle-2.ensures)

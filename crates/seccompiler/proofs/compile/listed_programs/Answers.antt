@@ -7,8 +7,7 @@ use Rattle.seccompiler.proofs.compile.TextPrograms.{Compiles, are_programs, refu
 use Rattle.seccompiler.proofs.compile.listed_programs.Goals as goal
 
 pub returns-in_err-value-clause-programs : goal.returns-in_err-value-clause-programs
-returns-in_err-value-clause-programs c =
-    let p = err_from_is_err_and c.from_residual.result c.from_residual.ensures.1 in
+returns-in_err-value-clause-programs c = let p = err_from_is_err_and c.from_residual.result c.from_residual.ensures.1 in
     rw (p.1, p.2) (told_by_frontend c.args.arch c.args.text.now c.in_err-value.field-0.0 c.in_err-value.ensures.0)
 
 pub loop-name-init : goal.loop-name-init

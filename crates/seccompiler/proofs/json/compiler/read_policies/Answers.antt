@@ -11,13 +11,11 @@ use Rattle.seccompiler.proofs.json.policy.EntryFaults.{tells_more}
 use Rattle.seccompiler.proofs.json.compiler.read_policies.Goals as goal
 
 pub returns-in_err-value : goal.returns-in_err-value
-returns-in_err-value c =
-    let p = err_from_is_err_and c.from_residual.result c.from_residual.ensures.1 in
+returns-in_err-value c = let p = err_from_is_err_and c.from_residual.result c.from_residual.ensures.1 in
     rw (p.1, p.2) (c.in_err-value.ensures.0 c.args.arch, c.in_err-value.ensures.2, c.in_err-value.ensures.3)
 
 pub returns-in_err-filters : goal.returns-in_err-filters
-returns-in_err-filters c =
-    let p = err_from_is_err_and c.from_residual-in_err-filters.result c.from_residual-in_err-filters.ensures.1 in
+returns-in_err-filters c = let p = err_from_is_err_and c.from_residual-in_err-filters.result c.from_residual-in_err-filters.ensures.1 in
     rw (p.1, p.2) (shape_told c.args.arch _ c.args.text.now c.in_ok-value.ensures c.in_err-filters.field-0.0 c.in_err-filters.ensures)
 
 pub loop-name-init : goal.loop-name-init
@@ -31,8 +29,7 @@ loop-name-preserved c =
     refl c.in_ok-policy.ensures
 
 pub returns-in_err-policy : goal.returns-in_err-policy
-returns-in_err-policy c =
-    let p = err_from_is_err_and c.from_residual-in_err-policy.result c.from_residual-in_err-policy.ensures.1 in
+returns-in_err-policy c = let p = err_from_is_err_and c.from_residual-in_err-policy.result c.from_residual-in_err-policy.ensures.1 in
     let so_far = c.loop-name.invariant in
     let arch = c.args.arch in
     let d = view c.in_ok-value.value in

@@ -1,6 +1,6 @@
 -- The decisions of a filter decide every record as it does; and the calls that a loop makes of its chains.
 use Rattle.seccomp_tree.proofs.Common.{◌≡◌, ℕ, ℤ, pos, List, [], ◌∷◌, ◌++◌, ◌<◌, arith, map, Vec, Global, Less, Greater, refl, sym, ap, ◌∙◌}
-use Rattle.seccomp_tree.proofs.Common.{subst, append_assoc, zero, suc, nat_eq, Option, Some, None, ◌⊎◌, inl, inr, Any, All, unsigned_abs}
+use Rattle.seccomp_tree.proofs.Common.{subst, append_assoc, suc, nat_eq, Option, Some, None, ◌⊎◌, inl, inr, Any, All, unsigned_abs}
 use Rattle.seccomp_tree.proofs.Common.{int_cmp, nat_cmp, ints, keys_of, insert_entry, is_at, All-head, All-tail, All-nil, Rule, chains_of}
 use Rattle.seccomp_tree.proofs.Common.{IsCallNumber, Condition, Holds, Chain, Filter, RuleHolds, ChainMatches, chain_under, IsDecision}
 use Rattle.seccomp_tree.proofs.Common.{policy_matches, policy_differs, word_of, AreCallNumbers, Ruling, First, here, behind, nothing}
@@ -8,7 +8,7 @@ use Rattle.seccomp_tree.proofs.Common.{calls_of, IsDecided, other_architecture, 
 use Rattle.seccomp_tree.proofs.Common.{decisions_of, DecideAs, nat_tests, audit_word, word_at}
 use Rattle.std.specs.Prelude.{⊤, ◌≤◌, ◌+◌}
 use Rattle.std.proofs.lemmas.List.{map-append}
-use Rattle.std.proofs.lemmas.List.Elements.{All-push}
+use Rattle.std.proofs.lemmas.List.Elements.{All-push, All-cons}
 use Rattle.std.specs.List.Sorted.{IsStrictlySortedBy}
 use Rattle.seccompiler.specs.Policy.{other_architecture as other}
 use Rattle.seccompiler.specs.Compiled.{numbers_of}
@@ -82,18 +82,14 @@ module _ (r : List ℕ) (default w : ℕ) where
   abbrev rulings : Chain → List Ruling
   rulings chain = map (λ q. record { conditions = q; value = w }) chain
 
-  hold_cases : (q : Rule) (chain : Chain) → Hold (q ∷ chain) → RuleHolds q r ⊎ Hold chain
-  hold_cases q chain (zero, y, within, is, has) = inl (subst (λ (x : Rule). RuleHolds x r) (sym is) has)
-  hold_cases q chain (suc k, y, within, is, has) = inr (k, y, omega arith, is, has)
-
   -- the word if a rule holds, or else the default
   first_is : (chain : Chain) (v : ℕ) → First default r (rulings chain) v
-      → (Hold chain × (v ≡ w)) ⊎ ((Hold chain → ⊥) × (v ≡ default))
-  first_is [] v nothing = inr (λ some. absurd (omega (arith, some.2)), refl)
+      → (Hold chain × (v ≡ w)) ⊎ (All (λ q. RuleHolds q r → ⊥) chain × (v ≡ default))
+  first_is [] v nothing = inr (All-nil (λ (q : Rule). RuleHolds q r → ⊥), refl)
   first_is (q ∷ chain) v (here d rest holds) = inl ((0, q, omega arith, refl, holds), refl)
   first_is (q ∷ chain) v (behind d rest u not first) = elim (first_is chain v first) [
     | inl h ↦ inl ((suc h.0.0, h.0.1, omega (arith, h.0.2), h.0.3, h.0.4), h.1)
-    | inr h ↦ inr (λ some. elim (hold_cases q chain some) [ inl holds ↦ not holds | inr rest ↦ h.0 rest ], h.1)
+    | inr h ↦ inr (All-cons (λ (x : Rule). RuleHolds x r → ⊥) q chain not h.0, h.1)
   ]
 
   -- so for a chain, which matches if it has no rules
@@ -103,7 +99,13 @@ module _ (r : List ℕ) (default w : ℕ) where
   chain_is [] v (behind d rest u not first) = absurd (not (All-nil (λ (c : Condition). Holds c r)))
   chain_is (q ∷ chain) v first = elim (first_is (q ∷ chain) v first) [
     | inl h ↦ inl (inr h.0, h.1)
-    | inr h ↦ inr (λ matches. elim matches [ inl none ↦ cc | inr some ↦ h.0 some ], h.1)
+    | inr h ↦ inr (
+      λ matches. elim matches [
+        | inl none ↦ cc
+        | inr some ↦ h.0 some.0 some.1 some.2 (subst (λ (x : Rule). RuleHolds x r) (sym some.3) some.4)
+      ],
+      h.1,
+    )
   ]
 
 -- ---- the chain of a number
@@ -113,43 +115,25 @@ abbrev found_rulings : ℕ → Option Chain → List Ruling
 found_rulings w None = []
 found_rulings w (Some chain) = rulings_of w chain
 
-at_same : (n m : ℕ) → is_at (int_cmp (pos n)) (pos m) ≡ nat_eq n m
-at_same n m = grind (arith, nat_tests, ints)
-
 rulings_found : (w : ℕ) (chains : List (ℤ × Chain)) (n : ℕ) → AreCallNumbers (numbers_of chains)
     → rulings_for (map (call_of w) chains) n ≡ found_rulings w (chain_under chains n)
 rulings_found w [] n numbers = refl
 rulings_found w (e ∷ chains) n numbers =
     let call = All-head IsCallNumber e.0 (numbers_of chains) numbers in
     let rest = rulings_found w chains n (All-tail IsCallNumber e.0 (numbers_of chains) numbers) in
-    let same : is_at (int_cmp (pos n)) e.0 ≡ nat_eq n (unsigned_abs e.0) = rw call.1 (at_same n call.0) in
+    let same : is_at (int_cmp (pos n)) e.0 ≡ nat_eq n (unsigned_abs e.0) = rw call.1 (grind (arith, nat_tests, ints)) in
     rw same (grind (arith, nat_tests, rest))
 
 -- ---- the decisions
 
 module _ (f : Filter) (r : List ℕ) where
-  -- What the rulings of such a chain name.
-  abbrev Gives : Option Chain → ℕ → Type 0
-  Gives found v = First (word_of f.mismatch_action) r (found_rulings (word_of f.match_action) found) v
-
-  -- The chain of the record's number.
-  abbrev own_chain : Option Chain
-  own_chain = chain_under f.chains (word_at r 0)
-
-  given_decision : (found : Option Chain) → own_chain ≡ found → word_at r 4 ≡ audit_word f.target_arch → (v : ℕ) → Gives found v
-      → IsDecision f r v
+  given_decision : (found : Option Chain) → chain_under f.chains (word_at r 0) ≡ found → word_at r 4 ≡ audit_word f.target_arch → (v : ℕ)
+      → First (word_of f.mismatch_action) r (found_rulings (word_of f.match_action) found) v → IsDecision f r v
   given_decision None is own v nothing = policy_differs own (λ m. let e = m.there in cc) refl
   given_decision (Some chain) is own v first = elim (chain_is r (word_of f.mismatch_action) (word_of f.match_action) chain v first) [
     | inl h ↦ policy_matches own (record { chain = chain; there = is; matches = h.0 }) h.1
     | inr h ↦ policy_differs own (λ m. let same : m.chain ≡ chain = cc m.there in h.0 (rw same at m.matches)) h.1
   ]
-
-default_only : (value n : ℕ) → default_for (record { start = 0; value = value } ∷ []) n ≡ value
-default_only value n = grind (arith, nat_tests)
-
--- The rulings of the record's number.
-abbrev called : Filter → List ℕ → List Ruling
-called f r = rulings_for (decisions_of f).calls (word_at r 0)
 
 -- a filter names one word for a record
 pub one_decision : (f : Filter) (r : List ℕ) (v w : ℕ) → IsDecision f r v → IsDecision f r w → v ≡ w
@@ -170,10 +154,9 @@ decide_as f numbers r w = (to w, from)
     to : (v : ℕ) → IsDecided (decisions_of f) r v → IsDecision f r v
     to v (other_architecture not is) = other not is
     to v (decided own first) =
-        given_decision f r (own_chain f r) refl own v
-        (subst (λ rulings. First (word_of f.mismatch_action) r rulings v)
-        (rulings_found (word_of f.match_action) f.chains (word_at r 0) numbers)
-        (subst (λ d. First d r (called f r) v) (default_only (word_of f.mismatch_action) (word_at r 0)) first))
+        let default : default_for (decisions_of f).defaults (word_at r 0) ≡ word_of f.mismatch_action = grind (arith, nat_tests) in
+        let found = rulings_found (word_of f.match_action) f.chains (word_at r 0) numbers in
+        given_decision f r _ refl own v (rw (found, default) at first)
 
     from : IsDecision f r w → IsDecided (decisions_of f) r w
     from h = let x = decided_some (decisions_of f) r in rw (one_decision f r x.0 w (to x.0 x.1) h) at x.1

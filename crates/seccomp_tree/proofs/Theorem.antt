@@ -1,16 +1,15 @@
 -- The theorem: what is written answers every record as is decided.
-use Rattle.seccomp_tree.proofs.Common.{◌≡◌, ℕ, ◌+◌, ◌*◌, ◌≤◌, ◌^◌, List, [], ◌∷◌, length, Option, Some, None, refl}
-use Rattle.seccomp_tree.proofs.Common.{ap, inl, inr, arith, nat_eq, if◌then◌else◌, suc, zero, nat_tests, All-nil, sock_filter, IsRecord}
-use Rattle.seccomp_tree.proofs.Common.{word_at, audit_word, Condition, Holds, Target, Give, Step, AreIn, AreOver, StartsAlways, to_return}
-use Rattle.seccomp_tree.proofs.Common.{LeadsAlways, IsPart, IsSound, Returns, chosen, part_steps, Dword, Ruling, First, nothing, Takes}
-use Rattle.seccomp_tree.proofs.Common.{stops, passes, ends, Enters, begins, RunTakes, by_steps, by_conditions, only, joins, joined}
-use Rattle.seccomp_tree.proofs.Common.{conditions_steps, DecisionSet, default_for, rulings_for, IsDecided, other_architecture, decided}
-use Rattle.seccomp_tree.proofs.Common.{one_value, value_for, TakesOwn, other, one, own, EndsAsDecided, IsTreeProgram, AreRanges, IsTested}
-use Rattle.seccomp_tree.proofs.Common.{greatest_length, load, word_fits, pow-succ', one-le-pow, give}
+use Rattle.seccomp_tree.proofs.Common.{◌≡◌, ℕ, ◌+◌, ◌*◌, ◌≤◌, ◌^◌, List, [], ◌∷◌, length, Option, Some, None, refl, ap, inl, inr, arith}
+use Rattle.seccomp_tree.proofs.Common.{suc, zero, nat_tests, sock_filter, IsRecord, word_at, audit_word, Condition, Target, Give, Step, one}
+use Rattle.seccomp_tree.proofs.Common.{AreIn, AreOver, StartsAlways, to_return, LeadsAlways, IsPart, IsSound, Returns, chosen, part_steps}
+use Rattle.seccomp_tree.proofs.Common.{Dword, Ruling, First, nothing, here, behind, Takes, stops, passes, ends, Enters, begins, RunTakes}
+use Rattle.seccomp_tree.proofs.Common.{by_steps, by_conditions, only, joins, joined, conditions_steps, DecisionSet, default_for, IsDecided}
+use Rattle.seccomp_tree.proofs.Common.{rulings_for, other_architecture, decided, one_value, value_for, TakesOwn, other, own, EndsAsDecided}
+use Rattle.seccomp_tree.proofs.Common.{IsTreeProgram, AreRanges, IsTested, greatest_length, load, word_fits, pow-succ', one-le-pow, give}
 use Rattle.std.proofs.lemmas.Bool.{cases_Bool}
 use Rattle.seccomp_tree.specs.Decisions.{goes_on as runs_on}
 use Rattle.seccomp_tree.specs.Code.{IsAnswer, AreCallSteps}
-use Rattle.seccomp_tree.proofs.Deciding.{first_here, decided_some}
+use Rattle.seccomp_tree.proofs.Deciding.{decided_some}
 use Rattle.seccomp_tree.proofs.Begun.{are_in_below, not_none, over_zero}
 use Rattle.seccomp_tree.specs.TreeProgram.{length_by}
 use Rattle.seccomp_tree.proofs.Runs.{grown_long, returns_more}
@@ -23,13 +22,9 @@ use Rattle.seccomp_tree.proofs.ProgramEnds.{program_ends, returns_short, sound_c
 -- the one value that answers is the word that is decided
 one_first : (default v w : ℕ) (rulings : List Ruling) (r : List ℕ) → one_value default rulings ≡ Some v → First default r rulings w → w ≡ v
 one_first default v w [] r is nothing = cc
-one_first default v w (d ∷ rulings) r is h = go d.conditions refl is
-  where
-    go : (q : List Condition) → d.conditions ≡ q → (if nat_eq (length q) 0 then Some d.value else None) ≡ Some v → w ≡ v
-    go [] e some =
-        let value = first_here d rulings (rw e (All-nil (λ (c : Condition). Holds c r))) h in
-        cc
-    go (c ∷ q) e some = grind (arith, nat_tests, some)
+one_first default v w (d ∷ rulings) r is (here e rest holds) = grind (arith, nat_tests, is)
+one_first default v w (d ∷ rulings) r is (behind e rest u not h) =
+    let none : length d.conditions ≡ 0 = grind (arith, nat_tests, is) in absurd (not (λ k c lt. absurd (omega arith)))
 
 -- what answers a number leads to what is decided, within its own steps and one
 answer_leads : (d : DecisionSet) (code : List sock_filter) (t : Target) (r : List ℕ) (w n : ℕ) → IsRecord r

@@ -1,11 +1,12 @@
 -- For `tree` and `word`: parts of steps, rows of tests, and the code of steps, put together of the code of fewer and a test.
 use Rattle.seccomp_tree.proofs.Common.{◌≡◌, ℕ, zero, suc, ◌+◌, ◌-◌, ◌*◌, ◌/◌, ◌^◌, ◌<◌, ◌≤◌, List, [], ◌∷◌, length, take, drop, get_or}
-use Rattle.seccomp_tree.proofs.Common.{true, false, refl, sym, ap, ◌∙◌, subst, nat_le, if◌then◌else◌, arith, length-drop, Bool, nat_eq, ◌⊎◌}
+use Rattle.seccomp_tree.proofs.Common.{true, false, refl, sym, ap, ◌∙◌, subst, nat_le, if◌then◌else◌, arith, length-drop, nat_eq}
 use Rattle.seccomp_tree.proofs.Common.{inl, inr, get_or-drop, get_or-take, length-take, length-take-le, take_all, nat_tests, pow-succ'}
 use Rattle.seccomp_tree.proofs.Common.{sock_filter, Target, Step, found_in, AreOver, single, same}
 use Rattle.seccomp_tree.proofs.Common.{second_stands_out, row, AreIn, Grows, GoesOn, chosen, IsTested, IsTree, Returns, IsPart, and_parts}
 use Rattle.seccomp_tree.proofs.Common.{◌++◌, drop_more, Give, At, Test, Dword, IsRecord, word_at, loads, load, word_fits}
-use Rattle.seccomp_tree.specs.Code.{goes_on}
+use Rattle.std.proofs.lemmas.Bool.{cases_Bool}
+use Rattle.seccomp_tree.specs.Code.{goes_on, passed}
 use Rattle.std.proofs.lemmas.List.{take-append-drop}
 use Rattle.seccomp_tree.proofs.Begun.{ascend_more, ascend_parts, found_back, found_before, found_front}
 use Rattle.seccomp_tree.specs.declared.code.Test.TheVariants.{Equal, AtLeast}
@@ -134,22 +135,14 @@ tree_single code (x ∷ []) d one inside = record {
 }
 tree_single code _ d one inside = absurd (omega arith)
 
-either : (b : Bool) → ((p q : Target) → (if b then p else q) ≡ p) ⊎ ((p q : Target) → (if b then p else q) ≡ q)
-either true = inl (λ p q. refl)
-either false = inr (λ p q. refl)
-
-chosen_one : (test : Test) (k a : ℕ) → ((p q : Target) → chosen test k p q a ≡ p) ⊎ ((p q : Target) → chosen test k p q a ≡ q)
-chosen_one Equal k a = either (nat_eq a k)
-chosen_one AtLeast k a = either (nat_le k a)
-
 -- a test between what goes on as some steps say, and what does as others
 test_goes : {old both new : List sock_filter} {test : Test} {k : ℕ} {u v t : Target} (steps high low : List Step) (m : ℕ)
     → ((a : ℕ) → a < 2 ^ 32 → found_in steps a ≡ chosen test k (found_in high a) (found_in low a) a)
     → GoesOn old high m u both → GoesOn old low m v both → IsTested both test k u v t new → GoesOn old steps (suc m) t new
-test_goes {test = test} {k = k} {u = u} {v = v} steps high low m is above below h r a w n small lead =
-    starts_more (n + suc m) (omega arith) (starts_last h.last h.some (h.leads r a w (n + m) small (elim (chosen_one test k a) [
-      | inl e ↦ rw (e u v) (above r a w n small (rw (is a small ∙ e (found_in high a) (found_in low a)) at lead))
-      | inr e ↦ rw (e u v) (below r a w n small (rw (is a small ∙ e (found_in high a) (found_in low a)) at lead))
+test_goes {test = test} {k = k} steps high low m is above below h r a w n small lead =
+    starts_more (n + suc m) (omega arith) (starts_last h.last h.some (h.leads r a w (n + m) small (elim (cases_Bool (passed test k a)) [
+      | inl met ↦ rw met (above r a w n small (rw (is a small, met) at lead))
+      | inr other ↦ rw other (below r a w n small (rw (is a small, other) at lead))
     ])))
 
 -- a test of a row, and the rest of it

@@ -1,6 +1,6 @@
 -- What private functions promise each other: of code that is written from its end to its front, conditions, rulings and call numbers.
 use Rattle.std.specs.Prelude.{◌≡◌, ℕ, suc, ◌+◌, ◌-◌, ◌*◌, ◌/◌, ◌%◌, ◌<◌, ◌≤◌, ◌^◌, List, [], ◌∷◌, ◌++◌, length, drop, ⊤, nat_eq, nat_le}
-use Rattle.std.specs.Prelude.{slice_index_or, if◌then◌else◌, bit_and, Option, Some, None, true}
+use Rattle.std.specs.Prelude.{slice_index_or, if◌then◌else◌, bit_and, Option, Some, None, Bool, true}
 use Rattle.seccompiler.specs.declared.bpf.sock_filter.{sock_filter}
 use Rattle.seccompiler.specs.Machine.{IsRecord, Does, IsFine, IsInRange, word_at, argument_at, greatest_length}
 use Rattle.seccompiler.specs.Policy.{Condition, Holds, Compares, RuleHolds, part_of}
@@ -98,10 +98,13 @@ pub record IsReached (old : List sock_filter) (t : Target) (place : ℕ) (new : 
   pub near : length new ≤ place + 255
   pub leads : (r : List ℕ) (a w n : ℕ) → a < 2 ^ 32 → Starts 255 old r t a w n → Returns r (tail_at new place) a w n
 
--- The target that a test chooses for the accumulator.
+-- Whether the accumulator passes a test, and the target that this chooses.
+abbrev pub passed : Test → ℕ → ℕ → Bool
+passed Equal k a = nat_eq a k
+passed AtLeast k a = nat_le k a
+
 abbrev pub chosen : Test → ℕ → Target → Target → ℕ → Target
-chosen Equal k met other a = if nat_eq a k then met else other
-chosen AtLeast k met other a = if nat_le k a then met else other
+chosen test k met other a = if passed test k a then met else other
 
 -- The target, which was written last, tests the accumulator, and goes on as the test chooses: a step more than what is chosen
 -- takes.

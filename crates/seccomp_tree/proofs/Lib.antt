@@ -3,7 +3,6 @@ pub mod Common
 pub mod Runs
 pub mod Meeting
 pub mod Ruled
-pub mod Reaching
 pub mod Trees
 pub mod ProgramEnds
 pub mod Deciding
@@ -12,4 +11,3 @@ pub mod Theorem
 pub mod FilterDecided
 pub mod Begun
 pub mod Halves
-pub mod Choices

@@ -1,6 +1,6 @@
 -- Conditions as targets: what choices and masks make of them.
 use Rattle.seccomp_tree.proofs.Common.{◌≡◌, ℕ, suc, ◌+◌, ◌-◌, ◌*◌, ◌/◌, ◌%◌, ◌<◌, ◌≤◌, ◌^◌, List, [], ◌∷◌, length, true, refl, ap, inl, inr}
-use Rattle.seccomp_tree.proofs.Common.{arith, bit_and, ◌⊎◌, ◌↔◌, if◌then◌else◌, and_lt, and_zero_r, cases_eq, eq-eqb, ne_eqb, sock_filter}
+use Rattle.seccomp_tree.proofs.Common.{arith, bit_and, ◌⊎◌, ◌↔◌, if◌then◌else◌, and_lt, cases_eq, eq-eqb, ne_eqb, sock_filter}
 use Rattle.seccomp_tree.proofs.Common.{SeccompCmpArgLen, Dword, Qword, SeccompCmpOp, MaskedEq, IsRecord, word_at, argument_at, masks}
 use Rattle.seccomp_tree.proofs.Common.{All-nil, All-cons, All-head, All-tail, Condition, Compares, Holds, RuleHolds, part_of, operator_part}
 use Rattle.seccomp_tree.proofs.Common.{load, mask, word_fits, number_halves, mask_halves, Target, At, Step, found_in, single, is_plain}
@@ -10,7 +10,7 @@ use Rattle.seccomp_tree.specs.declared.code.Test.TheVariants.{Equal}
 use Rattle.seccomp_tree.specs.Code.{goes_on, numbers_of}
 use Rattle.seccomp_tree.proofs.Runs.{grows_not, grows_one, grows_on, starts_more, leads_by, leads_grown, starts_last}
 use Rattle.seccomp_tree.proofs.Trees.{load_run}
-use Rattle.seccomp_tree.proofs.Choices.{compares_or_not}
+use Rattle.seccomp_tree.proofs.Begun.{compares_or_not}
 
 -- ---- numbers of an argument
 
@@ -100,9 +100,9 @@ met_by_steps {old} {new} {c} {fit} {unfit} {t} {steps} h part = record {
 -- ---- conditions joined by and
 
 -- what is met at once
-pub met_now : {Is : List ℕ → Type 0} {most steps : ℕ} {old : List sock_filter} (fit unfit t : Target) → IsIn old t
+pub met_now : {Is : List ℕ → Type 0} {most steps : ℕ} {old : List sock_filter} {fit unfit t : Target} → IsIn old t
     → ((r : List ℕ) → Is r → fit ≡ t) → ((r : List ℕ) → (Is r → ⊥) → unfit ≡ t) → IsMet Is most steps old fit unfit t old
-met_now {Is} {most} {steps} {old} fit unfit t inside met unmet = record {
+met_now {most = most} {steps} {old} inside met unmet = record {
   grows = grows_not old most;
   inside = inside;
   met = λ r rec is w n lead a small. starts_more (n + steps) (omega arith) (rw (met r is) at (lead a small));
@@ -128,12 +128,6 @@ met_both {s = s} most steps which both room time h g = record {
 }
 
 -- ---- masks
-
--- a mask of nothing is met by each word
-pub masked_none : {old : List sock_filter} (byte m value : ℕ) (fit unfit : Target) → m ≡ 0 → IsIn old fit
-    → IsMet (HasBits byte m value) 5 4 old fit unfit fit old
-masked_none byte m value fit unfit z inside = met_now fit unfit fit inside (λ r is. refl)
-    (λ r not. absurd (not (rw (z, and_zero_r (word_at r byte), and_zero_r value) refl)))
 
 pub masked_some : {old mid new : List sock_filter} {fit unfit t : Target} (byte m value : ℕ) → byte ≤ 60 → m < 2 ^ 32
     → IsTested old Equal (bit_and value m) fit unfit t mid → new ≡ load byte ∷ mask m ∷ mid

@@ -8,17 +8,11 @@ use Rattle.seccomp_tree.proofs.Common.{conditions_steps, rules_length, RunTakes,
 use Rattle.seccomp_tree.proofs.Common.{ends, IsRulingMet, AreFit, AreRules, greatest_length, IsSettled, IsChosen, IsIn, get_or, zero}
 use Rattle.seccomp_tree.specs.Decisions.{goes_on}
 use Rattle.seccomp_tree.proofs.Runs.{grows_not, grows_on, leads_by, starts_more}
-use Rattle.seccomp_tree.proofs.Begun.{found_in_code, not_none}
-use Rattle.seccomp_tree.proofs.Choices.{numbers_many, laid_in}
+use Rattle.seccomp_tree.proofs.Begun.{found_in_code, not_none, numbers_many, laid_in}
 use Rattle.seccomp_tree.proofs.Deciding.{first_here, first_behind, first_nothing}
-use Rattle.seccomp_tree.proofs.Meeting.{holds_or_not, chosen_plain, part_fits, plain_cost, met_now, met_both}
+use Rattle.seccomp_tree.proofs.Meeting.{holds_or_not, chosen_plain, part_fits, plain_cost, met_both}
 
 -- ---- one ruling
-
-pub ruling_none : {old : List sock_filter} {value : ℕ} {after : Target} (conditions : List Condition) → conditions ≡ [] → value < 2 ^ 32
-    → IsRulingMet old conditions value after (Give value) old
-ruling_none {value = value} {after} conditions empty fits = rw empty (met_now (Give value) after (Give value) fits (λ r is. refl)
-    (λ r not. absurd (not (All-nil (λ (c : Condition). Holds c r)))))
 
 pub ruling_one : {old mid new : List sock_filter} {value : ℕ} {after t u : Target} (c : Condition) (rest : List Condition) → IsRulingMet old rest value after t mid → IsConditionMet mid c t after u new → IsRulingMet old (c ∷ rest) value after u new
 ruling_one c rest h one = met_both _ _ (holds_or_not c) (λ r rec. (

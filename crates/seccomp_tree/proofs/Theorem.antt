@@ -1,7 +1,7 @@
 -- The theorem: what is written answers every record as is decided.
 use Rattle.seccomp_tree.proofs.Common.{◌≡◌, ℕ, ◌+◌, ◌*◌, ◌≤◌, ◌^◌, List, [], ◌∷◌, length, Option, Some, None, refl, ap, inl, inr, arith}
 use Rattle.seccomp_tree.proofs.Common.{suc, zero, nat_tests, sock_filter, IsRecord, word_at, audit_word, Condition, Target, Give, Step, one}
-use Rattle.seccomp_tree.proofs.Common.{AreIn, AreOver, StartsAlways, to_return, LeadsAlways, IsPart, IsSound, Returns, chosen, part_steps}
+use Rattle.seccomp_tree.proofs.Common.{StartsAlways, to_return, LeadsAlways, IsPart, IsSound, Returns, chosen, part_steps}
 use Rattle.seccomp_tree.proofs.Common.{Dword, Ruling, First, nothing, here, behind, Takes, stops, passes, ends, Enters, begins, RunTakes}
 use Rattle.seccomp_tree.proofs.Common.{by_steps, by_conditions, only, joins, joined, conditions_steps, DecisionSet, default_for, IsDecided}
 use Rattle.seccomp_tree.proofs.Common.{rulings_for, other_architecture, decided, one_value, value_for, TakesOwn, other, own, EndsAsDecided}
@@ -10,7 +10,7 @@ use Rattle.std.proofs.lemmas.Bool.{cases_Bool}
 use Rattle.seccomp_tree.specs.Decisions.{goes_on as runs_on}
 use Rattle.seccomp_tree.specs.Code.{IsAnswer, AreCallSteps}
 use Rattle.seccomp_tree.proofs.Deciding.{decided_some}
-use Rattle.seccomp_tree.proofs.Begun.{are_in_below, not_none, over_zero}
+use Rattle.seccomp_tree.proofs.Begun.{not_none}
 use Rattle.seccomp_tree.specs.TreeProgram.{length_by}
 use Rattle.seccomp_tree.proofs.Runs.{grown_long, returns_more}
 use Rattle.seccomp_tree.proofs.Trees.{load_run}
@@ -124,11 +124,3 @@ module _ (d : DecisionSet) (p : List sock_filter) (h : IsWritten d p) where
         program_ends p r w (4 + 2 * k + n) (written_returns r w n k rec (omega (arith, less)) decision takes);
     short = written_short;
   }
-
--- the steps over all numbers may be looked up in the code
-pub answers_in : (d : DecisionSet) (old mid : List sock_filter) (steps : List Step) → AreCallSteps old d steps mid
-    → AreOver steps × AreIn mid steps
-answers_in d old mid steps h = (
-  over_zero steps h.answers.are,
-  are_in_below mid (2 ^ 32) steps (omega arith) h.answers.are (λ a lt. (h.answers.each a lt).inside),
-)

@@ -1,10 +1,8 @@
-use Rattle.seccomp_tree.proofs.Common.{◌≡◌, List, Step, ◌-◌, ◌%◌, ap, ◌∙◌, inl, inr, drop, length, refl, take, sym, false≢true}
-use Rattle.seccomp_tree.proofs.Common.{get_or, Give, Compares, part_of}
+use Rattle.seccomp_tree.proofs.Common.{◌≡◌, List, Step, ◌%◌, ◌∙◌, inl, inr, drop, refl, sym, false≢true, get_or, Give, Compares, part_of}
 use Rattle.seccomp_tree.specs.Steps.{first_start}
 use Rattle.seccomp_tree.specs.Code.{IsChosen, numbers_of}
-use Rattle.seccomp_tree.proofs.Begun.{HasMoved}
+use Rattle.seccomp_tree.proofs.Begun.{HasMoved, Laying, laying_begins, laying_on, laying_ends, part_left}
 use Rattle.seccomp_tree.proofs.Trees.{all_behind}
-use Rattle.seccomp_tree.proofs.Choices.{Laying, laying_begins, laying_on, laying_ends, part_left}
 use Rattle.seccomp_tree.proofs.intervals.laid.Goals.{After-turn-number, then-is_met, else-is_met}
 use Rattle.seccomp_tree.proofs.intervals.laid.Goals as goal
 
@@ -15,10 +13,8 @@ loop-number-init c =
 -- where the next of the others starts
 end_is : (c : After-turn-number) → c.first_start-end.result
     ≡ first_start (numbers_of c.args.condition.now.arg_len) (drop 1 c.loop-number.rest.now)
-end_is c = c.first_start-end.ensures
-    ∙ ap (λ n. first_start n (take (length c.loop-number.rest.now - 1) (drop 1 c.loop-number.rest.now)))
-    (c.numbers-size.ensures.numbers ∙ ap numbers_of c.arg_len.ensures)
-    ∙ ap (first_start (numbers_of c.args.condition.now.arg_len)) (all_behind c.loop-number.rest.now 1)
+end_is c =
+    rw (c.first_start-end.ensures, c.numbers-size.ensures.numbers, c.arg_len.ensures, all_behind c.loop-number.rest.now 1) refl
 
 -- what counts of the value
 value_is : (c : After-turn-number) → c.from.result % c.numbers-size.result

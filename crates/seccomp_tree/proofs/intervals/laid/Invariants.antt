@@ -1,5 +1,5 @@
 use Rattle.seccomp_tree.proofs.Common.{◌-◌}
-use Rattle.seccomp_tree.proofs.Choices.{Laying}
+use Rattle.seccomp_tree.proofs.Begun.{Laying}
 use Rattle.seccomp_tree.specs.Code.{numbers_of}
 use Rattle.seccomp_tree.proofs.intervals.laid.Given as goal
 

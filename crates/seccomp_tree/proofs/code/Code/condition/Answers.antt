@@ -1,11 +1,10 @@
 use Rattle.seccomp_tree.proofs.Common.{refl, sym, ◌∙◌, single, IfOk-weaker}
-use Rattle.seccomp_tree.proofs.Choices.{laid_in}
+use Rattle.seccomp_tree.proofs.Begun.{laid_in}
 use Rattle.seccomp_tree.proofs.Meeting.{met_now, met_by_steps, masked_dword, masked_qword}
 use Rattle.seccomp_tree.proofs.code.Code.condition.Goals as goal
 
 pub returns-then-is : goal.returns-then-is
-returns-then-is c =
-    met_now c.args.yes c.args.no c.args.yes c.requires.yes (λ r is. refl) (λ r not. sym (c.is.ensures.0 c.if-is.true))
+returns-then-is c = met_now c.requires.yes (λ r is. refl) (λ r not. sym (c.is.ensures.0 c.if-is.true))
 
 pub returns-in-Dword : goal.returns-in-Dword
 returns-in-Dword c = masked_dword c.args.condition.now c.in-MaskedEq.mask (sym c.in-Dword.ensures)

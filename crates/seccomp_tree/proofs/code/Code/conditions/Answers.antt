@@ -1,11 +1,13 @@
-use Rattle.seccomp_tree.proofs.Common.{◌≡◌, drop, length, arith, drop_all}
+use Rattle.seccomp_tree.proofs.Common.{◌≡◌, drop, length, arith, drop_all, refl, All-nil, Condition, Holds}
 use Rattle.seccomp_tree.proofs.Deciding.{drop_back}
-use Rattle.seccomp_tree.proofs.Ruled.{ruling_none, ruling_one}
+use Rattle.seccomp_tree.proofs.Meeting.{met_now}
+use Rattle.seccomp_tree.proofs.Ruled.{ruling_one}
 use Rattle.seccomp_tree.proofs.code.Code.conditions.Goals as goal
 
 pub loop-left-init : goal.loop-left-init
 loop-left-init c =
-    let q = c.args.conditions.now in ruling_none (drop (length q) q) (drop_all (length q) q (omega arith)) c.ranges.value.fits
+    rw (drop_all (length c.args.conditions.now) c.args.conditions.now (omega arith))
+    (met_now c.ranges.value.fits (λ r is. refl) (λ r not. absurd (not (All-nil (λ (x : Condition). Holds x r)))))
 
 pub loop-left-preserved : goal.loop-left-preserved
 loop-left-preserved c =

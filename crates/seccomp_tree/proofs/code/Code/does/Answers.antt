@@ -1,5 +1,5 @@
 use Rattle.seccomp_tree.proofs.Common.{arith, nat_tests}
-use Rattle.seccomp_tree.proofs.Reaching.{written_does}
+use Rattle.seccomp_tree.proofs.Runs.{written_does}
 use Rattle.seccomp_tree.proofs.code.Code.does.Goals as goal
 
 pub returns-then-instruction-eq-RETURN : goal.returns-then-instruction-eq-RETURN

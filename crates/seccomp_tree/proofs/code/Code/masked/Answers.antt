@@ -1,9 +1,11 @@
-use Rattle.seccomp_tree.proofs.Common.{◌≡◌, ◌-◌, ◌∷◌, sym, subst, arith, load, mask, At, HasBits, IsMet}
-use Rattle.seccomp_tree.proofs.Meeting.{masked_none, masked_some}
+use Rattle.seccomp_tree.proofs.Common.{◌≡◌, ◌-◌, ◌∷◌, sym, subst, arith, load, mask, At, HasBits, IsMet, refl, and_zero_r, word_at}
+use Rattle.seccomp_tree.proofs.Meeting.{masked_some, met_now}
 use Rattle.seccomp_tree.proofs.code.Code.masked.Goals as goal
 
+-- a mask of nothing is met by each word
 pub returns-then-mask-eq0 : goal.returns-then-mask-eq0
-returns-then-mask-eq0 c = masked_none c.args.byte c.args.mask c.args.value c.args.yes c.args.no c.if-mask-eq0.true c.requires.yes
+returns-then-mask-eq0 c = met_now c.requires.yes (λ r is. refl)
+    (λ r not. absurd (not (rw (c.if-mask-eq0.true, and_zero_r (word_at r c.args.byte), and_zero_r c.args.value) refl)))
 
 pub returns : goal.returns
 returns c =

@@ -1,6 +1,5 @@
 use Rattle.seccomp_tree.proofs.Common.{◌≡◌, sym, ◌∙◌, arith}
-use Rattle.seccomp_tree.proofs.Runs.{grows_not}
-use Rattle.seccomp_tree.proofs.Reaching.{StandsIn, jump_stands, reached_itself, reached_by, reached_new, return_stands}
+use Rattle.seccomp_tree.proofs.Runs.{grows_not, StandsIn, jump_stands, reached_itself, reached_by, reached_new, return_stands}
 use Rattle.seccomp_tree.proofs.code.Code.reach.Goals.{After-twin, in-Give, in-At+else-over-le-REACH}
 use Rattle.seccomp_tree.proofs.code.Code.reach.Goals as goal
 

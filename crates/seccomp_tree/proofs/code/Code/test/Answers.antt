@@ -1,5 +1,5 @@
 use Rattle.seccomp_tree.proofs.Common.{◌≡◌, ◌-◌, ◌∷◌, ap, sym, ◌∙◌, sock_filter, At}
-use Rattle.seccomp_tree.proofs.Reaching.{code_of, tested}
+use Rattle.seccomp_tree.proofs.Runs.{code_of, tested}
 use Rattle.seccomp_tree.proofs.code.Code.test.Goals.{in-Equal, in-AtLeast}
 use Rattle.seccomp_tree.proofs.code.Code.test.Goals as goal
 

@@ -1,12 +1,18 @@
-use Rattle.seccomp_tree.proofs.Common.{refl, ◌∙◌, ◌∷◌, ap, arith, nat_tests, load, audit_word, DecisionSet}
-use Rattle.seccomp_tree.proofs.Theorem.{IsWritten, answers_in, written_program, written_short}
+use Rattle.seccomp_tree.proofs.Common.{◌^◌, refl, ◌∙◌, ◌∷◌, ap, arith, nat_tests, load, audit_word, DecisionSet}
+use Rattle.seccomp_tree.proofs.Begun.{are_in_below, over_zero}
+use Rattle.seccomp_tree.proofs.Theorem.{IsWritten, written_program, written_short}
 use Rattle.seccomp_tree.proofs.decisions.Decisions.to_bpf.Goals.{After-len-is_large}
 use Rattle.seccomp_tree.proofs.decisions.Decisions.to_bpf.Goals as goal
 
 pub word-requires : goal.word-requires
 word-requires c =
-    let h = answers_in c.args.self.now _ _ _ c.in_ok-steps.ensures.ok in
-    rw c.deref.ensures.value record { aligned = refl; inside_record = omega arith; over = h.0; inside = h.1 }
+    let answers = c.in_ok-steps.ensures.ok.answers in
+    rw c.deref.ensures.value record {
+      aligned = refl;
+      inside_record = omega arith;
+      over = over_zero _ answers.are;
+      inside = are_in_below _ (2 ^ 32) _ (omega arith) answers.are (λ a lt. (answers.each a lt).inside);
+    }
 
 written : (c : After-len-is_large) → IsWritten c.args.self.now c.into_program-program.result.items
 written c = record {

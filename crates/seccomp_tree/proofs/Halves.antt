@@ -9,17 +9,17 @@ use Rattle.seccomp_tree.proofs.Begun.{AreLeft, HasMoved, are_in_below, found_in_
 use Rattle.seccomp_tree.proofs.Begun.{steps_more}
 
 -- How many further high halves a number may begin for which no step that is left starts.
-abbrev pub due : ℕ → ℕ → ℕ
-due number end = if nat_lt 0 (number % 2 ^ 32) then 2 else if nat_lt (number / 2 ^ 32) (end / 2 ^ 32) then 1 else 0
+abbrev pub due : ℕ → List Step → ℕ
+due number rest =
+    if nat_lt 0 (number % 2 ^ 32) then 2 else if nat_lt (number / 2 ^ 32) (first_start (2 ^ 64) (drop 1 rest) / 2 ^ 32) then 1 else 0
 
-due_few : (number end : ℕ) → due number end ≤ 2
-due_few number end = grind (arith, nat_tests)
+due_few : (number : ℕ) (rest : List Step) → due number rest ≤ 2
+due_few number rest = grind (arith, nat_tests)
 
 -- a high half that is done is one of them, or a step fewer is left
 due_less : (number end next : ℕ) (rest back : List Step) → IsHalfTurn number end next → number / 2 ^ 32 < end / 2 ^ 32
     → end ≡ first_start (2 ^ 64) (drop 1 rest) → HasMoved next end rest back
-    → 1 + 2 * length (drop 1 back) + due next (first_start (2 ^ 64) (drop 1 back))
-    ≤ 2 * length (drop 1 rest) + due number (first_start (2 ^ 64) (drop 1 rest))
+    → 1 + 2 * length (drop 1 back) + due next back ≤ 2 * length (drop 1 rest) + due number rest
 due_less number end next (x ∷ y ∷ rest) back t high ends (inl (at, is)) = rw is (grind (arith, nat_tests, t.behind))
 due_less number end next (x ∷ []) back t high ends (inl (at, is)) = rw (is, at, ends) (grind (arith, nat_tests, ends))
 due_less number end next [] back t high ends (inl (at, is)) = rw (is, at, ends) (grind (arith, nat_tests, ends))
@@ -46,10 +46,10 @@ pub record Halving (old : List sock_filter) (index : ℕ) (steps : List Step) (n
   pub own : (a : ℕ) → a < number % 2 ^ 32 → found_in steps (number / 2 ^ 32 * 2 ^ 32 + a) ≡ found_in lows a
   pub low_few : length lows + length rest ≤ length steps
   pub are_highs : AreSteps (number / 2 ^ 32) highs
-  pub few : length highs + 2 * length (drop 1 rest) + due number (first_start (2 ^ 64) (drop 1 rest)) < 2 * length steps
+  pub few : length highs + 2 * length (drop 1 rest) + due number rest < 2 * length steps
   pub before : ℕ
   pub grows : Grows old before code
-  pub room : before + 3 * length lows + 5 * length (drop 1 rest) + due number (first_start (2 ^ 64) (drop 1 rest)) + 4 ≤ 5 * length steps
+  pub room : before + 3 * length lows + 5 * length (drop 1 rest) + due number rest + 4 ≤ 5 * length steps
   pub leads : (h : ℕ) → h < number / 2 ^ 32 → GoesFor old index steps h (found_in highs h) code
 
 pub halving_begins : (old : List sock_filter) (index : ℕ) (steps : List Step) → AreSteps (2 ^ 64) steps
@@ -99,7 +99,7 @@ module _ {old code : List sock_filter} {index number end : ℕ} {steps lows push
       let more = some_left (2 ^ 64) (drop 1 rest) (omega (arith, ends, same, some)) in
       let long = length-drop 1 rest in
       let fewer = length-drop 1 (drop 1 rest) in
-      let two = due_few next (first_start (2 ^ 64) (drop 1 (drop 1 rest))) in
+      let two = due_few next (drop 1 rest) in
       rw is record {
         left = left_on next end rest (drop 1 rest) h.left some ends t.above t.within (inl (at, refl));
         are_lows = steps_more (number % 2 ^ 32 + 1) (next % 2 ^ 32) pushed (omega arith) (omega (arith, high, t.above)) p.are;
@@ -129,13 +129,7 @@ module _ {old code : List sock_filter} {index number end : ℕ} {steps lows push
     few = omega (arith, due_less number end next rest back t high ends moved, h.few, q.few);
     before = h.before + (3 * length pushed - 2);
     grows = grows_on _ h.grows half.grows (omega arith);
-    room = omega (
-      arith,
-      due_less number end next rest back t high ends moved,
-      h.room,
-      p.few,
-      due_few number (first_start (2 ^ 64) (drop 1 rest)),
-    );
+    room = omega (arith, due_less number end next rest back t high ends moved, h.room, p.few, due_few number rest);
     leads = λ g lt. elim (cases_lt g (number / 2 ^ 32)) [
       | inl less ↦ rw (q.below g less) (
         is_in_grown (found_in highs g) half.grows (h.leads g less).0,

@@ -140,8 +140,7 @@ masked_some {old} {mid} {fit = fit} {unfit = unfit} byte m value low small teste
 }
   where
     goes : (r : List ℕ) → IsRecord r → (u : Target) → chosen Equal (bit_and value m) fit unfit (bit_and (word_at r byte) m) ≡ u → (w n : ℕ)
-        → LeadsAlways old r u w n
-        → LeadsAlways (load byte ∷ mask m ∷ mid) r (At (length (load byte ∷ mask m ∷ mid) - 1)) w (n + 4)
+        → LeadsAlways old r u w n → LeadsAlways (load byte ∷ mask m ∷ mid) r (At (length (load byte ∷ mask m ∷ mid) - 1)) w (n + 4)
     goes r rec u which w n lead a fits =
         let x = bit_and (word_at r byte) m in
         let x_small : x < 2 ^ 32 = and_lt 32 (word_at r byte) m (word_fits r byte rec) small in
@@ -177,8 +176,7 @@ masked_dword c m short is h =
     }
 
 pub masked_qword : {old mid new : List sock_filter} {fit unfit one t : Target} (c : Condition) (m : ℕ) → c.arg_len ≡ Qword
-    → c.operator ≡ MaskedEq m
-    → IsMet (HasBits (16 + 8 * c.arg_index) (m % 2 ^ 32) (c.value % 2 ^ 32)) 5 4 old fit unfit one mid
+    → c.operator ≡ MaskedEq m → IsMet (HasBits (16 + 8 * c.arg_index) (m % 2 ^ 32) (c.value % 2 ^ 32)) 5 4 old fit unfit one mid
     → IsMet (HasBits (20 + 8 * c.arg_index) (m / 2 ^ 32) (c.value / 2 ^ 32)) 5 4 mid one unfit t new → IsConditionMet old c fit unfit t new
 masked_qword c m long is low high =
     met_both _ _ (λ r. cases_eq (bit_and (word_at r (20 + 8 * c.arg_index)) (m / 2 ^ 32)) (bit_and (c.value / 2 ^ 32) (m / 2 ^ 32)))

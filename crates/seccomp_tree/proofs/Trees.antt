@@ -102,25 +102,16 @@ row_halvings steps (suc (suc (suc k))) some six le = omega arith
 row_halvings steps k some six le = omega (arith, row_few steps some)
 
 -- beside a second step that stands out the others decide
-stands_beside : (i : ℕ) (x y z : Step) (steps : List Step) → AreOver (x ∷ y ∷ z ∷ steps)
-    → second_stands_out (x ∷ y ∷ z ∷ steps) ≡ true
+stands_beside : (i : ℕ) (x y z : Step) (steps : List Step) → AreOver (x ∷ y ∷ z ∷ steps) → second_stands_out (x ∷ y ∷ z ∷ steps) ≡ true
     → found_in (x ∷ y ∷ z ∷ steps) i ≡ chosen Equal (y.start) y.target (found_in (z ∷ steps) i) i
 stands_beside i x y z steps h out =
     let both = and_parts (same x.target z.target) (nat_eq (z.start - y.start) 1) out in
-    grind (
-      arith,
-      nat_tests,
-      same_one x.target z.target both.0,
-      both.1,
-      h.0,
-      found_before (2 ^ 32) (z.start + 1) z.target steps i h.1.1.1.1,
-    )
+    grind (arith, nat_tests, same_one x.target z.target both.0, both.1, h.0, found_before (2 ^ 32) (z.start + 1) z.target steps i h.1.1.1.1)
 
 -- ---- the code
 
 -- what there was is led to as before
-plain_goes : {most : ℕ} (old new : List sock_filter) (t : Target) (m : ℕ) → Grows old most new
-    → GoesOn old (single t) m t new
+plain_goes : {most : ℕ} (old new : List sock_filter) (t : Target) (m : ℕ) → Grows old most new → GoesOn old (single t) m t new
 plain_goes old new t m g r a w n small h = starts_more (n + m) (omega arith) (leads_grown g h)
 
 -- one step is its target
@@ -229,8 +220,7 @@ load_run r code byte a w n is inside h = goes_on (load byte) code a (word_at r b
     (λ p. loads refl (omega (arith, is.long)) (omega arith) refl) (word_fits r byte is) h
 
 pub word_more : {old mid new : List sock_filter} {steps : List Step} {u t : Target} (byte : ℕ) → byte ≤ 60 → 2 ≤ length steps
-    → IsTree old steps u mid → new ≡ load byte ∷ mid → t ≡ At (length new - 1)
-    → IsPart old Dword (λ r. word_at r byte) steps t new
+    → IsTree old steps u mid → new ≡ load byte ∷ mid → t ≡ At (length new - 1) → IsPart old Dword (λ r. word_at r byte) steps t new
 word_more {mid = mid} {new = new} {steps = steps} {t = t} byte inside some h written last = record {
   grows = rw written (grows_on (3 * length steps - 2) h.grows (grows_one mid (load byte)) (omega arith));
   inside = last_in new t last (omega (arith, ap length written));

@@ -41,8 +41,7 @@ tail_at code place = drop (length code - (place + 1)) code
 pub data Returns (r : List ℕ) : List sock_filter → ℕ → ℕ → ℕ → Type 0 where
   gives : (i : sock_filter) (rest : List sock_filter) (a w n : ℕ) → i.code ≡ 0x06 → i.k ≡ w → Returns r (i ∷ rest) a w (suc n)
   goes_on : (i : sock_filter) (rest : List sock_filter) (a a' w n d : ℕ) → ((place : ℕ) → Does i r place a (place + (1 + d)) a')
-      → a' < 2 ^ 32
-      → Returns r (drop d rest) a' w n → Returns r (i ∷ rest) a w (suc n)
+      → a' < 2 ^ 32 → Returns r (drop d rest) a' w n → Returns r (i ∷ rest) a w (suc n)
 
 -- A run that begins at a target returns the word w in at most n steps: by a return that is to be written, or from a place,
 -- with a step more for a jump, if the place is further than so many instructions from where the code begins.

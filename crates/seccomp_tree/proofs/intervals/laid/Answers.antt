@@ -35,8 +35,7 @@ chosen c =
     ]
 
 -- a step more
-on : (c : After-turn-number) (back : List Step)
-    → HasMoved c.turn-number.result c.first_start-end.result c.loop-number.rest.now back
+on : (c : After-turn-number) (back : List Step) → HasMoved c.turn-number.result c.first_start-end.result c.loop-number.rest.now back
     → Laying c.args.condition.now c.args.target c.args.others.now c.turn-number.result back c.push_step.new.steps.items
 on c back moved = laying_on c.loop-number.rest.now back _ c.requires.plain c.loop-number.invariant
     (rw (c.numbers-size.ensures.numbers, c.arg_len.ensures) at c.loop-number-test.true) (value_is c) (end_is c) c.turn-number.ensures

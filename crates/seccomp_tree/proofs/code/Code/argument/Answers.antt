@@ -30,8 +30,7 @@ word-requires-then-high-end c =
     rw c.deref.ensures.value record { aligned = omega arith; inside_record = omega arith; over = h.0; inside = h.1 }
 
 -- a step more
-on : (c : After-turn-number) (back : List Step)
-    → HasMoved c.turn-number.result c.first_start-end.result c.loop-number.rest.now back
+on : (c : After-turn-number) (back : List Step) → HasMoved c.turn-number.result c.first_start-end.result c.loop-number.rest.now back
     → Halving c.args.self.now c.args.index c.args.steps.now c.turn-number.result back c.if-high-end.lows.items c.if-high-end.highs.items
     c.if-high-end.self
 on c back moved = elim c.if-high-end.branch [

@@ -48,20 +48,15 @@ pub fn members_under<'v>(
     let Value::Object(members) = value else {
         return None;
     };
-    let (mut first, mut second, mut third, mut fourth, mut fifth) = (None, None, None, None, None);
+    let mut found: [Found<'v>; 5] = [None; 5];
     for (name, member) in members.iter() {
         let place = place_among(name.as_str(), names);
         if place >= count {
             return None;
         }
-        match place {
-            0 => first = first.or(Some(member)),
-            1 => second = second.or(Some(member)),
-            2 => third = third.or(Some(member)),
-            3 => fourth = fourth.or(Some(member)),
-            _ => fifth = fifth.or(Some(member)),
-        }
+        found[place] = found[place].or(Some(member));
     }
+    let [first, second, third, fourth, fifth] = found;
     Some((first, second, third, fourth, fifth))
 }
 

@@ -1,6 +1,9 @@
 -- For `members_under`: what an object has under a name, and whether its names are all among some.
 use Rattle.std.proofs.Common.{◌≡◌, ℕ, zero, suc, ◌≤◌, ◌<◌, List, [], ◌∷◌, length, take, true, false, nat_lt, Option, Some, None, option_map}
 use Rattle.std.proofs.Common.{refl, sym, ap, ◌∙◌, subst, arith, bytes_eq, ◌↔◌, ◌⊎◌, inl, inr, Contains, string_bytes, string_cmp}
+use Rattle.std.proofs.Common.{map, get_or}
+use Rattle.std.proofs.Math.ListN.{set}
+use Rattle.std.proofs.lemmas.List.{drop_all, drop_more}
 use Rattle.std.specs.Bool.{⊤}
 use Rattle.std.specs.Borrow.{Bor}
 use Rattle.std.specs.List.{list_any, position_or_len, AllZip}
@@ -175,9 +178,27 @@ at_end d left names count all none so_far =
     )
 
 -- What is found, or else a member.
-pub found_or : (o : Option (Bor Value)) (v : Bor Value) → data_of (option_or o (Some v)) ≡ option_or (data_of o) (Some (view v.now))
+found_or : (o : Option (Bor Value)) (v : Bor Value) → data_of (option_or o (Some v)) ≡ option_or (data_of o) (Some (view v.now))
 found_or None v = refl
 found_or (Some x) v = refl
+
+pub found_at : (found : List (Option (Bor Value))) (place : ℕ) (x : Option (Bor Value)) (v : Bor Value)
+    → map data_of (set found place (option_or (get_or found place x) (Some v))) ≡ or_at place (view v.now) (map data_of found)
+found_at [] zero x v = refl
+found_at [] (suc place) x v = refl
+found_at (o ∷ found) zero x v = ap (λ d. d ∷ map data_of found) (found_or o v)
+found_at (o ∷ found) (suc place) x v = ap (λ all. data_of o ∷ all) (found_at found place x v)
+
+-- A list of five is that of what stands at its places.
+pub five : {X : Type 0} (all : List X) (a b c d e : X) → length all ≡ 5
+    → all ≡ get_or all 0 a ∷ get_or all 1 b ∷ get_or all 2 c ∷ get_or all 3 d ∷ get_or all 4 e ∷ []
+five all a b c d e long =
+    let at_0 = drop_more all 0 a (omega (arith, long)) in
+    let at_1 = drop_more all 1 b (omega (arith, long)) in
+    let at_2 = drop_more all 2 c (omega (arith, long)) in
+    let at_3 = drop_more all 3 d (omega (arith, long)) in
+    let at_4 = drop_more all 4 e (omega (arith, long)) in
+    let end = drop_all 5 all (omega (arith, long)) in cc
 
 -- An object of one member has its name alone.
 pub one_name : (name : List ℕ) (entries : List Entry) (x : Data) → length entries ≡ 1 → get name (object (members_view entries)) ≡ Some x

@@ -21,8 +21,7 @@ due_less : (number end next : ℕ) (rest back : List Step) → IsHalfTurn number
     → end ≡ first_start (2 ^ 64) (drop 1 rest) → HasMoved next end rest back
     → 1 + 2 * length (drop 1 back) + due next back ≤ 2 * length (drop 1 rest) + due number rest
 due_less number end next (x ∷ y ∷ rest) back t high ends (inl (at, is)) = rw is (grind (arith, nat_tests, t.behind))
-due_less number end next (x ∷ []) back t high ends (inl (at, is)) = rw (is, at, ends) (grind (arith, nat_tests, ends))
-due_less number end next [] back t high ends (inl (at, is)) = rw (is, at, ends) (grind (arith, nat_tests, ends))
+due_less number end next _ back t high ends (inl (at, is)) = rw (is, at, ends) (grind (arith, nat_tests, ends))
 due_less number end next rest back t high ends (inr (not, is)) =
     rw (is, ← ends) (grind (arith, nat_tests, t.behind, t.first))
 

@@ -104,7 +104,8 @@ answered_rules none h = record {
   answer = record { inside = h.inside; one = λ v is. absurd (cc); own = λ _ r rec w n first takes. h.leads r rec w n first takes };
 }
 
-pub calls_on : {d : DecisionSet} {old mid new : List sock_filter} {steps more : List Step} {number next : ℕ} {t : Target} → CallsOn d old number steps mid → IsAnswered mid (default_for d.defaults number) (rulings_for d.calls number) t new
+pub calls_on : {d : DecisionSet} {old mid new : List sock_filter} {steps more : List Step} {number next : ℕ} {t : Target}
+    → CallsOn d old number steps mid → IsAnswered mid (default_for d.defaults number) (rulings_for d.calls number) t new
     → IsPushed steps number t more → IsNextStart d.defaults d.calls number next → CallsOn d old next more new
 calls_on {d} {number = number} {next} h answered pushed on = record {
   within = on.within;

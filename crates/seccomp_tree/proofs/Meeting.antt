@@ -72,7 +72,8 @@ pub chosen_plain : (c : Condition) (r : List ℕ) (fit unfit t : Target) → is_
     → IsChosen (Holds c r) fit unfit t
 chosen_plain c r fit unfit t plain h = rw (plain_operator c.arg_len c.operator plain) h
 
-pub met_by_steps : {old new : List sock_filter} {c : Condition} {fit unfit t : Target} {steps : List Step} → AreLaid c fit (single unfit) steps
+pub met_by_steps : {old new : List sock_filter} {c : Condition} {fit unfit t : Target} {steps : List Step}
+    → AreLaid c fit (single unfit) steps
     → IsPart old c.arg_len (λ r. part_of c.arg_len (argument_at r c.arg_index)) steps t new → IsConditionMet old c fit unfit t new
 met_by_steps {old} {new} {c} {fit} {unfit} {t} {steps} h part = record {
   grows = grows_on _ part.grows (grows_not new 0) (omega (arith, cost.1, shorter_part c.arg_len (length steps) 3 (omega (arith, h.few))));

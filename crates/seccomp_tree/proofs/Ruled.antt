@@ -14,7 +14,8 @@ use Rattle.seccomp_tree.proofs.Meeting.{holds_or_not, chosen_plain, part_fits, p
 
 -- ---- one ruling
 
-pub ruling_one : {old mid new : List sock_filter} {value : ℕ} {after t u : Target} (c : Condition) (rest : List Condition) → IsRulingMet old rest value after t mid → IsConditionMet mid c t after u new → IsRulingMet old (c ∷ rest) value after u new
+pub ruling_one : {old mid new : List sock_filter} {value : ℕ} {after t u : Target} (c : Condition) (rest : List Condition)
+    → IsRulingMet old rest value after t mid → IsConditionMet mid c t after u new → IsRulingMet old (c ∷ rest) value after u new
 ruling_one c rest h one = met_both _ _ (holds_or_not c) (λ r rec. (
   λ all. (All-head (λ (x : Condition). Holds x r) c rest all, All-tail (λ (x : Condition). Holds x r) c rest all),
   λ both. All-cons (λ (x : Condition). Holds x r) c rest both.0 both.1,

@@ -226,7 +226,8 @@ chooses AtLeast i r a met other is = elim (cases_lt a i.k) [
 ]
 
 -- a test whose targets are reached, the one first
-pub tested : {old mid code new : List sock_filter} {met other t : Target} {y n : ℕ} (test : Test) (i : sock_filter) → i.code ≡ code_of test → i.jt + y + 1 ≡ length code → i.jf + n + 1 ≡ length code → IsReached old met y mid
+pub tested : {old mid code new : List sock_filter} {met other t : Target} {y n : ℕ} (test : Test) (i : sock_filter)
+    → i.code ≡ code_of test → i.jt + y + 1 ≡ length code → i.jf + n + 1 ≡ length code → IsReached old met y mid
     → IsReached mid other n code → new ≡ i ∷ code → t ≡ At (length new - 1) → IsTested old test i.k met other t new
 tested {old} {mid} {code} {new} {met} {other} {t} {y} {n} test i is over_yes over_no h k written last = record {
   grows = rw written (grows_on 3 (grows_on 2 h.grows k.grows (omega arith)) (grows_one code i) (omega arith));
@@ -240,6 +241,7 @@ tested {old} {mid} {code} {new} {met} {other} {t} {y} {n} test i is over_yes ove
       (chooses test i r a met other is));
 }
   where
-    jumps_on : (r : List ℕ) (a w m : ℕ) → a < 2 ^ 32 → (d place : ℕ) → d + place + 1 ≡ length code → ((p : ℕ) → Does i r p a (p + (1 + d)) a)
+    jumps_on : (r : List ℕ) (a w m : ℕ) → a < 2 ^ 32 → (d place : ℕ) → d + place + 1 ≡ length code
+        → ((p : ℕ) → Does i r p a (p + (1 + d)) a)
         → Returns r (tail_at code place) a w m → Returns r (i ∷ code) a w (suc m)
     jumps_on r a w m small d place over does h = goes_on i code a a w m d does small (rw (jump_to code d place over) h)

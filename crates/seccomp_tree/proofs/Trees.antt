@@ -55,7 +55,8 @@ module _ (steps : List Step) (n : ℕ) (d : Step) (some : 1 ≤ n) (lt : n < len
   front_some = omega (arith, length-take-le n steps)
 
   -- the first ones and the others, and where these start
-  pub over_halves : AreOver (take n steps) × (AreOver (drop n steps) × ((0 < (get_or steps n d).start) × ((get_or steps n d).start < 2 ^ 32)))
+  pub over_halves : AreOver (take n steps)
+      × (AreOver (drop n steps) × ((0 < (get_or steps n d).start) × ((get_or steps n d).start < 2 ^ 32)))
   over_halves = rw cut (over_parts (take n steps) (get_or steps n d) (drop (n + 1) steps) front_some (subst AreOver whole over))
 
   pub found_halves : (a : ℕ) → found_in steps a
@@ -76,7 +77,8 @@ pub rest_of : (code : List sock_filter) (n t : ℕ) (steps : List Step) → 1 �
     × (AreOver (take (length steps - n) (drop n steps)) × AreIn code (take (length steps - n) (drop n steps))))
 rest_of code n t steps some lt all_in over inside =
     let long = length-drop n steps in
-    rw (all_behind steps n) (omega (arith, long), (omega (arith, long), ((over_halves steps n none some lt over).1.0, in_drop code n steps inside)))
+    let others = (over_halves steps n none some lt over).1.0 in
+    rw (all_behind steps n) (omega (arith, long), (omega (arith, long), (others, in_drop code n steps inside)))
 
 -- the number of halvings of a half is one less
 pub halvings : (n m k : ℕ) → 2 ≤ n → n ≤ 2 ^ k → m ≤ n - n / 2 → (j : ℕ) × (k ≡ suc j) × (m ≤ 2 ^ j)
@@ -138,7 +140,8 @@ test_goes {test = test} {k = k} steps high low m is above below h r a w n small 
 
 -- a test of a row, and the rest of it
 row_tree : {old mid new : List sock_filter} {rest : List Step} {test : Test} {k : ℕ} {u v x t : Target} (steps : List Step)
-    → IsTree old rest x mid → IsTested mid test k u v t new → row steps ≡ suc (row rest) → row steps ≤ 6 → 1 ≤ length rest → length rest < length steps
+    → IsTree old rest x mid → IsTested mid test k u v t new → row steps ≡ suc (row rest) → row steps ≤ 6 → 1 ≤ length rest
+    → length rest < length steps
     → GoesOn old steps (suc (row rest)) t new → IsTree old steps t new
 row_tree {new = new} {t = t} steps tree h one six some less run = record {
   grows = grows_on _ tree.grows h.grows (omega arith);

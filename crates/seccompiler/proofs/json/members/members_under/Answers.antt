@@ -1,14 +1,18 @@
-use Rattle.std.proofs.Common.{refl}
+use Rattle.std.proofs.Common.{refl, ◌∙◌}
+use Rattle.serde_json.proofs.Views.{view-Object}
 use Rattle.seccompiler.proofs.json.members.ObjectNames.{one_more, another, at_end, found_at, five}
 use Rattle.seccompiler.proofs.json.members.members_under.Goals as goal
 
 pub returns-then-place-count : goal.returns-then-place-count
-returns-then-place-count c = record {
-  names = λ given. cc;
-  found = tt;
-  none = another (c.in-Some.name.now, c.in-Some.member.now) _ _ _ _ _ _ _ c.requires.count c.as_str.ensures.value
-      c.place_among-place.ensures (rw c.in-Some.ensures.steps at c.loop-name.invariant) c.if-place-count.true;
-}
+returns-then-place-count c =
+    let other = another (c.in-Some.name.now, c.in-Some.member.now) _ _ _ _ _ _ _ c.requires.count c.as_str.ensures.value
+    c.place_among-place.ensures (rw c.in-Some.ensures.steps at c.loop-name.invariant) c.if-place-count.true in
+    record { names = λ given. cc; found = tt; none = other }
+
+pub loop-name-init : goal.loop-name-init
+loop-name-init c = let given = c.into_iter-name-iterator.ensures.into_iter_gives ∙ c.iter-name-items.ensures.rest in
+    rw (given, c.in-Object.is, view-Object c.in-Object.members)
+    (record { only = (λ h. h, λ h. h); sought = (refl, (refl, (refl, (refl, (refl, tt))))) })
 
 pub loop-name-preserved : goal.loop-name-preserved
 loop-name-preserved c = rw (c.or.ensures, found_at c.loop-name.found c.place_among-place.result c.index-found-place.result c.in-Some.member)

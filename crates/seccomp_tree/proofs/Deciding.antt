@@ -1,7 +1,7 @@
 -- What decisions decide: the first ruling that holds, the rulings of a number, the default.
-use Rattle.seccomp_tree.proofs.Common.{◌≡◌, ◌≤◌, ◌-◌, ℕ, ◌+◌, ◌<◌, List, [], ◌∷◌, length, drop, get_or, refl, sym, ap, ◌∙◌, Option, Some, None, Vec}
-use Rattle.seccomp_tree.proofs.Common.{inl, inr, arith, drop_more, nat_tests, is_at, lookup, nat_cmp, Global, RuleHolds, Ruling, First}
-use Rattle.seccomp_tree.proofs.Common.{here, behind, nothing, word_at, cases_eq, audit_word, DecisionSet, default_for, calls_of}
+use Rattle.seccomp_tree.proofs.Common.{◌≡◌, ◌≤◌, ◌-◌, ℕ, ◌+◌, ◌<◌, List, [], ◌∷◌, length, drop, get_or, refl, sym, ap, ◌∙◌, Option, Some}
+use Rattle.seccomp_tree.proofs.Common.{None, Vec, inl, inr, arith, drop_more, nat_tests, is_at, lookup, nat_cmp, Global, RuleHolds, Ruling}
+use Rattle.seccomp_tree.proofs.Common.{First, here, behind, nothing, word_at, cases_eq, audit_word, DecisionSet, default_for, calls_of}
 use Rattle.seccomp_tree.proofs.Common.{rulings_for, IsDecided, other_architecture, decided}
 use Rattle.seccomp_tree.proofs.Meeting.{rule_or_not}
 

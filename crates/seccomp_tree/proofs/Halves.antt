@@ -1,8 +1,8 @@
 -- Arguments of 64 bits: steps by their high and their low halves.
 use Rattle.seccomp_tree.proofs.Common.{◌≡◌, ℕ, suc, ◌+◌, ◌-◌, ◌*◌, ◌/◌, ◌%◌, ◌^◌, ◌<◌, ◌≤◌, List, [], ◌∷◌, length, drop, ap, ◌∙◌, subst}
-use Rattle.seccomp_tree.proofs.Common.{arith, inl, inr, refl, sym, cases_lt, nat_lt, nat_tests, if◌then◌else◌, pow-succ', sock_filter}
-use Rattle.seccomp_tree.proofs.Common.{word_at, argument_at, IsRecord, word_fits, number_halves, Target, Step, found_in, AreSteps, IsPushed, length-drop, ◌⊎◌}
-use Rattle.seccomp_tree.proofs.Common.{AreOver, Dword, Qword, get_or, AreIn, Grows, IsHalfTurn, IsIn, IsPart, LeadsAlways}
+use Rattle.seccomp_tree.proofs.Common.{arith, inl, inr, refl, sym, cases_lt, nat_lt, nat_tests, if◌then◌else◌, pow-succ', sock_filter, Step}
+use Rattle.seccomp_tree.proofs.Common.{word_at, argument_at, IsRecord, word_fits, number_halves, Target, found_in, AreSteps, IsPushed, ◌⊎◌}
+use Rattle.seccomp_tree.proofs.Common.{length-drop, AreOver, Dword, Qword, get_or, AreIn, Grows, IsHalfTurn, IsIn, IsPart, LeadsAlways}
 use Rattle.seccomp_tree.specs.Steps.{first_start}
 use Rattle.seccomp_tree.proofs.Runs.{grows_not, grows_on, is_in_grown, leads_by, leads_grown, starts_more}
 use Rattle.seccomp_tree.proofs.Begun.{AreLeft, HasMoved, are_in_below, found_in_code, left_begins, left_end, left_has, left_on, over_zero}

@@ -16,8 +16,8 @@ use Rattle.seccomp_tree.specs.declared.steps.Step.{Step}
 use Rattle.seccomp_tree.specs.declared.code.Test.{Test}
 use Rattle.seccomp_tree.specs.declared.code.Test.TheVariants.{Equal, AtLeast}
 use Rattle.seccomp_tree.specs.Steps.{AreSteps, found_in, row, single}
-use Rattle.seccomp_tree.specs.Decisions.{Ruling, First, Takes, condition_length, condition_steps, conditions_length, conditions_steps, is_plain}
-use Rattle.seccomp_tree.specs.Decisions.{part_length, part_steps, rules_length}
+use Rattle.seccomp_tree.specs.Decisions.{Ruling, First, Takes, condition_length, condition_steps, conditions_length, conditions_steps}
+use Rattle.seccomp_tree.specs.Decisions.{is_plain, part_length, part_steps, rules_length}
 use Rattle.seccomp_tree.specs.Decided.{DecisionSet, default_for, rulings_for}
 use Rattle.seccomp_tree.specs.TreeProgram.{one_value, calls_length}
 

@@ -10,7 +10,8 @@ loop-default-init c = elim c.match-next.branch [
       let calls = calls_of c.args.calls.now.entries in
       let before : (n : ℕ) → c.args.number ≤ n → n < w.from.result → rulings_for calls n ≡ [] = λ n le lt.
       none_before c.args.calls.now.entries n w.from.result
-      (λ some. let least = rw w.in-Some.ensures.steps at ((c.range-from_here.ensures.in_range tt).2 n (grind (arith, nat_tests), tt) some) in
+      (λ some.
+      let least = rw w.in-Some.ensures.steps at ((c.range-from_here.ensures.in_range tt).2 n (grind (arith, nat_tests), tt) some) in
       grind (arith, nat_tests, least)) lt in
       rw w.next-is record {
         above = grind (arith, nat_tests);

@@ -56,7 +56,8 @@ returns-then-stands_out t c =
     let steps = c.args.steps.now in
     let all = all_behind steps 2 in
     IfOk-weaker c.test-then-stands_out.result _ _
-    (λ u h. tree_out steps _ c.requires.over (sym c.stands_out.ensures ∙ c.if-stands_out.true) (c.is_row.ensures.0 c.if-not-is_row.false) (rw all at c.in_ok-rest.ensures) h)
+    (λ u h. tree_out steps _ c.requires.over (sym c.stands_out.ensures ∙ c.if-stands_out.true)
+    (c.is_row.ensures.0 c.if-not-is_row.false) (rw all at c.in_ok-rest.ensures) h)
     c.test-then-stands_out.ensures
 
 pub tree-requires-2 : goal.tree-requires-2
@@ -69,6 +70,6 @@ returns t c =
     let steps = c.args.steps.now in
     let all = all_behind steps 1 in
     IfOk-weaker c.test-2.result _ _
-    (λ u h. tree_first steps _ (omega (arith, c.requires.some)) c.requires.over (sym c.stands_out.ensures ∙ c.if-stands_out.false) (c.is_row.ensures.0 c.if-not-is_row.false)
-    (rw all at c.in_ok-rest-2.ensures) h)
+    (λ u h. tree_first steps _ (omega (arith, c.requires.some)) c.requires.over (sym c.stands_out.ensures ∙ c.if-stands_out.false)
+    (c.is_row.ensures.0 c.if-not-is_row.false) (rw all at c.in_ok-rest-2.ensures) h)
     c.test-2.ensures

@@ -129,7 +129,7 @@ fn explain_each(
 {
     let mut all = Vec::new(alloc);
     for call in records {
-        let reason = reason_of(alloc, target, filter.rules.as_slice(), call)?;
+        let reason = reason_of(target, filter.rules.as_slice(), call);
         all.push(Explained {
             word: u32::from(action_of(filter, reason)),
             why: Why::Filter(reason),

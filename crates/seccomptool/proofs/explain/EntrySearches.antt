@@ -1,4 +1,4 @@
--- For `first_failing`, `reason_among` and `reason_of`: what a search among the entries of a call has shown, and that there is
+-- For `first_failing` and `reason_of`: what a search among the entries of a call has shown, and that there is
 -- one reason.
 use Rattle.std.proofs.Common.{◌≡◌, ℕ, ℤ, pos, ◌+◌, ◌<◌, ◌≤◌, List, [], ◌∷◌, ◌++◌, length, take, Option, Some, None}
 use Rattle.std.proofs.Common.{true, nat_le, refl, sym, subst, ap, ◌∙◌, inl, inr, append_assoc, length-append, length-take-le}
@@ -53,6 +53,13 @@ seam (y ∷ front) x back = seam front x back
 pub contained : {X : Type 0} (xs : List X) (i : ℕ) (x : X) → slice_get xs i ≡ Some x → Contains xs x
 contained xs i x there = (i, slice_get_within xs i x there, get_or_from_slice_get xs i x x there)
 
+-- Of two numbers neither of which is less, each is the other.
+neither : (k l : ℕ) → (k < l → ⊥) → (l < k → ⊥) → k ≡ l
+neither k l low high = elim (cases_lt k l) [
+  | inl less ↦ absurd (low less)
+  | inr above ↦ elim (cases_lt l k) [ inl more ↦ absurd (high more) | inr below ↦ omega (arith, above, below) ]
+]
+
 -- The miss of these two.
 abbrev miss : ℕ → ℕ → Miss
 miss entry condition = record { entry = entry; condition = condition }
@@ -71,13 +78,6 @@ module _ (target : TargetArch) (number : ℤ) (entry : JsonRule) where
       by : (o : Option ℤ) → is_number number o ≡ true → o ≡ Some number
       by None h = absurd (true≢false (sym h))
       by (Some other) h = ap Some (sym ((Decides-int_eq number other).0 h))
-
--- The indices of a number are those of entries.
-pub all_within : (target : TargetArch) (number : ℤ) (entries : List JsonRule) (indices : List ℕ)
-    → AreIndicesFor target entries number indices → All (λ index. index < length entries) indices
-all_within target number entries indices are =
-    All-weaker (Contains indices) (λ index. index < length entries)
-    (λ index among. let at = (are.exactly index).0 among in slice_get_within entries index at.0 at.1) indices (All-contains_itself indices)
 
 module _ (entries : List JsonRule) (r : List ℕ) where
   -- An entry with an index is the only one.
@@ -100,13 +100,7 @@ module _ (entries : List JsonRule) (r : List ℕ) where
       let both : Some cs ≡ Some ds = sym some ∙ other in
       let same : cs ≡ ds = cc in
       let a' = subst (λ es. FirstFails es r k) same a in
-      elim (cases_lt k l) [
-        | inl less ↦ absurd (not_before ds k l a' b less)
-        | inr above ↦ elim (cases_lt l k) [
-          | inl more ↦ absurd (not_before ds l k b a' more)
-          | inr below ↦ omega (arith, above, below)
-        ]
-      ]
+      neither k l (not_before ds k l a' b) (not_before ds l k b a')
 
   -- ---- the nearest miss
 
@@ -187,6 +181,16 @@ module _ (entries : List JsonRule) (r : List ℕ) where
     })
   ]
 
+  -- The first that matches stands behind them.
+  pub first_match : (indices done rest : List ℕ) (place : ℕ) (so_far : Option Miss) → indices ≡ done ++ place ∷ rest
+      → IsNearestOf done so_far → OfEntry (λ entry. EntryHolds entry r) entries place → IsFirstMatch entries r indices place (length done)
+  first_match indices done rest place so_far whole nearest holds = record {
+    there = subst (λ xs. slice_get xs (length done) ≡ Some place) (sym whole) (seam done place rest);
+    matches = holds;
+    before = All-same (OfEntry (λ entry. EntryHolds entry r → ⊥) entries) (take (length done) indices) done
+        (ap (take (length done)) whole ∙ take-append_seam done (place ∷ rest)) (none_matches done so_far nearest);
+  }
+
   -- ---- one reason
 
   -- The index of the nearest miss stands at a place, and the entries in front of that fail below it.
@@ -218,13 +222,8 @@ module _ (entries : List JsonRule) (r : List ℕ) where
       (at_place (FailsBelow entries r (n.condition + 1)) indices (length a.front) m.entry (stands indices m a)
       (all_below indices n b)) in
       let condition : m.condition ≡ n.condition = omega (arith, le, ge) in
-      let at : length a.front ≡ length b.front = elim (cases_lt (length a.front) (length b.front)) [
-        | inl less ↦ absurd (miss_not_before indices m n a b condition less)
-        | inr above ↦ elim (cases_lt (length b.front) (length a.front)) [
-          | inl more ↦ absurd (miss_not_before indices n m b a (sym condition) more)
-          | inr below ↦ omega (arith, above, below)
-        ]
-      ] in
+      let at = neither (length a.front) (length b.front) (miss_not_before indices m n a b condition)
+      (miss_not_before indices n m b a (sym condition)) in
       let both : Some m.entry ≡ Some n.entry = sym (stands indices m a) ∙ ap (slice_get indices) at ∙ stands indices n b in
       let entry : m.entry ≡ n.entry = cc in
       ap (λ k. miss k m.condition) entry ∙ ap (λ k. miss n.entry k) condition
@@ -242,10 +241,7 @@ module _ (entries : List JsonRule) (r : List ℕ) where
       let fails = at_place (OfEntry (λ entry. EntryHolds entry r → ⊥) entries) indices s p a.there none in
       fails.2 (subst (λ e. EntryHolds e r) (one_entry p a.matches.0 fails.0 a.matches.1 fails.1) a.matches.2)
 
-  -- Where there are no entries there is no first match, and no nearest miss.
-  none_first : (indices : List ℕ) (p s : ℕ) → indices ≡ [] → IsFirstMatch entries r indices p s → ⊥
-  none_first indices p s none a = let nothing : None ≡ Some p = subst (λ xs. slice_get xs s ≡ Some p) none a.there in cc
-
+  -- Where there are no entries there is no nearest miss.
   none_nearest : (indices : List ℕ) (miss : Miss) → indices ≡ [] → IsNearest entries r indices miss → ⊥
   none_nearest indices miss none is = let long = ap length is.whole
       ∙ length-append is.front (miss.entry ∷ is.back) in let empty = ap length none in omega (arith, long, empty)
@@ -256,7 +252,7 @@ module _ (entries : List JsonRule) (r : List ℕ) where
   one_among indices a AnotherArchitecture is too = absurd too
   one_among indices (NoEntry n) (NoEntry m) is too = ap NoEntry (is.0 ∙ sym too.0)
   one_among indices (NoEntry n) (NoMatch k m miss) is too = absurd (none_nearest indices miss is.1 too.2)
-  one_among indices (NoEntry n) (Entry p s m) is too = absurd (none_first indices p s is.1 too.1)
+  one_among indices (NoEntry n) (Entry p s m) is too = absurd (no_first indices p s too.1 (none_matches indices None is.1))
   one_among indices (NoMatch k n miss) (NoEntry m) is too = absurd (none_nearest indices miss too.1 is.2)
   one_among indices (NoMatch k n miss) (NoMatch l m other) is too =
       let number : n ≡ m = is.0 ∙ sym too.0 in
@@ -264,16 +260,10 @@ module _ (entries : List JsonRule) (r : List ℕ) where
       let same = one_miss indices miss other is.2 too.2 in
       cc
   one_among indices (NoMatch k n miss) (Entry p s m) is too = absurd (no_first indices p s too.1 (none_matches indices (Some miss) is.2))
-  one_among indices (Entry p s n) (NoEntry m) is too = absurd (none_first indices p s too.1 is.1)
+  one_among indices (Entry p s n) (NoEntry m) is too = absurd (no_first indices p s is.1 (none_matches indices None too.1))
   one_among indices (Entry p s n) (NoMatch l m miss) is too = absurd (no_first indices p s is.1 (none_matches indices (Some miss) too.2))
   one_among indices (Entry p s n) (Entry q t m) is too =
-      let rule : s ≡ t = elim (cases_lt s t) [
-        | inl less ↦ absurd (match_not_before indices p q s t is.1 too.1 less)
-        | inr above ↦ elim (cases_lt t s) [
-          | inl more ↦ absurd (match_not_before indices q p t s too.1 is.1 more)
-          | inr below ↦ omega (arith, above, below)
-        ]
-      ] in
+      let rule = neither s t (match_not_before indices p q s t is.1 too.1) (match_not_before indices q p t s too.1 is.1) in
       let both : Some p ≡ Some q = sym is.1.there ∙ ap (slice_get indices) rule ∙ too.1.there in
       let place : p ≡ q = cc in
       let number : n ≡ m = is.0 ∙ sym too.0 in

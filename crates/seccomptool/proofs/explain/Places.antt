@@ -1,17 +1,20 @@
--- For `indices_for`: the places of a list at which a test passes.
-use Rattle.std.proofs.Common.{◌≡◌, ◌↔◌, ℕ, zero, suc, ℤ, ◌+◌, ◌<◌, List, [], ◌∷◌, ◌++◌, Bool, true, false, cond, Some, None, Less, length}
-use Rattle.std.proofs.Common.{get_or, take, refl, sym, ap, ◌∙◌, subst, append_assoc, append-nil, inl, inr, arith}
+-- For `reason_of`: the places of a list at which a test passes.
+use Rattle.std.proofs.Common.{◌≡◌, ◌↔◌, ℕ, zero, suc, ℤ, pos, ◌+◌, ◌<◌, List, [], ◌∷◌, ◌++◌, Bool, true, false, cond, Some, None, Less, length}
+use Rattle.std.proofs.Common.{get_or, take, drop, refl, sym, ap, ◌∙◌, subst, append_assoc, append-nil, inl, inr, arith}
 use Rattle.std.specs.Prelude.{Contains, slice_get}
 use Rattle.std.specs.Cmp.{nat_cmp_is}
 use Rattle.std.specs.List.{AllByRecursion}
 use Rattle.std.specs.List.Sorted.{IsStrictlySortedBy}
 use Rattle.std.specs.Ordering.{nat_cmp}
-use Rattle.std.proofs.lemmas.List.{take_more, length-take-le}
+use Rattle.std.proofs.lemmas.List.{take_more, length-take-le, take-append-drop}
 use Rattle.std.proofs.lemmas.List.Elements.{Contains-append_cases, Contains-append_left, Contains-append_right}
 use Rattle.seccompiler.specs.JsonPolicyOf.{is_for}
 use Rattle.seccompiler.specs.JsonTypes.{JsonRule}
 use Rattle.seccompiler.specs.declared.backend.TargetArch.{TargetArch}
-use Rattle.seccomptool.specs.Reasons.{IsIndexFor, AreIndicesFor}
+use Rattle.seccompiler.specs.Architecture.{audit_word}
+use Rattle.seccompiler.specs.Machine.{word_at}
+use Rattle.seccomptool.specs.declared.explain.search.Reason.{Reason}
+use Rattle.seccomptool.specs.Reasons.{IsIndexFor, AreIndicesFor, IsReason, IsReasonAmong, of_call}
 use Rattle.seccomptool.proofs.explain.EntrySearches.{for_yes, yes_for}
 
 -- The one place, where the test passed.
@@ -24,14 +27,13 @@ module _ {X : Type 0} (p : X → Bool) where
   places start [] = []
   places start (x ∷ xs) = place_if (p x) start ++ places (start + 1) xs
 
-  -- Those of one item more.
-  places_push : (start : ℕ) (xs : List X) (x : X) → places start (xs ++ x ∷ []) ≡ places start xs ++ place_if (p x) (start + length xs)
-  places_push start [] x = append-nil (place_if (p x) start) ∙ ap (place_if (p x)) (let same : start ≡ start + 0 = omega arith in same)
-  places_push start (y ∷ xs) x =
-      let same : start + 1 + length xs ≡ start + length (y ∷ xs) = omega arith in
-      ap (λ rest. place_if (p y) start ++ rest) (places_push (start + 1) xs x
-      ∙ ap (λ place. places (start + 1) xs ++ place_if (p x) place) same)
-      ∙ sym (append_assoc (place_if (p y) start) (places (start + 1) xs) (place_if (p x) (start + length (y ∷ xs))))
+  -- Those of two lists, one behind the other.
+  places_append : (start : ℕ) (xs ys : List X) → places start (xs ++ ys) ≡ places start xs ++ places (start + length xs) ys
+  places_append start [] ys = let same : start ≡ start + 0 = omega arith in ap (λ n. places n ys) same
+  places_append start (x ∷ xs) ys =
+      let same : start + 1 + length xs ≡ start + length (x ∷ xs) = omega arith in
+      ap (λ rest. place_if (p x) start ++ rest) (places_append (start + 1) xs ys ∙ ap (λ n. places (start + 1) xs ++ places n ys) same)
+      ∙ sym (append_assoc (place_if (p x) start) (places (start + 1) xs) (places (start + length (x ∷ xs)) ys))
 
   -- Those of one item more of a front.
   pub places_more : (xs : List X) (i : ℕ) (x : X) → i < length xs → x ≡ get_or xs i x
@@ -39,7 +41,19 @@ module _ {X : Type 0} (p : X → Bool) where
   places_more xs i x within is =
       let taken : 0 + length (take i xs) ≡ i = omega (arith, length-take-le i xs (omega (arith, within))) in
       let longer : take (i + 1) xs ≡ take i xs ++ x ∷ [] = take_more xs i x within ∙ ap (λ y. take i xs ++ y ∷ []) (sym is) in
-      ap (places 0) longer ∙ places_push 0 (take i xs) x ∙ ap (λ place. places 0 (take i xs) ++ place_if (p x) place) taken
+      ap (places 0) longer ∙ places_append 0 (take i xs) (x ∷ [])
+      ∙ ap (λ ns. places 0 (take i xs) ++ ns) (append-nil (place_if (p x) (0 + length (take i xs))) ∙ ap (place_if (p x)) taken)
+
+  -- Where an item passes, its place stands between those of the items in front and those of the items behind.
+  pub place_within : (xs : List X) (i : ℕ) (x : X) → i < length xs → x ≡ get_or xs i x → p x ≡ true
+      → (rest : List ℕ) × (places 0 xs ≡ places 0 (take i xs) ++ i ∷ rest)
+  place_within xs i x within is passes =
+      let rest = places (0 + length (take (i + 1) xs)) (drop (i + 1) xs) in (
+        rest,
+        ap (places 0) (sym (take-append-drop (i + 1) xs)) ∙ places_append 0 (take (i + 1) xs) (drop (i + 1) xs)
+            ∙ ap (λ ns. ns ++ rest) (places_more xs i x within is ∙ ap (λ b. places 0 (take i xs) ++ place_if b i) passes)
+            ∙ append_assoc (places 0 (take i xs)) (i ∷ []) rest,
+      )
 
   -- A place of an item that passes.
   abbrev Passes : List X → ℕ → Type 0
@@ -105,3 +119,11 @@ are_indices target number entries = record { exactly = exactly; ascending = asce
           let listed = complete (is_for target number) 0 entries index (entry, there, for_yes target number entry for) in
           subst (Contains (places (is_for target number) 0 entries)) same listed,
     )
+
+-- What is so among them is the reason.
+pub reason_among : (target : TargetArch) (entries : List JsonRule) (r : List ℕ) (number : ℕ) (reason : Reason)
+    → word_at r 4 ≡ audit_word target → number ≡ word_at r 0
+    → IsReasonAmong entries r (places (is_for target (pos number)) 0 entries) reason → IsReason target entries r reason
+reason_among target entries r number reason own is among =
+    let indices = places (is_for target (pos number)) 0 entries in
+    of_call own (indices, subst (λ n. AreIndicesFor target entries (pos n) indices) is (are_indices target (pos number) entries), among)

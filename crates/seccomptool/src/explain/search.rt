@@ -1,14 +1,11 @@
 // The search for the reason of a decision.
 
-ghost use Rattle.std.specs.Prelude.{◌≡◌, ◌≤◌, ◌<◌, ◌↔◌, pos, length, All, IfOk, IfSome, IfNone, IsTrue};
+ghost use Rattle.std.specs.Prelude.{◌≡◌, ◌≤◌, ◌↔◌, pos, All, IfSome, IfNone, IsTrue};
 ghost use Rattle.seccompiler.specs.JsonPolicyOf.{IsFineEntry, AreFineArgs, is_for};
 ghost use Rattle.seccompiler.specs.Machine.{word_at};
-ghost use Rattle.seccomptool.specs.declared.explain.search.Reason.{Reason};
-ghost use Rattle.seccomptool.specs.Reasons.{nearer};
-ghost use Rattle.seccomptool.specs.Reasons.{AreIndicesFor, ConditionHolds, EntryHolds, EntryFails, FirstFails, IsReason, IsReasonAmong};
+ghost use Rattle.seccomptool.specs.Reasons.{ConditionHolds, EntryHolds, EntryFails, FirstFails, IsReason, nearer};
 
 use seccompiler::{JsonCondition, JsonRule, SeccompCondition, SyscallTable, TargetArch};
-use std::alloc::{AllocError, Global};
 
 /// A condition that doesn't hold.
 #[derive(Clone, Copy)]
@@ -51,40 +48,44 @@ pub enum Reason {
 }
 
 // Why a filter of these entries decides a record as it does.
-pub(crate) fn reason_of(
-    alloc: Global,
-    target: TargetArch,
-    entries: &[JsonRule],
-    call: &[u8; 64],
-) -> Result<Reason, AllocError>
+pub(crate) fn reason_of(target: TargetArch, entries: &[JsonRule], call: &[u8; 64]) -> Reason
     requires fine { All (IsFineEntry target) entries.now }
-    ensures reason { IfOk result (IsReason target entries.now call.now) }
-    ensures only { IfOk result (λ reason. (other : Reason) → IsReason target entries.now call.now other → other ≡ reason) }
+    ensures { IsReason target entries.now call.now result }
 {
     if word_at(call, 4) != target.get_audit_value() {
-        return Ok(Reason::AnotherArchitecture);
+        return Reason::AnotherArchitecture;
     }
     let number = word_at(call, 0);
-    let indices = indices_for(alloc, target, entries, number)?;
-    Ok(reason_among(entries, indices.as_slice(), call))
-}
-
-// The indices of the entries whose call has this number.
-fn indices_for(
-    alloc: Global,
-    target: TargetArch,
-    entries: &[JsonRule],
-    number: u32,
-) -> Result<Vec<usize>, AllocError>
-    ensures { IfOk result (λ indices. AreIndicesFor target entries.now (pos number) indices.items) }
-{
-    let mut indices = Vec::new(alloc);
-    for (index, entry) in entries.iter().enumerate() {
+    let (mut rule, mut nearest) = (0, None);
+    for (place, entry) in entries.iter().enumerate() {
         if is_for(target, entry, number) {
-            indices.push(index)?;
+            match failing(entry, call) {
+                Some(condition) => {
+                    let miss = Miss {
+                        entry: place,
+                        condition,
+                    };
+                    nearest = Some(nearer(nearest, miss));
+                    rule += 1;
+                }
+                None => {
+                    return Reason::Entry {
+                        place,
+                        rule,
+                        number,
+                    };
+                }
+            }
         }
     }
-    Ok(indices)
+    match nearest {
+        Some(nearest) => Reason::NoMatch {
+            entries: rule,
+            number,
+            nearest,
+        },
+        None => Reason::NoEntry { number },
+    }
 }
 
 // Whether the entry's call has this number.
@@ -94,43 +95,6 @@ fn is_for(target: TargetArch, entry: &JsonRule, number: u32) -> bool
     match SyscallTable::new(target).get_syscall_nr(entry.syscall.as_str()) {
         Some(other) => other == i64::from(number),
         None => false,
-    }
-}
-
-// Why it does so, where the entries of the record's call are those with these indices.
-fn reason_among(entries: &[JsonRule], indices: &[usize], call: &[u8; 64]) -> Reason
-    requires fine { All (λ entry. IfSome entry.conditions AreFineArgs) entries.now }
-    requires within { All (λ index. index < length entries.now) indices.now }
-    ensures { IsReasonAmong entries.now call.now indices.now result }
-{
-    let number = word_at(call, 0);
-    let mut nearest = None;
-    for (rule, place) in indices.iter().enumerate() {
-        let place = *place;
-        match failing(&entries[place], call) {
-            Some(condition) => {
-                let miss = Miss {
-                    entry: place,
-                    condition,
-                };
-                nearest = Some(nearer(nearest, miss));
-            }
-            None => {
-                return Reason::Entry {
-                    place,
-                    rule,
-                    number,
-                };
-            }
-        }
-    }
-    match nearest {
-        Some(nearest) => Reason::NoMatch {
-            entries: indices.len(),
-            number,
-            nearest,
-        },
-        None => Reason::NoEntry { number },
     }
 }
 

@@ -2,13 +2,13 @@ use Rattle.std.proofs.Common.{◌≡◌, [], get_or, refl, sym, ap, ◌∙◌, s
 use Rattle.std.proofs.lemmas.List.{get_or_default}
 use Rattle.seccompiler.specs.JsonTypes.{JsonFilter}
 use Rattle.seccompiler.specs.Policy.{IsDecision, word_of}
-use Rattle.seccomptool.specs.declared.explain.search.Reason.{Reason}
 use Rattle.seccomptool.specs.declared.explain.Explained.{Explained}
 use Rattle.seccomptool.specs.declared.explain.Why.TheVariants as variant
 use Rattle.seccomptool.specs.Explain.{IsExplainedBy}
 use Rattle.seccomptool.specs.Reasons.{IsReason}
 use Rattle.seccomptool.proofs.Pairs.{one_more}
 use Rattle.seccomptool.proofs.explain.Agreement.{reason_decides}
+use Rattle.seccomptool.proofs.explain.EntrySearches.{one_reason}
 use Rattle.seccomptool.proofs.explain.explain_each.Goals as goal
 
 pub loop-call-preserved : goal.loop-call-preserved
@@ -18,16 +18,16 @@ loop-call-preserved c =
     let filter = c.args.filter.now in
     let records = c.args.records.now in
     let call = get_or records l.call-index [] in
-    let reason = c.in_ok-reason.reason in
+    let reason = c.reason_of-reason.result in
     let same : c.as_slice.result.now ≡ filter.rules = c.as_slice.ensures.value ∙ ap (λ (f : JsonFilter). f.rules) c.filter.view_is in
-    let why = subst (λ entries. IsReason target entries call reason) same c.in_ok-reason.ensures.reason in
+    let why = subst (λ entries. IsReason target entries call reason) same c.reason_of-reason.ensures in
     let word = c.from.ensures ∙ ap word_of c.action_of.ensures in
     let e : Explained = record { word = c.from.result; why = variant.Filter reason } in
     let own : IsExplainedBy target filter call e = record {
       reason = reason;
       is = refl;
       why = why;
-      only = subst (λ entries. (other : Reason) → IsReason target entries call other → other ≡ reason) same c.in_ok-reason.ensures.only;
+      only = λ other is. one_reason target filter.rules call other reason is why;
       word = word;
       decided = λ policy is_policy. subst (IsDecision policy call) (sym word)
           (reason_decides target call filter policy is_policy (c.requires.matched policy is_policy call) reason why);

@@ -1,29 +1,85 @@
-use Rattle.std.proofs.Common.{pos, sym, ◌∙◌, subst}
-use Rattle.seccompiler.specs.Machine.{word_at}
-use Rattle.seccomptool.specs.Reasons.{AreIndicesFor, IsReason, of_call}
-use Rattle.seccomptool.proofs.explain.EntrySearches.{all_within, one_reason}
+use Rattle.std.proofs.Common.{◌≡◌, ◌≤◌, ◌++◌, ◌∷◌, [], List, Some, append-nil, arith, false, length, length-append, pos, sym, take, true}
+use Rattle.std.proofs.Common.{ap, subst, ◌∙◌}
+use Rattle.std.proofs.lemmas.List.{take_all}
+use Rattle.std.proofs.lemmas.Option.{slice_get-get_or}
+use Rattle.seccompiler.specs.JsonPolicyOf.{is_for}
+use Rattle.seccompiler.specs.JsonTypes.{JsonRule}
+use Rattle.seccomptool.specs.Reasons.{IsFirstMatch}
+use Rattle.seccomptool.specs.declared.explain.search.Miss.{Miss}
+use Rattle.seccomptool.proofs.explain.EntrySearches.{IsNearestOf, first_match, one_nearer}
+use Rattle.seccomptool.proofs.explain.Places.{place_if, place_within, places, places_more, reason_among}
 use Rattle.seccomptool.proofs.explain.search.reason_of.Goals as goal
+use Rattle.seccomptool.proofs.explain.search.reason_of.Goals.{then-is_for+in-Some, else-is_for}
 
--- The indices that were found are those of the record's call.
-found : (c : goal.After-as_slice) → AreIndicesFor c.args.target c.args.entries.now (pos (word_at c.args.call.now 0)) c.as_slice.result.now
-found c =
-    let of_number = subst (λ n. AreIndicesFor c.args.target c.args.entries.now (pos n) c.in_ok-indices.indices.items)
-    c.word_at-number.ensures c.in_ok-indices.ensures in
-    subst (AreIndicesFor c.args.target c.args.entries.now (pos (word_at c.args.call.now 0))) (sym c.as_slice.ensures.value) of_number
+pub loop-place-preserved : goal.loop-place-preserved
+loop-place-preserved c =
+    let entries = c.args.entries.now in
+    let call = c.args.call.now in
+    let l = c.loop-place in
+    let entry : JsonRule = c.index-entries-place.result in
+    let own = is_for c.args.target (pos c.word_at-number.result) in
+    let front = places own 0 (take l.place entries) in
+    let there = slice_get-get_or entries l.place entry c.loop-place-test.true ∙ ap Some (sym c.index-entries-place.is) in
+    let more = places_more own entries l.place entry c.loop-place-test.true c.index-entries-place.is in
+    elim c.if-is_for.branch [
+      | then-is_for+in-Some w ↦
+          let miss : Miss = record { entry = l.place; condition = w.in-Some.condition } in
+          let longer = more ∙ ap (λ b. front ++ place_if b l.place) (sym c.is_for.ensures ∙ w.if-is_for.true) in
+          let near = one_nearer entries call front l.nearest miss l.invariant.nearest (entry, there, w.in-Some.ensures.fails) in
+          record {
+            counted = omega (arith, w.rule-is, l.invariant.counted, ap length longer, length-append front (l.place ∷ []));
+            few = omega (arith, w.rule-is, l.invariant.few);
+            nearest = subst (λ done. IsNearestOf entries call done c.if-is_for.nearest) (sym longer)
+                (subst (IsNearestOf entries call (front ++ l.place ∷ [])) (sym (w.nearest-is ∙ ap Some w.nearer.ensures)) near);
+          }
+      | else-is_for w ↦
+          let same = more ∙ ap (λ b. front ++ place_if b l.place) (sym c.is_for.ensures ∙ w.if-is_for.false) ∙ append-nil front in
+          record {
+            counted = w.rule-is ∙ l.invariant.counted ∙ ap length (sym same);
+            few = omega (arith, w.rule-is, l.invariant.few);
+            nearest = subst (λ done. IsNearestOf entries call done c.if-is_for.nearest) (sym same)
+                (subst (IsNearestOf entries call front) (sym w.nearest-is) l.invariant.nearest);
+          }
+    ]
 
-pub reason_among-requires-clause-within : goal.reason_among-requires-clause-within
-reason_among-requires-clause-within c =
-    all_within c.args.target (pos (word_at c.args.call.now 0)) c.args.entries.now c.as_slice.result.now (found c)
+pub returns-in-None : goal.returns-in-None
+returns-in-None c =
+    let entries = c.args.entries.now in
+    let l = c.loop-place in
+    let entry : JsonRule = c.index-entries-place.result in
+    let own = is_for c.args.target (pos c.word_at-number.result) in
+    let front = places own 0 (take l.place entries) in
+    let there = slice_get-get_or entries l.place entry c.loop-place-test.true ∙ ap Some (sym c.index-entries-place.is) in
+    let at = place_within own entries l.place entry c.loop-place-test.true c.index-entries-place.is (sym c.is_for.ensures ∙ c.if-is_for.true) in
+    let first = first_match entries c.args.call.now (places own 0 entries) front at.0 l.place l.nearest at.1 l.invariant.nearest
+    (entry, there, c.in-None.ensures.holds) in
+    reason_among c.args.target entries c.args.call.now c.word_at-number.result _
+    (sym c.word_at.ensures ∙ c.if-word_at-get_audit_value.false ∙ c.get_audit_value.ensures) c.word_at-number.ensures
+    (c.word_at-number.ensures, subst (IsFirstMatch entries c.args.call.now (places own 0 entries) l.place) (sym l.invariant.counted) first)
 
--- The reason among them is the record's.
-is_reason : (c : goal.After-drop-indices) → IsReason c.args.target c.args.entries.now c.args.call.now c.reason_among.result
-is_reason c =
-    let same = sym c.word_at.ensures ∙ c.if-word_at-get_audit_value.false ∙ c.get_audit_value.ensures in
-    of_call same (c.as_slice.result.now, found c.before.before, c.reason_among.ensures)
+pub returns-in-Some-nearest : goal.returns-in-Some-nearest
+returns-in-Some-nearest c =
+    let entries = c.args.entries.now in
+    let l = c.loop-place in
+    let own = is_for c.args.target (pos c.word_at-number.result) in
+    let all = take_all l.place entries (let long : length entries ≤ l.place = omega (arith, c.loop-place-test.false) in long) in
+    reason_among c.args.target entries c.args.call.now c.word_at-number.result _
+    (sym c.word_at.ensures ∙ c.if-word_at-get_audit_value.false ∙ c.get_audit_value.ensures) c.word_at-number.ensures (
+      c.word_at-number.ensures,
+      l.invariant.counted ∙ ap (λ (es : List JsonRule). length (places own 0 es)) all,
+      subst (IsNearestOf entries c.args.call.now (places own 0 entries)) c.in-Some-nearest.is
+          (subst (λ es. IsNearestOf entries c.args.call.now (places own 0 es) l.nearest) all l.invariant.nearest),
+    )
 
-pub returns-clause-reason : goal.returns-clause-reason
-returns-clause-reason c = is_reason c
-
-pub returns-clause-only : goal.returns-clause-only
-returns-clause-only c = λ other is.
-    one_reason c.args.target c.args.entries.now c.args.call.now other c.reason_among.result is (is_reason c)
+pub returns-in-None-nearest : goal.returns-in-None-nearest
+returns-in-None-nearest c =
+    let entries = c.args.entries.now in
+    let l = c.loop-place in
+    let own = is_for c.args.target (pos c.word_at-number.result) in
+    let all = take_all l.place entries (let long : length entries ≤ l.place = omega (arith, c.loop-place-test.false) in long) in
+    reason_among c.args.target entries c.args.call.now c.word_at-number.result _
+    (sym c.word_at.ensures ∙ c.if-word_at-get_audit_value.false ∙ c.get_audit_value.ensures) c.word_at-number.ensures (
+      c.word_at-number.ensures,
+      subst (IsNearestOf entries c.args.call.now (places own 0 entries)) c.in-None-nearest.is
+          (subst (λ es. IsNearestOf entries c.args.call.now (places own 0 es) l.nearest) all l.invariant.nearest),
+    )

@@ -1,14 +1,17 @@
--- For `next_named` and `parts`: which numbers have names, and the parts that this makes.
+-- For `parts`: which numbers have names, and the parts that this makes.
 use Rattle.std.proofs.Common.{◌≡◌, ℕ, pos, ◌+◌, ◌-◌, ◌<◌, ◌≤◌, ◌⊎◌, List, [], ◌∷◌, ◌++◌, All, refl, sym, subst, inl, inr, arith, ◌∙◌, ap}
+use Rattle.std.proofs.Common.{Bor, Option, None, Some, true, false}
+use Rattle.std.specs.Prelude.{option_map}
+use Rattle.std.specs.Option.{is_some}
 use Rattle.std.proofs.Common.{append-nil}
 use Rattle.std.specs.Prelude.{◌^◌}
 use Rattle.std.specs.Ordering.{int_eq}
-use Rattle.std.proofs.lemmas.Bool.{cases_Bool, cases_eq}
+use Rattle.std.proofs.lemmas.Bool.{cases_Bool, cases_eq, true≢false}
 use Rattle.std.proofs.lemmas.Bool.Decides.{Decides-int_eq, nat_tests}
 use Rattle.std.proofs.lemmas.Int.{ints}
 use Rattle.std.proofs.lemmas.List.Elements.{All-head, All-tail}
 use Rattle.seccompiler.specs.SyscallTable.{Pair, IsTableNumber}
-use Rattle.seccomptool.specs.Findings.{HasName, LacksName, ArePartsBelow, then_named, then_gap}
+use Rattle.seccomptool.specs.Findings.{HasName, LacksName, ArePartsBelow, name_of, then_named, then_gap}
 use Rattle.seccomptool.specs.Findings.{between}
 use Rattle.seccomptool.specs.declared.findings.Part.{Part}
 use Rattle.seccomptool.specs.declared.findings.Part.TheVariants.{Named, Unnamed}
@@ -24,6 +27,12 @@ none_above (pair ∷ pairs) all n high = elim (cases_Bool (int_eq pair.1 (pos n)
       pair.1) pair pairs all)))
   | inr f ↦ rw f (none_above pairs (All-tail (λ (pair : Pair). IsTableNumber pair.1) pair pairs all) n high)
 ]
+
+-- Whether a number has a name is what is found for it.
+pub has_name : (table : List Pair) (n : ℕ) (found : Option (Bor (List ℕ))) → option_map (λ name. name.now) found ≡ name_of table n
+    → (is_some found ≡ true → HasName table n) × (is_some found ≡ false → LacksName table n)
+has_name table n None is = (λ yes. absurd (true≢false (sym yes)), λ no. sym is)
+has_name table n (Some name) is = (λ yes none. (let both : Some name.now ≡ None = is ∙ none in cc), λ no. absurd (true≢false no))
 
 -- The parts below a number that has a name, and then its own.
 pub parts_more : (table : List Pair) (least number : ℕ) (old middle new : List Part) → ArePartsBelow table old least

@@ -1,10 +1,10 @@
 // The parts of an architecture's calls: one for each number that has a name, and one for each range of numbers
 // between these. x32's numbers are a range of their own.
 
-ghost use Rattle.std.specs.Prelude.{◌≡◌, ℕ, ◌++◌, ◌^◌, ◌<◌, ◌≤◌, IfSome, IfNone, IfOk, OnOk, option_map};
+ghost use Rattle.std.specs.Prelude.{◌≡◌, ◌++◌, ◌^◌, ◌≤◌, IfOk, OnOk, option_map};
 ghost use Rattle.seccompiler.specs.Architecture.{table_of};
 ghost use Rattle.seccomptool.specs.Findings as spec;
-ghost use Rattle.seccomptool.specs.Findings.{ArePartsBelow, HasName, LacksName};
+ghost use Rattle.seccomptool.specs.Findings.{ArePartsBelow};
 ghost use Rattle.seccomptool.specs.Findings.{between};
 
 use crate::findings::Part;
@@ -21,12 +21,15 @@ pub(crate) const X32: u32 = 0x4000_0000;
 pub(crate) fn parts(alloc: Global, target: TargetArch) -> Result<Vec<Part>, AllocError>
     ensures { IfOk result (λ parts. ArePartsBelow (table_of target) parts.items (2 ^ 32)) }
 {
-    let mut parts = Vec::new(alloc);
-    let mut least = 0;
-    while let Some(number) = next_named(target, least) {
-        push_unnamed(&mut parts, least, number)?;
-        parts.push(Part::Named { number })?;
-        least = number + 1;
+    // Its table has no number from the end on.
+    let _table = SyscallTable::new(target);
+    let (mut parts, mut least) = (Vec::new(alloc), 0);
+    for number in 0..END {
+        if name_of(target, number).is_some() {
+            push_unnamed(&mut parts, least, number)?;
+            parts.push(Part::Named { number })?;
+            least = number + 1;
+        }
     }
     parts.push(Part::Unnamed {
         least,
@@ -52,22 +55,6 @@ fn push_unnamed(parts: &mut Vec<Part>, least: u32, next: u32) -> Result<(), Allo
         greatest: next - 1,
     })?;
     Ok(())
-}
-
-// The first number from this one on that has a name.
-fn next_named(target: TargetArch, least: u32) -> Option<u32>
-    ensures named { IfSome result (λ number. (least ≤ number) × (number < 463) × HasName (table_of target) number) }
-    ensures unnamed { IfSome result (λ number. (n : ℕ) → least ≤ n → n < number → LacksName (table_of target) n) }
-    ensures none { IfNone result ((n : ℕ) → least ≤ n → LacksName (table_of target) n) }
-{
-    // Its table has no number from the end on.
-    let _table = SyscallTable::new(target);
-    for number in least..END {
-        if name_of(target, number).is_some() {
-            return Some(number);
-        }
-    }
-    None
 }
 
 // The first name of a number, in byte order.

@@ -1,6 +1,6 @@
 // A comparison of two programs on a part, made in one try after the other, so that it can be shown how far it is.
 
-ghost use Rattle.std.specs.Prelude.{◌≡◌, ◌<◌, ◌≤◌, IfOk, true};
+ghost use Rattle.std.specs.Prelude.{◌≡◌, IfOk, true};
 ghost use Rattle.seccomp_compare.specs.Compare.{Compares};
 ghost use Rattle.seccomp_compare.specs.Machine.{IsChecked};
 
@@ -32,7 +32,11 @@ pub(crate) fn try_comparisons<G: Progress>(
     if are_same(new, old) {
         return Ok(Comparison::Holds);
     }
-    let mut sets = first(terms.most, progress.is_shown());
+    let mut sets = if progress.is_shown() {
+        FIRST.min(terms.most)
+    } else {
+        terms.most
+    };
     loop {
         let answer = compare(alloc, new, old, calls, terms.relation, sets)?;
         if !matches!(answer, Comparison::Undecided) {
@@ -42,7 +46,7 @@ pub(crate) fn try_comparisons<G: Progress>(
         if sets >= terms.most {
             return Ok(answer);
         }
-        sets = more(sets, terms.most);
+        sets = sets.saturating_add(sets).min(terms.most);
     }
 }
 
@@ -51,27 +55,4 @@ fn are_same(new: BpfProgramRef<'_>, old: BpfProgramRef<'_>) -> bool
     ensures { result ≡ true → new.now ≡ old.now }
 {
     new == old
-}
-
-// How many sets are looked at first.
-fn first(most: usize, is_shown: bool) -> usize
-    ensures { result < most → 0 < result }
-{
-    if is_shown && FIRST < most {
-        FIRST
-    } else {
-        most
-    }
-}
-
-// How many sets are looked at next: twice as many, or as many as may be.
-fn more(sets: usize, most: usize) -> usize
-    requires { (0 < sets) × (sets < most) }
-    ensures { (sets < result) × (result ≤ most) }
-{
-    if most - sets < sets {
-        most
-    } else {
-        sets + sets
-    }
 }

@@ -1,35 +1,65 @@
-use Rattle.std.proofs.Common.{◌≡◌, ◌+◌, ◌-◌, inl, inr, refl, subst, arith}
+use Rattle.std.proofs.Common.{◌≡◌, ◌+◌, ◌-◌, ◌<◌, ◌≤◌, ℕ, inl, inr, refl, subst, sym, ◌∙◌, arith}
+use Rattle.std.proofs.lemmas.Bool.{cases_eq, cases_lt}
 use Rattle.seccompiler.specs.Architecture.{table_of}
-use Rattle.seccomptool.specs.Findings.{HasName, no_part, then_gap}
-use Rattle.seccomptool.proofs.findings.Names.{parts_more}
+use Rattle.seccompiler.specs.SyscallTable.{IsCallTable}
+use Rattle.seccomptool.specs.Findings.{HasName, LacksName, no_part, then_gap}
+use Rattle.seccomptool.proofs.findings.Names.{has_name, none_above, parts_more}
 use Rattle.seccomptool.proofs.findings.parts.parts.Goals as goal
+use Rattle.seccomptool.proofs.findings.parts.parts.Goals.{then-is_some+in_ok-push_unnamed+in_ok-push, else-is_some}
 
 pub loop-number-init : goal.loop-number-init
-loop-number-init c = record { few = omega arith; below = no_part c.new-parts.ensures.items refl; begins = inl refl }
+loop-number-init c = record {
+  few = omega arith;
+  below = no_part c.new-parts.ensures.items refl;
+  begins = inl refl;
+  unnamed = λ n from to. absurd (omega (arith, to));
+}
 
 pub loop-number-preserved : goal.loop-number-preserved
 loop-number-preserved c =
+    let l = c.loop-number in
     let table = table_of c.args.target in
-    let number = c.in-Some.number in
-    let named = c.in-Some.ensures.named in
-    let same : number ≡ number + 1 - 1 = omega arith in
-    record {
-      few = omega (arith, named.1);
-      below = parts_more table c.loop-number.least number c.loop-number.parts.items c.push_unnamed.new.parts.items c.push.new.self.items
-          c.loop-number.invariant.below c.loop-number.invariant.begins named.0 named.1 c.in-Some.ensures.unnamed named.2
-          c.in_ok-push_unnamed.ensures c.in_ok-push.ensures.items;
-      begins = inr (inl (subst (HasName table) same named.2));
-    }
+    let own = has_name table l.number c.name_of.result c.name_of.ensures in
+    elim c.if-is_some.branch [
+      | then-is_some+in_ok-push_unnamed+in_ok-push w ↦
+          let named = own.0 (sym c.is_some.ensures ∙ w.if-is_some.true) in
+          let same : l.number ≡ l.number + 1 - 1 = omega arith in
+          rw (w.least-is, w.parts-is) (record {
+            few = omega arith;
+            below = parts_more table l.least l.number l.parts.items w.push_unnamed.new.parts.items w.push.new.self.items l.invariant.below
+                l.invariant.begins l.invariant.few c.loop-number-test.true l.invariant.unnamed named w.in_ok-push_unnamed.ensures
+                w.in_ok-push.ensures.items;
+            begins = inr (inl (subst (HasName table) same named));
+            unnamed = λ n from to. absurd (omega (arith, from, to));
+          })
+      | else-is_some w ↦
+          let lacks = own.1 (sym c.is_some.ensures ∙ w.if-is_some.false) in
+          rw (w.least-is, w.parts-is) (record {
+            few = omega (arith, l.invariant.few);
+            below = l.invariant.below;
+            begins = l.invariant.begins;
+            unnamed = λ n from to. elim (cases_eq n l.number) [
+              | inl same ↦ subst (LacksName table) (sym same) lacks
+              | inr other ↦ l.invariant.unnamed n from (omega arith)
+            ];
+          })
+    ]
 
 pub returns : goal.returns
 returns c =
-    let none = c.in_default.ensures.none in
-    let few = c.loop-number.invariant.few in
-    then_gap (then_gap c.loop-number.invariant.below
+    let l = c.loop-number in
+    let table = subst (λ target. IsCallTable (table_of target)) c.new-table.ensures.arch c.new-table.ensures.table in
+    let end : 463 ≤ l.number = c.loop-number-test.false in
+    let few : l.least ≤ 463 = omega (arith, l.invariant.few, l.auto.number-end) in
+    let none = λ (n : ℕ) (low : l.least ≤ n). elim (cases_lt n 463) as (λ _. LacksName (table_of c.args.target) n) [
+      | inl less ↦ l.invariant.unnamed n low (omega (arith, less, end))
+      | inr more ↦ none_above (table_of c.args.target) table.in_range n more
+    ] in
+    then_gap (then_gap l.invariant.below
     (record {
       some = omega (arith, few);
       unnamed = λ n from to. none n from;
-      begins = c.loop-number.invariant.begins;
+      begins = l.invariant.begins;
       ends = inr (inr refl);
       apart = inl (omega arith);
     })

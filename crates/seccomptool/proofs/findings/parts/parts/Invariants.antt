@@ -1,16 +1,14 @@
-use Rattle.std.proofs.Common.{◌≡◌, ◌⊎◌, ◌≤◌, ◌-◌}
+use Rattle.std.proofs.Common.{◌≡◌, ◌⊎◌, ◌≤◌, ◌<◌, ◌-◌, ℕ}
 use Rattle.std.specs.Prelude.{◌^◌}
 use Rattle.seccompiler.specs.Architecture.{table_of}
-use Rattle.seccomptool.specs.Findings.{ArePartsBelow, HasName}
+use Rattle.seccomptool.specs.Findings.{ArePartsBelow, HasName, LacksName}
 use Rattle.seccomptool.proofs.findings.parts.parts.Given as goal
 
--- the parts are those below the next number, and a number with a name ended them
+-- the parts are those below a number that ends one with a name, and none from there on so far has a name
 abbrev pub invariant-loop-number : goal.invariant-loop-number
 invariant-loop-number l = record {
-  few : l.least ≤ 463;
+  few : l.least ≤ l.number;
   below : ArePartsBelow (table_of l.target) l.parts.items l.least;
   begins : (l.least ≡ 0) ⊎ (HasName (table_of l.target) (l.least - 1) ⊎ (l.least ≡ 2 ^ 30));
+  unnamed : (n : ℕ) → l.least ≤ n → n < l.number → LacksName (table_of l.target) n;
 }
-
-abbrev pub decreases-loop-number : goal.decreases-loop-number
-decreases-loop-number l = 463 - l.least

@@ -1,9 +1,12 @@
 -- A side of a comparison: what it rules, and which programs stand for it.
-use Rattle.std.specs.Prelude.{◌≡◌, ℕ, List, Option, Some, None}
+use Rattle.std.specs.Prelude.{◌≡◌, ℕ, false, List, Option, Some, None}
 use Rattle.seccompiler.specs.declared.backend.TargetArch.{TargetArch}
 use Rattle.seccompiler.specs.declared.bpf.sock_filter.{sock_filter}
 use Rattle.seccompiler.specs.JsonAnswers.{ArePoliciesOf, OfValue}
 use Rattle.seccompiler.specs.Policy.{Filter}
+use Rattle.seccomp_compare.specs.Machine.{IsChecked}
+use Rattle.seccomp_oci.specs.declared.compiled.CompiledProfile.{CompiledProfile}
+use Rattle.seccomp_oci.specs.CompiledProfile.{IsCompiledProfile}
 use Rattle.seccomp_oci.specs.ProfileText.{IsProfileText}
 use Rattle.seccomptool.specs.Chosen.{IsNamed, text_of}
 use Rattle.seccomptool.specs.Rulings.{Ruling, StandsFor, of_filter, of_profile, of_program}
@@ -38,11 +41,12 @@ Rules target kind asked given ruling = ⊥
 abbrev pub IsRuling : TargetArch → Side → Ruling → Type 0
 IsRuling target side ruling = Rules target side.kind (text_of side.filter) side.given.now ruling
 
--- Between layers: the program stands for what the side rules.
-abbrev pub StandsForSide : TargetArch → Side → List sock_filter → Type 0
-StandsForSide target side program = (ruling : Ruling) × IsRuling target side ruling × StandsFor target ruling program
-
--- Between layers: the program stands for the filter of the policy's text that is asked for, or for the only one.
-abbrev pub StandsForFilter : TargetArch → Option (List ℕ) → (text : List ℕ) → List sock_filter → Type 0
-StandsForFilter target asked text program =
+-- Between layers: the program is that of what is given. It stands for a policy's filter, the one that is asked for or the only one;
+-- or it is a profile's, or given itself, and no filter is asked for.
+abbrev pub IsProgramFor : TargetArch → Subject → (asked : Option (List ℕ)) → (given : List ℕ) → List sock_filter → Type 0
+IsProgramFor target subject.Policy asked text program =
     (filter : Filter) × IsFilterOf target asked text filter × StandsFor target (of_filter filter) program
+IsProgramFor target (subject.Profile container) asked text program =
+    (asked ≡ None) × (compiled : CompiledProfile) × IsCompiledProfile target container.now false text compiled
+    × (program ≡ compiled.program.items)
+IsProgramFor target subject.Program asked bytes program = (asked ≡ None) × IsProgramOf bytes program × IsChecked program

@@ -60,17 +60,3 @@ pub(crate) fn refuse_name(alloc: Global, asked: Option<&str>) -> Result<(), Tool
         None => Ok(()),
     }
 }
-
-// A text of filters, in which something stands where one is asked for.
-pub(crate) fn some_text(
-    alloc: Global,
-    asked: Option<&str>,
-    text: Vec<u8>,
-) -> Result<Vec<u8>, ToolError> {
-    match asked {
-        Some(name) if text.is_empty() => {
-            Err(ToolError::NoFilter(String::from_str(alloc, name)?))
-        }
-        _ => Ok(text),
-    }
-}

@@ -52,10 +52,10 @@ pub enum Scope {
 /// What is found of a pair of sides.
 #[derive(Drop)]
 pub struct Pair {
-    /// The old filter's name, of a policy.
-    pub old_name: Option<String>,
-    /// The new filter's name, of a policy.
-    pub new_name: Option<String>,
+    /// The name of the old side's program.
+    pub old_name: String,
+    /// The name of the new side's program.
+    pub new_name: String,
     /// Whether one of the programs loads the instruction pointer, on which what it decides may depend then.
     pub loads_pointer: bool,
     /// What is found of the programs.

@@ -1,7 +1,7 @@
 // What each command makes of the bytes that it is given: an answer, and a view of it.
 
 ghost use Rattle.std.specs.Prelude.{◌≡◌, IfOk, false};
-ghost use Rattle.seccomptool.specs.Commands.{IsCalled, IsCompared, IsCompiled, IsCompiledAs, IsMeasuredAs, IsProfileCompiled, IsShown, IsShownAs};
+ghost use Rattle.seccomptool.specs.Commands.{IsCalled, IsCompared, IsCompiled, IsCompiledAs, IsProfileCompiled, IsShown, IsShownOrMeasured};
 ghost use Rattle.seccomptool.specs.declared.findings.Verdict.TheVariants.{Same};
 ghost use Rattle.seccomptool.specs.declared.kind.Subject.TheVariants.{Policy};
 
@@ -20,8 +20,8 @@ use crate::record::{called_record, calls_text, known_calls};
 use crate::run::program::program_of;
 use crate::show;
 use crate::show::programs_in;
-use crate::sides::Side;
-use crate::stats::{filters_text, measure_of, measure_text, profile_stats, stats_of};
+use crate::sides::{Side, ruled_by};
+use crate::stats::{filters_text, measure_of, measure_text, stats_of};
 use crate::words::{Calling, Comparing, Compiling, Inputs, Showing};
 use seccomp_check::policies_in;
 use seccomp_oci::Container;
@@ -160,19 +160,21 @@ pub(crate) fn show_made(
     ensures { IfOk result (λ made. IsShown asked.now given.now × (made.verdict ≡ Same)) }
 {
     let subject = subject_of(alloc, &asked.reading, given)?;
-    let (name, text) = if asked.measured {
-        (
-            "measures",
-            measured_text(alloc, asked, json, subject, given)?,
-        )
+    let text = shown_text(alloc, asked, json, subject, given)?;
+    if text.is_empty() {
+        refuse_name(alloc, asked.filter)?;
+    }
+    let name = if asked.measured {
+        "measures"
     } else {
-        ("programs", shown_text(alloc, asked, json, subject, given)?)
+        "programs"
     };
     let text = written(alloc, json, name, text)?;
     Ok(Made::plain(alloc, text))
 }
 
-// The programs of what is given.
+// The programs of what is given, or how long they are and how many steps they take: of a policy those of all filters, or of the one
+// that is asked for, and nothing if there is none.
 fn shown_text(
     alloc: Global,
     asked: &Showing<'_>,
@@ -180,55 +182,29 @@ fn shown_text(
     subject: Subject<'_>,
     given: &[u8],
 ) -> Result<Vec<u8>, ToolError>
-    ensures { IfOk result (λ text. IsShownAs asked.now.arch subject.entry asked.now.layout given.now) }
+    ensures { IfOk result (λ text. IsShownOrMeasured asked.now.measured asked.now.arch subject.entry asked.now.layout given.now) }
 {
-    let arch = asked.arch;
-    match subject {
-        Subject::Policy => {
-            let programs = programs_in(alloc, arch, asked.layout, given)?;
-            show::programs_text(alloc, arch, json, asked.filter, &programs)
-        }
-        Subject::Profile(container) => {
-            refuse_name(alloc, asked.filter)?;
-            let compiled = compiled_of(alloc, arch, container, false, given)?;
-            Ok(show::program_text(alloc, json, "profile", arch, &compiled.program)?)
-        }
-        Subject::Program => {
-            refuse_name(alloc, asked.filter)?;
-            let program = program_of(alloc, given)?;
-            Ok(show::program_text(alloc, json, "program", arch, &program)?)
-        }
-    }
-}
-
-// How long the programs of what is given are, and how many steps they take.
-fn measured_text(
-    alloc: Global,
-    asked: &Showing<'_>,
-    json: bool,
-    subject: Subject<'_>,
-    given: &[u8],
-) -> Result<Vec<u8>, ToolError>
-    ensures { IfOk result (λ text. IsMeasuredAs asked.now.arch subject.entry given.now) }
-{
-    let arch = asked.arch;
-    match subject {
-        Subject::Policy => {
+    let (arch, filter) = (asked.arch, asked.filter);
+    if let Subject::Policy = subject {
+        if asked.measured {
             let all = stats_of(alloc, arch, given)?;
-            filters_text(alloc, json, asked.filter, &all)
+            return Ok(filters_text(alloc, json, filter, &all)?);
         }
-        Subject::Profile(container) => {
-            refuse_name(alloc, asked.filter)?;
-            let measure = profile_stats(alloc, arch, container, given)?;
-            Ok(measure_text(alloc, json, "profile", None, measure)?)
-        }
-        Subject::Program => {
-            refuse_name(alloc, asked.filter)?;
-            let program = program_of(alloc, given)?;
-            let measure = measure_of(alloc, arch, &program)?;
-            Ok(measure_text(alloc, json, "program", None, measure)?)
-        }
+        let programs = programs_in(alloc, arch, asked.layout, given)?;
+        return Ok(show::programs_text(alloc, arch, json, filter, &programs)?);
     }
+    let side = Side {
+        kind: subject,
+        filter,
+        given,
+    };
+    let one = ruled_by(alloc, arch, side)?;
+    let name = one.name.as_str();
+    if asked.measured {
+        let measure = measure_of(alloc, arch, &one.program)?;
+        return Ok(measure_text(alloc, json, name, None, measure)?);
+    }
+    Ok(show::program_text(alloc, json, name, arch, &one.program)?)
 }
 
 // A line for each code of a warning, in the order of `Code::all`: its name, `: `, and what is so if a warning has the code. As JSON

@@ -9,7 +9,6 @@ ghost use Rattle.std.specs.Map.{keys_of};
 ghost use Rattle.seccompiler.specs.JsonAnswers.{OfValue};
 ghost use Rattle.seccomptool.specs.Compile.{ArePrograms, IsCompiledAs};
 
-use crate::chosen::some_text;
 use crate::compile::{NamedProgram, program_value};
 use crate::error::ToolError;
 use crate::json::push_item;
@@ -58,7 +57,7 @@ pub(crate) fn programs_text(
     json: bool,
     asked: Option<&str>,
     programs: &[NamedProgram],
-) -> Result<Vec<u8>, ToolError> {
+) -> Result<Vec<u8>, AllocError> {
     let mut text = Vec::new(alloc);
     for NamedProgram { name, program } in programs {
         let name = name.as_str();
@@ -72,7 +71,7 @@ pub(crate) fn programs_text(
             text.extend_from_slice(&program_text(alloc, json, name, target, program)?)?;
         }
     }
-    some_text(alloc, asked, text)
+    Ok(text)
 }
 
 /// The lines of a program, one for each instruction: its place, the instruction as `bpf_asm` has it, and the note on it. Calls

@@ -4,9 +4,10 @@ ghost use Rattle.std.specs.Prelude.{IfOk};
 ghost use Rattle.seccompiler.specs.declared.backend.TargetArch.{TargetArch};
 ghost use Rattle.seccomptool.specs.Chosen.{text_of};
 ghost use Rattle.seccomptool.specs.Rulings.{StandsFor, of_filter};
-ghost use Rattle.seccomptool.specs.Sides.{StandsForFilter, StandsForSide};
+ghost use Rattle.seccomptool.specs.Sides.{IsProgramFor};
 
 use crate::chosen::{chosen_of, refuse_name};
+use crate::compile::NamedProgram;
 use crate::error::ToolError;
 use crate::kind::Subject;
 use crate::profile::compiled_of;
@@ -26,16 +27,7 @@ pub struct Side<'a> {
     pub given: &'a [u8],
 }
 
-/// What is compared of a side.
-#[derive(Drop)]
-pub(crate) struct Ruled {
-    /// The filter's name, of a policy.
-    pub name: Option<String>,
-    /// The program that stands for it.
-    pub program: BpfProgram,
-}
-
-/// What is compared of a side: a policy's filter, the one that is asked for or the only one, a profile, or a program, which may be of
+/// The program of a side, and its name, which says what it is of unless that is a filter: a policy's filter, the one that is asked for or the only one, a profile, or a program, which may be of
 /// any compiler, if `machine::check` passes it.
 ///
 /// # Errors
@@ -48,45 +40,32 @@ pub(crate) fn ruled_by(
     alloc: Global,
     target: TargetArch,
     side: Side<'_>,
-) -> Result<Ruled, ToolError>
-    ensures { IfOk result (λ ruled. StandsForSide target side.entry ruled.program.items) }
+) -> Result<NamedProgram, ToolError>
+    ensures { IfOk result (λ ruled. IsProgramFor target side.entry.kind (text_of side.entry.filter) side.entry.given.now ruled.program.items) }
 {
     match side.kind {
-        Subject::Policy => of_policy(alloc, target, side.filter, side.given),
+        Subject::Policy => {
+            let filters = JsonCompiler::new(target).policies_of(alloc, side.given)?;
+            let (name, chosen) = chosen_of(alloc, side.filter, &filters)?;
+            let program = fitting_program(alloc, chosen)?;
+            Ok(NamedProgram { name, program })
+        }
         Subject::Profile(container) => {
             refuse_name(alloc, side.filter)?;
             let compiled = compiled_of(alloc, target, container, false, side.given)?;
-            Ok(Ruled {
-                name: None,
+            Ok(NamedProgram {
+                name: String::from_str(alloc, "profile")?,
                 program: compiled.program,
             })
         }
         Subject::Program => {
             refuse_name(alloc, side.filter)?;
-            Ok(Ruled {
-                name: None,
+            Ok(NamedProgram {
+                name: String::from_str(alloc, "program")?,
                 program: program_of(alloc, side.given)?,
             })
         }
     }
-}
-
-// What is compared of a policy's text.
-fn of_policy(
-    alloc: Global,
-    target: TargetArch,
-    asked: Option<&str>,
-    text: &[u8],
-) -> Result<Ruled, ToolError>
-    ensures { IfOk result (λ ruled. StandsForFilter target (text_of asked.entry) text.now ruled.program.items) }
-{
-    let filters = JsonCompiler::new(target).policies_of(alloc, text)?;
-    let chosen = chosen_of(alloc, asked, &filters)?;
-    let program = fitting_program(alloc, chosen.1)?;
-    Ok(Ruled {
-        name: Some(chosen.0),
-        program,
-    })
 }
 
 /// The program of a filter as a tree if that fits, else in the linear layout.

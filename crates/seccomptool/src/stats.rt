@@ -6,16 +6,13 @@ ghost use Rattle.std.specs.List.Sorted.{IsStrictlySortedBy};
 ghost use Rattle.std.specs.Map.{keys_of};
 ghost use Rattle.seccompiler.specs.JsonAnswers.{OfValue};
 ghost use Rattle.seccomp_compare.specs.Machine.{IsChecked, IsFine};
-ghost use Rattle.seccomptool.specs.Stats.{AreStats, IsMeasureIn, IsMeasureOf, IsMeasured, IsProfileMeasure, passing_record};
+ghost use Rattle.seccomptool.specs.Stats.{AreStats, IsMeasureIn, IsMeasureOf, IsMeasured, passing_record};
 ghost use Rattle.seccomptool.specs.Ways.{IsGreatestNext, IsMost};
 
-use crate::chosen::some_text;
 use crate::error::ToolError;
 use crate::findings::lines::push_filter;
 use crate::json::{push_item, text_or_null};
-use crate::profile::compiled_of;
 use seccomp_compare::machine::run;
-use seccomp_oci::Container;
 use seccomp_tree::{FilterError, Layout, to_bpf_in};
 use seccompiler::bpf::{JUMP, LOAD, MASK, RETURN};
 use seccompiler::{
@@ -58,23 +55,10 @@ pub fn stats_of(
     // Its table has no number as great as that of the passing record.
     let _table = SyscallTable::new(target);
     let filters = JsonCompiler::new(target).policies_of(alloc, text)?;
-    match measured(alloc, target, &filters) {
-        Ok(all) => Ok(all),
-        Err(cause) => Err(first_cause(alloc, &filters, cause).into()),
+    for (_, filter) in &filters {
+        filter.compiled_len()?;
     }
-}
-
-/// Measures the one program of a profile's text, in a container.
-pub fn profile_stats(
-    alloc: Global,
-    target: TargetArch,
-    container: &Container,
-    text: &[u8],
-) -> Result<Measure, ToolError>
-    ensures { IfOk result (IsProfileMeasure target container.now text.now) }
-{
-    let compiled = compiled_of(alloc, target, container, false, text)?;
-    Ok(measure_of(alloc, target, &compiled.program)?)
+    Ok(measured(alloc, target, &filters)?)
 }
 
 // The numbers of the programs of filters.
@@ -94,20 +78,6 @@ fn measured(
         all.push(FilterStats { name, linear, tree })?;
     }
     Ok(all)
-}
-
-// Why the filters aren't measured: a program in the linear layout that can't be made comes before a tree that can't.
-fn first_cause(
-    alloc: Global,
-    filters: &BTreeMap<String, SeccompFilter>,
-    cause: FilterError,
-) -> FilterError {
-    for (_, filter) in filters {
-        if let Err(refusal) = to_bpf_in(alloc, filter, Layout::Linear) {
-            return refusal;
-        }
-    }
-    cause
 }
 
 // The numbers of a filter's program in a layout.
@@ -191,7 +161,7 @@ pub(crate) fn filters_text(
     json: bool,
     asked: Option<&str>,
     all: &[FilterStats],
-) -> Result<Vec<u8>, ToolError> {
+) -> Result<Vec<u8>, AllocError> {
     let mut text = Vec::new(alloc);
     for FilterStats { name, linear, tree } in all {
         let name = name.as_str();
@@ -204,7 +174,7 @@ pub(crate) fn filters_text(
             text.extend_from_slice(&measure_text(alloc, json, name, Some("tree"), *tree)?)?;
         }
     }
-    some_text(alloc, asked, text)
+    Ok(text)
 }
 
 /// The line of the numbers of one program, after its layout, or after its name if it has none; as JSON an item.

@@ -1,14 +1,25 @@
--- For `ruled_by`: the program of a profile stands for it.
-use Rattle.std.proofs.Common.{List}
+-- For `diff_pair` and `shown_text`: the program of a side stands for what it rules, and may be run.
+use Rattle.std.proofs.Common.{◌≡◌, ℕ, List, Option, None, refl, subst, sym}
 use Rattle.seccompiler.specs.declared.backend.TargetArch.{TargetArch}
 use Rattle.seccompiler.specs.declared.bpf.sock_filter.{sock_filter}
+use Rattle.seccomp_compare.specs.Machine.{IsChecked}
 use Rattle.seccomp_compare.proofs.OfSeven.{checked_of_seven, ends_of_seven}
 use Rattle.seccomp_oci.specs.CompiledProfile.{IsProfileProgram}
 use Rattle.seccomp_oci.specs.ProfileDecisions.{other, own}
 use Rattle.seccomp_oci.specs.Types.{Container, Profile}
-use Rattle.seccomptool.specs.Rulings.{Decides, StandsFor, of_profile}
+use Rattle.seccomptool.proofs.findings.Ending.{ends}
+use Rattle.seccomptool.specs.Rulings.{Decides, Ruling, StandsFor, of_filter, of_profile, of_program}
+use Rattle.seccomptool.specs.Chosen.{text_of}
+use Rattle.seccomptool.specs.Commands.{IsMeasuredAs, IsShownAs}
+use Rattle.seccomptool.specs.Sides.{IsProgramFor, IsRuling, Rules}
+use Rattle.seccomptool.specs.Stats.{IsMeasureOf}
+use Rattle.seccomptool.specs.declared.sides.Side.{Side}
+use Rattle.seccomptool.specs.declared.stats.Measure.{Measure}
+use Rattle.seccomp_tree.specs.declared.layout.Layout.{Layout}
+use Rattle.seccomptool.specs.declared.kind.Subject.{Subject}
+use Rattle.seccomptool.specs.declared.kind.Subject.TheVariants as subject
 
-pub profile_stands : (target : TargetArch) (container : Container) (p : Profile) (program : List sock_filter)
+profile_stands : (target : TargetArch) (container : Container) (p : Profile) (program : List sock_filter)
     → IsProfileProgram target container p program → StandsFor target (of_profile container p) program
 profile_stands target container p program is = record {
   checked = checked_of_seven program is.checked;
@@ -25,3 +36,45 @@ profile_stands target container p program is = record {
         decided = decided;
       };
 }
+
+program_stands : (target : TargetArch) (program : List sock_filter) → IsChecked program → StandsFor target (of_program program) program
+program_stands target program checked = record {
+  checked = checked;
+  decides = λ r rec.
+      let end = ends r rec program checked in
+      record { steps = end.0; word = end.1; ends = end.2; decided = (end.0, end.2) };
+}
+
+stands : (target : TargetArch) (kind : Subject) (asked : Option (List ℕ)) (given : List ℕ) (program : List sock_filter)
+    → IsProgramFor target kind asked given program
+    → (ruling : Ruling) × Rules target kind asked given ruling × StandsFor target ruling program
+stands target subject.Policy asked given program (filter, is, by) = (of_filter filter, is, by)
+stands target (subject.Profile container) asked given program (none, compiled, is, same) = (
+  of_profile container.now is.profile,
+  (none, is.read.profile, refl),
+  subst (StandsFor target (of_profile container.now is.profile)) (sym same)
+      (profile_stands target container.now is.profile compiled.program.items is.program),
+)
+stands target subject.Program asked given program (none, is, checked) =
+    (of_program program, (none, is), program_stands target program checked)
+
+-- It stands for what the side rules.
+pub side_stands : (target : TargetArch) (side : Side) (program : List sock_filter)
+    → IsProgramFor target side.kind (text_of side.filter) side.given.now program
+    → (ruling : Ruling) × IsRuling target side ruling × StandsFor target ruling program
+side_stands target side program is = stands target side.kind (text_of side.filter) side.given.now program is
+
+-- Of what is no policy it is shown, or measured.
+module _ (target : TargetArch) (asked : Option (List ℕ)) (given : List ℕ) (program : List sock_filter) where
+  pub is_shown : (kind : Subject) (layout : Layout) → (kind ≡ subject.Policy → ⊥) → IsProgramFor target kind asked given program
+      → IsShownAs target kind layout given
+  is_shown subject.Policy layout apart is = absurd (apart refl)
+  is_shown (subject.Profile container) layout apart (none, compiled, is, same) = (compiled, is)
+  is_shown subject.Program layout apart (none, is, checked) = (program, is, checked)
+
+  pub is_measured : (kind : Subject) (m : Measure) → (kind ≡ subject.Policy → ⊥) → IsProgramFor target kind asked given program
+      → IsMeasureOf target program m → IsMeasuredAs target kind given
+  is_measured subject.Policy m apart is measure = absurd (apart refl)
+  is_measured (subject.Profile container) m apart (none, compiled, is, same) measure =
+      (m, record { compiled = compiled; is_compiled = is; measure = subst (λ p. IsMeasureOf target p m) same measure })
+  is_measured subject.Program m apart (none, is, checked) measure = (program, is, m, measure)

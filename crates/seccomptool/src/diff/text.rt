@@ -41,17 +41,14 @@ pub(crate) fn diff_text(
             }
         }
         Diff::OfPair(pair) => {
-            let names = [
-                Some(title(old, &pair.old_name)),
-                Some(title(new, &pair.new_name)),
-            ];
+            let names = [Some(pair.old_name.as_str()), Some(pair.new_name.as_str())];
             let found = &pair.found;
             for (arch, findings) in [(Some(terms.target), &found.own), (None, &found.others)] {
                 if arch.is_none() && !is_program(old) && !is_program(new) {
                     continue;
                 }
                 if !json {
-                    push_title(&mut text, arch, pair, names)?;
+                    push_title(&mut text, arch, [old, new], pair)?;
                 }
                 let found = Compared {
                     names,
@@ -136,32 +133,25 @@ fn is_program(side: Side<'_>) -> bool {
     matches!(side.kind, Subject::Program)
 }
 
-// What is compared of a side.
-fn title<'a>(side: Side<'_>, name: &'a Option<String>) -> &'a str {
-    match (name, side.kind) {
-        (Some(name), _) => name.as_str(),
-        (None, Subject::Program) => "program",
-        (None, _) => "profile",
-    }
-}
-
 // Adds what is compared on the calls of the architecture: a filter by its name, or both by theirs; else programs, or a profile.
 fn push_title(
     text: &mut Vec<u8>,
     arch: Option<TargetArch>,
+    sides: [Side<'_>; 2],
     pair: &Pair,
-    names: [Option<&str>; 2],
 ) -> Result<(), AllocError> {
-    match (&pair.old_name, &pair.new_name) {
+    let (old, new) = (pair.old_name.as_str(), pair.new_name.as_str());
+    match (sides[0].kind, sides[1].kind) {
         _ if arch.is_none() => text.extend_from_slice(b"other architectures"),
-        (Some(old), Some(new)) if old != new => {
-            push_filter(text, old.as_str())?;
+        (Subject::Policy, Subject::Policy) if old != new => {
+            push_filter(text, old)?;
             text.extend_from_slice(b" -> ")?;
-            push_readable(text, new.as_str(), TextKind::Name)
+            push_readable(text, new, TextKind::Name)
         }
-        (Some(name), _) | (None, Some(name)) => push_filter(text, name.as_str()),
-        (None, None) if names == [Some("program"); 2] => text.extend_from_slice(b"program"),
-        (None, None) => text.extend_from_slice(b"profile"),
+        (Subject::Policy, _) => push_filter(text, old),
+        (_, Subject::Policy) => push_filter(text, new),
+        (Subject::Program, Subject::Program) => text.extend_from_slice(b"program"),
+        _ => text.extend_from_slice(b"profile"),
     }
 }
 

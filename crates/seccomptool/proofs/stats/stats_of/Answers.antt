@@ -10,8 +10,8 @@ use Rattle.seccomptool.proofs.Named.{are_named}
 use Rattle.seccomptool.proofs.stats.FilterNumbers.{has_stats}
 use Rattle.seccomptool.proofs.stats.stats_of.Goals as goal
 
-pub returns-in-Ok : goal.returns-in-Ok
-returns-in-Ok c =
+pub returns : goal.returns
+returns c =
     let target = c.args.target in
     let table = subst (λ t. IsCallTable (table_of t)) c.new-table.ensures.arch c.new-table.ensures.table in
     let filters = c.in_ok-filters.filters in
@@ -19,7 +19,7 @@ returns-in-Ok c =
     let are = subst (λ t. ArePoliciesOf t (get_by_text filters) of.0) c.new.ensures of.2 in (
       of.0,
       of.1,
-      are_named (HasPolicy target) (get_by_text filters) of.0 are filters.entries c.in-Ok.ensures.ordered
+      are_named (HasPolicy target) (get_by_text filters) of.0 are filters.entries c.in_ok-measured.ensures.ordered
           (λ name. by_text name filters.entries) (λ (s : FilterStats). string_bytes s.name) (IsMeasured target) (HasStats target)
-          (λ e s is. is.name) (has_stats target table) c.in-Ok.all.items c.in-Ok.ensures.measured,
+          (λ e s is. is.name) (has_stats target table) c.in_ok-measured.field-0.items c.in_ok-measured.ensures.measured,
     )

@@ -1,5 +1,5 @@
 -- What the private functions of `diff` promise each other.
-use Rattle.std.specs.Prelude.{◌≡◌, ℕ, ◌⊎◌, List, Contains, Some}
+use Rattle.std.specs.Prelude.{◌≡◌, ℕ, ◌⊎◌, List, map, All, Contains, Some}
 use Rattle.seccompiler.specs.declared.backend.TargetArch.{TargetArch}
 use Rattle.seccomp_compare.specs.declared.Relation.{Relation}
 use Rattle.seccompiler.specs.Policy.{Filter}
@@ -7,12 +7,13 @@ use Rattle.seccomptool.specs.declared.diff.NamedFound.{NamedFound}
 use Rattle.seccomptool.specs.Diff.{IsFoundOf, name_bytes}
 use Rattle.seccomptool.specs.Sides.{Policies}
 
--- These are all names under which a policy has a filter.
-abbrev pub AreAllNames : (old new : Policies) → List (List ℕ) → Type 0
-AreAllNames old new names = (name : List ℕ) (f : Filter) → (old name ≡ Some f) ⊎ (new name ≡ Some f) → Contains names name
-
 -- It is found of the filters that two policies have under its name.
 pub record IsFoundUnder (target : TargetArch) (relation : Relation) (old new : Policies) (named : NamedFound) : Type 0 where
   pub name : List ℕ
   pub is : name_bytes named ≡ name
   pub found : IsFoundOf target relation (old name) (new name) named.found
+
+-- Each of these is, and no name is left out under which a policy has a filter.
+pub record AreFoundUnder (target : TargetArch) (relation : Relation) (old new : Policies) (all : List NamedFound) : Type 0 where
+  pub each : All (IsFoundUnder target relation old new) all
+  pub complete : (name : List ℕ) (f : Filter) → (old name ≡ Some f) ⊎ (new name ≡ Some f) → Contains (map name_bytes all) name

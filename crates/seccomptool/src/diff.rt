@@ -2,12 +2,12 @@
 
 pub(crate) mod text;
 
-ghost use Rattle.std.specs.Prelude.{◌≡◌, All, IfOk, map, option_map, string_bytes};
+ghost use Rattle.std.specs.Prelude.{◌≡◌, IfOk, option_map, string_bytes};
 ghost use Rattle.std.specs.BTreeMap.{get_by_text};
 ghost use Rattle.seccomp_compare.specs.Machine.{IsChecked};
 ghost use Rattle.seccomptool.specs.Diff as spec;
 ghost use Rattle.seccomptool.specs.Diff.{AreByName, IsComparison, IsDiff, IsFoundOf, IsPairOf, name_bytes, other_parts, verdict_all};
-ghost use Rattle.seccomptool.specs.DiffParts.{AreAllNames, IsFoundUnder};
+ghost use Rattle.seccomptool.specs.DiffParts.{AreFoundUnder, IsFoundUnder};
 ghost use Rattle.seccomptool.specs.Rulings.{Ruling, StandsFor};
 
 use crate::error::{FaultAt, ToolError};
@@ -17,7 +17,7 @@ use crate::progress::Progress;
 use crate::sides::{Side, fitting_program, ruled_by};
 use seccompiler::bpf::LOAD;
 use seccompiler::{BpfProgramRef, JsonCompiler, SeccompFilter, TargetArch, sock_filter};
-use std::alloc::{AllocError, Global};
+use std::alloc::Global;
 use std::collections::BTreeMap;
 
 /// What is found under a name.
@@ -238,54 +238,50 @@ fn diff_policies<G: Progress>(
         Ok(new) => new,
         Err(error) => return Err(FaultAt::in_new(error.into())),
     };
-    let names = names_of(alloc, &old, &new)?;
-    let all = found_under(alloc, terms, &names, &old, &new, progress)?;
-    Ok(all)
+    found_by_name(alloc, terms, &old, &new, progress)
 }
 
-// All names of both policies.
-fn names_of(
-    alloc: Global,
-    old: &BTreeMap<String, SeccompFilter>,
-    new: &BTreeMap<String, SeccompFilter>,
-) -> Result<Vec<String>, AllocError>
-    ensures { IfOk result (λ names. AreAllNames (get_by_text old.now) (get_by_text new.now) (map string_bytes names.items)) }
-{
-    let mut names = Vec::new(alloc);
-    for (name, _) in old {
-        names.push(name.clone()?)?;
-    }
-    for (name, _) in new {
-        match old.get(name.as_str()) {
-            Some(_) => {}
-            None => names.push(name.clone()?)?,
-        }
-    }
-    Ok(names)
-}
-
-// What is found under these names.
-fn found_under<G: Progress>(
+// What is found under all names of both policies.
+fn found_by_name<G: Progress>(
     alloc: Global,
     terms: Terms,
-    names: &[String],
     old: &BTreeMap<String, SeccompFilter>,
     new: &BTreeMap<String, SeccompFilter>,
     progress: &mut G,
 ) -> Result<Vec<NamedFound>, FaultAt>
-    ensures named { IfOk result (λ all. map name_bytes all.items ≡ map string_bytes names.now) }
-    ensures each { IfOk result (λ all. All (IsFoundUnder terms.target terms.relation (get_by_text old.now) (get_by_text new.now)) all.items) }
+    ensures { IfOk result (λ all. AreFoundUnder terms.target terms.relation (get_by_text old.now) (get_by_text new.now) all.items) }
 {
     let mut all = Vec::new(alloc);
-    for name in names {
-        let text = name.as_str();
-        let found = found_of(alloc, terms, text, old.get(text), new.get(text), progress)?;
-        all.push(NamedFound {
-            name: name.clone()?,
-            found,
-        })?;
+    for (name, _) in old {
+        all.push(found_under(alloc, terms, name, old, new, progress)?)?;
+    }
+    for (name, _) in new {
+        match old.get(name.as_str()) {
+            Some(_) => {}
+            None => all.push(found_under(alloc, terms, name, old, new, progress)?)?,
+        }
     }
     Ok(all)
+}
+
+// What is found under a name.
+fn found_under<G: Progress>(
+    alloc: Global,
+    terms: Terms,
+    name: &String,
+    old: &BTreeMap<String, SeccompFilter>,
+    new: &BTreeMap<String, SeccompFilter>,
+    progress: &mut G,
+) -> Result<NamedFound, FaultAt>
+    ensures named { IfOk result (λ one. name_bytes one ≡ string_bytes name.now) }
+    ensures found { IfOk result (IsFoundUnder terms.target terms.relation (get_by_text old.now) (get_by_text new.now)) }
+{
+    let text = name.as_str();
+    let found = found_of(alloc, terms, text, old.get(text), new.get(text), progress)?;
+    Ok(NamedFound {
+        name: name.clone()?,
+        found,
+    })
 }
 
 // What is found of the filters that two policies have under a name, each compiled once.

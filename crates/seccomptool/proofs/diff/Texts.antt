@@ -1,5 +1,5 @@
 -- For `diff_policies`: what is found of two texts.
-use Rattle.std.proofs.Common.{◌≡◌, ℕ, List, map, All, Contains, Option, Some, None, refl, sym, subst, inl, inr, ◌∙◌}
+use Rattle.std.proofs.Common.{◌≡◌, ℕ, List, Option, Some, None, refl, sym, subst, inl, inr, ◌∙◌}
 use Rattle.std.proofs.lemmas.List.Elements.{All-weaker}
 use Rattle.seccompiler.specs.declared.backend.TargetArch.{TargetArch}
 use Rattle.seccomp_compare.specs.declared.Relation.{Relation}
@@ -8,7 +8,7 @@ use Rattle.seccompiler.specs.JsonShape.{Has}
 use Rattle.seccompiler.specs.Policy.{Filter}
 use Rattle.seccomptool.specs.declared.diff.NamedFound.{NamedFound}
 use Rattle.seccomptool.specs.Diff.{AreByName, HasFilter, IsFoundIn, name_bytes}
-use Rattle.seccomptool.specs.DiffParts.{AreAllNames, IsFoundUnder}
+use Rattle.seccomptool.specs.DiffParts.{AreFoundUnder, IsFoundUnder}
 use Rattle.seccomptool.specs.Sides.{Policies}
 use Rattle.seccomp_command_line.proofs.Found.{there, nowhere}
 
@@ -39,12 +39,12 @@ module _ (target : TargetArch) (relation : Relation) (old_text new_text : List �
     found = is.found;
   }
 
-  pub policies_differ : (all : List NamedFound) (names : List (List ℕ)) → AreAllNames old new names → map name_bytes all ≡ names
-      → All (IsFoundUnder target relation old new) all → AreByName target relation old_text new_text all
-  policies_differ all names whole named each = record {
-    each = All-weaker (IsFoundUnder target relation old new) (IsFoundIn target relation old_text new_text) found_in all each;
-    complete = λ name f has. subst (λ ns. Contains ns name) (sym named) (elim has [
-      | inl h ↦ let found = found_has target old_text old of_old name f h in whole name found.0 (inl found.1)
-      | inr h ↦ let found = found_has target new_text new of_new name f h in whole name found.0 (inr found.1)
-    ]);
+  pub policies_differ : (all : List NamedFound) → AreFoundUnder target relation old new all
+      → AreByName target relation old_text new_text all
+  policies_differ all are = record {
+    each = All-weaker (IsFoundUnder target relation old new) (IsFoundIn target relation old_text new_text) found_in all are.each;
+    complete = λ name f has. elim has [
+      | inl h ↦ let found = found_has target old_text old of_old name f h in are.complete name found.0 (inl found.1)
+      | inr h ↦ let found = found_has target new_text new of_new name f h in are.complete name found.0 (inr found.1)
+    ];
   }

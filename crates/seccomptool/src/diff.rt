@@ -6,7 +6,7 @@ ghost use Rattle.std.specs.Prelude.{◌≡◌, IfOk, option_map, string_bytes};
 ghost use Rattle.std.specs.BTreeMap.{get_by_text};
 ghost use Rattle.seccomp_compare.specs.Machine.{IsChecked};
 ghost use Rattle.seccomptool.specs.Diff as spec;
-ghost use Rattle.seccomptool.specs.Diff.{AreByName, IsComparison, IsDiff, IsFoundOf, IsPairOf, name_bytes, other_parts, verdict_all};
+ghost use Rattle.seccomptool.specs.Diff.{AreByName, IsComparison, IsDiff, IsFoundOf, IsPairOf, name_bytes, verdict_all};
 ghost use Rattle.seccomptool.specs.DiffParts.{AreFoundUnder, IsFoundUnder};
 ghost use Rattle.seccomptool.specs.Rulings.{Ruling, StandsFor};
 
@@ -16,7 +16,7 @@ use crate::kind::Subject;
 use crate::progress::Progress;
 use crate::sides::{Side, fitting_program, ruled_by};
 use seccompiler::bpf::LOAD;
-use seccompiler::{BpfProgramRef, JsonCompiler, SeccompFilter, TargetArch, sock_filter};
+use seccompiler::{BpfProgramRef, JsonCompiler, SeccompFilter, sock_filter};
 use std::alloc::Global;
 use std::collections::BTreeMap;
 
@@ -195,23 +195,9 @@ fn compare_pair<G: Progress>(
     ensures { IfOk result (λ found. (by_new by_old : Ruling) → StandsFor terms.target by_new new.now → StandsFor terms.target by_old old.now → IsComparison terms.target terms.relation by_new by_old found) }
 {
     let own = findings_of(alloc, terms, new, old, progress)?;
-    let elsewhere = others_of(terms.target);
-    let others = findings_on(alloc, terms, &elsewhere, new, old, progress)?;
-    Ok(Compared { own, others })
-}
-
-// Whether a program loads a word of the instruction pointer.
-fn loads_pointer(program: BpfProgramRef<'_>) -> bool {
-    let is_load = |each: &sock_filter| each.code == LOAD && (each.k == 8 || each.k == 12);
-    program.iter().any(is_load)
-}
-
-// The calls of the architectures with a lesser word than this one, and of those with a greater one.
-fn others_of(target: TargetArch) -> [Part; 2]
-    ensures { result ≡ other_parts target }
-{
-    let word = target.get_audit_value();
-    [
+    // The calls of the architectures with a lesser word than this one, and of those with a greater one.
+    let word = terms.target.get_audit_value();
+    let elsewhere = [
         Part::Elsewhere {
             least: 0,
             greatest: word - 1,
@@ -220,7 +206,15 @@ fn others_of(target: TargetArch) -> [Part; 2]
             least: word + 1,
             greatest: u32::MAX,
         },
-    ]
+    ];
+    let others = findings_on(alloc, terms, &elsewhere, new, old, progress)?;
+    Ok(Compared { own, others })
+}
+
+// Whether a program loads a word of the instruction pointer.
+fn loads_pointer(program: BpfProgramRef<'_>) -> bool {
+    let is_load = |each: &sock_filter| each.code == LOAD && (each.k == 8 || each.k == 12);
+    program.iter().any(is_load)
 }
 
 fn diff_policies<G: Progress>(

@@ -43,8 +43,10 @@ pub(crate) fn diff_text(
         Diff::OfPair(pair) => {
             let names = [Some(pair.old_name.as_str()), Some(pair.new_name.as_str())];
             let found = &pair.found;
+            let of_program = matches!(old.kind, Subject::Program)
+                || matches!(new.kind, Subject::Program);
             for (arch, findings) in [(Some(terms.target), &found.own), (None, &found.others)] {
-                if arch.is_none() && !is_program(old) && !is_program(new) {
+                if arch.is_none() && !of_program {
                     continue;
                 }
                 if !json {
@@ -127,10 +129,6 @@ fn push_compared(
         }
     }
     Ok(())
-}
-
-fn is_program(side: Side<'_>) -> bool {
-    matches!(side.kind, Subject::Program)
 }
 
 // Adds what is compared on the calls of the architecture: a filter by its name, or both by theirs; else programs, or a profile.

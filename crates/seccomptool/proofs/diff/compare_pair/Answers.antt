@@ -1,5 +1,5 @@
-use Rattle.std.proofs.Common.{List, subst}
-use Rattle.seccomptool.specs.declared.findings.Part.{Part}
+use Rattle.std.proofs.Common.{[], ◌∷◌, ◌+◌, ◌-◌, ◌^◌, subst}
+use Rattle.seccomptool.specs.declared.findings.Part.TheVariants.{Elsewhere}
 use Rattle.seccomptool.specs.Findings.{AreFoundOn, AreReturned}
 use Rattle.seccomptool.specs.Rulings.{AreDecided}
 use Rattle.seccomptool.specs.Diff.{other_parts}
@@ -15,8 +15,8 @@ returns g c = λ by_new by_old of_new of_old.
     let old = c.args.old.now in
     let others = c.in_ok-others.others.items in
     let on = decided_on target relation new old by_new by_old of_new of_old (other_parts target) others
-    (subst (λ (parts : List Part). AreFoundOn target relation (AreReturned new old) parts others) c.others_of-elsewhere.ensures
-    c.in_ok-others.ensures) in
+    (subst (λ word. AreFoundOn target relation (AreReturned new old) (Elsewhere 0 (word - 1) ∷ Elsewhere (word + 1) (2 ^ 32 - 1) ∷ []) others)
+    c.get_audit_value-word.ensures c.in_ok-others.ensures) in
     record {
       own = c.in_ok-own.ensures by_new by_old of_new of_old;
       others = record { are = on; holds = others_covered target relation (AreDecided target by_new by_old) others on };

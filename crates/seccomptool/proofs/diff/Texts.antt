@@ -7,7 +7,7 @@ use Rattle.seccompiler.specs.JsonAnswers.{OfValue, ArePoliciesOf, HasPolicy}
 use Rattle.seccompiler.specs.JsonShape.{Has}
 use Rattle.seccompiler.specs.Policy.{Filter}
 use Rattle.seccomptool.specs.declared.diff.NamedFound.{NamedFound}
-use Rattle.seccomptool.specs.Diff.{AreByName, HasFilter, IsFoundIn, name_bytes}
+use Rattle.seccomptool.specs.Diff.{AreByName, HasFilter, IsFoundIn}
 use Rattle.seccomptool.specs.DiffParts.{AreFoundUnder, IsFoundUnder}
 use Rattle.seccomptool.specs.Sides.{Policies}
 use Rattle.seccomp_command_line.proofs.Found.{there, nowhere}

@@ -8,7 +8,7 @@ use Rattle.std.proofs.Math.Seq.{take-append_seam}
 use Rattle.std.proofs.lemmas.Bool.{true≢false, cases_Bool, cases_lt}
 use Rattle.std.proofs.lemmas.Bool.Decides.{Decides-int_eq, nat_tests}
 use Rattle.std.proofs.lemmas.List.{take_all, get_or-take}
-use Rattle.std.proofs.lemmas.List.Elements.{All-append, All-cons, All-contains_itself, All-nil, All-push, All-same}
+use Rattle.std.proofs.lemmas.List.Elements.{All-append, All-cons, All-nil, All-push, All-same}
 use Rattle.std.proofs.lemmas.List.Elements.{All-weaker}
 use Rattle.std.proofs.lemmas.Option.{get_or_from_slice_get, slice_get_within}
 use Rattle.seccompiler.specs.declared.backend.TargetArch.{TargetArch}
@@ -22,7 +22,7 @@ use Rattle.seccomptool.specs.declared.explain.search.Miss.{Miss}
 use Rattle.seccomptool.specs.declared.explain.search.Reason.{Reason}
 use Rattle.seccomptool.specs.declared.explain.search.Reason.TheVariants.{AnotherArchitecture, NoEntry, NoMatch, Entry}
 use Rattle.seccomptool.specs.Reasons.{ConditionHolds, EntryHolds, EntryFails, FirstFails, OfEntry, FailsBelow, IsNearest, IsFirstMatch}
-use Rattle.seccomptool.specs.Reasons.{AreIndicesFor, IsReasonAmong, IsReason, of_another, of_call, nearer}
+use Rattle.seccomptool.specs.Reasons.{IsReasonAmong, IsReason, of_another, of_call, nearer}
 use Rattle.seccomptool.proofs.explain.Ascending.{same_indices}
 
 -- ---- lists

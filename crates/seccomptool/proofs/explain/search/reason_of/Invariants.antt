@@ -1,7 +1,5 @@
-use Rattle.std.proofs.Common.{◌≡◌, ◌≤◌, List, pos, length, take}
+use Rattle.std.proofs.Common.{◌≡◌, ◌≤◌, pos, length, take}
 use Rattle.seccompiler.specs.JsonPolicyOf.{is_for}
-use Rattle.seccompiler.specs.JsonTypes.{JsonRule}
-use Rattle.seccompiler.specs.declared.backend.TargetArch.{TargetArch}
 use Rattle.seccomptool.proofs.explain.EntrySearches.{IsNearestOf}
 use Rattle.seccomptool.proofs.explain.Places.{places}
 use Rattle.seccomptool.proofs.explain.search.reason_of.Given as goal

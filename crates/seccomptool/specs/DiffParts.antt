@@ -8,10 +8,8 @@ use Rattle.seccomptool.specs.Diff.{IsFoundOf, name_bytes}
 use Rattle.seccomptool.specs.Sides.{Policies}
 
 -- It is found of the filters that two policies have under its name.
-pub record IsFoundUnder (target : TargetArch) (relation : Relation) (old new : Policies) (named : NamedFound) : Type 0 where
-  pub name : List ℕ
-  pub is : name_bytes named ≡ name
-  pub found : IsFoundOf target relation (old name) (new name) named.found
+abbrev pub IsFoundUnder : TargetArch → Relation → (old new : Policies) → NamedFound → Type 0
+IsFoundUnder target relation old new named = IsFoundOf target relation (old (name_bytes named)) (new (name_bytes named)) named.found
 
 -- Each of these is, and no name is left out under which a policy has a filter.
 pub record AreFoundUnder (target : TargetArch) (relation : Relation) (old new : Policies) (all : List NamedFound) : Type 0 where

@@ -1,7 +1,6 @@
 -- For `found_by_name` and `found_under`: what is found, name by name.
-use Rattle.std.proofs.Common.{◌≡◌, ℕ, List, [], ◌∷◌, ◌++◌, map, All, Contains, Some, Option, Bor, String, Global, string_bytes}
-use Rattle.std.proofs.Common.{sym, ◌∙◌, subst}
-use Rattle.std.specs.Prelude.{option_map}
+use Rattle.std.proofs.Common.{◌≡◌, ℕ, List, [], ◌∷◌, ◌++◌, map, All, Contains, Some, Option, String, Global, string_bytes}
+use Rattle.std.proofs.Common.{sym, ap, ◌∙◌, subst, append-nil, append_assoc}
 use Rattle.std.specs.BTreeMap.{is_at}
 use Rattle.std.specs.Map.{lookup}
 use Rattle.std.proofs.lemmas.List.{map-append}
@@ -23,12 +22,6 @@ Entries = List (String Global × Filter)
 abbrev pub IsAmong : List NamedFound → String Global × Filter → Type 0
 IsAmong all e = Contains (map name_bytes all) (string_bytes e.0)
 
--- All of these are found under their names, and these filters are among them.
-pub record AreSoFar (target : TargetArch) (relation : Relation) (old new : Policies) (all : List NamedFound) (done : Entries)
-    : Type 0 where
-  pub each : All (IsFoundUnder target relation old new) all
-  pub among : All (IsAmong all) done
-
 -- Those that are among them stay so if one is found more.
 pub among_more : (all : List NamedFound) (one : NamedFound) (entries : Entries) → All (IsAmong all) entries
     → All (IsAmong (all ++ one ∷ [])) entries
@@ -36,17 +29,44 @@ among_more all one entries = All-weaker (IsAmong all) (IsAmong (all ++ one ∷ [
     subst (λ names. Contains names (string_bytes e.0)) (sym (map-append name_bytes all (one ∷ [])))
     (Contains-append_left (map name_bytes all) (name_bytes one ∷ []) (string_bytes e.0) has)) entries
 
--- One name more.
-pub one_more : (target : TargetArch) (relation : Relation) (old new : Policies) (all : List NamedFound) (done : Entries)
-    (one : NamedFound) (e : String Global × Filter) → AreSoFar target relation old new all done
-    → IsFoundUnder target relation old new one → name_bytes one ≡ string_bytes e.0
-    → AreSoFar target relation old new (all ++ one ∷ []) (done ++ e ∷ [])
-one_more target relation old new all done one e so_far found named = record {
-  each = All-push (IsFoundUnder target relation old new) all one so_far.each found;
-  among = All-push (IsAmong (all ++ one ∷ [])) done e (among_more all one done so_far.among)
-      (subst (Contains (map name_bytes (all ++ one ∷ []))) named (subst (λ names. Contains names (name_bytes one))
-      (sym (map-append name_bytes all (one ∷ []))) (Contains-push (map name_bytes all) (name_bytes one))));
-}
+module _ (target : TargetArch) (relation : Relation) (old new : Policies) where
+  -- All of these are found under their names, and these filters are among them, but for those that are left.
+  pub record AreSoFar (all : List NamedFound) (entries left : Entries) : Type 0 where
+    pub done : Entries
+    pub whole : entries ≡ done ++ left
+    pub each : All (IsFoundUnder target relation old new) all
+    pub among : All (IsAmong all) done
+
+  -- One filter more that is among them.
+  pub passed : (all : List NamedFound) (entries left rest : Entries) (e : String Global × Filter) → AreSoFar all entries left
+      → left ≡ e ∷ rest → IsAmong all e → AreSoFar all entries rest
+  passed all entries left rest e so_far step among = record {
+    done = so_far.done ++ e ∷ [];
+    whole = so_far.whole ∙ ap (λ (es : Entries). so_far.done ++ es) step ∙ sym (append_assoc so_far.done (e ∷ []) rest);
+    each = so_far.each;
+    among = All-push (IsAmong all) so_far.done e so_far.among among;
+  }
+
+  -- One that is found now.
+  pub found_more : (all longer : List NamedFound) (entries left rest : Entries) (one : NamedFound) (e : String Global × Filter)
+      → AreSoFar all entries left → left ≡ e ∷ rest → IsFoundUnder target relation old new one → name_bytes one ≡ string_bytes e.0
+      → longer ≡ all ++ one ∷ [] → AreSoFar longer entries rest
+  found_more all longer entries left rest one e so_far step found named is =
+      let here = subst (λ names. Contains names (name_bytes one)) (sym (map-append name_bytes all (one ∷ [])))
+      (Contains-push (map name_bytes all) (name_bytes one)) in
+      subst (λ (ns : List NamedFound). AreSoFar ns entries rest) (sym is) (passed (all ++ one ∷ []) entries left rest e
+      (record {
+        done = so_far.done;
+        whole = so_far.whole;
+        each = All-push (IsFoundUnder target relation old new) all one so_far.each found;
+        among = among_more all one so_far.done so_far.among;
+      })
+      step (subst (Contains (map name_bytes (all ++ one ∷ []))) named here))
+
+  -- Where none is left, all are among them.
+  pub all_among : (all : List NamedFound) (entries left : Entries) → AreSoFar all entries left → left ≡ [] → All (IsAmong all) entries
+  all_among all entries left so_far none =
+      subst (All (IsAmong all)) (sym (so_far.whole ∙ ap (λ (es : Entries). so_far.done ++ es) none ∙ append-nil so_far.done)) so_far.among
 
 -- What is found in a policy is among them, if all its filters are.
 pub found_among : (all : List NamedFound) (entries : Entries) → All (IsAmong all) entries → (name : List ℕ) (f : Filter)
@@ -57,14 +77,9 @@ found_among all entries among name f is =
     (found_name name f entries (sym (by_text name entries) ∙ is))
 
 -- What is found of two filters is found under their name.
-pub under_name : (target : TargetArch) (relation : Relation) (old new : Policies) (name : List ℕ) (one : NamedFound)
-    (old_found new_found : Option (Bor Filter)) → name_bytes one ≡ name → option_map (λ f. f.now) old_found ≡ old name
-    → option_map (λ f. f.now) new_found ≡ new name
-    → IsFoundOf target relation (option_map (λ f. f.now) old_found) (option_map (λ f. f.now) new_found) one.found
-    → IsFoundUnder target relation old new one
-under_name target relation old new name one old_found new_found is of_old of_new found = record {
-  name = name;
-  is = is;
-  found = subst (λ o. IsFoundOf target relation o (new name) one.found) of_old
-      (subst (λ o. IsFoundOf target relation (option_map (λ f. f.now) old_found) o one.found) of_new found);
-}
+pub under_name : (target : TargetArch) (relation : Relation) (old new : Policies) (one : NamedFound)
+    (old_found new_found : Option Filter) → old_found ≡ old (name_bytes one) → new_found ≡ new (name_bytes one)
+    → IsFoundOf target relation old_found new_found one.found → IsFoundUnder target relation old new one
+under_name target relation old new one old_found new_found of_old of_new found =
+    subst (λ o. IsFoundOf target relation o (new (name_bytes one)) one.found) of_old
+    (subst (λ o. IsFoundOf target relation old_found o one.found) of_new found)

@@ -7,7 +7,7 @@ use Rattle.seccompiler.specs.JsonAnswers.{OfValue, ArePoliciesOf, HasPolicy}
 use Rattle.seccompiler.specs.JsonShape.{Has}
 use Rattle.seccompiler.specs.Policy.{Filter}
 use Rattle.seccomptool.specs.declared.diff.NamedFound.{NamedFound}
-use Rattle.seccomptool.specs.Diff.{AreByName, HasFilter, IsFoundIn}
+use Rattle.seccomptool.specs.Diff.{AreByName, HasFilter, IsFoundIn, name_bytes}
 use Rattle.seccomptool.specs.DiffParts.{AreFoundUnder, IsFoundUnder}
 use Rattle.seccomptool.specs.Sides.{Policies}
 use Rattle.seccomp_command_line.proofs.Found.{there, nowhere}
@@ -32,11 +32,11 @@ module _ (target : TargetArch) (relation : Relation) (old_text new_text : List �
     (of_old : OfValue old_text (ArePoliciesOf target old)) (of_new : OfValue new_text (ArePoliciesOf target new)) where
   found_in : (named : NamedFound) → IsFoundUnder target relation old new named → IsFoundIn target relation old_text new_text named
   found_in named is = record {
-    old = old is.name;
-    new = new is.name;
-    of_old = subst (λ n. HasFilter target old_text n (old is.name)) (sym is.is) (has_found target old_text old of_old is.name);
-    of_new = subst (λ n. HasFilter target new_text n (new is.name)) (sym is.is) (has_found target new_text new of_new is.name);
-    found = is.found;
+    old = old (name_bytes named);
+    new = new (name_bytes named);
+    of_old = has_found target old_text old of_old (name_bytes named);
+    of_new = has_found target new_text new of_new (name_bytes named);
+    found = is;
   }
 
   pub policies_differ : (all : List NamedFound) → AreFoundUnder target relation old new all

@@ -1,6 +1,6 @@
 // A comparison of two programs on a part, made in one try after the other, so that it can be shown how far it is.
 
-ghost use Rattle.std.specs.Prelude.{◌≡◌, IfOk, true};
+ghost use Rattle.std.specs.Prelude.{IfOk};
 ghost use Rattle.seccomp_compare.specs.Compare.{Compares};
 ghost use Rattle.seccomp_compare.specs.Machine.{IsChecked};
 
@@ -29,7 +29,7 @@ pub(crate) fn try_comparisons<G: Progress>(
     requires old_checked { IsChecked old.now }
     ensures { IfOk result (Compares calls.now terms.relation new.now old.now) }
 {
-    if are_same(new, old) {
+    if new == old {
         return Ok(Comparison::Holds);
     }
     let mut sets = if progress.is_shown() {
@@ -48,11 +48,4 @@ pub(crate) fn try_comparisons<G: Progress>(
         }
         sets = sets.saturating_add(sets).min(terms.most);
     }
-}
-
-// Whether two programs are the same, instruction by instruction.
-fn are_same(new: BpfProgramRef<'_>, old: BpfProgramRef<'_>) -> bool
-    ensures { result ≡ true → new.now ≡ old.now }
-{
-    new == old
 }

@@ -15,6 +15,7 @@ use Rattle.seccomp_warnings.specs.declared.code.Code.TheVariants as code
 use Rattle.seccomp_warnings.specs.declared.judgement.Judgement.{Judgement}
 use Rattle.seccomp_warnings.specs.declared.warning.Warning.{Warning}
 use Rattle.seccomptool.specs.declared.check.profile.CheckedProfile.{CheckedProfile}
+use Rattle.seccomptool.specs.declared.check.profile.ProfilePart.{ProfilePart}
 use Rattle.seccomptool.specs.declared.check.profile.ProfileWarning.{ProfileWarning}
 use Rattle.seccomptool.specs.declared.check.profile.ProfileWarning.TheVariants.{Doubtful, Flags, UnknownKey, OfEntries}
 use Rattle.seccomptool.specs.declared.error.ToolError.{ToolError}
@@ -39,9 +40,13 @@ code_of (OfEntries w part) = w.code
 
 -- ---- warnings
 
--- The warning is true of the filter, with some judgements of its entries, which are true.
-abbrev pub IsTrueOf : TargetArch → JsonFilter → Warning → Type 0
-IsTrueOf arch j w = (judgements : List Judgement) × AreJudgements arch j judgements × IsSo judgements j w
+-- The warning is true of some filter, with some judgements of its entries, which are true.
+abbrev pub IsTrueOfSome : TargetArch → Warning → Type 0
+IsTrueOfSome arch w = (j : JsonFilter) × (judgements : List Judgement) × AreJudgements arch j judgements × IsSo judgements j w
+
+-- So is each of these, whatever part of a profile it is about.
+abbrev pub AreOfEntries : TargetArch → List (Warning × ProfilePart) → Type 0
+AreOfEntries arch all = All (λ (each : Warning × ProfilePart). IsTrueOfSome arch each.0) all
 
 -- What the warning says of a profile is so; or it is true of some filter. That this is one of the profile's entries is tested, and
 -- so is that the profile has the key.
@@ -49,7 +54,7 @@ abbrev pub IsSoOfProfile : TargetArch → Container → Profile → ProfileWarni
 IsSoOfProfile arch container p (Doubtful d) = IsDoubt arch container p d
 IsSoOfProfile arch container p Flags = p.flags ≢ []
 IsSoOfProfile arch container p (UnknownKey key) = ⊤
-IsSoOfProfile arch container p (OfEntries w part) = (j : JsonFilter) × IsTrueOf arch j w
+IsSoOfProfile arch container p (OfEntries w part) = IsTrueOfSome arch w
 
 -- It is so, and its code isn't allowed.
 pub record IsTold (arch : TargetArch) (container : Container) (p : Profile) (allowed : List Code) (w : ProfileWarning) : Type 0 where

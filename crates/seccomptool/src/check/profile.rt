@@ -2,17 +2,16 @@
 
 pub(crate) mod lines;
 
-ghost use Rattle.std.specs.Prelude.{◌≡◌, All, IfErr, IfOk, false};
-ghost use Rattle.seccompiler.specs.declared.backend.TargetArch.{TargetArch};
-ghost use Rattle.seccomp_oci.specs.Types.{AllOnArguments, Container, Profile};
-ghost use Rattle.seccomptool.specs.CheckProfile.{IsProfileCheckOf, IsRefusedProfile, IsSoOfProfile, IsTold, IsTrueOf, code_of};
+ghost use Rattle.std.specs.Prelude.{◌≡◌, All, IfErr, IfOk, OnOk, false};
+ghost use Rattle.seccomp_oci.specs.Types.{AllOnArguments};
+ghost use Rattle.seccomptool.specs.CheckProfile.{AreOfEntries, IsProfileCheckOf, IsRefusedProfile, IsSoOfProfile, code_of};
 
 use crate::error::ToolError;
 use crate::profile::compiled_of;
 use seccomp_oci::{CompiledProfile, Container, Profile, profile_of};
 use seccomp_profile_checks::{Doubt, EntryFilter, Origin, doubts_of, entry_filters_of};
 use seccomp_warnings::{Code, Subject, Warning, denies_each, judgements_of, warnings_of};
-use seccompiler::{JsonFilter, SeccompAction, TargetArch};
+use seccompiler::{SeccompAction, TargetArch};
 use serde_json::Value;
 use std::alloc::{AllocError, Global};
 
@@ -94,7 +93,8 @@ pub fn profile_checked(
     let Ok(profile) = profile_of(alloc, text) else {
         return Err(ToolError::OutOfMemory);
     };
-    let warnings = warnings_in(alloc, target, container, allowed, &profile, text)?;
+    let mut warnings = warnings_in(alloc, target, container, &profile, text)?;
+    warnings.retain(|warning| !allowed.contains(&code_of(warning)));
     Ok(CheckedProfile {
         profile,
         compiled,
@@ -102,38 +102,31 @@ pub fn profile_checked(
     })
 }
 
-// The warnings of a profile, which this text has.
+// All warnings of a profile, which this text has.
 fn warnings_in(
     alloc: Global,
     target: TargetArch,
     container: &Container,
-    allowed: &[Code],
     profile: &Profile,
     text: &[u8],
 ) -> Result<Vec<ProfileWarning>, AllocError>
     requires { AllOnArguments profile.now.entries }
-    ensures { IfOk result (λ all. All (IsTold target container.now profile.now allowed.now) all.items) }
+    ensures { IfOk result (λ all. All (IsSoOfProfile target container.now profile.now) all.items) }
 {
     let mut all = Vec::new(alloc);
-    push_doubts(alloc, target, container, allowed, profile, &mut all)?;
-    push_keys(alloc, allowed, text, &mut all)?;
-    push_flags(allowed, profile, &mut all)?;
-    push_of_filters(alloc, target, container, allowed, profile, &mut all)?;
-    Ok(all)
-}
-
-// Adds a warning, if its code isn't allowed.
-fn push(
-    all: &mut Vec<ProfileWarning>,
-    allowed: &[Code],
-    warning: ProfileWarning,
-) -> Result<(), AllocError>
-    ensures { IfOk result (λ _. (arch : TargetArch) (container : Container) (p : Profile) → IsSoOfProfile arch container p warning → All (IsTold arch container p allowed.now) all.old.items → All (IsTold arch container p allowed.now) all.new.items) }
-{
-    if allowed.contains(&code_of(&warning)) {
-        return Ok(());
+    for doubt in &doubts_of(alloc, target, container, profile)? {
+        all.push(ProfileWarning::Doubtful(*doubt))?;
     }
-    Ok(all.push(warning)?)
+    for key in unknown_keys(alloc, text)? {
+        all.push(ProfileWarning::UnknownKey(key))?;
+    }
+    if !profile.flags.is_empty() {
+        all.push(ProfileWarning::Flags)?;
+    }
+    for (warning, part) in &warnings_of_entries(alloc, target, container, profile)? {
+        all.push(ProfileWarning::OfEntries(*warning, *part))?;
+    }
+    Ok(all)
 }
 
 /// The code of a warning.
@@ -155,86 +148,43 @@ pub(crate) fn code_of(warning: &ProfileWarning) -> Code
     }
 }
 
-// Adds what is doubtful.
-fn push_doubts(
-    alloc: Global,
-    target: TargetArch,
-    container: &Container,
-    allowed: &[Code],
-    profile: &Profile,
-    all: &mut Vec<ProfileWarning>,
-) -> Result<(), AllocError>
-    requires { AllOnArguments profile.now.entries }
-    ensures { IfOk result (λ _. All (IsTold target container.now profile.now allowed.now) all.old.items → All (IsTold target container.now profile.now allowed.now) all.new.items) }
-{
-    let doubts = doubts_of(alloc, target, container, profile)?;
-    for doubt in &doubts {
-        push(all, allowed, ProfileWarning::Doubtful(*doubt))?;
-    }
-    Ok(())
-}
-
-// Adds that there are flags, if there are.
-fn push_flags(
-    allowed: &[Code],
-    profile: &Profile,
-    all: &mut Vec<ProfileWarning>,
-) -> Result<(), AllocError>
-    ensures { IfOk result (λ _. (arch : TargetArch) (container : Container) → All (IsTold arch container profile.now allowed.now) all.old.items → All (IsTold arch container profile.now allowed.now) all.new.items) }
-{
-    if profile.flags.is_empty() {
-        return Ok(());
-    }
-    push(all, allowed, ProfileWarning::Flags)
-}
-
-// Adds the keys of a text's object that are passed over.
-fn push_keys(
-    alloc: Global,
-    allowed: &[Code],
-    text: &[u8],
-    all: &mut Vec<ProfileWarning>,
-) -> Result<(), AllocError>
-    ensures { IfOk result (λ _. (arch : TargetArch) (container : Container) (p : Profile) → All (IsTold arch container p allowed.now) all.old.items → All (IsTold arch container p allowed.now) all.new.items) }
-{
+// The keys of a text's object that are passed over.
+fn unknown_keys(alloc: Global, text: &[u8]) -> Result<Vec<String>, AllocError> {
     let Ok(value) = Value::from_slice(alloc, text) else {
         return Err(AllocError);
     };
-    let Value::Object(members) = &value else {
-        return Ok(());
-    };
-    for (key, _) in members.iter() {
-        if !KEYS.contains(&key.as_str()) {
-            let key = String::from_str(alloc, key.as_str())?;
-            push(all, allowed, ProfileWarning::UnknownKey(key))?;
+    let mut keys = Vec::new(alloc);
+    if let Value::Object(members) = &value {
+        for (key, _) in members.iter() {
+            if !KEYS.contains(&key.as_str()) {
+                keys.push(String::from_str(alloc, key.as_str())?)?;
+            }
         }
     }
-    Ok(())
+    Ok(keys)
 }
 
-// Adds the warnings of the filters of a profile's entries.
-fn push_of_filters(
+// What is true of the filters of a profile's entries, and of which parts of the profile.
+fn warnings_of_entries(
     alloc: Global,
     target: TargetArch,
     container: &Container,
-    allowed: &[Code],
     profile: &Profile,
-    all: &mut Vec<ProfileWarning>,
-) -> Result<(), AllocError>
-    ensures { IfOk result (λ _. All (IsTold target container.now profile.now allowed.now) all.old.items → All (IsTold target container.now profile.now allowed.now) all.new.items) }
+) -> Result<Vec<(Warning, ProfilePart)>, AllocError>
+    ensures { IfOk result (λ all. AreOfEntries target all.items) }
 {
     let filters = entry_filters_of(alloc, target, container, profile)?;
     let denied = filters
         .iter()
         .any(|filter| denies_each(&filter.filter, "clone3"));
     let has_base = !matches!(profile.default, SeccompAction::Allow);
-    let count = filters.len();
+    let mut all = Vec::new(alloc);
     for (place, filter) in filters.iter().enumerate() {
-        let is_base = has_base && place + 1 == count;
+        let is_base = has_base && place + 1 == filters.len();
         let left_out = left_out_of(alloc, denied, profile.default, is_base)?;
-        push_of_filter(alloc, target, allowed, &left_out, filter, all)?;
+        push_of_filter(&mut all, alloc, target, &left_out, filter)?;
     }
-    Ok(())
+    Ok(all)
 }
 
 // The codes of which nothing is said of a filter: of the one with the default action, or of another.
@@ -268,38 +218,23 @@ fn left_out_of(
 
 // Adds the warnings of a filter.
 fn push_of_filter(
+    all: &mut Vec<(Warning, ProfilePart)>,
     alloc: Global,
     target: TargetArch,
-    allowed: &[Code],
     left_out: &[Code],
     filter: &EntryFilter,
-    all: &mut Vec<ProfileWarning>,
 ) -> Result<(), AllocError>
-    ensures { IfOk result (λ _. (container : Container) (p : Profile) → All (IsTold target container p allowed.now) all.old.items → All (IsTold target container p allowed.now) all.new.items) }
+    ensures { OnOk result (AreOfEntries target all.old.items → AreOfEntries target all.new.items) }
 {
-    let warnings = true_of(alloc, target, left_out, &filter.filter)?;
-    for warning in &warnings {
-        let parts = parts_of(alloc, filter, warning.subject)?;
-        for part in &parts {
-            push(all, allowed, ProfileWarning::OfEntries(*warning, *part))?;
+    let Ok(judgements) = judgements_of(alloc, target, &filter.filter) else {
+        return Err(AllocError);
+    };
+    for warning in &warnings_of(alloc, &filter.filter, &judgements, left_out)? {
+        for part in &parts_of(alloc, filter, warning.subject)? {
+            all.push((*warning, *part))?;
         }
     }
     Ok(())
-}
-
-// What is true of a filter.
-fn true_of(
-    alloc: Global,
-    target: TargetArch,
-    left_out: &[Code],
-    filter: &JsonFilter,
-) -> Result<Vec<Warning>, AllocError>
-    ensures { IfOk result (λ all. All (IsTrueOf target filter.now) all.items) }
-{
-    let Ok(judgements) = judgements_of(alloc, target, filter) else {
-        return Err(AllocError);
-    };
-    warnings_of(alloc, filter, &judgements, left_out)
 }
 
 // The parts of the profile that a warning of a filter is about.

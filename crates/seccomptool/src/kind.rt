@@ -3,7 +3,7 @@
 ghost use Rattle.std.specs.Prelude.{◌↔◌, IfOk, IsTrue, codes};
 ghost use Rattle.serde_json.specs.View.{view};
 ghost use Rattle.seccompiler.specs.declared.backend.TargetArch.{TargetArch};
-ghost use Rattle.seccomptool.specs.Kinds.{BeginsAsProgram, IsOfProfile, IsPolicyText, IsTakenAs, NamesDefault, StandsIn};
+ghost use Rattle.seccomptool.specs.Kinds.{IsOfProfile, IsPolicyText, IsTakenAs, NamesDefault, StandsIn};
 
 use crate::run::initializers::begins_as_initializers;
 use memchr::memmem::find;
@@ -42,21 +42,14 @@ pub(crate) fn subject_of<'a>(
 ) -> Result<Subject<'a>, AllocError>
     ensures { IfOk result (IsTakenAs reading.now text.now) }
 {
-    if begins_as_program(text) {
+    // The second byte of a program is the high one of its first instruction's code, which is 0, and no text of JSON has a 0.
+    if begins_as_initializers(text) || text.len() > 1 && text[1] == 0 {
         return Ok(Subject::Program);
     }
     if reading.of_profiles || is_of_profile(alloc, text)? {
         return Ok(Subject::Profile(&reading.container));
     }
     Ok(Subject::Policy)
-}
-
-// Whether what is given begins as a program: the second byte is the high one of the first instruction's code, which is 0, and no
-// text of JSON has a 0; or there are C's initializers.
-fn begins_as_program(text: &[u8]) -> bool
-    ensures { IsTrue result ↔ BeginsAsProgram text.now }
-{
-    begins_as_initializers(text) || text.len() > 1 && text[1] == 0
 }
 
 // Whether a text is taken for a profile. Only one that has the key's bytes is parsed, since policies may be large.

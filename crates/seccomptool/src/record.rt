@@ -1,9 +1,9 @@
 // Calls and their records, and numbers as they are written in words.
 
-ghost use Rattle.std.specs.Prelude.{◌≡◌, ◌++◌, ◌↔◌, ℕ, All, map, IfOk, IfErr, IfSome, IfNone, IsTrue, OnOk};
+ghost use Rattle.std.specs.Prelude.{◌≡◌, ◌++◌, ℕ, All, map, IfOk, IfErr, IfSome, IfNone, OnOk};
 ghost use Rattle.std.specs.Int.{w64, to_le_bytes};
 ghost use Rattle.std.specs.List.{concat};
-ghost use Rattle.seccomptool.specs.Numbers.{IsNumber, IsOctal};
+ghost use Rattle.seccomptool.specs.Numbers.{IsNumber};
 ghost use Rattle.seccomptool.specs.Record.{IsCall, IsRecordOf, IsUncalled, record_bytes};
 
 use crate::error::ToolError;
@@ -50,26 +50,20 @@ pub fn known_calls(
 {
     let mut calls = Vec::new(alloc);
     for target in targets {
-        push_known(&mut calls, *target, call)?;
+        let Some(number) = call_number(*target, call) else {
+            continue;
+        };
+        if name_of(*target, number).is_some() {
+            calls.push(KnownCall {
+                target: *target,
+                number,
+            })?;
+        }
     }
     if calls.is_empty() {
         return Err(ToolError::NoCall(String::from_str(alloc, call)?));
     }
     Ok(calls)
-}
-
-// Adds the call of an architecture, if it has one.
-fn push_known(calls: &mut Vec<KnownCall>, target: TargetArch, call: &str) -> Result<(), AllocError>
-    ensures { OnOk result (All (λ known. IsCall known.target call.now known.number) calls.old.items → All (λ known. IsCall known.target call.now known.number) calls.new.items) }
-{
-    let Some(number) = call_number(target, call) else {
-        return Ok(());
-    };
-    if name_of(target, number).is_none() {
-        return Ok(());
-    }
-    calls.push(KnownCall { target, number })?;
-    Ok(())
 }
 
 /// The lines of calls: the architecture, the call's name, as it is given if it is no number, and its number. As JSON their list.
@@ -142,14 +136,8 @@ pub(crate) fn read_number(text: &str) -> Option<u64>
 {
     match text.strip_prefix("0x") {
         Some(digits) => read_digits(digits, 16),
-        None if is_octal(text) => None,
+        // Written as octal numbers are in C.
+        None if text.len() > 1 && text.as_bytes()[0] == b'0' => None,
         None => read_digits(text, 10),
     }
-}
-
-// Whether a text is written as octal numbers are in C.
-fn is_octal(text: &str) -> bool
-    ensures { IsTrue result ↔ IsOctal text.now }
-{
-    text.len() > 1 && text.as_bytes()[0] == b'0'
 }

@@ -4,7 +4,7 @@ use crate::check::diagnostic::{Diagnostic, Place, path_text};
 use crate::check::outline::{Outline, Position};
 use crate::json::{push_item, text_or_null};
 use crate::notes::front_of;
-use seccomp_command_line::readable::{TextKind, push_readable};
+use seccomp_command_line::readable::{TextKind, readable};
 use serde_json::{Value, json};
 use std::alloc::{AllocError, Global};
 
@@ -44,76 +44,60 @@ pub(crate) fn lines_of(
             (Place::Key, Some((_, key))) => Some(key),
             _ => None,
         };
-        match format {
-            CheckFormat::Text => push_text(&mut lines, alloc, path, diagnostic)?,
-            CheckFormat::Gcc => push_line(&mut lines, alloc, path, position, diagnostic)?,
+        let line = match format {
+            CheckFormat::Text => text_line(alloc, path, diagnostic)?,
+            CheckFormat::Gcc => gcc_line(alloc, path, position, diagnostic)?,
             CheckFormat::Json => {
                 let value = value_of(alloc, path, position, diagnostic)?;
                 push_item(&mut lines, alloc, &value)?;
+                continue;
             }
-        }
+        };
+        lines.extend_from_slice(line.as_bytes())?;
     }
     Ok(lines)
 }
 
-// Adds the line of a warning for people.
-fn push_text(
-    lines: &mut Vec<u8>,
-    alloc: Global,
-    path: &str,
-    diagnostic: &Diagnostic,
-) -> Result<(), AllocError> {
-    lines.extend_from_slice(front_of(alloc, path)?.as_bytes())?;
-    push_subject(lines, alloc, diagnostic)?;
+// The line of a warning for people.
+fn text_line(alloc: Global, path: &str, diagnostic: &Diagnostic) -> Result<String, AllocError> {
+    let front = front_of(alloc, path)?;
+    let subject = subject_of(alloc, diagnostic)?;
     let (code, said) = (diagnostic.code, &diagnostic.message);
-    lines.extend_from_slice(format!(in alloc; ": warning [{code}]: {said}\n")?.as_bytes())
+    format!(in alloc; "{front}{subject}: warning [{code}]: {said}\n")
 }
 
-// Adds the line `FILE:LINE:COLUMN: SEVERITY: PATH: MESSAGE [CODE]`, without a place or path that there isn't. Standard input is `-`.
-fn push_line(
-    lines: &mut Vec<u8>,
+// The line `FILE:LINE:COLUMN: SEVERITY: PATH: MESSAGE [CODE]`, without a place or path that there isn't. Standard input is `-`.
+fn gcc_line(
     alloc: Global,
     file: &str,
     position: Option<Position>,
     diagnostic: &Diagnostic,
-) -> Result<(), AllocError> {
-    push_readable(lines, file, TextKind::Name)?;
-    if let Some(Position { line, column }) = position {
-        lines.extend_from_slice(format!(in alloc; ":{line}:{column}")?.as_bytes())?;
-    }
+) -> Result<String, AllocError> {
+    let file = readable(alloc, file, TextKind::Name)?;
+    let at = match position {
+        Some(Position { line, column }) => format!(in alloc; "{file}:{line}:{column}")?,
+        None => file,
+    };
+    let subject = subject_of(alloc, diagnostic)?;
+    let behind = if diagnostic.path.is_empty() { "" } else { ": " };
+    let message = readable(alloc, diagnostic.message.as_str(), TextKind::Line)?;
     let (severity, code) = (diagnostic.severity, diagnostic.code);
-    lines.extend_from_slice(format!(in alloc; ": {severity}: ")?.as_bytes())?;
-    push_subject(lines, alloc, diagnostic)?;
-    if !diagnostic.path.is_empty() {
-        lines.extend_from_slice(b": ")?;
-    }
-    push_readable(lines, diagnostic.message.as_str(), TextKind::Line)?;
-    lines.extend_from_slice(format!(in alloc; " [{code}]\n")?.as_bytes())
+    format!(in alloc; "{at}: {severity}: {subject}{behind}{message} [{code}]\n")
 }
 
-// Adds what a diagnostic is about: its path, and the call behind it. A key stands in quotes.
-fn push_subject(
-    line: &mut Vec<u8>,
-    alloc: Global,
-    diagnostic: &Diagnostic,
-) -> Result<(), AllocError> {
-    let quote: &[u8] = match diagnostic.place {
-        Place::Key => b"\"",
-        _ => b"",
+// What a diagnostic is about: its path, and the call behind it. A key stands in quotes.
+fn subject_of(alloc: Global, diagnostic: &Diagnostic) -> Result<String, AllocError> {
+    let quote = match diagnostic.place {
+        Place::Key => "\"",
+        _ => "",
     };
-    line.extend_from_slice(quote)?;
-    push_readable(
-        line,
-        path_text(alloc, &diagnostic.path)?.as_str(),
-        TextKind::Name,
-    )?;
-    line.extend_from_slice(quote)?;
-    if let Some(call) = &diagnostic.call {
-        line.extend_from_slice(b" (")?;
-        push_readable(line, call.as_str(), TextKind::Name)?;
-        line.extend_from_slice(b")")?;
-    }
-    Ok(())
+    let path = path_text(alloc, &diagnostic.path)?;
+    let path = readable(alloc, path.as_str(), TextKind::Name)?;
+    let Some(call) = &diagnostic.call else {
+        return format!(in alloc; "{quote}{path}{quote}");
+    };
+    let call = readable(alloc, call.as_str(), TextKind::Name)?;
+    format!(in alloc; "{quote}{path}{quote} ({call})")
 }
 
 // A diagnostic as JSON.
@@ -128,16 +112,12 @@ fn value_of(
         Some(Position { line, column }) => (Some(line), Some(column)),
         None => (None, None),
     };
-    let call = match &diagnostic.call {
-        Some(call) => Some(call.as_str()),
-        None => None,
-    };
     json!(in alloc; {
         "file": file,
         "line": line,
         "column": column,
         "path": path.as_str(),
-        "call": text_or_null(alloc, call)?,
+        "call": text_or_null(alloc, diagnostic.call.as_deref())?,
         "code": diagnostic.code,
         "severity": diagnostic.severity,
         "message": &diagnostic.message,

@@ -123,12 +123,9 @@ fn warnings_in_filter(
 pub(crate) fn verdict_where(denied: bool, count: usize) -> Verdict
     ensures { result ≡ spec.verdict_where denied count }
 {
-    if !denied {
-        return Verdict::Same;
-    }
-    if count == 0 {
-        Verdict::Same
-    } else {
+    if denied && count > 0 {
         Verdict::Different
+    } else {
+        Verdict::Same
     }
 }

@@ -1,6 +1,9 @@
 // The files that a command reads, and the one that it writes.
 
+ghost use Rattle.std.specs.Prelude.{◌≡◌, IfOk, IfSome};
+
 use crate::error::FaultAt;
+use std::alloc::Global;
 use std::collections::VecDeque;
 use std::fs::File;
 use std::io::{ErrorKind, Read};
@@ -10,8 +13,6 @@ use std::{fs, io};
 /// What a command reads: a policy, records or traces.
 #[derive(Drop)]
 pub(crate) enum Source<F, I> {
-    /// No bytes.
-    Nothing,
     /// The bytes of a file.
     File(F),
     /// The bytes of standard input.
@@ -23,7 +24,6 @@ pub(crate) enum Source<F, I> {
 impl<F: Read, I: Read> Read for Source<F, I> {
     fn read(&mut self, buf: &mut [u8]) -> io::Result<usize> {
         match self {
-            Source::Nothing => Ok(0),
             Source::File(file) => file.read(buf),
             Source::Input(input) => input.read(buf),
             Source::Bytes(bytes) => bytes.read(buf),
@@ -37,12 +37,27 @@ pub(crate) fn open<R: Files + Input + AllocGlobal>(
     path: Option<&str>,
 ) -> Result<Source<R::File, R::Reader>, FaultAt> {
     match path {
-        None => Ok(Source::Nothing),
+        None => Ok(Source::Bytes(VecDeque::new(rt.alloc()))),
         Some("-") => Ok(Source::Input(rt.reader())),
         Some(path) => match fs::open(rt, path) {
             Ok(file) => Ok(Source::File(file)),
             Err(error) => Err(FaultAt::of_io(rt.alloc(), path, error)),
         },
+    }
+}
+
+// All that the reader of what is at a path gives.
+pub(crate) fn text_of<R: Read + Drop>(
+    alloc: Global,
+    path: Option<&str>,
+    mut reader: R,
+) -> Result<Vec<u8>, FaultAt>
+    ensures { IfOk result (λ text. IfSome (R.remaining reader) (λ known. text.items ≡ known)) }
+{
+    let mut text = Vec::new(alloc);
+    match reader.read_to_end(&mut text) {
+        Ok(_) => Ok(text),
+        Err(error) => Err(FaultAt::of_io(alloc, path.unwrap_or("-"), error)),
     }
 }
 
@@ -52,10 +67,7 @@ pub(crate) fn push_whole(
     bytes: &mut Vec<u8>,
     path: &str,
 ) -> Result<(), FaultAt> {
-    let mut text = Vec::new(rt.alloc());
-    if let Err(error) = open(rt, Some(path))?.read_to_end(&mut text) {
-        return Err(FaultAt::of_io(rt.alloc(), path, error));
-    }
+    let text = text_of(rt.alloc(), Some(path), open(rt, Some(path))?)?;
     bytes.extend_from_slice(&text)?;
     let is_cut = matches!(text.last(), Some(byte) if *byte != b'\n');
     if is_cut && !text.contains(&0) {

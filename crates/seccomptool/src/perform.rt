@@ -1,12 +1,13 @@
 // A command, carried out on what is opened for it.
 
-ghost use Rattle.std.specs.Prelude.{◌≡◌, IfOk, IfSome};
+ghost use Rattle.std.specs.Prelude.{IfOk};
 ghost use Rattle.seccompiler.specs.Reads.{Reads};
 ghost use Rattle.seccomptool.specs.Commands.{IsCarriedOut};
 
 use crate::check::made::check_made;
 use crate::error::{FaultAt, Place};
 use crate::explain::made::explain_made;
+use crate::files::text_of;
 use crate::learn::learn_made;
 use crate::made::{Made, call_made, codes_made, compile_made, diff_made, show_made};
 use crate::notes::readable;
@@ -34,10 +35,7 @@ pub(crate) fn perform<P: Read + Drop, R: Read + Drop, G: Progress>(
 ) -> Result<Made, FaultAt>
     ensures { IfOk result (λ made. Reads (P.remaining first) (λ one. Reads (R.remaining second) (λ two. IsCarriedOut command.now one two made.verdict))) }
 {
-    let first = match text_of(alloc, inputs.first, first) {
-        Ok(text) => text,
-        Err(unread) => return Err(unread),
-    };
+    let first = text_of(alloc, inputs.first, first)?;
     let second = match text_of(alloc, inputs.second, second) {
         Ok(text) => text,
         // A fault of the first text comes before that the second one can't be read.
@@ -48,36 +46,7 @@ pub(crate) fn perform<P: Read + Drop, R: Read + Drop, G: Progress>(
             };
         }
     };
-    ready(alloc, command, inputs, &first, &second, progress)
-}
-
-// All that the reader of what is at a path gives.
-fn text_of<R: Read + Drop>(
-    alloc: Global,
-    path: Option<&str>,
-    mut reader: R,
-) -> Result<Vec<u8>, FaultAt>
-    ensures { IfOk result (λ text. IfSome (R.remaining reader) (λ known. text.items ≡ known)) }
-{
-    let mut text = Vec::new(alloc);
-    match reader.read_to_end(&mut text) {
-        Ok(_) => Ok(text),
-        Err(error) => Err(FaultAt::of_io(alloc, path.unwrap_or("-"), error)),
-    }
-}
-
-// What a command makes of these texts, ready to be written.
-fn ready<G: Progress>(
-    alloc: Global,
-    command: &Command<'_>,
-    inputs: Inputs<'_>,
-    first: &[u8],
-    second: &[u8],
-    progress: &mut G,
-) -> Result<Made, FaultAt>
-    ensures { IfOk result (λ made. IsCarriedOut command.now first.now second.now made.verdict) }
-{
-    let mut made = made_by(alloc, command, inputs, first, second, progress)?;
+    let mut made = made_by(alloc, command, inputs, &first, &second, progress)?;
     let is_plain = |byte: &u8| matches!(*byte, b'\n' | b' '..=b'~');
     if !writes_bytes(command) && !made.text.iter().all(is_plain) {
         made.text = readable(alloc, &made.text, TextKind::Lines)?.into_bytes();

@@ -173,12 +173,14 @@ fn arg_of<'a>(alloc: Global, command: &str, row: &'a str) -> Arg<'a> {
     let Some(option) = words.strip_prefix("--") else {
         return argument_of(alloc, words, help);
     };
-    let Some((name, value)) = option.split_once(' ') else {
-        return with_letter(Arg::new(alloc, option), option)
-            .help(help)
-            .action(ArgAction::SetTrue);
-    };
-    let mut arg = with_letter(Arg::new(alloc, name), name).help(help);
+    let (name, value) = option.split_once(' ').unwrap_or((option, ""));
+    let mut arg = Arg::new(alloc, name).long(name).help(help);
+    if let Some(letter) = letter_of(name) {
+        arg = arg.short(letter);
+    }
+    if value.is_empty() {
+        return arg.action(ArgAction::SetTrue);
+    }
     let values = values_of(command, name);
     if !values.is_empty() {
         arg = arg.value_parser(values);
@@ -204,16 +206,15 @@ fn argument_of<'a>(alloc: Global, word: &'a str, help: &'a str) -> Arg<'a> {
     }
 }
 
-// The option with its name, and with a letter if it has one.
-fn with_letter<'a>(arg: Arg<'a>, name: &'a str) -> Arg<'a> {
-    let arg = arg.long(name);
+// The letter that an option has beside its name.
+fn letter_of(name: &str) -> Option<char> {
     match name {
-        "arch" => arg.short('a'),
-        "filter" => arg.short('f'),
-        "output" => arg.short('o'),
-        "quiet" => arg.short('q'),
-        "verbose" => arg.short('v'),
-        _ => arg,
+        "arch" => Some('a'),
+        "filter" => Some('f'),
+        "output" => Some('o'),
+        "quiet" => Some('q'),
+        "verbose" => Some('v'),
+        _ => None,
     }
 }
 

@@ -6,7 +6,6 @@ ghost use Rattle.std.specs.Prelude.{◌≡◌, IfOk};
 ghost use Rattle.seccomptool.specs.Chosen.{text_of};
 ghost use Rattle.seccomptool.specs.Learn.{IsBase, IsLearned, IsLesson};
 ghost use Rattle.seccomptool.specs.declared.findings.Verdict.TheVariants.{Same};
-ghost use Rattle.seccomptool.specs.declared.learn.Start.TheVariants.{Into};
 
 use crate::chosen::chosen_name;
 use crate::error::{FaultAt, ToolError};
@@ -137,7 +136,7 @@ fn learned_of(
     })
 }
 
-// What calls are added to.
+// What calls are added to: nothing yet, or the filter that is asked for, or a policy's only one, if it allows what it lists.
 fn base_of(
     alloc: Global,
     start: Start,
@@ -154,16 +153,10 @@ fn base_of(
                 match_action: SeccompAction::Allow,
                 rules: Vec::new(alloc),
             };
-            Ok((name, filter, JsonFilterMap(BTreeMap::new(alloc))))
+            return Ok((name, filter, JsonFilterMap(BTreeMap::new(alloc))));
         }
-        Start::Into => base_into(alloc, asked, policy),
+        Start::Into => {}
     }
-}
-
-// The filter that is asked for, or a policy's only one, if it allows what it lists.
-fn base_into(alloc: Global, asked: Option<&str>, policy: &[u8]) -> Result<Base, ToolError>
-    ensures { IfOk result (λ base. IsBase Into (text_of asked.entry) policy.now base.1) }
-{
     let mut others = filters_of(alloc, policy)?;
     let name = chosen_name(alloc, asked, &others.0)?;
     let Some(filter) = others.0.remove(name.as_str()) else {

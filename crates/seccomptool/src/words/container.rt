@@ -65,12 +65,11 @@ fn no_capability(alloc: Global, name: &str) -> Result<String, AllocError> {
     let mut least = (name.len() / 3).max(1) + 1;
     for cap in capabilities() {
         let short = cap.strip_prefix("CAP_").unwrap_or(*cap);
-        for spelling in [*cap, short] {
-            let distance = osa_distance(alloc, name.as_str(), spelling)?;
-            if distance < least {
-                least = distance;
-                best = Some(*cap);
-            }
+        let whole = osa_distance(alloc, name.as_str(), *cap)?;
+        let distance = whole.min(osa_distance(alloc, name.as_str(), short)?);
+        if distance < least {
+            least = distance;
+            best = Some(*cap);
         }
     }
     match best {

@@ -48,7 +48,8 @@ pub(super) fn on<'a>(
     let inputs = Inputs {
         first,
         second,
-        json: format_in(found)? == "json",
+        // A format that can't be given beside --json is refused where it is read.
+        json: matches!(format_in(found), Ok("json")),
     };
     let output = match found.get_str("output") {
         Some("-") => None,
@@ -62,14 +63,14 @@ pub(super) fn on<'a>(
 }
 
 fn check_in<'a>(alloc: Global, found: &ArgMatches<'a>) -> Read<'a> {
-    if found.get_flag("list") {
-        return on(alloc, found, Command::Codes, None, None);
-    }
     let format = match format_in(found)? {
         "gcc" => CheckFormat::Gcc,
         "json" => CheckFormat::Json,
         _ => CheckFormat::Text,
     };
+    if found.get_flag("list") {
+        return on(alloc, found, Command::Codes, None, None);
+    }
     let mut inputs = Vec::new(alloc);
     for path in found.get_strs("SUBJECT").unwrap_or(&[]) {
         inputs.push(Inputs {

@@ -15,7 +15,8 @@ returns g c = λ by_new by_old of_new of_old.
     let old = c.args.old.now in
     let others = c.in_ok-others.others.items in
     let on = decided_on target relation new old by_new by_old of_new of_old (other_parts target) others
-    (subst (λ word. AreFoundOn target relation (AreReturned new old) (Elsewhere 0 (word - 1) ∷ Elsewhere (word + 1) (2 ^ 32 - 1) ∷ []) others)
+    (subst (λ word. AreFoundOn target relation (AreReturned new old)
+    (Elsewhere 0 (word - 1) ∷ Elsewhere (word + 1) (2 ^ 32 - 1) ∷ []) others)
     c.get_audit_value-word.ensures c.in_ok-others.ensures) in
     record {
       own = c.in_ok-own.ensures by_new by_old of_new of_old;

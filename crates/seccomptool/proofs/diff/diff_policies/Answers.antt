@@ -10,6 +10,6 @@ returns g c =
     let old = get_by_text c.in_ok-old.old in
     let new = get_by_text c.in-Ok.new in
     let target = c.new-compiler.ensures in
-    IfOk-weaker c.found_by_name.result _ _ (λ all are. policies_differ c.args.terms.target c.args.terms.relation c.args.old.now c.args.new.now
-    old new (subst (λ t. OfValue c.args.old.now (ArePoliciesOf t old)) target c.in_ok-old.ensures.policies)
+    IfOk-weaker c.found_by_name.result _ _ (λ all are. policies_differ c.args.terms.target c.args.terms.relation c.args.old.now
+    c.args.new.now old new (subst (λ t. OfValue c.args.old.now (ArePoliciesOf t old)) target c.in_ok-old.ensures.policies)
     (subst (λ t. OfValue c.args.new.now (ArePoliciesOf t new)) target c.in-Ok.ensures.policies) all.items are) c.found_by_name.ensures

@@ -6,7 +6,8 @@ use Rattle.seccomptool.proofs.diff.found_by_name.Given as goal
 -- the old policy's filters so far
 abbrev pub invariant-loop-name : goal.invariant-loop-name
 invariant-loop-name g l =
-    AreSoFar l.fn.terms.target l.fn.terms.relation (get_by_text l.fn.old) (get_by_text l.fn.new) l.all.items l.fn.old.entries l.name-iterator
+    AreSoFar l.fn.terms.target l.fn.terms.relation (get_by_text l.fn.old) (get_by_text l.fn.new) l.all.items l.fn.old.entries
+    l.name-iterator
 
 -- all of them, and the new one's so far
 abbrev pub invariant-loop-name-2 : goal.invariant-loop-name-2

@@ -50,7 +50,8 @@ returns-in-None c =
     let own = is_for c.args.target (pos c.word_at-number.result) in
     let front = places own 0 (take l.place entries) in
     let there = slice_get-get_or entries l.place entry c.loop-place-test.true ∙ ap Some (sym c.index-entries-place.is) in
-    let at = place_within own entries l.place entry c.loop-place-test.true c.index-entries-place.is (sym c.is_for.ensures ∙ c.if-is_for.true) in
+    let for_call = sym c.is_for.ensures ∙ c.if-is_for.true in
+    let at = place_within own entries l.place entry c.loop-place-test.true c.index-entries-place.is for_call in
     let first = first_match entries c.args.call.now (places own 0 entries) front at.0 l.place l.nearest at.1 l.invariant.nearest
     (entry, there, c.in-None.ensures.holds) in
     reason_among c.args.target entries c.args.call.now c.word_at-number.result _

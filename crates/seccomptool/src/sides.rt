@@ -27,8 +27,8 @@ pub struct Side<'a> {
     pub given: &'a [u8],
 }
 
-/// The program of a side, and its name, which says what it is of unless that is a filter: a policy's filter, the one that is asked for or the only one, a profile, or a program, which may be of
-/// any compiler, if `machine::check` passes it.
+/// The program of a side, and its name: that of a policy's filter, the one that is asked for or the only one; `profile`; or
+/// `program`, which may be of any compiler, if `machine::check` passes it.
 ///
 /// # Errors
 ///

@@ -1,6 +1,6 @@
 -- Look-ups by name in lists of values, in order or not, and what is made of such a list value by value.
 use Rattle.std.proofs.Common.{◌≡◌, ℕ, ◌++◌, List, [], ◌∷◌, true, false, cond, Option, Some, None, String, Global, Less, string_bytes}
-use Rattle.std.proofs.Common.{string_cmp, string_eq, bytes_eq, refl, sym, ap, ◌∙◌, subst, append_assoc, append-nil, arith, length}
+use Rattle.std.proofs.Common.{string_cmp, string_eq, bytes_eq, refl, sym, ap, ◌∙◌, subst, append_assoc, append-nil, arith, length, ◌+◌, ◌<◌, ◌≤◌, Vec}
 use Rattle.std.specs.BTreeMap.{BTreeMap, is_at}
 use Rattle.std.specs.BTreeMap as tree
 use Rattle.std.specs.HashMap.{HashMap}
@@ -10,6 +10,7 @@ use Rattle.std.specs.List.Sorted.{IsStrictlySortedBy}
 use Rattle.std.specs.Map.{keys_of, lookup}
 use Rattle.std.specs.Option.{MatchOption}
 use Rattle.std.specs.Ordering.{eq_by_cmp}
+use Rattle.std.specs.Vec.{vec_len, vec_capacity}
 use Rattle.std.specs.String.{string_eq_equiv, string_cmp_total}
 use Rattle.std.proofs.lemmas.List.Elements.{Contains-append_right}
 use Rattle.std.proofs.lemmas.List.{nil_from_length}
@@ -129,32 +130,41 @@ module _ {X Y : Type 0} (R : X → Y → Type 0) where
   same_order (x ∷ xs) [] h order = absurd h
   same_order (x ∷ xs) (y ∷ ys) h order = (all_below x.0 y.0 h.0.0 xs ys h.1 order.0, same_order xs ys h.1 order.1)
 
-  -- What a loop has made of the values so far, and the values that are left.
-  pub record IsMaking (given left : ByName X) (ys : ByName Y) : Type 0 where
+  -- What a loop has made of the values so far, and the values that are left, for which there is room.
+  pub record IsMaking (given left : ByName X) (ys : Vec (String Global × Y) Global) : Type 0 where
     pub done : ByName X
     pub all : given ≡ done ++ left
-    pub made : AreMade R done ys
+    pub made : AreMade R done ys.items
+    pub room : vec_len ys + length left ≤ vec_capacity ys
 
-  pub making_none : (given left : ByName X) (ys : ByName Y) → left ≡ given → ys ≡ [] → IsMaking given left ys
-  making_none given left ys whole none = record { done = []; all = sym whole; made = rw none tt }
+  pub making_none : (given left : ByName X) (ys : Vec (String Global × Y) Global) → left ≡ given → ys.items ≡ []
+      → vec_len ys + length left ≤ vec_capacity ys → IsMaking given left ys
+  making_none given left ys whole none room = record { done = []; all = sym whole; made = rw none tt; room = room }
 
-  module _ {given left : ByName X} {ys : ByName Y} (so_far : IsMaking given left ys) where
+  module _ {given left : ByName X} {ys : Vec (String Global × Y) Global} (so_far : IsMaking given left ys) where
     pub at_next : (x : String Global × X) (rest : ByName X) → left ≡ x ∷ rest → given ≡ so_far.done ++ x ∷ rest
     at_next x rest next = so_far.all ∙ ap (λ es. so_far.done ++ es) next
 
-    pub making_more : (x : String Global × X) (y : String Global × Y) (rest : ByName X) (zs : ByName Y) → left ≡ x ∷ rest
-        → zs ≡ ys ++ y ∷ [] → string_bytes y.0 ≡ string_bytes x.0 → R x.1 y.1 → IsMaking given rest zs
-    making_more x y rest zs next added name own = record {
+    pub has_room : (x : String Global × X) (rest : ByName X) → left ≡ x ∷ rest → vec_len ys < vec_capacity ys
+    has_room x rest next = omega (arith, so_far.room, ap length next)
+
+    pub making_more : (x : String Global × X) (y : String Global × Y) (rest : ByName X) (zs : Vec (String Global × Y) Global)
+        → left ≡ x ∷ rest → zs.items ≡ ys.items ++ y ∷ [] → vec_len zs ≡ vec_len ys + 1 → vec_capacity zs ≡ vec_capacity ys
+        → string_bytes y.0 ≡ string_bytes x.0 → R x.1 y.1 → IsMaking given rest zs
+    making_more x y rest zs next added longer same name own = record {
       done = so_far.done ++ x ∷ [];
       all = at_next x rest next ∙ sym (append_assoc so_far.done (x ∷ []) rest);
-      made = subst (AreMade R (so_far.done ++ x ∷ [])) (sym added) (made_more so_far.done ys x y so_far.made name own);
+      made = subst (AreMade R (so_far.done ++ x ∷ [])) (sym added) (made_more so_far.done ys.items x y so_far.made name own);
+      room = omega (arith, so_far.room, ap length next, longer, same);
     }
 
     -- In the end all of what was given are made, in the same order.
-    pub making_done : (listed : ByName X) → given ≡ listed → length left ≡ 0 → AreInOrder listed → AreMade R listed ys × AreInOrder ys
+    pub making_done : (listed : ByName X) → given ≡ listed → length left ≡ 0 → AreInOrder listed
+        → AreMade R listed ys.items × AreInOrder ys.items
     making_done listed gives none order =
         let rest = ap (λ es. so_far.done ++ es) (nil_from_length left none) ∙ append-nil so_far.done in
-        let all = subst (λ xs. AreMade R xs ys) (sym (sym gives ∙ so_far.all ∙ rest)) so_far.made in (all, same_order listed ys all order)
+        let all = subst (λ xs. AreMade R xs ys.items) (sym (sym gives ∙ so_far.all ∙ rest)) so_far.made in
+        (all, same_order listed ys.items all order)
 
   -- Under a name there is what is made of the value that is found; where none is found, there is nothing.
   pub made_under : (xs : ByName X) (ys : ByName Y) → AreMade R xs ys → (q : List ℕ)

@@ -109,7 +109,7 @@ fn listed_programs(
     let mut programs = Vec::with_capacity(alloc, policies.len())?;
     for (name, policy) in policies {
         let program = policy.to_bpf(alloc)?;
-        programs.push((name, program))?;
+        programs.push_reserved((name, program));
     }
     Ok((value, programs))
 }

@@ -225,7 +225,7 @@ pub(crate) fn read_policies(
     let mut policies = Vec::with_capacity(alloc, filters.len())?;
     for (name, filter) in filters {
         let policy = lent_seccomp_filter(alloc, arch, &filter)?;
-        policies.push((name, policy))?;
+        policies.push_reserved((name, policy));
     }
     Ok((value, policies))
 }

@@ -45,7 +45,7 @@ pub fn read_filters(alloc: Global, value: &Value) -> Result<JsonFilterMap, JsonF
     let filters = lent_filters(alloc, value)?;
     let mut found = Vec::with_capacity(alloc, filters.len())?;
     for (name, filter) in filters {
-        found.push((name, owned(alloc, filter)?))?;
+        found.push_reserved((name, owned(alloc, filter)?));
     }
     Ok(JsonFilterMap(found.into_iter().collect(alloc)?))
 }
@@ -66,7 +66,7 @@ pub fn lent_filters(
     for (key, member) in members.iter() {
         let name = key.clone()?;
         match read_filter(alloc, member)? {
-            Some(filter) => found.push((name, filter))?,
+            Some(filter) => found.push_reserved((name, filter)),
             None => return Err(JsonFrontendError::Shape(name)),
         }
     }

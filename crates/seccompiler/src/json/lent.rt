@@ -47,10 +47,10 @@ pub fn owned(alloc: Global, filter: LentFilter<'_>) -> Result<JsonFilter, AllocE
     let mut rules = Vec::with_capacity(alloc, filter.rules.len())?;
     for rule in filter.rules {
         let syscall = String::from_str(alloc, rule.syscall)?;
-        rules.push(JsonRule {
+        rules.push_reserved(JsonRule {
             syscall,
             conditions: rule.conditions,
-        })?;
+        });
     }
     Ok(JsonFilter {
         mismatch_action: filter.mismatch_action,
@@ -69,10 +69,10 @@ pub fn lent(alloc: Global, filter: &JsonFilter) -> Result<LentFilter<'_>, AllocE
             Some(conditions) => Some(conditions.clone()?),
             None => None,
         };
-        rules.push(LentRule {
+        rules.push_reserved(LentRule {
             syscall: rule.syscall.as_str(),
             conditions,
-        })?;
+        });
     }
     Ok(LentFilter {
         mismatch_action: filter.mismatch_action,

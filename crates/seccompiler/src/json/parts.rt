@@ -151,10 +151,12 @@ fn read_conditions(
     ensures none { IfOk result (λ o. IfNone o
         ((all : List JsonCondition) → OneByOne IsCondition (items_view items.now.items) all → ⊥)) }
 {
-    let mut found = Vec::with_capacity(alloc, items.len())?;
+    let Ok(mut found) = Vec::with_capacity(alloc, items.len()) else {
+        return Err(AllocError);
+    };
     for item in items {
         match read_condition(item) {
-            Some(condition) => found.push(condition)?,
+            Some(condition) => found.push_reserved(condition),
             None => return Ok(None),
         }
     }
@@ -214,7 +216,7 @@ fn read_rules(alloc: Global, value: &Value) -> Result<Option<Vec<LentRule<'_>>>,
     let mut found = Vec::with_capacity(alloc, items.len())?;
     for item in items {
         match read_entry(alloc, item)? {
-            Some(rule) => found.push(rule)?,
+            Some(rule) => found.push_reserved(rule),
             None => return Ok(None),
         }
     }

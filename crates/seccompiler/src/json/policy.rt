@@ -64,12 +64,12 @@ fn rule_of(alloc: Global, conditions: &[JsonCondition]) -> Result<SeccompRule, J
 {
     let mut found = Vec::with_capacity(alloc, conditions.len())?;
     for condition in conditions {
-        found.push(SeccompCondition::new(
+        found.push_reserved(SeccompCondition::new(
             condition.arg_index,
             condition.arg_len,
             condition.operator,
             condition.value,
-        )?)?;
+        )?);
     }
     Ok(SeccompRule::new(found)?)
 }

@@ -2,7 +2,7 @@ use Rattle.std.proofs.Common.{String, Global, Vec, rules, refl, sym, ◌∙◌, 
 use Rattle.std.proofs.lemmas.Result.{err_from_is_err_and}
 use Rattle.seccompiler.specs.Policy.{Filter}
 use Rattle.seccompiler.specs.declared.bpf.sock_filter.{sock_filter}
-use Rattle.seccompiler.proofs.ByName.{at_next, making_none, making_more, making_done}
+use Rattle.seccompiler.proofs.ByName.{at_next, making_none, has_room, making_more, making_done}
 use Rattle.seccompiler.proofs.compile.TextPrograms.{Compiles, are_programs, refusal_of, told_by_frontend}
 use Rattle.seccompiler.proofs.compile.listed_programs.Goals as goal
 
@@ -11,14 +11,18 @@ returns-in_err-value-clause-programs c = let p = err_from_is_err_and c.from_resi
     rw (p.1, p.2) (told_by_frontend c.args.arch c.args.text.now c.in_err-value.field-0.0 c.in_err-value.ensures.0)
 
 pub loop-name-init : goal.loop-name-init
-loop-name-init c = making_none _ _ _ _ refl (search rules)
+loop-name-init c = making_none _ _ _ _ refl (search rules) (search (rules, arith))
+
+pub push_reserved-requires : goal.push_reserved-requires
+push_reserved-requires c = has_room Compiles c.loop-name.invariant (c.in-Some.name, c.in-Some.policy) _ c.in-Some.ensures.steps.0
 
 pub loop-name-preserved : goal.loop-name-preserved
 loop-name-preserved c =
+    let put = c.push_reserved.ensures in
     let e : String Global × Filter = (c.in-Some.name, c.in-Some.policy) in
     let entry : String Global × Vec sock_filter Global = (c.in-Some.name, c.in_ok-program.program) in
     let of = c.in_ok-program.ensures in
-    making_more Compiles c.loop-name.invariant e entry _ _ c.in-Some.ensures.steps.0 c.in_ok-push.ensures.items refl
+    making_more Compiles c.loop-name.invariant e entry _ _ c.in-Some.ensures.steps.0 put.items put.len put.capacity refl
     (record { compilable = of.compilable; compiled = of.compiled })
 
 pub returns-in_err-program-clause-programs : goal.returns-in_err-program-clause-programs

@@ -5,7 +5,7 @@ use Rattle.seccompiler.specs.JsonAnswers.{IsLeastRefused}
 use Rattle.seccompiler.specs.JsonPolicyOf.{IsPolicyOf, IsFirstFault}
 use Rattle.seccompiler.specs.JsonTypes.{JsonFilter}
 use Rattle.seccompiler.specs.Policy.{Filter}
-use Rattle.seccompiler.proofs.ByName.{at_next, making_none, making_more, making_done}
+use Rattle.seccompiler.proofs.ByName.{at_next, making_none, has_room, making_more, making_done}
 use Rattle.seccompiler.proofs.json.compiler.TextPolicies.{are_policies, least_refused, refused_told, shape_told}
 use Rattle.seccompiler.proofs.json.policy.EntryFaults.{tells_more}
 use Rattle.seccompiler.proofs.json.compiler.read_policies.Goals as goal
@@ -19,14 +19,19 @@ returns-in_err-filters c = let p = err_from_is_err_and c.from_residual-in_err-fi
     rw (p.1, p.2) (shape_told c.args.arch _ c.args.text.now c.in_ok-value.ensures c.in_err-filters.field-0.0 c.in_err-filters.ensures)
 
 pub loop-name-init : goal.loop-name-init
-loop-name-init c = making_none _ _ _ _ refl (search rules)
+loop-name-init c = making_none _ _ _ _ refl (search rules) (search (rules, arith))
+
+pub push_reserved-requires : goal.push_reserved-requires
+push_reserved-requires c = has_room (IsPolicyOf c.args.arch) c.loop-name.invariant
+    (c.in-Some.name, c.in-Some.filter) _ c.in-Some.ensures.steps.0
 
 pub loop-name-preserved : goal.loop-name-preserved
 loop-name-preserved c =
+    let put = c.push_reserved.ensures in
     let e : String Global × JsonFilter = (c.in-Some.name, c.in-Some.filter) in
     let entry : String Global × Filter = (c.in-Some.name, c.in_ok-policy.policy) in
-    making_more (IsPolicyOf c.args.arch) c.loop-name.invariant e entry _ _ c.in-Some.ensures.steps.0 c.in_ok-push.ensures.items
-    refl c.in_ok-policy.ensures
+    making_more (IsPolicyOf c.args.arch) c.loop-name.invariant e entry _ _ c.in-Some.ensures.steps.0 put.items put.len
+    put.capacity refl c.in_ok-policy.ensures
 
 pub returns-in_err-policy : goal.returns-in_err-policy
 returns-in_err-policy c = let p = err_from_is_err_and c.from_residual-in_err-policy.result c.from_residual-in_err-policy.ensures.1 in

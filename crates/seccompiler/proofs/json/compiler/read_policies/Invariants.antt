@@ -5,4 +5,4 @@ use Rattle.seccompiler.proofs.json.compiler.read_policies.Given as goal
 
 abbrev pub invariant-loop-name : goal.invariant-loop-name
 invariant-loop-name l =
-    IsMaking (IsPolicyOf l.arch) (into_iter_items l.initial.name-iterator) (into_iter_items l.name-iterator) l.policies.items
+    IsMaking (IsPolicyOf l.arch) (into_iter_items l.initial.name-iterator) (into_iter_items l.name-iterator) l.policies

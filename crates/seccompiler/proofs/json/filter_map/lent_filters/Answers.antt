@@ -1,19 +1,24 @@
-use Rattle.std.proofs.Common.{◌≡◌, String, Global, rules, refl, ◌∙◌, sym, ◌∷◌, ◌++◌}
+use Rattle.std.proofs.Common.{◌≡◌, String, Global, rules, arith, refl, ◌∙◌, sym, ◌∷◌, ◌++◌}
 use Rattle.serde_json.proofs.Views.{Entry, view-Object}
 use Rattle.seccompiler.specs.JsonTypes.{JsonFilter}
-use Rattle.seccompiler.proofs.ByName.{at_next, making_none, making_more, making_done}
+use Rattle.seccompiler.proofs.ByName.{at_next, making_none, has_room, making_more, making_done}
 use Rattle.seccompiler.proofs.json.filter_map.FilterMaps.{IsRead, are_filters, least_fault}
 use Rattle.seccompiler.proofs.json.filter_map.lent_filters.Goals as goal
 
 pub loop-key-init : goal.loop-key-init
-loop-key-init c = making_none IsRead _ _ _ refl (search rules)
+loop-key-init c = making_none IsRead _ _ _ refl (search rules) (search (rules, arith))
+
+pub push_reserved-requires : goal.push_reserved-requires
+push_reserved-requires c = has_room IsRead c.loop-key.invariant
+    (c.in-Some.key.now, c.in-Some.member.now) _ c.in-Some.ensures.steps
 
 pub loop-key-preserved : goal.loop-key-preserved
 loop-key-preserved c =
+    let put = c.push_reserved.ensures in
     let e : Entry = (c.in-Some.key.now, c.in-Some.member.now) in
     let made : String Global × JsonFilter = (c.in_ok-name.name, c.in-Some-2.filter) in
-    making_more IsRead c.loop-key.invariant e made _ _ c.in-Some.ensures.steps c.in_ok-push-in-Some-2.ensures.items
-    c.in_ok-name.ensures.cases (rw c.in-Some-2.is at c.in_ok-filter.ensures)
+    making_more IsRead c.loop-key.invariant e made _ _ c.in-Some.ensures.steps put.items put.len
+    put.capacity c.in_ok-name.ensures.cases (rw c.in-Some-2.is at c.in_ok-filter.ensures)
 
 pub returns-in-None-2 : goal.returns-in-None-2
 returns-in-None-2 c =

@@ -6,4 +6,4 @@ use Rattle.seccompiler.proofs.json.filter_map.read_filters.Given as goal
 
 abbrev pub invariant-loop-name : goal.invariant-loop-name
 invariant-loop-name l =
-    IsMaking (λ (f g : JsonFilter). g ≡ f) (into_iter_items l.initial.name-iterator) (into_iter_items l.name-iterator) l.found.items
+    IsMaking (λ (f g : JsonFilter). g ≡ f) (into_iter_items l.initial.name-iterator) (into_iter_items l.name-iterator) l.found

@@ -1,15 +1,23 @@
+use Rattle.std.proofs.Common.{◌+◌, ◌∙◌, ap, arith}
 use Rattle.seccompiler.specs.JsonShape.{IsCondition}
 use Rattle.seccompiler.proofs.json.parts.ReadLists.{next_read, next_fails, all_read}
 use Rattle.seccompiler.proofs.json.parts.read_conditions.Goals as goal
 
+pub push_reserved-requires : goal.push_reserved-requires
+push_reserved-requires c = omega (arith, c.loop-item.invariant.1, c.loop-item.invariant.2, c.loop-item-test.true)
+
 pub loop-item-preserved : goal.loop-item-preserved
-loop-item-preserved c = rw c.in_ok-push-in-Some.ensures.items
-    (next_read IsCondition _ _ _ c.loop-item.invariant _ c.loop-item-test.true c.item-item.is _ c.in-Some.ensures)
+loop-item-preserved c = (
+  rw c.push_reserved.ensures.items
+      (next_read IsCondition _ _ _ c.loop-item.invariant.0 _ c.loop-item-test.true c.item-item.is _ c.in-Some.ensures),
+  c.push_reserved.ensures.len ∙ ap (λ n. n + 1) c.loop-item.invariant.1,
+  c.push_reserved.ensures.capacity ∙ c.loop-item.invariant.2,
+)
 
 pub returns-in-None-clause-none : goal.returns-in-None-clause-none
 returns-in-None-clause-none c = rw (← c.deref-item-items.ensures.value)
-    (next_fails IsCondition _ _ _ c.loop-item.invariant _ c.loop-item-test.true c.item-item.is c.in-None.ensures)
+    (next_fails IsCondition _ _ _ c.loop-item.invariant.0 _ c.loop-item-test.true c.item-item.is c.in-None.ensures)
 
 pub returns-clause-found : goal.returns-clause-found
 returns-clause-found c = rw (← c.deref-item-items.ensures.value)
-    (all_read IsCondition _ _ _ c.loop-item.invariant c.loop-item-test.false)
+    (all_read IsCondition _ _ _ c.loop-item.invariant.0 c.loop-item-test.false)

@@ -1,18 +1,26 @@
+use Rattle.std.proofs.Common.{◌+◌, ◌∙◌, ap, arith}
 use Rattle.serde_json.proofs.Views.{view-Array}
 use Rattle.seccompiler.specs.JsonShape.{IsEntry}
 use Rattle.seccompiler.proofs.json.parts.ReadLists.{next_read, next_fails, all_read}
 use Rattle.seccompiler.proofs.json.parts.read_rules.Goals as goal
 
+pub push_reserved-requires : goal.push_reserved-requires
+push_reserved-requires c = omega (arith, c.loop-item.invariant.1, c.loop-item.invariant.2, c.loop-item-test.true)
+
 pub loop-item-preserved : goal.loop-item-preserved
-loop-item-preserved c = rw c.in_ok-push-in-Some.ensures.items
-    (next_read IsEntry _ _ _ c.loop-item.invariant _ c.loop-item-test.true c.item-item.is _
-    (rw c.in-Some.is at c.in_ok-rule.ensures))
+loop-item-preserved c = (
+  rw c.push_reserved.ensures.items
+      (next_read IsEntry _ _ _ c.loop-item.invariant.0 _ c.loop-item-test.true c.item-item.is _
+      (rw c.in-Some.is at c.in_ok-rule.ensures)),
+  c.push_reserved.ensures.len ∙ ap (λ n. n + 1) c.loop-item.invariant.1,
+  c.push_reserved.ensures.capacity ∙ c.loop-item.invariant.2,
+)
 
 pub returns-in-None : goal.returns-in-None
 returns-in-None c = rw (c.in-Array.is, view-Array c.in-Array.items, ← c.deref-item-items.ensures.value)
-    (next_fails IsEntry _ _ _ c.loop-item.invariant _ c.loop-item-test.true c.item-item.is
+    (next_fails IsEntry _ _ _ c.loop-item.invariant.0 _ c.loop-item-test.true c.item-item.is
     (rw c.in-None.is at c.in_ok-rule.ensures))
 
 pub returns : goal.returns
 returns c = rw (c.in-Array.is, view-Array c.in-Array.items, ← c.deref-item-items.ensures.value)
-    (all_read IsEntry _ _ _ c.loop-item.invariant c.loop-item-test.false)
+    (all_read IsEntry _ _ _ c.loop-item.invariant.0 c.loop-item-test.false)

@@ -1,4 +1,4 @@
-use Rattle.std.proofs.Common.{rules, ◌≤◌, ◌++◌, ◌∷◌, [], map, take, ap, sym, ◌∙◌}
+use Rattle.std.proofs.Common.{rules, ◌≤◌, ◌++◌, ◌∷◌, [], map, take, ap, sym, ◌∙◌, ◌+◌}
 use Rattle.std.proofs.lemmas.List.{map_more}
 use Rattle.std.proofs.lemmas.List.Elements.{All-more}
 use Rattle.seccompiler.specs.JsonPolicyOf.{condition_of}
@@ -11,9 +11,12 @@ loop-condition-preserved c =
     let place = c.loop-condition.condition-index in
     let done = map condition_of (take place given) in
     let of = c.in_ok-new.ensures in
+    let put = c.push_reserved.ensures in
     record {
-      made = c.in_ok-push.ensures.items ∙ ap (λ conditions. conditions ++ c.in_ok-new.field-0 ∷ []) c.loop-condition.invariant.made
+      made = put.items ∙ ap (λ conditions. conditions ++ c.in_ok-new.field-0 ∷ []) c.loop-condition.invariant.made
           ∙ ap (λ condition. done ++ condition ∷ []) of.made ∙ sym (map_more condition_of given place _ c.loop-condition-test.true);
       indices = All-more (λ (c : JsonCondition). c.arg_index ≤ 5) given place _ c.loop-condition-test.true
           c.loop-condition.invariant.indices (of.succeeds.0 (search rules));
+      len = put.len ∙ ap (λ n. n + 1) c.loop-condition.invariant.len;
+      capacity = put.capacity ∙ c.loop-condition.invariant.capacity;
     }

@@ -14,7 +14,7 @@ ghost use Rattle.seccompiler.specs.Reads.{Reads};
 
 use crate::backend::TargetArch;
 use crate::bpf::BpfProgram;
-use crate::error::Result;
+use crate::error::{Error, Result};
 use crate::json::{read_policies, text_of};
 use serde_json::Value;
 use std::alloc::Global;
@@ -106,7 +106,9 @@ fn listed_programs(
     ensures memory { IfErr result IsNoMemoryInside }
 {
     let (value, policies) = read_policies(alloc, arch, text)?;
-    let mut programs = Vec::with_capacity(alloc, policies.len())?;
+    let Ok(mut programs) = Vec::with_capacity(alloc, policies.len()) else {
+        return Err(Error::OutOfMemory);
+    };
     for (name, policy) in policies {
         let program = policy.to_bpf(alloc)?;
         programs.push_reserved((name, program));

@@ -222,7 +222,9 @@ pub(crate) fn read_policies(
 {
     let value = value_of(alloc, text)?;
     let filters = lent_filters(alloc, &value)?;
-    let mut policies = Vec::with_capacity(alloc, filters.len())?;
+    let Ok(mut policies) = Vec::with_capacity(alloc, filters.len()) else {
+        return Err(JsonFrontendError::OutOfMemory);
+    };
     for (name, filter) in filters {
         let policy = lent_seccomp_filter(alloc, arch, &filter)?;
         policies.push_reserved((name, policy));

@@ -43,11 +43,19 @@ pub fn read_filters(alloc: Global, value: &Value) -> Result<JsonFilterMap, JsonF
     ensures one_filter { (d : Data) (f g : JsonFilter) → IsFilter d f → IsFilter d g → f ≡ g }
 {
     let filters = lent_filters(alloc, value)?;
-    let mut found = Vec::with_capacity(alloc, filters.len())?;
+    let Ok(mut found) = Vec::with_capacity(alloc, filters.len()) else {
+        return Err(JsonFrontendError::OutOfMemory);
+    };
     for (name, filter) in filters {
-        found.push_reserved((name, owned(alloc, filter)?));
+        let Ok(filter) = owned(alloc, filter) else {
+            return Err(JsonFrontendError::OutOfMemory);
+        };
+        found.push_reserved((name, filter));
     }
-    Ok(JsonFilterMap(found.into_iter().collect(alloc)?))
+    match found.into_iter().collect(alloc) {
+        Ok(filters) => Ok(JsonFilterMap(filters)),
+        Err(_) => Err(JsonFrontendError::OutOfMemory),
+    }
 }
 
 /// The same, in the order of their names, with the names of calls that the value has.
@@ -62,9 +70,13 @@ pub fn lent_filters(
     let Value::Object(members) = value else {
         return Err(JsonFrontendError::NotAnObject);
     };
-    let mut found = Vec::with_capacity(alloc, members.len())?;
+    let Ok(mut found) = Vec::with_capacity(alloc, members.len()) else {
+        return Err(JsonFrontendError::OutOfMemory);
+    };
     for (key, member) in members.iter() {
-        let name = key.clone()?;
+        let Ok(name) = key.clone() else {
+            return Err(JsonFrontendError::OutOfMemory);
+        };
         match read_filter(alloc, member)? {
             Some(filter) => found.push_reserved((name, filter)),
             None => return Err(JsonFrontendError::Shape(name)),

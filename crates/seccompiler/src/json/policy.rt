@@ -62,14 +62,11 @@ fn rule_of(alloc: Global, conditions: &[JsonCondition]) -> Result<SeccompRule, J
     ensures { MatchResult result (λ rule. (rule ≡ map condition_of conditions.now) × AreFineArgs conditions.now)
         (Tells (IsFaultIn conditions.now)) }
 {
-    let mut found = Vec::with_capacity(alloc, conditions.len())?;
+    let Ok(mut found) = Vec::with_capacity(alloc, conditions.len()) else {
+        return Err(JsonFrontendError::OutOfMemory);
+    };
     for condition in conditions {
-        found.push_reserved(SeccompCondition::new(
-            condition.arg_index,
-            condition.arg_len,
-            condition.operator,
-            condition.value,
-        )?);
+        found.push_reserved(SeccompCondition::try_from(*condition)?);
     }
     Ok(SeccompRule::new(found)?)
 }
@@ -160,7 +157,9 @@ pub fn lent_seccomp_filter(
     ensures { MatchResult result (IsPolicyOf arch filter.now) (IsPolicyRefusal arch filter.now) }
 {
     let gathered = gather(alloc, arch, filter.rules.as_slice())?;
-    let chains = chains_of_numbers(alloc, gathered, filter.rules.len())?;
+    let Ok(chains) = chains_of_numbers(alloc, gathered, filter.rules.len()) else {
+        return Err(JsonFrontendError::OutOfMemory);
+    };
     Ok(SeccompFilter::new(chains, filter.mismatch_action, filter.match_action, arch)?)
 }
 
@@ -175,7 +174,9 @@ pub fn widened_numbers(
     ensures faultless { OnOk result (All (IsFineEntry arch) filter.now.rules × (filter.now.mismatch_action ≢ filter.now.match_action)) }
     ensures refused { IfErr result (IsPolicyRefusal arch filter.now) }
 {
-    let lent = lent(alloc, filter)?;
+    let Ok(lent) = lent(alloc, filter) else {
+        return Err(JsonFrontendError::OutOfMemory);
+    };
     let gathered = gather(alloc, arch, lent.rules.as_slice())?;
     if filter.mismatch_action == filter.match_action {
         return Err(JsonFrontendError::Backend(BackendError::IdenticalActions));

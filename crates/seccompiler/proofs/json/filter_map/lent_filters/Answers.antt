@@ -16,9 +16,9 @@ pub loop-key-preserved : goal.loop-key-preserved
 loop-key-preserved c =
     let put = c.push_reserved.ensures in
     let e : Entry = (c.in-Some.key.now, c.in-Some.member.now) in
-    let made : String Global × JsonFilter = (c.in_ok-name.name, c.in-Some-2.filter) in
+    let made : String Global × JsonFilter = (c.in-Ok-clone.name, c.in-Some-2.filter) in
     making_more IsRead c.loop-key.invariant e made _ _ c.in-Some.ensures.steps put.items put.len
-    put.capacity c.in_ok-name.ensures.cases (rw c.in-Some-2.is at c.in_ok-filter.ensures)
+    put.capacity c.in-Ok-clone.ensures.cases (rw c.in-Some-2.is at c.in_ok-filter.ensures)
 
 pub returns-in-None-2 : goal.returns-in-None-2
 returns-in-None-2 c =
@@ -28,7 +28,7 @@ returns-in-None-2 c =
     let given = c.into_iter-key-iterator.ensures.into_iter_gives ∙ c.iter-key-items.ensures.rest in
     let all : c.in-Object.members.entries ≡ so_far.done ++ e ∷ rest = sym given
     ∙ at_next IsRead so_far e rest c.in-Some.ensures.steps in
-    rw (c.in-Object.is, view-Object c.in-Object.members, all, c.in_ok-name.ensures.cases) (least_fault so_far.done e rest
+    rw (c.in-Object.is, view-Object c.in-Object.members, all, c.in-Ok-clone.ensures.cases) (least_fault so_far.done e rest
     c.loop-key.found.items (rw all at c.iter-key-items.ensures.ordered)
     so_far.made (rw c.in-None-2.is at c.in_ok-filter.ensures))
 

@@ -10,7 +10,6 @@ use Rattle.std.specs.List.Sorted.{IsStrictlySortedBy}
 use Rattle.std.specs.Map.{keys_of, lookup}
 use Rattle.std.specs.Option.{MatchOption}
 use Rattle.std.specs.Ordering.{eq_by_cmp}
-use Rattle.std.specs.Vec.{vec_len, vec_capacity}
 use Rattle.std.specs.String.{string_eq_equiv, string_cmp_total}
 use Rattle.std.proofs.lemmas.List.Elements.{Contains-append_right}
 use Rattle.std.proofs.lemmas.List.{nil_from_length}
@@ -135,21 +134,18 @@ module _ {X Y : Type 0} (R : X → Y → Type 0) where
     pub done : ByName X
     pub all : given ≡ done ++ left
     pub made : AreMade R done ys.items
-    pub room : vec_len ys + length left ≤ vec_capacity ys
+    pub room : ys.len + length left ≤ ys.cap
 
   pub making_none : (given left : ByName X) (ys : Vec (String Global × Y) Global) → left ≡ given → ys.items ≡ []
-      → vec_len ys + length left ≤ vec_capacity ys → IsMaking given left ys
+      → ys.len + length left ≤ ys.cap → IsMaking given left ys
   making_none given left ys whole none room = record { done = []; all = sym whole; made = rw none tt; room = room }
 
   module _ {given left : ByName X} {ys : Vec (String Global × Y) Global} (so_far : IsMaking given left ys) where
     pub at_next : (x : String Global × X) (rest : ByName X) → left ≡ x ∷ rest → given ≡ so_far.done ++ x ∷ rest
     at_next x rest next = so_far.all ∙ ap (λ es. so_far.done ++ es) next
 
-    pub has_room : (x : String Global × X) (rest : ByName X) → left ≡ x ∷ rest → vec_len ys < vec_capacity ys
-    has_room x rest next = omega (arith, so_far.room, ap length next)
-
     pub making_more : (x : String Global × X) (y : String Global × Y) (rest : ByName X) (zs : Vec (String Global × Y) Global)
-        → left ≡ x ∷ rest → zs.items ≡ ys.items ++ y ∷ [] → vec_len zs ≡ vec_len ys + 1 → vec_capacity zs ≡ vec_capacity ys
+        → left ≡ x ∷ rest → zs.items ≡ ys.items ++ y ∷ [] → zs.len ≡ ys.len + 1 → zs.cap ≡ ys.cap
         → string_bytes y.0 ≡ string_bytes x.0 → R x.1 y.1 → IsMaking given rest zs
     making_more x y rest zs next added longer same name own = record {
       done = so_far.done ++ x ∷ [];

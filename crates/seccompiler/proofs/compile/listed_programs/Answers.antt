@@ -2,7 +2,7 @@ use Rattle.std.proofs.Common.{String, Global, Vec, rules, refl, sym, ◌∙◌, 
 use Rattle.std.proofs.lemmas.Result.{err_from_is_err_and}
 use Rattle.seccompiler.specs.Policy.{Filter}
 use Rattle.seccompiler.specs.declared.bpf.sock_filter.{sock_filter}
-use Rattle.seccompiler.proofs.ByName.{at_next, making_none, has_room, making_more, making_done}
+use Rattle.seccompiler.proofs.ByName.{at_next, making_none, making_more, making_done}
 use Rattle.seccompiler.proofs.compile.TextPrograms.{Compiles, are_programs, refusal_of, told_by_frontend}
 use Rattle.seccompiler.proofs.compile.listed_programs.Goals as goal
 
@@ -12,9 +12,6 @@ returns-in_err-value-clause-programs c = let p = err_from_is_err_and c.from_resi
 
 pub loop-name-init : goal.loop-name-init
 loop-name-init c = making_none _ _ _ _ refl (search rules) (search (rules, arith))
-
-pub push_reserved-requires : goal.push_reserved-requires
-push_reserved-requires c = has_room Compiles c.loop-name.invariant (c.in-Some.name, c.in-Some.policy) _ c.in-Some.ensures.steps.0
 
 pub loop-name-preserved : goal.loop-name-preserved
 loop-name-preserved c =

@@ -5,7 +5,7 @@ use Rattle.seccompiler.specs.JsonAnswers.{IsLeastRefused}
 use Rattle.seccompiler.specs.JsonPolicyOf.{IsPolicyOf, IsFirstFault}
 use Rattle.seccompiler.specs.JsonTypes.{JsonFilter}
 use Rattle.seccompiler.specs.Policy.{Filter}
-use Rattle.seccompiler.proofs.ByName.{at_next, making_none, has_room, making_more, making_done}
+use Rattle.seccompiler.proofs.ByName.{at_next, making_none, making_more, making_done}
 use Rattle.seccompiler.proofs.json.compiler.TextPolicies.{are_policies, least_refused, refused_told, shape_told}
 use Rattle.seccompiler.proofs.json.policy.EntryFaults.{tells_more}
 use Rattle.seccompiler.proofs.json.compiler.read_policies.Goals as goal
@@ -20,10 +20,6 @@ returns-in_err-filters c = let p = err_from_is_err_and c.from_residual-in_err-fi
 
 pub loop-name-init : goal.loop-name-init
 loop-name-init c = making_none _ _ _ _ refl (search rules) (search (rules, arith))
-
-pub push_reserved-requires : goal.push_reserved-requires
-push_reserved-requires c = has_room (IsPolicyOf c.args.arch) c.loop-name.invariant
-    (c.in-Some.name, c.in-Some.filter) _ c.in-Some.ensures.steps.0
 
 pub loop-name-preserved : goal.loop-name-preserved
 loop-name-preserved c =

@@ -1,16 +1,12 @@
 use Rattle.std.proofs.Common.{◌≡◌, String, Global, rules, arith, refl, ◌∙◌, sym, ◌∷◌, ◌++◌}
 use Rattle.serde_json.proofs.Views.{Entry, view-Object}
 use Rattle.seccompiler.specs.JsonTypes.{JsonFilter}
-use Rattle.seccompiler.proofs.ByName.{at_next, making_none, has_room, making_more, making_done}
+use Rattle.seccompiler.proofs.ByName.{at_next, making_none, making_more, making_done}
 use Rattle.seccompiler.proofs.json.filter_map.FilterMaps.{IsRead, are_filters, least_fault}
 use Rattle.seccompiler.proofs.json.filter_map.lent_filters.Goals as goal
 
 pub loop-key-init : goal.loop-key-init
 loop-key-init c = making_none IsRead _ _ _ refl (search rules) (search (rules, arith))
-
-pub push_reserved-requires : goal.push_reserved-requires
-push_reserved-requires c = has_room IsRead c.loop-key.invariant
-    (c.in-Some.key.now, c.in-Some.member.now) _ c.in-Some.ensures.steps
 
 pub loop-key-preserved : goal.loop-key-preserved
 loop-key-preserved c =

@@ -1,15 +1,10 @@
-use Rattle.std.proofs.Common.{◌≡◌, ◌++◌, ◌∷◌, [], Vec, Global, option_map, rules, ap, sym, take, ◌∙◌, ◌+◌, arith}
+use Rattle.std.proofs.Common.{◌≡◌, ◌++◌, ◌∷◌, [], Vec, Global, option_map, rules, ap, sym, take, ◌∙◌, ◌+◌}
 use Rattle.std.specs.List.{each_same}
 use Rattle.std.proofs.lemmas.List.{take_more}
 use Rattle.seccompiler.specs.declared.json.types.JsonCondition.{JsonCondition}
 use Rattle.seccompiler.specs.JsonTypes.{JsonRule, JsonFilter}
 use Rattle.seccompiler.proofs.json.lent.lent.Goals.{in-Some+in_ok-clone-in-Some, in-None}
 use Rattle.seccompiler.proofs.json.lent.lent.Goals as goal
-
-pub push_reserved-requires : goal.push_reserved-requires
-push_reserved-requires c =
-    let whole = c.deref-rule-items.ensures.value ∙ ap (λ (f : JsonFilter). f.rules) c.filter.view_is in
-    omega (arith, c.loop-rule.invariant.1, c.loop-rule.invariant.2, rw whole at c.loop-rule-test.true)
 
 pub loop-rule-preserved : goal.loop-rule-preserved
 loop-rule-preserved c =

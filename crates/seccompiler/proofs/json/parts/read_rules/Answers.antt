@@ -1,11 +1,8 @@
-use Rattle.std.proofs.Common.{◌+◌, ◌∙◌, ap, arith}
+use Rattle.std.proofs.Common.{◌+◌, ◌∙◌, ap}
 use Rattle.serde_json.proofs.Views.{view-Array}
 use Rattle.seccompiler.specs.JsonShape.{IsEntry}
 use Rattle.seccompiler.proofs.json.parts.ReadLists.{next_read, next_fails, all_read}
 use Rattle.seccompiler.proofs.json.parts.read_rules.Goals as goal
-
-pub push_reserved-requires : goal.push_reserved-requires
-push_reserved-requires c = omega (arith, c.loop-item.invariant.1, c.loop-item.invariant.2, c.loop-item-test.true)
 
 pub loop-item-preserved : goal.loop-item-preserved
 loop-item-preserved c = (

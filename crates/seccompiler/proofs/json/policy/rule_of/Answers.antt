@@ -11,12 +11,11 @@ loop-condition-preserved c =
     let place = c.loop-condition.condition-index in
     let done = map condition_of (take place given) in
     let of = c.in_ok-try_from.ensures in
-    let put = c.push_reserved.ensures in
     record {
-      made = put.items ∙ ap (λ conditions. conditions ++ c.in_ok-try_from.field-0 ∷ []) c.loop-condition.invariant.made
+      made = c.push_reserved.ensures.items ∙ ap (λ conditions. conditions ++ c.in_ok-try_from.field-0 ∷ []) c.loop-condition.invariant.made
           ∙ ap (λ condition. done ++ condition ∷ []) of.1 ∙ sym (map_more condition_of given place _ c.loop-condition-test.true);
       indices = All-more (λ (c : JsonCondition). c.arg_index ≤ 5) given place _ c.loop-condition-test.true
           c.loop-condition.invariant.indices of.0;
-      len = put.len ∙ ap (λ n. n + 1) c.loop-condition.invariant.len;
-      capacity = put.capacity ∙ c.loop-condition.invariant.capacity;
+      len = c.push_reserved.ensures.len ∙ ap (λ n. n + 1) c.loop-condition.invariant.len;
+      capacity = c.push_reserved.ensures.capacity ∙ c.loop-condition.invariant.capacity;
     }

@@ -1,5 +1,4 @@
 use Rattle.std.proofs.Common.{◌≡◌, ◌≤◌, All, map, take, length}
-use Rattle.std.specs.Vec.{vec_len, vec_capacity}
 use Rattle.seccompiler.specs.JsonPolicyOf.{condition_of}
 use Rattle.seccompiler.proofs.json.policy.rule_of.Given as goal
 
@@ -7,6 +6,6 @@ abbrev pub invariant-loop-condition : goal.invariant-loop-condition
 invariant-loop-condition l = record {
   made : l.found.items ≡ map condition_of (take l.condition-index l.conditions);
   indices : All (λ c. c.arg_index ≤ 5) (take l.condition-index l.conditions);
-  len : vec_len l.found ≡ l.condition-index;
-  capacity : vec_capacity l.found ≡ length l.conditions;
+  len : l.found.len ≡ l.condition-index;
+  capacity : l.found.cap ≡ length l.conditions;
 }

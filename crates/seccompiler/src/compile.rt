@@ -62,7 +62,10 @@ pub fn compile_from_json<R: Read + Drop>(
     let text = text_of(alloc, reader)?;
     let (_value, programs) = listed_programs(alloc, text.as_slice(), arch)?;
     drop(text);
-    Ok(programs.into_iter().collect(alloc)?)
+    match programs.into_iter().collect(alloc) {
+        Ok(programs) => Ok(programs),
+        Err(_) => Err(Error::OutOfMemory),
+    }
 }
 
 /// Compiles each filter of a text for an architecture, as [`compile_from_json`] does with what a reader
@@ -91,7 +94,10 @@ pub fn programs_of(
     ensures memory { IfErr result IsNoMemoryInside }
 {
     let (_value, programs) = listed_programs(alloc, text, arch)?;
-    Ok(programs.into_iter().collect(alloc)?)
+    match programs.into_iter().collect(alloc) {
+        Ok(programs) => Ok(programs),
+        Err(_) => Err(Error::OutOfMemory),
+    }
 }
 
 // The same in the order of their names, and what they were read from.

@@ -159,7 +159,10 @@ impl JsonCompiler {
         ensures memory { IfErr result IsNoMemoryInFrontend }
     {
         let (_value, policies) = read_policies(alloc, self.arch, text)?;
-        Ok(policies.into_iter().collect(alloc)?)
+        match policies.into_iter().collect(alloc) {
+            Ok(filters) => Ok(filters),
+            Err(_) => Err(JsonFrontendError::OutOfMemory),
+        }
     }
 
     /// Reads a text of JSON filters to its end, and makes each filter, as `make_seccomp_filter` does.
@@ -203,7 +206,10 @@ impl JsonCompiler {
         let text = text_of(alloc, reader)?;
         let (_value, policies) = read_policies(alloc, self.arch, text.as_slice())?;
         drop(text);
-        Ok(policies.into_iter().collect(alloc)?)
+        match policies.into_iter().collect(alloc) {
+            Ok(filters) => Ok(filters),
+            Err(_) => Err(JsonFrontendError::OutOfMemory),
+        }
     }
 }
 

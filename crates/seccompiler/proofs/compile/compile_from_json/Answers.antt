@@ -20,16 +20,11 @@ returns-in_err-_value-clause-fault g c =
     rw (p.1, p.2) (reads_this (g.R.Read.remaining c.args.reader) (λ text. TellsFirstFault c.args.arch text c.in_err-_value.field-0.0)
     c.in_ok-text.text.items c.in_ok-text.ensures.text (rw c.as_slice.ensures.value at c.in_err-_value.ensures.programs))
 
-pub returns-in_err-collect-clause-fault : goal.returns-in_err-collect-clause-fault
-returns-in_err-collect-clause-fault g c =
-    let p = err_from_is_err_and c.from_residual-in_err-collect.result c.from_residual-in_err-collect.ensures.1 in
-    rw (p.1, p.2) (c.in_ok-text.text.items, c.in_ok-text.ensures.text, tt)
-
-pub returns : goal.returns
-returns g c =
+pub returns-in-Ok : goal.returns-in-Ok
+returns-in-Ok g c =
     let arch = c.args.arch in
     let text = c.in_ok-text.text.items in
-    let m = c.in_ok-collect.field-0 in
+    let m = c.in-Ok.programs in
     let made : IsFromIterResult string_eq c.in_ok-_value.programs.items m = search rules in
     let same = hashed _ m c.in_ok-_value.ensures.programs.0 made in
     let are = subst (λ find. OfValue text (AreProgramsOf arch find)) (λ i q. sym (same q) i)

@@ -6,9 +6,9 @@ use Rattle.seccompiler.proofs.ByName.{ordered}
 use Rattle.seccompiler.proofs.compile.TextPrograms.{all_checked}
 use Rattle.seccompiler.proofs.compile.programs_of.Goals as goal
 
-pub returns : goal.returns
-returns c =
-    let m = c.in_ok-collect.field-0 in
+pub returns-in-Ok : goal.returns-in-Ok
+returns-in-Ok c =
+    let m = c.in-Ok.programs in
     let made : IsFromIterResult string_cmp c.in_ok-_value.programs.items m = search rules in
     let same = ordered _ m c.in_ok-_value.ensures.programs.0 made in
     let are = subst (λ find. OfValue c.args.text.now (AreProgramsOf c.args.arch find)) (λ i q. sym (same q) i)

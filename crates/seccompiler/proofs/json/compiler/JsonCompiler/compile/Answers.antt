@@ -19,11 +19,11 @@ returns-in_err-_value-clause-fault g c =
     (λ text. TellsFrontendFault c.self.inside.arch text c.in_err-_value.field-0.0) c.in_ok-text.text.items c.in_ok-text.ensures.text
     (rw c.as_slice.ensures.value at c.in_err-_value.ensures.0))
 
-pub returns : goal.returns
-returns g c =
+pub returns-in-Ok : goal.returns-in-Ok
+returns-in-Ok g c =
     let arch = c.self.inside.arch in
     let text = c.in_ok-text.text.items in
-    let m = c.in_ok-collect.field-0 in
+    let m = c.in-Ok.filters in
     let made : IsFromIterResult string_eq c.in_ok-_value.policies.items m = search rules in
     let same = hashed _ m c.in_ok-_value.ensures.0 made in
     let read = subst (λ find. OfValue text (ArePoliciesOf arch find)) (λ i q. sym (same q) i)

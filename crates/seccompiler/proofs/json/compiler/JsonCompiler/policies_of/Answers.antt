@@ -5,10 +5,10 @@ use Rattle.seccompiler.proofs.ByName.{ordered}
 use Rattle.seccompiler.proofs.json.compiler.TextPolicies.{have_table_numbers}
 use Rattle.seccompiler.proofs.json.compiler.JsonCompiler.policies_of.Goals as goal
 
-pub returns : goal.returns
-returns c =
+pub returns-in-Ok : goal.returns-in-Ok
+returns-in-Ok c =
     let arch = c.self.inside.arch in
-    let m = c.in_ok-collect.field-0 in
+    let m = c.in-Ok.filters in
     let collected : IsFromIterResult string_cmp c.in_ok-_value.policies.items m = search rules in
     let same = ordered _ m c.in_ok-_value.ensures.0 collected in
     let read = subst (λ find. OfValue c.args.text.now (ArePoliciesOf arch find)) (λ i q. sym (same q) i) c.in_ok-_value.ensures.1 in

@@ -15,12 +15,11 @@ loop-name-init c = making_none _ _ _ _ refl (search rules) (search (rules, arith
 
 pub loop-name-preserved : goal.loop-name-preserved
 loop-name-preserved c =
-    let put = c.push_reserved.ensures in
     let e : String Global × Filter = (c.in-Some.name, c.in-Some.policy) in
     let entry : String Global × Vec sock_filter Global = (c.in-Some.name, c.in_ok-program.program) in
     let of = c.in_ok-program.ensures in
-    making_more Compiles c.loop-name.invariant e entry _ _ c.in-Some.ensures.steps.0 put.items put.len put.capacity refl
-    (record { compilable = of.compilable; compiled = of.compiled })
+    making_more Compiles c.loop-name.invariant e entry _ _ c.in-Some.ensures.steps.0 c.push_reserved.ensures.items
+    c.push_reserved.ensures.len c.push_reserved.ensures.capacity refl (record { compilable = of.compilable; compiled = of.compiled })
 
 pub returns-in_err-program-clause-programs : goal.returns-in_err-program-clause-programs
 returns-in_err-program-clause-programs c =

@@ -23,11 +23,10 @@ loop-name-init c = making_none _ _ _ _ refl (search rules) (search (rules, arith
 
 pub loop-name-preserved : goal.loop-name-preserved
 loop-name-preserved c =
-    let put = c.push_reserved.ensures in
     let e : String Global × JsonFilter = (c.in-Some.name, c.in-Some.filter) in
     let entry : String Global × Filter = (c.in-Some.name, c.in_ok-policy.policy) in
-    making_more (IsPolicyOf c.args.arch) c.loop-name.invariant e entry _ _ c.in-Some.ensures.steps.0 put.items put.len
-    put.capacity refl c.in_ok-policy.ensures
+    making_more (IsPolicyOf c.args.arch) c.loop-name.invariant e entry _ _ c.in-Some.ensures.steps.0 c.push_reserved.ensures.items
+    c.push_reserved.ensures.len c.push_reserved.ensures.capacity refl c.in_ok-policy.ensures
 
 pub returns-in_err-policy : goal.returns-in_err-policy
 returns-in_err-policy c = let p = err_from_is_err_and c.from_residual-in_err-policy.result c.from_residual-in_err-policy.ensures.1 in

@@ -10,11 +10,10 @@ loop-key-init c = making_none IsRead _ _ _ refl (search rules) (search (rules, a
 
 pub loop-key-preserved : goal.loop-key-preserved
 loop-key-preserved c =
-    let put = c.push_reserved.ensures in
     let e : Entry = (c.in-Some.key.now, c.in-Some.member.now) in
     let made : String Global × JsonFilter = (c.in-Ok-clone.name, c.in-Some-2.filter) in
-    making_more IsRead c.loop-key.invariant e made _ _ c.in-Some.ensures.steps put.items put.len
-    put.capacity c.in-Ok-clone.ensures.cases (rw c.in-Some-2.is at c.in_ok-filter.ensures)
+    making_more IsRead c.loop-key.invariant e made _ _ c.in-Some.ensures.steps c.push_reserved.ensures.items
+    c.push_reserved.ensures.len c.push_reserved.ensures.capacity c.in-Ok-clone.ensures.cases (rw c.in-Some-2.is at c.in_ok-filter.ensures)
 
 pub returns-in-None-2 : goal.returns-in-None-2
 returns-in-None-2 c =

@@ -1,4 +1,4 @@
-use Rattle.std.proofs.Common.{◌≡◌, ◌++◌, ◌∷◌, [], Vec, Global, option_map, rules, ap, sym, take, ◌∙◌, ◌+◌}
+use Rattle.std.proofs.Common.{◌≡◌, ◌++◌, ◌∷◌, [], Vec, Global, option_map, rules, ap, sym, take, ◌∙◌, arith}
 use Rattle.std.specs.List.{each_same}
 use Rattle.std.proofs.lemmas.List.{take_more}
 use Rattle.seccompiler.specs.declared.json.types.JsonCondition.{JsonCondition}
@@ -20,6 +20,5 @@ loop-rule-preserved c =
       c.push_reserved.ensures.items ∙ (λ i. c.loop-rule.invariant.0 i ++ record { syscall = named i; conditions = copied i } ∷ [])
           ∙ ap (λ (x : JsonRule). take k all ++ x ∷ []) (rw whole at c.rule-item.is)
           ∙ sym (take_more all k c.rule-item.result (rw whole at c.loop-rule-test.true)),
-      c.push_reserved.ensures.len ∙ ap (λ n. n + 1) c.loop-rule.invariant.1,
-      c.push_reserved.ensures.capacity ∙ c.loop-rule.invariant.2,
+      omega (arith, c.push_reserved.ensures.len, c.push_reserved.ensures.capacity, c.loop-rule.invariant.1),
     )

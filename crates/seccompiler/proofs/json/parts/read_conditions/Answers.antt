@@ -1,4 +1,4 @@
-use Rattle.std.proofs.Common.{◌+◌, ◌∙◌, ap}
+use Rattle.std.proofs.Common.{arith}
 use Rattle.seccompiler.specs.JsonShape.{IsCondition}
 use Rattle.seccompiler.proofs.json.parts.ReadLists.{next_read, next_fails, all_read}
 use Rattle.seccompiler.proofs.json.parts.read_conditions.Goals as goal
@@ -7,8 +7,7 @@ pub loop-item-preserved : goal.loop-item-preserved
 loop-item-preserved c = (
   rw c.push_reserved.ensures.items
       (next_read IsCondition _ _ _ c.loop-item.invariant.0 _ c.loop-item-test.true c.item-item.is _ c.in-Some.ensures),
-  c.push_reserved.ensures.len ∙ ap (λ n. n + 1) c.loop-item.invariant.1,
-  c.push_reserved.ensures.capacity ∙ c.loop-item.invariant.2,
+  omega (arith, c.push_reserved.ensures.len, c.push_reserved.ensures.capacity, c.loop-item.invariant.1),
 )
 
 pub returns-in-None-clause-none : goal.returns-in-None-clause-none

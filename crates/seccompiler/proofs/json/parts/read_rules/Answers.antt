@@ -1,4 +1,4 @@
-use Rattle.std.proofs.Common.{◌+◌, ◌∙◌, ap}
+use Rattle.std.proofs.Common.{arith}
 use Rattle.serde_json.proofs.Views.{view-Array}
 use Rattle.seccompiler.specs.JsonShape.{IsEntry}
 use Rattle.seccompiler.proofs.json.parts.ReadLists.{next_read, next_fails, all_read}
@@ -9,8 +9,7 @@ loop-item-preserved c = (
   rw c.push_reserved.ensures.items
       (next_read IsEntry _ _ _ c.loop-item.invariant.0 _ c.loop-item-test.true c.item-item.is _
       (rw c.in-Some.is at c.in_ok-rule.ensures)),
-  c.push_reserved.ensures.len ∙ ap (λ n. n + 1) c.loop-item.invariant.1,
-  c.push_reserved.ensures.capacity ∙ c.loop-item.invariant.2,
+  omega (arith, c.push_reserved.ensures.len, c.push_reserved.ensures.capacity, c.loop-item.invariant.1),
 )
 
 pub returns-in-None : goal.returns-in-None

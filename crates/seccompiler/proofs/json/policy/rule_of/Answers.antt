@@ -1,4 +1,4 @@
-use Rattle.std.proofs.Common.{rules, ◌≤◌, ◌++◌, ◌∷◌, [], map, take, ap, sym, ◌∙◌, ◌+◌}
+use Rattle.std.proofs.Common.{◌≤◌, ◌++◌, ◌∷◌, [], map, take, ap, sym, ◌∙◌, arith}
 use Rattle.std.proofs.lemmas.List.{map_more}
 use Rattle.std.proofs.lemmas.List.Elements.{All-more}
 use Rattle.seccompiler.specs.JsonPolicyOf.{condition_of}
@@ -16,6 +16,5 @@ loop-condition-preserved c =
           ∙ ap (λ condition. done ++ condition ∷ []) of.1 ∙ sym (map_more condition_of given place _ c.loop-condition-test.true);
       indices = All-more (λ (c : JsonCondition). c.arg_index ≤ 5) given place _ c.loop-condition-test.true
           c.loop-condition.invariant.indices of.0;
-      len = c.push_reserved.ensures.len ∙ ap (λ n. n + 1) c.loop-condition.invariant.len;
-      capacity = c.push_reserved.ensures.capacity ∙ c.loop-condition.invariant.capacity;
+      room = omega (arith, c.push_reserved.ensures.len, c.push_reserved.ensures.capacity, c.loop-condition.invariant.room);
     }

@@ -2,7 +2,7 @@
 
 use crate::backend::BackendError;
 use crate::json::JsonFrontendError;
-use std::alloc::{AllocError, AllocFailed};
+use std::alloc::AllocError;
 use std::fmt;
 
 /// Why a call of this crate fails.
@@ -106,17 +106,6 @@ impl From<AllocError> for Error {
     ghost from_gives = { λ _ error. error ≡ OutOfMemory };
 
     fn from(_refused: AllocError) -> Error {
-        Error::OutOfMemory
-    }
-}
-
-impl<T: Drop> From<AllocFailed<T>> for Error {
-    ghost use Rattle.std.specs.Prelude.{◌≡◌};
-    ghost use Rattle.seccompiler.specs.declared.error.Error.TheVariants.{OutOfMemory};
-
-    ghost from_gives = { λ _ error. error ≡ OutOfMemory };
-
-    fn from(_refused: AllocFailed<T>) -> Error {
         Error::OutOfMemory
     }
 }

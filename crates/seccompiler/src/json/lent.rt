@@ -44,9 +44,13 @@ impl<'v> Model for LentFilter<'v> {
 pub fn owned(alloc: Global, filter: LentFilter<'_>) -> Result<JsonFilter, AllocError>
     ensures { IfOk result (λ f. f ≡ filter.entry) }
 {
-    let mut rules = Vec::with_capacity(alloc, filter.rules.len())?;
+    let Ok(mut rules) = Vec::with_capacity(alloc, filter.rules.len()) else {
+        return Err(AllocError);
+    };
     for rule in filter.rules {
-        let syscall = String::from_str(alloc, rule.syscall)?;
+        let Ok(syscall) = String::from_str(alloc, rule.syscall) else {
+            return Err(AllocError);
+        };
         rules.push_reserved(JsonRule {
             syscall,
             conditions: rule.conditions,
@@ -63,7 +67,9 @@ pub fn owned(alloc: Global, filter: LentFilter<'_>) -> Result<JsonFilter, AllocE
 pub fn lent(alloc: Global, filter: &JsonFilter) -> Result<LentFilter<'_>, AllocError>
     ensures { IfOk result (λ f. f ≡ filter.now) }
 {
-    let mut rules = Vec::with_capacity(alloc, filter.rules.len())?;
+    let Ok(mut rules) = Vec::with_capacity(alloc, filter.rules.len()) else {
+        return Err(AllocError);
+    };
     for rule in &filter.rules {
         let conditions = match &rule.conditions {
             Some(conditions) => Some(conditions.clone()?),

@@ -213,7 +213,9 @@ fn read_rules(alloc: Global, value: &Value) -> Result<Option<Vec<LentRule<'_>>>,
     let Value::Array(items) = value else {
         return Ok(None);
     };
-    let mut found = Vec::with_capacity(alloc, items.len())?;
+    let Ok(mut found) = Vec::with_capacity(alloc, items.len()) else {
+        return Err(AllocError);
+    };
     for item in items {
         match read_entry(alloc, item)? {
             Some(rule) => found.push_reserved(rule),

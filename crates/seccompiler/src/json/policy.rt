@@ -100,7 +100,9 @@ fn gather(
     let mut near = 0;
     for entry in entries {
         let Some(number) = table.number_near(&mut near, entry.syscall) else {
-            let name = String::from_str(alloc, entry.syscall)?;
+            let Ok(name) = String::from_str(alloc, entry.syscall) else {
+                return Err(JsonFrontendError::OutOfMemory);
+            };
             return Err(JsonFrontendError::SyscallName(name, arch));
         };
         match &entry.conditions {
@@ -126,7 +128,9 @@ fn chains_of_numbers(
     let Gathered { rules, always } = gathered;
     // To make a map of all takes less than to insert each. Of two chains of a number the last one stays.
     let mut found: Vec<(i64, Vec<SeccompRule>)> = rules.into_iter().collect(alloc)?;
-    found.reserve(entries.min(NUMBERS))?;
+    let Ok(()) = found.reserve(entries.min(NUMBERS)) else {
+        return Err(AllocError);
+    };
     for number in 0..NUMBERS {
         if always[number] {
             found.push((number as i64, Vec::new(alloc)))?;

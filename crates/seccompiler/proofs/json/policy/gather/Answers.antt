@@ -53,13 +53,13 @@ pub returns-in_default : goal.returns-in_default
 returns-in_default c =
     let named = entry_of c.entry.inside.syscall.now c.entry.inside.conditions in
     let unknown : number_of (table_of c.args.arch) named.syscall ≡ None = search rules in
-    let same : string_bytes c.in_ok-name.name ≡ named.syscall = search rules in
+    let same : string_bytes c.in-Ok.name ≡ named.syscall = search rules in
     next_wrong c.args.arch c.args.entries.now _ _ named _ c.loop-entry-test.true c.entry-item.is c.entry.view_is c.loop-entry.invariant
-    (SyscallName c.in_ok-name.name c.args.arch) (unknown_entry c.args.arch named _ unknown same)
+    (SyscallName c.in-Ok.name c.args.arch) (unknown_entry c.args.arch named _ unknown same)
 
 pub returns-in_err-rule-in-Some-conditions : goal.returns-in_err-rule-in-Some-conditions
 returns-in_err-rule-in-Some-conditions c =
-    let end = c.from_residual-in_err-rule-in-Some-conditions in
+    let end = c.from_residual in
     let p = err_from_is_err_and end.result end.ensures.1 in
     let named = entry_of c.entry.inside.syscall.now c.entry.inside.conditions in
     let known : IsFor c.args.arch c.in-Some.number named = search rules in

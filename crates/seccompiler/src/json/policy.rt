@@ -148,7 +148,9 @@ pub fn seccomp_filter(
     ensures policy { IfOk result (IsPolicyOf arch filter.now) }
     ensures refused { IfErr result (IsPolicyRefusal arch filter.now) }
 {
-    let lent = lent(alloc, filter)?;
+    let Ok(lent) = lent(alloc, filter) else {
+        return Err(JsonFrontendError::OutOfMemory);
+    };
     lent_seccomp_filter(alloc, arch, &lent)
 }
 
@@ -194,7 +196,9 @@ pub fn widened_numbers(
         if !rules.contains_key(&(number as i64)) {
             continue;
         }
-        numbers.push(number as i64)?;
+        let Ok(()) = numbers.push(number as i64) else {
+            return Err(JsonFrontendError::OutOfMemory);
+        };
     }
     Ok(numbers)
 }

@@ -22,7 +22,7 @@ loop-number-preserved-then-not-contains_key c =
 pub loop-number-preserved : goal.loop-number-preserved
 loop-number-preserved c =
     let number = c.loop-number.number in
-    rw (c.in_ok-push.ensures.items, signed number c.loop-number-test.true)
+    rw (c.in-Ok-push.ensures.items, signed number c.loop-number-test.true)
     (next_listed _ _ number _ (rw c.if-not-always-number.false (some_held c.in_ok-gathered.gathered.rules.entries (pos number)
     ∙ sym (rw (signed number c.loop-number-test.true) at c.contains_key.ensures) ∙ c.if-not-contains_key.false)) c.loop-number.invariant)
 

@@ -1,6 +1,6 @@
 -- Look-ups by name in lists of values, in order or not, and what is made of such a list value by value.
-use Rattle.std.proofs.Common.{◌≡◌, ℕ, ◌++◌, List, [], ◌∷◌, true, false, cond, Option, Some, None, String, Global, Less, string_bytes}
-use Rattle.std.proofs.Common.{string_cmp, string_eq, bytes_eq, refl, sym, ap, ◌∙◌, subst, append_assoc, append-nil, arith, length, ◌+◌, ◌≤◌, Vec}
+use Rattle.std.proofs.Common.{◌≡◌, ℕ, ◌++◌, List, [], ◌∷◌, true, false, cond, Option, Some, None, String, Global, Less, string_bytes, Vec}
+use Rattle.std.proofs.Common.{string_cmp, string_eq, bytes_eq, refl, sym, ap, ◌∙◌, subst, append_assoc, append-nil, arith, length, ◌+◌, ◌≤◌}
 use Rattle.std.specs.BTreeMap.{BTreeMap, is_at}
 use Rattle.std.specs.BTreeMap as tree
 use Rattle.std.specs.HashMap.{HashMap}

@@ -288,10 +288,9 @@ laying_ends {c} {number = number} plain h all =
 
 -- what is laid over targets of the code are targets of the code
 pub laid_in : (code : List sock_filter) (c : Condition) (target : Target) (others new : List Step) → AreLaid c target others new
-    → IsIn code target → ((a : ℕ) → IsIn code (found_in others a)) → AreIn code new
-laid_in code c target others new h own inside =
-    are_in_below code (numbers_of c.arg_len) new (omega (arith, numbers_many c.arg_len)) h.are
-    (λ a lt. elim (compares_or_not c.operator a (part_of c.arg_len c.value)) [
-      | inl met ↦ rw ((h.each a lt).met met) own
-      | inr not ↦ rw ((h.each a lt).unmet not) (inside a)
-    ])
+    → IsIn code target → ((a : ℕ) → a < numbers_of c.arg_len → IsIn code (found_in others a)) → (a : ℕ) → a < numbers_of c.arg_len
+    → IsIn code (found_in new a)
+laid_in code c target others new h own inside a lt = elim (compares_or_not c.operator a (part_of c.arg_len c.value)) [
+  | inl met ↦ rw ((h.each a lt).met met) own
+  | inr not ↦ rw ((h.each a lt).unmet not) (inside a lt)
+]

@@ -1,11 +1,10 @@
 -- The names that the proofs share, of std, of the library and of the definitions.
 pub use Rattle.seccomp_tree.specs.Code.{AreFine, AreIn, DoesAs, GoesOn, Grows, IsHalfTurn, IsIn, IsPart, IsReached, IsSound, IsTested, Says}
 pub use Rattle.seccomp_tree.specs.Code.{IsTree, Leads, LeadsAlways, Returns, Starts, StartsAlways, chosen, gives, near, tail_at, to_place}
-pub use Rattle.seccomp_tree.specs.Code.{to_return, AreLaid, HasBits, IsChosen, IsConditionMet, IsMet, AreFit, AreRules, IsRulingMet}
-pub use Rattle.seccomp_tree.specs.Code.{IsSettled}
-pub use Rattle.seccomp_tree.specs.Decisions.{part_length, part_steps, condition_length, condition_steps, is_plain, Enters, First, Ruling}
-pub use Rattle.seccomp_tree.specs.Decisions.{RunTakes, Takes, alike, begins, behind, by_conditions, by_steps, conditions_length, ends, here}
-pub use Rattle.seccomp_tree.specs.Decisions.{conditions_steps, joined, joins, nothing, only, passes, rules_length, same_length, stops}
+pub use Rattle.seccomp_tree.specs.Code.{to_return, AreLaid, HasBits, IsChosen, IsConditionMet, IsMet, AreRules, IsRulingMet}
+pub use Rattle.seccomp_tree.specs.Decisions.{part_length, part_steps, condition_length, condition_steps, is_plain, First, Ruling, Takes}
+pub use Rattle.seccomp_tree.specs.Decisions.{alike, begins, behind, conditions_length, conditions_steps, ends, here, joined, nothing, only}
+pub use Rattle.seccomp_tree.specs.Decisions.{passes, rules_length, run_steps, same_length, stops}
 pub use Rattle.seccomp_tree.specs.Decided.{DecisionSet, IsDecided, StartAbove, calls_of, decided, default_for, default_from}
 pub use Rattle.seccomp_tree.specs.Decided.{other_architecture, rulings_for}
 pub use Rattle.seccomp_tree.specs.FilterDecisions.{DecideAs, call_of, decisions_of, rulings_of}
@@ -55,5 +54,5 @@ pub use Rattle.std.specs.Cmp.{int_ranks}
 pub use Rattle.std.specs.Int.Bits.{and_lt, and_zero_r}
 pub use Rattle.std.specs.Map.{keys_of, lookup}
 pub use Rattle.std.specs.Ordering.{MatchOrdering, int_cmp, is_eq, nat_cmp, ordering_reverse}
-pub use Rattle.std.specs.Prelude.{IsSome, bit_and, nat_lt, slice_get, unsigned_abs}
+pub use Rattle.std.specs.Prelude.{IsSome, bit_and, nat_lt, option_map, slice_get, unsigned_abs, unwrap_or}
 pub use Rattle.std.specs.Set.{is_member}

@@ -1,13 +1,11 @@
 -- The theorem: what is written answers every record as is decided.
 use Rattle.seccomp_tree.proofs.Common.{◌≡◌, ℕ, ◌+◌, ◌*◌, ◌≤◌, ◌^◌, List, [], ◌∷◌, length, Option, Some, None, refl, ap, inl, inr, arith}
-use Rattle.seccomp_tree.proofs.Common.{suc, zero, nat_tests, sock_filter, IsRecord, word_at, audit_word, Condition, Target, Give, Step, one}
-use Rattle.seccomp_tree.proofs.Common.{StartsAlways, to_return, LeadsAlways, IsPart, IsSound, Returns, chosen, part_steps}
-use Rattle.seccomp_tree.proofs.Common.{Dword, Ruling, First, nothing, here, behind, Takes, stops, passes, ends, Enters, begins, RunTakes}
-use Rattle.seccomp_tree.proofs.Common.{by_steps, by_conditions, only, joins, joined, conditions_steps, DecisionSet, default_for, IsDecided}
+use Rattle.seccomp_tree.proofs.Common.{suc, zero, nat_tests, sock_filter, IsRecord, word_at, audit_word, Target, Give, Step, one}
+use Rattle.seccomp_tree.proofs.Common.{StartsAlways, to_return, LeadsAlways, IsPart, IsSound, Returns, chosen}
+use Rattle.seccomp_tree.proofs.Common.{Dword, Ruling, First, nothing, here, behind, Takes, stops, passes, ends, begins, run_steps}
+use Rattle.seccomp_tree.proofs.Common.{joined, DecisionSet, default_for, IsDecided}
 use Rattle.seccomp_tree.proofs.Common.{rulings_for, other_architecture, decided, one_value, value_for, TakesOwn, other, own, EndsAsDecided}
 use Rattle.seccomp_tree.proofs.Common.{IsTreeProgram, AreRanges, IsTested, greatest_length, load, word_fits, pow-succ', one-le-pow, give}
-use Rattle.std.proofs.lemmas.Bool.{cases_Bool}
-use Rattle.seccomp_tree.specs.Decisions.{goes_on as runs_on}
 use Rattle.seccomp_tree.specs.Code.{IsAnswer, AreCallSteps}
 use Rattle.seccomp_tree.proofs.Deciding.{decided_some}
 use Rattle.seccomp_tree.proofs.Begun.{not_none}
@@ -46,25 +44,19 @@ power : (n : ℕ) → n ≤ 2 ^ n
 power zero = omega arith
 power (suc n) = omega (arith, power n, pow-succ' 2 n, one-le-pow n 2 (omega arith))
 
-run_some : (conditions : List Condition) (count : ℕ) → (n : ℕ) × RunTakes conditions count n
-run_some conditions count = go (only conditions) refl
-  where
-    go : (o : Option Condition) → only conditions ≡ o → (n : ℕ) × RunTakes conditions count n
-    go None is = (conditions_steps conditions, by_conditions is)
-    go (Some c) is = (part_steps c.arg_len (2 * count + 1) + 1, by_steps c (2 * count + 1) is (power (2 * count + 1)))
-
-enters_some : (first : List Condition) (d : Ruling) (rest : List Ruling) → (n : ℕ) × Enters first d rest n
-enters_some first d rest = elim (cases_Bool (joins first d.conditions)) [
-  | inl on ↦ (0, runs_on on)
-  | inr apart ↦ let x = run_some d.conditions (1 + joined d.conditions rest) in (x.0, begins x.0 apart x.1)
+entered : (r : List ℕ) (i : ℕ) (d : Ruling) (rest : List Ruling) → (n : ℕ) × Takes r i rest n → (n : ℕ) × Takes r (suc i) (d ∷ rest) n
+entered r i d rest x = elim (rule_or_not d.conditions r) [
+  | inl h ↦ (0, stops i d rest h)
+  | inr not ↦ (x.0, passes i d rest x.0 not x.1)
 ]
 
-takes_some : (r : List ℕ) (first : List Condition) (rulings : List Ruling) → (n : ℕ) × Takes r first rulings n
-takes_some r first [] = (0, ends first)
-takes_some r first (d ∷ rest) = let e = enters_some first d rest in elim (rule_or_not d.conditions r) [
-  | inl h ↦ (e.0, stops first d rest e.0 h e.1)
-  | inr not ↦ let x = takes_some r d.conditions rest in (e.0 + x.0, passes first d rest e.0 x.0 not e.1 x.1)
-]
+takes_some : (r : List ℕ) (rulings : List Ruling) (i : ℕ) → (n : ℕ) × Takes r i rulings n
+takes_some r [] i = (0, ends i)
+takes_some r (d ∷ rest) (suc i) = entered r i d rest (takes_some r rest i)
+takes_some r (d ∷ rest) zero =
+    let j = joined d.conditions rest in
+    let x = entered r j d rest (takes_some r rest j) in
+    (run_steps d.conditions (2 * suc j + 1) + x.0, begins d rest (2 * suc j + 1) x.0 (power (2 * suc j + 1)) x.1)
 
 -- ---- the whole
 
@@ -105,7 +97,7 @@ module _ (d : DecisionSet) (p : List sock_filter) (h : IsWritten d p) where
   written_decides r rec =
       let k = length h.steps in
       let x = decided_some d r in
-      let y = takes_some r [] (rulings_for d.calls (word_at r 0)) in
+      let y = takes_some r (rulings_for d.calls (word_at r 0)) 0 in
       let run = written_returns r x.0 y.0 k rec (power k) x.1 (own y.0 y.1) in
       record { word = x.0; decided = x.1; ends = program_ends p r x.0 (length p) (returns_short p run) }
 

@@ -198,22 +198,11 @@ IsRulingMet old q value after t new = IsMet (RuleHolds q) (conditions_length q) 
 pub record AreRules (old : List sock_filter) (rulings : List Ruling) (default : ℕ) (t : Target) (new : List sock_filter) : Type 0 where
   pub grows : Grows old (rules_length rulings) new
   pub inside : IsIn new t
-  pub leads : (r : List ℕ) → IsRecord r → (w n : ℕ) → First default r rulings w → Takes r [] rulings n → LeadsAlways new r t w (n + 1)
-
--- What comes after rulings: steps over what a condition compares, or one target if there is no condition.
-abbrev pub AreFit : List sock_filter → Option Condition → List Step → Type 0
-AreFit code None steps = (t : Target) × (steps ≡ single t) × IsIn code t
-AreFit code (Some c) steps = AreSteps (numbers_of c.arg_len) steps × AreIn code steps
+  pub leads : (r : List ℕ) → IsRecord r → (w n : ℕ) → First default r rulings w → Takes r 0 rulings n → LeadsAlways new r t w (n + 1)
 
 -- There are more rulings than a program has room for: this comes only if that is so, or of memory.
 abbrev pub IsTooMany : ℕ → TreeError → Type 0
 IsTooMany length e = e ≡ TooLarge → greatest_length < length
-
--- The target goes on there.
-abbrev pub IsSettled : List sock_filter → Option Condition → List Step → Target → List sock_filter → Type 0
-IsSettled old None steps t new = (steps ≡ single t) × (new ≡ old)
-IsSettled old (Some c) steps t new =
-    IsPart old c.arg_len (λ r. part_of c.arg_len (argument_at r c.arg_index)) steps t new
 
 -- ---- steps over call numbers
 
@@ -223,7 +212,7 @@ pub record IsAnswer (code : List sock_filter) (default : ℕ) (rulings : List Ru
   pub inside : IsIn code t
   pub one : (v : ℕ) → one_value default rulings ≡ Some v → t ≡ Give v
   pub own : one_value default rulings ≡ None → (r : List ℕ) → IsRecord r → (w n : ℕ) → First default r rulings w
-      → Takes r [] rulings n → LeadsAlways code r t w (n + 1)
+      → Takes r 0 rulings n → LeadsAlways code r t w (n + 1)
 
 -- A number after this one, up to which calls are answered as those of this one.
 pub record IsNextStart (defaults : List DefaultValue) (calls : List (ℕ × List Ruling)) (number next : ℕ) : Type 0 where

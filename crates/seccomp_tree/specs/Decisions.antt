@@ -1,6 +1,6 @@
 -- Decisions on one call: rulings in order, of which the first that holds names the word.
 use Rattle.std.specs.Prelude.{◌≡◌, ℕ, suc, ◌+◌, ◌*◌, ◌≤◌, ◌^◌, List, [], ◌∷◌, Bool, true, false, ◌&&◌, nat_eq, if◌then◌else◌, Option, Some}
-use Rattle.std.specs.Prelude.{None, ◌-◌}
+use Rattle.std.specs.Prelude.{None, ◌-◌, option_map, unwrap_or}
 use Rattle.seccompiler.specs.declared.backend.SeccompCmpArgLen.{SeccompCmpArgLen}
 use Rattle.seccompiler.specs.declared.backend.SeccompCmpArgLen.TheVariants.{Dword, Qword}
 use Rattle.seccompiler.specs.Policy.{Condition, RuleHolds}
@@ -36,23 +36,17 @@ only (c ∷ d ∷ conditions) = None
 abbrev pub same_length : SeccompCmpArgLen → SeccompCmpArgLen → Bool
 same_length Dword Dword = true
 same_length Qword Qword = true
-same_length Dword Qword = false
-same_length Qword Dword = false
+same_length _ _ = false
 
--- Whether two conditions compare one argument, and as much of it.
+-- Whether there are two conditions, which compare one argument, and as much of it.
 abbrev pub alike : Option Condition → Option Condition → Bool
-alike None d = false
-alike (Some c) None = false
 alike (Some c) (Some d) = nat_eq c.arg_index d.arg_index && same_length c.arg_len d.arg_len
-
--- Whether a ruling with the second conditions is of one run with a ruling in front of it that has the first.
-abbrev pub joins : List Condition → List Condition → Bool
-joins first second = alike (only first) (only second)
+alike _ _ = false
 
 -- How many rulings are of one run with a ruling in front of them.
 abbrev pub joined : List Condition → List Ruling → ℕ
 joined first [] = 0
-joined first (d ∷ rest) = if joins first d.conditions then suc (joined d.conditions rest) else 0
+joined first (d ∷ rest) = if alike (only first) (only d.conditions) then suc (joined d.conditions rest) else 0
 
 -- ---- what a promise counts
 
@@ -97,20 +91,16 @@ abbrev pub rules_length : List Ruling → ℕ
 rules_length [] = 0
 rules_length (d ∷ rest) = conditions_length d.conditions + rules_length rest
 
--- How many steps a run takes at most, a jump after it: with n rulings it has at most 2 * n + 1 steps over numbers.
-pub data RunTakes (conditions : List Condition) (n : ℕ) : ℕ → Type 0 where
-  by_steps : (c : Condition) (k : ℕ) → only conditions ≡ Some c → 2 * n + 1 ≤ 2 ^ k → RunTakes conditions n (part_steps c.arg_len k + 1)
-  by_conditions : only conditions ≡ None → RunTakes conditions n (conditions_steps conditions)
+-- How many steps a run takes at most that has at most 2 ^ k steps over numbers, a jump after it.
+abbrev pub run_steps : List Condition → ℕ → ℕ
+run_steps conditions k = unwrap_or (option_map (λ c. part_steps c.arg_len k + 1) (only conditions)) (conditions_steps conditions)
 
--- How many steps it takes to enter a ruling: those of its run, if it begins one.
-pub data Enters (first : List Condition) (d : Ruling) (rest : List Ruling) : ℕ → Type 0 where
-  goes_on : joins first d.conditions ≡ true → Enters first d rest 0
-  begins : (n : ℕ) → joins first d.conditions ≡ false → RunTakes d.conditions (1 + joined d.conditions rest) n → Enters first d rest n
-
--- How many steps rulings take at most that stand after one with these conditions, up to the first that holds.
-pub data Takes (r : List ℕ) : List Condition → List Ruling → ℕ → Type 0 where
-  stops : (first : List Condition) (d : Ruling) (rest : List Ruling) (n : ℕ) → RuleHolds d.conditions r → Enters first d rest n
-      → Takes r first (d ∷ rest) n
-  passes : (first : List Condition) (d : Ruling) (rest : List Ruling) (n m : ℕ) → (RuleHolds d.conditions r → ⊥) → Enters first d rest n
-      → Takes r d.conditions rest m → Takes r first (d ∷ rest) (n + m)
-  ends : (first : List Condition) → Takes r first [] 0
+-- How many steps rulings take at most, up to the first that holds, if so many of them are of a run that is entered already. A run
+-- of n rulings has at most 2 * n + 1 steps over numbers.
+pub data Takes (r : List ℕ) : ℕ → List Ruling → ℕ → Type 0 where
+  begins : (d : Ruling) (rest : List Ruling) (k n : ℕ) → 2 * suc (joined d.conditions rest) + 1 ≤ 2 ^ k
+      → Takes r (suc (joined d.conditions rest)) (d ∷ rest) n → Takes r 0 (d ∷ rest) (run_steps d.conditions k + n)
+  stops : (i : ℕ) (d : Ruling) (rest : List Ruling) → RuleHolds d.conditions r → Takes r (suc i) (d ∷ rest) 0
+  passes : (i : ℕ) (d : Ruling) (rest : List Ruling) (n : ℕ) → (RuleHolds d.conditions r → ⊥) → Takes r i rest n
+      → Takes r (suc i) (d ∷ rest) n
+  ends : (i : ℕ) → Takes r i [] 0

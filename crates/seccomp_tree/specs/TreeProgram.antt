@@ -39,7 +39,7 @@ length_by d ranges = 3 * ranges + 3 + calls_length d.calls
 pub data TakesOwn (d : DecisionSet) (r : List ℕ) : ℕ → Type 0 where
   other : word_at r 4 ≢ audit_word d.target_arch → TakesOwn d r 0
   one : (v : ℕ) → value_for d (word_at r 0) ≡ Some v → TakesOwn d r 0
-  own : (n : ℕ) → Takes r [] (rulings_for d.calls (word_at r 0)) n → TakesOwn d r n
+  own : (n : ℕ) → Takes r 0 (rulings_for d.calls (word_at r 0)) n → TakesOwn d r n
 
 -- The program returns the word within so many steps.
 pub record EndsWithin (p : List sock_filter) (r : List ℕ) (w n : ℕ) : Type 0 where

@@ -23,7 +23,7 @@ impl Code {
         requires no { IsIn self.old no }
         ensures { IfOk result (λ t. IsConditionMet self.old condition.now yes no t self.new) }
     {
-        if yes.is(no) {
+        if yes == no {
             return Ok(yes);
         }
         if let SeccompCmpOp::MaskedEq(mask) = condition.operator() {

@@ -1,14 +1,14 @@
 // Rulings as a target: what the first that holds says.
 
 ghost use Rattle.std.specs.Prelude.{◌≡◌, IfOk, IfErr};
-ghost use Rattle.seccomp_tree.specs.Code.{AreFit, AreRules, IsIn, IsRulingMet, IsSettled, IsTooMany};
+ghost use Rattle.seccomp_tree.specs.Code.{AreRules, IsIn, IsRulingMet, IsTooMany};
 ghost use Rattle.seccomp_tree.specs.Decisions.{alike, only, rules_length};
 
 use crate::code::Code;
 use crate::decisions::Decision;
 use crate::error::TreeError;
 use crate::intervals::laid;
-use crate::steps::{Step, Target, one};
+use crate::steps::{Target, one};
 use seccompiler::bpf::BPF_MAX_LEN;
 use seccompiler::{SeccompCmpOp, SeccompCondition};
 use std::alloc::{AllocError, Global};
@@ -24,46 +24,27 @@ impl Code {
         ensures ok { IfOk result (λ t. AreRules self.old rulings.now default t self.new) }
         ensures err { IfErr result (IsTooMany (rules_length rulings.now)) }
     {
-        // What comes after the rulings: steps over what the condition compares, or one target if there is none.
-        let mut like = None;
+        // What comes after the rulings: steps over what the ruling in front of them compares, or one.
         let mut steps = one(alloc, Target::Give(default))?;
         for left in (0..rulings.len()).rev() {
             let ruling = &rulings[left];
-            let own = only(&ruling.conditions);
-            if !is_alike(own, like) {
-                steps = one(alloc, self.settle(alloc, like, &steps)?)?;
-            }
-            steps = match own {
-                Some(condition) => laid(alloc, &condition, Target::Give(ruling.value), &steps)?,
-                None => {
-                    let after = steps[0].target;
-                    let met = self.conditions(alloc, &ruling.conditions, ruling.value, after)?;
-                    one(alloc, met)?
-                }
+            let Some(condition) = only(&ruling.conditions) else {
+                let after = steps[0].target;
+                let met = self.conditions(alloc, &ruling.conditions, ruling.value, after)?;
+                steps = one(alloc, met)?;
+                continue;
             };
-            like = own;
+            steps = laid(alloc, &condition, Target::Give(ruling.value), &steps)?;
             // A program has fewer tests than so many steps need.
             if steps.len() > BPF_MAX_LEN {
                 return Err(TreeError::TooLarge);
             }
+            if left == 0 || !joins(&rulings[left - 1], ruling) {
+                let (size, index) = (condition.arg_len(), condition.arg_index());
+                steps = one(alloc, self.argument(alloc, size, index, &steps)?)?;
+            }
         }
-        Ok(self.settle(alloc, like, &steps)?)
-    }
-
-    // Goes on as the steps say.
-    fn settle(
-        &mut self,
-        alloc: Global,
-        like: Option<SeccompCondition>,
-        steps: &[Step],
-    ) -> Result<Target, AllocError>
-        requires fit { AreFit self.old like steps.now }
-        ensures { IfOk result (λ t. IsSettled self.old like steps.now t self.new) }
-    {
-        match like {
-            Some(c) => self.argument(alloc, c.arg_len(), c.arg_index(), steps),
-            None => Ok(steps[0].target),
-        }
+        Ok(steps[0].target)
     }
 
     // Returns the value if all conditions hold, and else goes on: the last of them first, since code is written from its
@@ -86,11 +67,11 @@ impl Code {
     }
 }
 
-// Whether there are two conditions, which compare the same.
-fn is_alike(one: Option<SeccompCondition>, other: Option<SeccompCondition>) -> bool
-    ensures { result ≡ alike one other }
+// Whether both have one condition, without a mask, and compare the same.
+fn joins(first: &Decision, second: &Decision) -> bool
+    ensures { result ≡ alike (only first.now.conditions) (only second.now.conditions) }
 {
-    match (one, other) {
+    match (only(&first.conditions), only(&second.conditions)) {
         (Some(one), Some(other)) => {
             one.arg_index() == other.arg_index() && one.arg_len() == other.arg_len()
         }

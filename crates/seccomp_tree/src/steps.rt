@@ -1,6 +1,6 @@
 // What is looked up by a number: steps, each from its start up to the next one's.
 
-ghost use Rattle.std.specs.Prelude.{◌≡◌, ◌↔◌, IsTrue, IfOk};
+ghost use Rattle.std.specs.Prelude.{◌≡◌, IfOk};
 ghost use Rattle.seccomp_tree.specs.Steps.{AreSteps, IsPushed, single};
 
 use std::alloc::{AllocError, Global};
@@ -15,15 +15,6 @@ pub(crate) enum Target {
     Give(u32),
     /// It goes on at this place, counted from its end, whatever the accumulator holds.
     At(usize),
-}
-
-impl Target {
-    /// Whether both say the same.
-    pub(crate) fn is(self, other: Target) -> bool
-        ensures { IsTrue result ↔ (self ≡ other) }
-    {
-        self == other
-    }
 }
 
 /// From its start on, up to the start of the next step, each number has this target.
@@ -46,7 +37,7 @@ pub(crate) fn push_step(steps: &mut Vec<Step>, start: u64, target: Target) -> Re
     ensures { IfOk result (λ _. IsPushed steps.old.items start target steps.new.items) }
 {
     // Neighbours with one target are one step.
-    if !steps.is_empty() && steps[steps.len() - 1].target.is(target) {
+    if !steps.is_empty() && steps[steps.len() - 1].target == target {
         return Ok(());
     }
     steps.push(Step { start, target })?;

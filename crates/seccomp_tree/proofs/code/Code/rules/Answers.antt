@@ -1,77 +1,115 @@
-use Rattle.seccomp_tree.proofs.Common.{◌≡◌, ◌-◌, ◌<◌, ◌^◌, ◌∷◌, List, Ruling, only, rules_length, length, drop, drop_all, ap, sym, ◌∙◌}
-use Rattle.seccomp_tree.proofs.Common.{arith}
+use Rattle.seccomp_tree.proofs.Common.{◌≡◌, ◌-◌, ◌<◌, ◌^◌, ◌∷◌, [], List, Ruling, only, rules_length, length, drop, drop_all, ap, sym, ◌∙◌}
+use Rattle.seccomp_tree.proofs.Common.{arith, refl, None, Some, Give, Condition, AreRules, alike, joined, zero, suc}
 use Rattle.seccomp_tree.proofs.Deciding.{drop_back}
-use Rattle.seccomp_tree.proofs.Ruled.{IsBehind, behind_none, behind_along, behind_fresh, behind_laid, behind_alone, behind_many, rules_less}
-use Rattle.seccomp_tree.proofs.Ruled.{settled}
-use Rattle.seccomp_tree.proofs.code.Code.rules.Goals.{After-len, then-not-is_alike+in_ok-settle+in_ok-steps-2, else-not-is_alike}
-use Rattle.seccomp_tree.proofs.code.Code.rules.Goals.{in-Some+in_ok-steps-in-Some, in-None+in_ok-met-in-None+in_ok-steps-in-None}
+use Rattle.seccomp_tree.proofs.Begun.{are_in_below, numbers_many}
+use Rattle.seccomp_tree.proofs.Ruled.{IsBehind, alike_none, behind_along, behind_fresh, behind_laid, behind_many, behind_none, compared}
+use Rattle.seccomp_tree.proofs.Ruled.{front_is, in_front, joined_apart, joined_none, rules_alone, rules_less, rules_none, rules_settled}
+use Rattle.seccomp_tree.proofs.code.Code.rules.Goals.{After-only, After-len, After-index, then-left-eq0-via-then-left-eq0}
+use Rattle.seccomp_tree.proofs.code.Code.rules.Goals.{then-left-eq0-via-else-left-eq0+then-not-joins}
 use Rattle.seccomp_tree.proofs.code.Code.rules.Goals as goal
 
 pub loop-left-init : goal.loop-left-init
 loop-left-init c =
     let none = drop_all (length c.args.rulings.now) c.args.rulings.now (omega arith) in
-    rw (none, c.in_ok-steps.ensures) (behind_none c.args.self.now c.args.default c.ranges.default.fits)
+    rw (none, c.in_ok-steps.ensures) (behind_fresh _ [] (Give c.args.default) (rules_none c.args.self.now c.args.default c.ranges.default.fits))
 
 -- the rulings behind this one, and what there is of it
-abbrev rest : After-len → List Ruling
+abbrev rest : After-only → List Ruling
 rest c = drop c.loop-left.left c.args.rulings.now
 
-from_here : (c : After-len) → drop (c.loop-left.left - 1) c.args.rulings.now ≡ c.index-rulings-left.result ∷ rest c
+from_here : (c : After-only) → drop (c.loop-left.left - 1) c.args.rulings.now ≡ c.index-rulings-left.result ∷ rest c
 from_here c = drop_back c.args.rulings.now c.loop-left.left c.index-rulings-left.result c.loop-left-test.true c.loop-left.auto.left
     c.index-rulings-left.is
 
-own_is : (c : After-len) → only c.index-rulings-left.result.conditions ≡ c.only-own.result
-own_is c =
-    ap only (sym (ap (λ (d : Ruling). d.conditions) c.ruling.view_is) ∙ sym c.deref.ensures.value) ∙ sym c.only-own.ensures
+own_is : (c : After-only) → only c.index-rulings-left.result.conditions ≡ c.only.result
+own_is c = ap only (sym (ap (λ (d : Ruling). d.conditions) c.ruling.view_is) ∙ sym c.deref.ensures.value) ∙ sym c.only.ensures
 
-value_is : (c : After-len) → c.ruling.inside.value ≡ c.index-rulings-left.result.value
+value_is : (c : After-only) → c.ruling.inside.value ≡ c.index-rulings-left.result.value
 value_is c = ap (λ (d : Ruling). d.value) c.ruling.view_is
 
-fits : (c : After-len) → c.index-rulings-left.result.value < 2 ^ 32
-fits c = rw (← value_is c) c.ruling.invariant
-
 -- the steps are what it is laid over
-ready : (c : After-len) → IsBehind c.args.self.now c.args.default c.index-rulings-left.result.conditions (rest c) c.only-own.result
-    c.if-not-is_alike.steps.items c.if-not-is_alike.self
+ready : (c : After-only) → IsBehind c.args.self.now c.args.default (compared c.index-rulings-left.result.conditions)
+    (joined c.index-rulings-left.result.conditions (rest c)) (rest c) c.loop-left.steps.items c.loop-left.self
 ready c =
-    let h = c.loop-left.invariant in
-    let d = c.index-rulings-left.result in
-    elim c.if-not-is_alike.branch [
-      | then-not-is_alike+in_ok-settle+in_ok-steps-2 w ↦
-          let after = settled w.settle.new.self (rest c) c.loop-left.like w.in_ok-settle.field-0 h
-          (rw w.deref-then-not-is_alike.ensures.value at w.in_ok-settle.ensures) in
-          rw (w.self-is, w.steps-is, w.in_ok-steps-2.ensures) (behind_fresh d.conditions (rest c) c.only-own.result w.in_ok-settle.field-0
-          (own_is c) (rw (own_is c, h.own) (sym c.is_alike.ensures ∙ w.if-not-is_alike.true)) after)
-      | else-not-is_alike w ↦ rw (w.self-is, w.steps-is) (behind_along d.conditions (rest c) c.only-own.result c.loop-left.like _ (own_is c)
-          (sym c.is_alike.ensures ∙ w.if-not-is_alike.false) h)
-    ]
+    let front = front_is c.args.rulings.now c.loop-left.left c.index-rulings-left.result c.loop-left-test.true c.loop-left.auto.left
+        c.index-rulings-left.is in
+    rw front at c.loop-left.invariant
 
-front : (c : After-len) → IsBehind c.args.self.now c.args.default c.index-rulings-left.result.conditions
-    (c.index-rulings-left.result ∷ rest c) c.match-own.own c.match-own.steps.items c.match-own.self
-front c = elim c.match-own.branch [
-  | in-Some+in_ok-steps-in-Some w ↦ rw (w.self-is, w.own-is, w.steps-is) (behind_laid c.index-rulings-left.result (rest c) _
-      w.in-Some.condition _ (fits c) (rw w.in-Some.is at (ready c))
-      (rw (value_is c, w.deref-in-Some.ensures.value) at w.in_ok-steps-in-Some.ensures))
-  | in-None+in_ok-met-in-None+in_ok-steps-in-None w ↦
-      let own = w.deref-in-None.ensures.value ∙ ap (λ (d : Ruling). d.conditions) c.ruling.view_is in
-      rw (w.self-is, w.own-is, w.in-None.is, w.steps-is, w.in_ok-steps-in-None.ensures) (behind_alone c.index-rulings-left.result (rest c) _
-      w.conditions.new.self w.index.result.now w.in_ok-met-in-None.met w.index.ensures (rw w.in-None.is at (ready c))
-      (rw (value_is c, own) at w.in_ok-met-in-None.ensures))
-]
+-- if it has more than a condition, a target
+after : (c : After-index) → AreRules c.args.self.now (rest c.before.before.before) c.args.default c.index.result.now.target c.loop-left.self
+after c =
+    let b : After-only = c.before.before.before in
+    let own = own_is b ∙ c.in_default.is in
+    behind_none _ _ (rw (own, joined_none _ (rest b) own) at (ready b)) c.index.ensures
+
+pub conditions-requires : goal.conditions-requires
+conditions-requires c = record { after = (after ((goal.at.conditions-requires c).After-index)).inside }
+
+pub loop-left-preserved-in_default : goal.loop-left-preserved-in_default
+loop-left-preserved-in_default c =
+    let i = (goal.at.loop-left-preserved-in_default c).After-index in
+    let b : After-only = i.before.before.before in
+    let d = c.index-rulings-left.result in
+    let own = own_is b ∙ c.in_default.is in
+    let q = c.deref-in_default.ensures.value ∙ ap (λ (d : Ruling). d.conditions) c.ruling.view_is in
+    let front = in_front c.args.rulings.now (c.loop-left.left - 1) in
+    let apart : joined front (d ∷ rest b) ≡ 0 = joined_apart front d _ (rw own (alike_none (only front))) in
+    rw (from_here b, c.in_ok-steps-2.ensures, apart)
+    (behind_fresh _ _ _ (rules_alone d (rest b) c.conditions.new.self own (after i) (rw (value_is b, q) at c.in_ok-met.ensures)))
+
+-- up to the conditions of a ruling
+abbrev only_of : After-len → After-only
+only_of c = c.before.before.before.before.before.before.before.before.before.before
+
+laid_is : (c : After-len) → IsBehind c.args.self.now c.args.default (c.in-Some.condition.arg_len, c.in-Some.condition.arg_index)
+    (suc (joined c.index-rulings-left.result.conditions (rest (only_of c)))) (c.index-rulings-left.result ∷ rest (only_of c))
+    c.in_ok-steps-3.steps.items c.loop-left.self
+laid_is c =
+    let b = only_of c in
+    let own = own_is b ∙ c.in-Some.is in
+    let value : c.ruling.inside.value ≡ c.index-rulings-left.result.value = value_is b in
+    behind_laid _ (rest b) own (rw (← value) c.ruling.invariant) (rw own at (ready b))
+    (rw (value, c.deref-in-loop-left.ensures.value) at c.in_ok-steps-3.ensures)
 
 pub returns-then-len-gt-BPF_MAX_LEN-clause-err : goal.returns-then-len-gt-BPF_MAX_LEN-clause-err
 returns-then-len-gt-BPF_MAX_LEN-clause-err c = λ is.
-    let b = (goal.at.returns-then-len-gt-BPF_MAX_LEN-clause-err c).After-len in
-    let many = behind_many _ _ _ (front b) (omega (arith, c.len.ensures)) in
-    omega (arith, many, ap rules_length (from_here b), rules_less (c.loop-left.left - 1) c.args.rulings.now)
+    let l = (goal.at.returns-then-len-gt-BPF_MAX_LEN-clause-err c).After-len in
+    let many = behind_many (laid_is l) (omega (arith, c.len.ensures)) in
+    omega (arith, many, ap rules_length (from_here (only_of l)), rules_less (c.loop-left.left - 1) c.args.rulings.now)
+
+pub argument-requires-clause-inside : goal.argument-requires-clause-inside
+argument-requires-clause-inside c =
+    let x = laid_is ((goal.at.argument-requires-clause-inside c).After-len) in
+    rw c.deref-then-left-eq0.ensures.value (are_in_below _ _ _ (omega (arith, numbers_many c.in-Some.condition.arg_len)) x.are x.inside)
+
+pub loop-left-preserved-in-loop-left : goal.loop-left-preserved-in-loop-left
+loop-left-preserved-in-loop-left c =
+    let l = (goal.at.loop-left-preserved-in-loop-left c).After-len in
+    let b = only_of l in
+    let d = c.index-rulings-left.result in
+    let front = in_front c.args.rulings.now (c.loop-left.left - 1) in
+    let apart : joined front (d ∷ rest b) ≡ 0 = elim c.then-left-eq0.branch [
+      | then-left-eq0-via-then-left-eq0 w ↦
+          let first : c.loop-left.left - 1 ≡ 0 = w.if-left-eq0.true in rw first refl
+      | then-left-eq0-via-else-left-eq0+then-not-joins w ↦ 
+          let at = front_is c.args.rulings.now (c.loop-left.left - 1) _ (omega (arith, w.if-left-eq0.false)) (omega arith)
+              w.index-rulings-left-else-left-eq0.is in
+          joined_apart front d _ (rw at (sym w.joins.ensures ∙ w.if-not-joins.true))
+    ] in
+    rw (from_here b, c.in_ok-steps-4.ensures, apart) (behind_fresh _ _ _ (rules_settled d (rest b) (own_is b ∙ c.in-Some.is) c.argument.new.self
+    (laid_is l) (rw (c.deref-then-left-eq0.ensures.value, c.arg_len-size.ensures, c.arg_index-index.ensures.index) at c.in_ok-argument.ensures)))
 
 pub loop-left-preserved : goal.loop-left-preserved
 loop-left-preserved c =
-    let b = (goal.at.loop-left-preserved c).After-len in
-    rw (from_here b) (front b)
+    let l = (goal.at.loop-left-preserved c).After-len in
+    let b = only_of l in
+    let front = in_front c.args.rulings.now (c.loop-left.left - 1) in
+    let at = front_is c.args.rulings.now (c.loop-left.left - 1) _ (omega (arith, c.if-left-eq0.false)) (omega arith)
+        c.index-rulings-left-else-left-eq0.is in
+    rw (from_here b) (behind_along c.index-rulings-left.result (rest b) (own_is b ∙ c.in-Some.is) front (only front) refl
+    (rw at (sym c.joins.ensures ∙ c.if-not-joins.false)) (laid_is l))
 
 pub returns-clause-ok : goal.returns-clause-ok
 returns-clause-ok c =
     let none : c.loop-left.left ≡ 0 = omega arith in
-    settled c.settle-2.new.self c.args.rulings.now c.loop-left.like _ (rw none at c.loop-left.invariant)
-    (rw c.deref-2.ensures.value at c.in_ok-settle-2.ensures)
+    behind_none _ _ (rw (joined_none [] c.args.rulings.now refl) at (rw none at c.loop-left.invariant)) c.index-2.ensures

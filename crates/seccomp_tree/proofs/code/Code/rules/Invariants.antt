@@ -1,7 +1,9 @@
-use Rattle.seccomp_tree.proofs.Common.{drop}
-use Rattle.seccomp_tree.proofs.Ruled.{IsBehind, head}
+use Rattle.seccomp_tree.proofs.Common.{drop, joined}
+use Rattle.seccomp_tree.proofs.Ruled.{IsBehind, compared, in_front}
 use Rattle.seccomp_tree.proofs.code.Code.rules.Given as goal
 
 abbrev pub invariant-loop-left : goal.invariant-loop-left
 invariant-loop-left l =
-    IsBehind l.initial.self l.default (head (drop l.left l.rulings)) (drop l.left l.rulings) l.like l.steps.items l.self
+    let front = in_front l.rulings l.left in
+    let rest = drop l.left l.rulings in
+    IsBehind l.initial.self l.default (compared front) (joined front rest) rest l.steps.items l.self

@@ -1,11 +1,10 @@
 -- Steps that ascend: what they have for a number, what is left of them there, one step more, and comparisons laid over them.
 use Rattle.seccomp_tree.proofs.Common.{◌≡◌, ℕ, zero, suc, ◌+◌, ◌-◌, ◌^◌, ◌<◌, ◌≤◌, ◌≢◌, List, [], ◌∷◌, ◌++◌, length, drop, get_or, true, ap}
-use Rattle.seccomp_tree.proofs.Common.{false, refl, ◌∙◌, ◌⊎◌, inl, inr, nat_le, if◌then◌else◌, arith, length-append, nat_tests, Bool, Step}
-use Rattle.seccomp_tree.proofs.Common.{sock_filter, Target, found_from, found_in, AreOver, AscendFrom, AreSteps, TightFrom, IsPushed, IsIn}
-use Rattle.seccomp_tree.proofs.Common.{AreIn, nat_eq, nat_lt, cases_lt, cases_eq, bit_and, SeccompCmpArgLen, SeccompCmpOp, Dword, Qword}
-use Rattle.seccomp_tree.proofs.Common.{◌%◌, MaskedEq, Condition, Compares, part_of, is_plain, IsChosen, AreLaid}
-use Rattle.seccomp_tree.specs.Steps.{first_start}
-use Rattle.seccomp_tree.specs.Code.{IsTurn, numbers_of}
+use Rattle.seccomp_tree.proofs.Common.{first_start, IsTurn, false, refl, ◌∙◌, ◌⊎◌, inl, inr, nat_le, if◌then◌else◌, arith, length-append}
+use Rattle.seccomp_tree.proofs.Common.{nat_tests, Bool, Step, sock_filter, Target, found_from, found_in, AreOver, AscendFrom, AreSteps}
+use Rattle.seccomp_tree.proofs.Common.{TightFrom, IsPushed, IsIn, AreIn, nat_eq, nat_lt, cases_lt, cases_eq, bit_and, SeccompCmpArgLen}
+use Rattle.seccomp_tree.proofs.Common.{SeccompCmpOp, Dword, Qword, ◌%◌, MaskedEq, Condition, Compares, part_of, is_plain, IsChosen, AreLaid}
+use Rattle.seccomp_tree.specs.Code.{numbers_of}
 
 -- ---- ascending
 

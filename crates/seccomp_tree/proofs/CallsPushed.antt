@@ -1,11 +1,10 @@
 -- Steps over call numbers: the numbers up to the next that is answered otherwise, and that the steps are as few as can be.
 use Rattle.seccomp_tree.proofs.Common.{◌≡◌, ℕ, ◌+◌, ◌<◌, ◌≤◌, ◌^◌, List, [], ◌∷◌, length, Option, Some, None, Vec, sym, ◌∙◌, arith, refl}
-use Rattle.seccomp_tree.proofs.Common.{if◌then◌else◌, suc, get_or, ◌⊎◌, inl, inr, nat_lt, IsSome, nat_tests, cases_lt, is_at, lookup, Step}
-use Rattle.seccomp_tree.proofs.Common.{nat_cmp, Global, sock_filter, Target, IsPushed, Grows, Ruling, rules_length, DecisionSet, calls_of}
-use Rattle.seccomp_tree.proofs.Common.{default_for, rulings_for, default_from, calls_length, DefaultValue, Give, AreRules, ap, one_value}
-use Rattle.seccomp_tree.proofs.Common.{◌-◌, Bool, true, false, nat_eq, nat_le, cases_eq, is_member, found_from, AscendFrom, TightFrom}
-use Rattle.seccomp_tree.proofs.Common.{AreRanges}
-use Rattle.seccomp_tree.specs.Code.{IsAnswer, AreAnswers, AreCallSteps, IsNextStart}
+use Rattle.seccomp_tree.proofs.Common.{IsAnswer, AreAnswers, AreCallSteps, IsNextStart, if◌then◌else◌, suc, get_or, ◌⊎◌, inl, inr, nat_lt}
+use Rattle.seccomp_tree.proofs.Common.{IsSome, nat_tests, cases_lt, is_at, lookup, Step, nat_cmp, Global, sock_filter, Target, IsPushed}
+use Rattle.seccomp_tree.proofs.Common.{Grows, Ruling, rules_length, DecisionSet, calls_of, default_for, rulings_for, default_from}
+use Rattle.seccomp_tree.proofs.Common.{calls_length, DefaultValue, Give, AreRules, ap, one_value, ◌-◌, Bool, true, false, nat_eq, nat_le}
+use Rattle.seccomp_tree.proofs.Common.{cases_eq, is_member, found_from, AscendFrom, TightFrom, AreRanges}
 use Rattle.seccomp_tree.proofs.Runs.{grows_not, grows_on, is_in_grown, leads_grown}
 use Rattle.seccomp_tree.proofs.Begun.{steps_more, found_before}
 use Rattle.seccomp_tree.proofs.Deciding.{items_of, rulings_under}

@@ -1,17 +1,14 @@
 -- The decisions of a filter decide every record as it does; and the calls that a loop makes of its chains.
-use Rattle.seccomp_tree.proofs.Common.{◌≡◌, ℕ, ℤ, pos, List, [], ◌∷◌, ◌++◌, ◌<◌, arith, map, Vec, Global, Less, Greater, refl, sym, ap, ◌∙◌}
-use Rattle.seccomp_tree.proofs.Common.{subst, append_assoc, suc, nat_eq, Option, Some, None, ◌⊎◌, inl, inr, Any, All, unsigned_abs}
-use Rattle.seccomp_tree.proofs.Common.{int_cmp, nat_cmp, ints, keys_of, insert_entry, is_at, All-head, All-tail, All-nil, Rule, chains_of}
-use Rattle.seccomp_tree.proofs.Common.{IsCallNumber, Condition, Holds, Chain, Filter, RuleHolds, ChainMatches, chain_under, IsDecision}
-use Rattle.seccomp_tree.proofs.Common.{policy_matches, policy_differs, word_of, AreCallNumbers, Ruling, First, here, behind, nothing}
-use Rattle.seccomp_tree.proofs.Common.{calls_of, IsDecided, other_architecture, decided, rulings_for, default_for, call_of, rulings_of}
-use Rattle.seccomp_tree.proofs.Common.{decisions_of, DecideAs, nat_tests, audit_word, word_at}
-use Rattle.std.specs.Prelude.{⊤, ◌≤◌, ◌+◌}
-use Rattle.std.proofs.lemmas.List.{map-append}
-use Rattle.std.proofs.lemmas.List.Elements.{All-push, All-cons}
+use Rattle.seccomp_tree.proofs.Common.{Less, IsCallNumber, ChainMatches, policy_matches, policy_differs, AreCallNumbers, other_architecture}
+use Rattle.seccomp_tree.proofs.Common.{append_assoc, unsigned_abs, insert_entry, Chain, chain_under, rulings_for, default_for, decisions_of}
+use Rattle.seccomp_tree.proofs.Common.{map-append, numbers_of, All-nil, Condition, RuleHolds, IsDecision, IsDecided, rulings_of, audit_word}
+use Rattle.seccomp_tree.proofs.Common.{Greater, All-push, All-cons, All-head, All-tail, chains_of, calls_of, call_of, DecideAs, nat_tests}
+use Rattle.seccomp_tree.proofs.Common.{Global, Option, int_cmp, nat_cmp, keys_of, Filter, word_of, Ruling, First, nothing, decided, word_at}
+use Rattle.seccomp_tree.proofs.Common.{List, ◌++◌, arith, refl, subst, nat_eq, Some, None, Any, All, ints, is_at, Rule, Holds, here, behind}
+use Rattle.seccomp_tree.proofs.Common.{◌≡◌, ℕ, ℤ, pos, [], ◌∷◌, ◌<◌, map, Vec, sym, ap, ◌∙◌, ⊤, suc, ◌⊎◌, inl, inr}
+use Rattle.std.specs.Prelude.{◌≤◌, ◌+◌}
 use Rattle.std.specs.List.Sorted.{IsStrictlySortedBy}
 use Rattle.seccompiler.specs.Policy.{other_architecture as other}
-use Rattle.seccompiler.specs.Compiled.{numbers_of}
 use Rattle.seccomp_tree.proofs.Deciding.{decided_some}
 
 -- ---- the loop of `calls_of`

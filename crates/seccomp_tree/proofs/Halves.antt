@@ -1,9 +1,8 @@
 -- Arguments of 64 bits: steps by their high and their low halves.
-use Rattle.seccomp_tree.proofs.Common.{◌≡◌, ℕ, suc, ◌+◌, ◌-◌, ◌*◌, ◌/◌, ◌%◌, ◌^◌, ◌<◌, ◌≤◌, List, [], ◌∷◌, length, drop, ap, ◌∙◌, subst}
-use Rattle.seccomp_tree.proofs.Common.{arith, inl, inr, refl, sym, cases_lt, nat_lt, nat_tests, if◌then◌else◌, pow-succ', sock_filter, Step}
-use Rattle.seccomp_tree.proofs.Common.{word_at, argument_at, IsRecord, word_fits, number_halves, Target, found_in, AreSteps, IsPushed, ◌⊎◌}
-use Rattle.seccomp_tree.proofs.Common.{length-drop, AreOver, Dword, Qword, get_or, AreIn, Grows, IsHalfTurn, IsIn, IsPart, LeadsAlways}
-use Rattle.seccomp_tree.specs.Steps.{first_start}
+use Rattle.seccomp_tree.proofs.Common.{first_start, if◌then◌else◌, sock_filter, argument_at, number_halves, length-drop, IsHalfTurn, IsPart}
+use Rattle.seccomp_tree.proofs.Common.{cases_lt, nat_tests, pow-succ', word_at, IsRecord, word_fits, found_in, AreSteps, IsPushed, AreOver}
+use Rattle.seccomp_tree.proofs.Common.{ℕ, List, length, subst, arith, nat_lt, Step, Target, Dword, Qword, get_or, AreIn, Grows, IsIn, Leads}
+use Rattle.seccomp_tree.proofs.Common.{◌≡◌, suc, ◌+◌, ◌-◌, ◌*◌, ◌/◌, ◌%◌, ◌^◌, ◌<◌, ◌≤◌, [], ◌∷◌, drop, ap, ◌∙◌, inl, inr, refl, sym, ◌⊎◌}
 use Rattle.seccomp_tree.proofs.Runs.{grows_not, grows_on, is_in_grown, leads_by, leads_grown, starts_more}
 use Rattle.seccomp_tree.proofs.Begun.{AreLeft, HasMoved, are_in_below, found_in_code, left_begins, left_end, left_has, left_on, over_zero}
 use Rattle.seccomp_tree.proofs.Begun.{steps_more}
@@ -34,7 +33,7 @@ some_left size (x ∷ rest) lt = omega arith
 -- A target goes on as the steps say for the arguments of a high half.
 abbrev pub GoesFor : List sock_filter → ℕ → List Step → ℕ → Target → List sock_filter → Type 0
 GoesFor old index steps high t code = IsIn code t × ((r : List ℕ) → IsRecord r → (w n k : ℕ) → length steps ≤ 2 ^ k
-    → LeadsAlways old r (found_in steps (high * 2 ^ 32 + word_at r (16 + 8 * index))) w n → LeadsAlways code r t w (n + 2 + 2 * k))
+    → Leads 0 old r (found_in steps (high * 2 ^ 32 + word_at r (16 + 8 * index))) w n → Leads 0 code r t w (n + 2 + 2 * k))
 
 -- Steps over the high halves below that of a number, whose targets go on as the steps say for an argument; and over those low halves
 -- of this one that are below the number.
@@ -169,7 +168,7 @@ module _ {old code : List sock_filter} {index number : ℕ} {steps rest lows hig
         let number : argument_at r index ≡ top * 2 ^ 32 + word_at r (16 + 8 * index) =
         omega (arith, number_halves r (16 + 8 * index), at) in
         let both = (h.leads top (omega (arith, end, word_fits r (20 + 8 * index) rec))).1 r rec w n k few
-        (subst (λ u. LeadsAlways old r (found_in steps u) w n) number lead) in
+        (subst (λ u. Leads 0 old r (found_in steps u) w n) number lead) in
         λ a small. starts_more (n + (5 + 4 * k)) (omega arith)
         (word.leads r rec w (n + 2 + 2 * k) (suc k) (omega (arith, h.few, pow-succ' 2 k)) both a small);
   }

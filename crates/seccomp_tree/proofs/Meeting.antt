@@ -1,13 +1,12 @@
 -- Conditions as targets: what choices and masks make of them.
 use Rattle.seccomp_tree.proofs.Common.{◌≡◌, ℕ, suc, ◌+◌, ◌-◌, ◌*◌, ◌/◌, ◌%◌, ◌<◌, ◌≤◌, ◌^◌, List, [], ◌∷◌, length, true, refl, ap, inl, inr}
-use Rattle.seccomp_tree.proofs.Common.{arith, bit_and, ◌⊎◌, ◌↔◌, if◌then◌else◌, and_lt, cases_eq, eq-eqb, ne_eqb, sock_filter}
-use Rattle.seccomp_tree.proofs.Common.{SeccompCmpArgLen, Dword, Qword, SeccompCmpOp, MaskedEq, IsRecord, word_at, argument_at, masks}
-use Rattle.seccomp_tree.proofs.Common.{All-nil, All-cons, All-head, All-tail, Condition, Compares, Holds, RuleHolds, part_of, operator_part}
-use Rattle.seccomp_tree.proofs.Common.{load, mask, word_fits, number_halves, mask_halves, Target, At, Step, found_in, single, is_plain}
-use Rattle.seccomp_tree.proofs.Common.{IsChosen, AreLaid, condition_length, condition_steps, IsMet, IsConditionMet, HasBits, LeadsAlways}
-use Rattle.seccomp_tree.proofs.Common.{IsIn, chosen, IsTested, part_length, part_steps, IsPart}
-use Rattle.seccomp_tree.specs.declared.code.Test.TheVariants.{Equal}
-use Rattle.seccomp_tree.specs.Code.{goes_on, numbers_of}
+use Rattle.seccomp_tree.proofs.Common.{Equal, goes_on, arith, bit_and, ◌⊎◌, ◌↔◌, if◌then◌else◌, and_lt, cases_eq, eq-eqb, ne_eqb}
+use Rattle.seccomp_tree.proofs.Common.{sock_filter, SeccompCmpArgLen, Dword, Qword, SeccompCmpOp, MaskedEq, IsRecord, word_at, argument_at}
+use Rattle.seccomp_tree.proofs.Common.{masks, All-nil, All-cons, All-head, All-tail, Condition, Compares, Holds, RuleHolds, part_of}
+use Rattle.seccomp_tree.proofs.Common.{operator_part, load, mask, word_fits, number_halves, mask_halves, Target, At, Step, found_in, single}
+use Rattle.seccomp_tree.proofs.Common.{is_plain, IsChosen, AreLaid, condition_length, condition_steps, IsMet, IsConditionMet, HasBits}
+use Rattle.seccomp_tree.proofs.Common.{Leads, IsIn, chosen, IsTested, part_length, part_steps, IsPart}
+use Rattle.seccomp_tree.specs.Code.{numbers_of}
 use Rattle.seccomp_tree.proofs.Runs.{grows_not, grows_one, grows_on, starts_more, leads_by, leads_grown, starts_last}
 use Rattle.seccomp_tree.proofs.Trees.{load_run}
 use Rattle.seccomp_tree.proofs.Begun.{compares_or_not}
@@ -92,8 +91,8 @@ met_by_steps {old} {new} {c} {fit} {unfit} {t} {steps} h part = record {
     own : (r : List ℕ) → IsRecord r → IsChosen (Holds c r) fit unfit (found_in steps (number r))
     own r rec = chosen_plain c r fit unfit _ h.plain (h.each (number r) (part_fits c.arg_len r c.arg_index rec))
 
-    goes : (r : List ℕ) → IsRecord r → (w n : ℕ) → LeadsAlways old r (found_in steps (number r)) w n
-        → LeadsAlways new r t w (n + (condition_steps c.arg_len c.operator + 1))
+    goes : (r : List ℕ) → IsRecord r → (w n : ℕ) → Leads 0 old r (found_in steps (number r)) w n
+        → Leads 0 new r t w (n + (condition_steps c.arg_len c.operator + 1))
     goes r rec w n lead a fits =
         starts_more (n + (condition_steps c.arg_len c.operator + 1)) (omega (arith, cost.0))
         (leads_by (part.leads r rec w n 2 (omega (arith, h.few)) lead a fits))
@@ -141,7 +140,7 @@ masked_some {old} {mid} {fit = fit} {unfit = unfit} byte m value low small teste
 }
   where
     goes : (r : List ℕ) → IsRecord r → (u : Target) → chosen Equal (bit_and value m) fit unfit (bit_and (word_at r byte) m) ≡ u → (w n : ℕ)
-        → LeadsAlways old r u w n → LeadsAlways (load byte ∷ mask m ∷ mid) r (At (length (load byte ∷ mask m ∷ mid) - 1)) w (n + 4)
+        → Leads 0 old r u w n → Leads 0 (load byte ∷ mask m ∷ mid) r (At (length (load byte ∷ mask m ∷ mid) - 1)) w (n + 4)
     goes r rec u which w n lead a fits =
         let x = bit_and (word_at r byte) m in
         let x_small : x < 2 ^ 32 = and_lt 32 (word_at r byte) m (word_fits r byte rec) small in

@@ -1,10 +1,9 @@
 -- The two ends of the theorem: sound code is a checked program, and a run that returns a word ends with it there.
 use Rattle.seccomp_tree.proofs.Common.{◌≡◌, ℕ, zero, suc, ◌+◌, ◌-◌, ◌<◌, ◌≤◌, ◌^◌, List, [], ◌∷◌, ◌++◌, length, drop, Some, length-append}
-use Rattle.seccomp_tree.proofs.Common.{length-drop, subst, refl, sym, ap, ◌∙◌, arith, add-one, zero-add, slice_get, drop-drop, sock_filter}
-use Rattle.seccomp_tree.proofs.Common.{give, Goes, stays, then_step, IsFine, IsInRange, IsChecked, greatest_length, fine_load, fine_mask}
-use Rattle.seccomp_tree.proofs.Common.{fine_jump, fine_equal, fine_greater, fine_at_least, fine_return, AreFine, IsSound, Returns, gives}
-use Rattle.seccomp_tree.specs.Code.{goes_on}
-use Rattle.seccomp_tree.specs.TreeProgram.{EndsWithin}
+use Rattle.seccomp_tree.proofs.Common.{goes_on, EndsWithin, length-drop, subst, refl, sym, ap, ◌∙◌, arith, add-one, zero-add, slice_get}
+use Rattle.seccomp_tree.proofs.Common.{drop-drop, sock_filter, give, Goes, stays, then_step, IsFine, IsInRange, IsChecked, greatest_length}
+use Rattle.seccomp_tree.proofs.Common.{fine_load, fine_mask, fine_jump, fine_equal, fine_greater, fine_at_least, fine_return, AreFine}
+use Rattle.seccomp_tree.proofs.Common.{IsSound, Returns, gives}
 use Rattle.seccomp_tree.proofs.Runs.{returns_more}
 
 get_at : (p : List sock_filter) (place : ℕ) (i : sock_filter) (rest : List sock_filter) → drop place p ≡ i ∷ rest

@@ -1,12 +1,11 @@
 -- Rulings as a target, from the last to the first: each is put in front of what comes after it.
-use Rattle.seccomp_tree.proofs.Common.{◌≡◌, ℕ, zero, suc, ◌+◌, ◌*◌, ◌<◌, ◌≤◌, ◌^◌, List, [], ◌∷◌, length, drop, true, refl, ap, ◌∙◌, sym, ◌-◌}
-use Rattle.seccomp_tree.proofs.Common.{Option, Some, None, arith, nat_tests, All-nil, All-cons, All-head, All-tail, if◌then◌else◌, Dword}
-use Rattle.seccomp_tree.proofs.Common.{sock_filter, SeccompCmpArgLen, IsRecord, argument_at, Condition, Holds, RuleHolds, part_of, Target}
-use Rattle.seccomp_tree.proofs.Common.{Give, Step, found_in, single, is_plain, AreLaid, IsConditionMet, LeadsAlways, to_return, Grows, only}
-use Rattle.seccomp_tree.proofs.Common.{part_length, Ruling, First, alike, same_length, joined, conditions_length, AreSteps, IsPart, IsIn}
-use Rattle.seccomp_tree.proofs.Common.{conditions_steps, rules_length, begins, Takes, stops, passes, ends, IsRulingMet, AreRules, IsChosen}
+use Rattle.seccomp_tree.proofs.Common.{◌≡◌, ℕ, zero, suc, ◌+◌, ◌*◌, ◌<◌, ◌≤◌, ◌^◌, List, [], ◌∷◌, length, drop, true, refl, ap, ◌∙◌, sym}
+use Rattle.seccomp_tree.proofs.Common.{◌-◌, get_or_read_under, Option, Some, None, arith, nat_tests, All-nil, All-cons, All-head, All-tail}
+use Rattle.seccomp_tree.proofs.Common.{Dword, sock_filter, SeccompCmpArgLen, IsRecord, argument_at, Condition, Holds, RuleHolds, part_of}
+use Rattle.seccomp_tree.proofs.Common.{Target, Give, Step, found_in, single, is_plain, AreLaid, IsConditionMet, Leads, to_return, Grows}
+use Rattle.seccomp_tree.proofs.Common.{only, part_length, Ruling, First, alike, same_length, joined, conditions_length, AreSteps, IsPart}
+use Rattle.seccomp_tree.proofs.Common.{IsIn, conditions_steps, rules_length, begins, Takes, stops, passes, IsRulingMet, AreRules, IsChosen}
 use Rattle.seccomp_tree.proofs.Common.{greatest_length, get_or, false, false≢true, option_map, unwrap_or}
-use Rattle.std.proofs.lemmas.List.{get_or_read_under}
 use Rattle.seccomp_tree.specs.Code.{numbers_of}
 use Rattle.seccomp_tree.proofs.Runs.{grows_not, grows_on, leads_by, starts_more}
 use Rattle.seccomp_tree.proofs.Begun.{not_none, numbers_many, laid_in}
@@ -74,7 +73,7 @@ pub record IsBehind (old : List sock_filter) (default : ℕ) (like : SeccompCmpA
   pub are : AreSteps (numbers_of like.0) steps
   pub inside : (a : ℕ) → a < numbers_of like.0 → IsIn code (found_in steps a)
   pub leads : (r : List ℕ) → IsRecord r → (w n : ℕ) → First default r rulings w → Takes r entered rulings n
-      → LeadsAlways code r (found_in steps (part_of like.0 (argument_at r like.1))) w (n + 1)
+      → Leads 0 code r (found_in steps (part_of like.0 (argument_at r like.1))) w (n + 1)
 
 module _ {old code : List sock_filter} {default : ℕ} where
   -- so does a target, if none is entered
@@ -139,13 +138,13 @@ module _ {old code : List sock_filter} {default : ℕ} (d : Ruling) (rest : List
   }
     where
       behind : (r : List ℕ) → IsRecord r → (w i n : ℕ) → i ≡ 0 → First default r (d ∷ rest) w → Takes r (suc i) (d ∷ rest) n
-          → LeadsAlways new r u w (conditions_steps d.conditions + n + 1)
+          → Leads 0 new r u w (conditions_steps d.conditions + n + 1)
       behind r rec w i n none first (stops j e l holds) a small = starts_more _ (omega arith)
           (h.met r rec holds w 1 (rw (← first_here d rest holds first) (λ b fits. to_return w b 1 (omega arith))) a small)
       behind r rec w i n none first (passes j e l m not takes) a small = starts_more _ (omega arith)
           (h.unmet r rec not w (m + 1) (x.leads r rec w m (first_behind d rest not first) (rw none at takes)) a small)
 
-      leads : (r : List ℕ) → IsRecord r → (w n : ℕ) → First default r (d ∷ rest) w → Takes r 0 (d ∷ rest) n → LeadsAlways new r u w (n + 1)
+      leads : (r : List ℕ) → IsRecord r → (w n : ℕ) → First default r (d ∷ rest) w → Takes r 0 (d ∷ rest) n → Leads 0 new r u w (n + 1)
       leads r rec w n first (begins e l k m le takes) =
           rw own (behind r rec w (joined d.conditions rest) m (joined_none d.conditions rest own) first takes)
 
@@ -173,7 +172,7 @@ module _ {old code : List sock_filter} {default : ℕ} (d : Ruling) (rest : List
             record { met = λ is. x.met (same.1 is); unmet = λ not. x.unmet (λ is. not (same.0 is)) }
 
         leads : (r : List ℕ) → IsRecord r → (w n : ℕ) → First default r (d ∷ rest) w → Takes r (suc j) (d ∷ rest) n
-            → LeadsAlways code r (found_in laid (part_of c.arg_len (argument_at r c.arg_index))) w (n + 1)
+            → Leads 0 code r (found_in laid (part_of c.arg_len (argument_at r c.arg_index))) w (n + 1)
         leads r rec w n first (stops i e l holds) a small =
             rw ((choice r rec).met holds, first_here d rest holds first) (to_return d.value a 1 (omega arith))
         leads r rec w n first (passes i e l m not takes) a small =
@@ -190,7 +189,7 @@ module _ {old code : List sock_filter} {default : ℕ} (d : Ruling) (rest : List
       leads = leads;
     }
       where
-        leads : (r : List ℕ) → IsRecord r → (w n : ℕ) → First default r (d ∷ rest) w → Takes r 0 (d ∷ rest) n → LeadsAlways new r t w (n + 1)
+        leads : (r : List ℕ) → IsRecord r → (w n : ℕ) → First default r (d ∷ rest) w → Takes r 0 (d ∷ rest) n → Leads 0 new r t w (n + 1)
         leads r rec w n first (begins e l k m le takes) a small = rw own (starts_more _ (omega arith)
             (leads_by (part.leads r rec w (m + 1) k (omega (arith, x.few, le)) (x.leads r rec w m first takes) a small)))
 

@@ -1,13 +1,11 @@
 -- Code that grows: what starts at a place stays what it was; runs that begin at a target; and targets that are reached and tested.
 use Rattle.seccomp_tree.proofs.Common.{◌≡◌, ℕ, suc, ◌+◌, ◌-◌, ◌<◌, List, [], ◌∷◌, ◌++◌, length, drop, get_or, length-append, sym, ap, ◌∙◌}
-use Rattle.seccomp_tree.proofs.Common.{arith, ◌≤◌, ◌^◌, append_assoc, refl, subst, zero, reverse, drop_more, drop-drop, get_or-reverse, At}
-use Rattle.seccomp_tree.proofs.Common.{length-reverse, sock_filter, tail_at, IsIn, Grows, Returns, gives, Starts, Leads, to_return, near}
-use Rattle.seccomp_tree.proofs.Common.{to_place, IsSound, Target, Give, IsFine, IsInRange, ◌⊎◌, inl, inr, ⊎_elim, nat_tests, cases_eq, Does}
-use Rattle.seccomp_tree.proofs.Common.{cases_lt, jumps, is_equal, is_not_equal, is_at_least, is_less, Test, give, fine_return, fine_jump}
-use Rattle.seccomp_tree.proofs.Common.{DoesAs, Says, IsReached, chosen, IsTested}
-use Rattle.seccomp_tree.specs.Code.{goes_on}
+use Rattle.seccomp_tree.proofs.Common.{goes_on, Equal, AtLeast, arith, ◌≤◌, ◌^◌, append_assoc, refl, subst, zero, reverse, drop_more}
+use Rattle.seccomp_tree.proofs.Common.{drop-drop, get_or-reverse, At, length-reverse, sock_filter, tail_at, IsIn, Grows, Returns, gives}
+use Rattle.seccomp_tree.proofs.Common.{Starts, to_return, near, to_place, IsSound, Target, Give, IsFine, IsInRange, ◌⊎◌, inl, inr, ⊎_elim}
+use Rattle.seccomp_tree.proofs.Common.{nat_tests, cases_eq, Does, cases_lt, jumps, is_equal, is_not_equal, is_at_least, is_less, Test, give}
+use Rattle.seccomp_tree.proofs.Common.{fine_return, fine_jump, DoesAs, Says, IsReached, chosen, IsTested}
 use Rattle.std.proofs.Math.Seq.{drop-append-add}
-use Rattle.seccomp_tree.specs.declared.code.Test.TheVariants.{Equal, AtLeast}
 
 -- what starts at a place stays what it was
 pub tail_grown : (front old : List sock_filter) (m : ℕ) → m < length old → tail_at (front ++ old) m ≡ tail_at old m
@@ -83,7 +81,7 @@ starts_more m le (near p w a n inside close h) = near p w a m inside close (retu
 
 -- a jump to a place takes one step more
 pub leads_by : {reach : ℕ} {code : List sock_filter} {r : List ℕ} {t : Target} {a w n : ℕ} → Starts reach code r t a w n
-    → Leads code r t a w (suc n)
+    → Starts 0 code r t a w (suc n)
 leads_by (to_return w a n some) = to_return w a (suc n) (omega arith)
 leads_by (to_place p w a n inside h) = to_place p w a (suc n) inside (returns_more (suc n) (omega arith) h)
 leads_by (near p w a n inside close h) = to_place p w a n inside h
@@ -103,7 +101,7 @@ starts_grown g close (near m w a n inside le h) =
     near m w a n (omega (arith, (grown_long g).0)) (close m refl inside le) (returns_grown m g inside h)
 
 pub leads_grown : {e most : ℕ} {old new : List sock_filter} {r : List ℕ} {t : Target} {a w n : ℕ} → Grows old most new
-    → Leads old r t a w n → Starts e new r t a w n
+    → Starts 0 old r t a w n → Starts e new r t a w n
 leads_grown g h = starts_grown g (λ m is inside le. absurd (omega arith)) h
 
 -- what was written last is entered without a jump
@@ -140,7 +138,7 @@ written_does back place i view inside here says =
 
 -- a run from such a place
 does_run : {code : List sock_filter} {r : List ℕ} {t : Target} {place a w n : ℕ} → DoesAs code t place → a < 2 ^ 32
-    → Leads code r t a w n → Returns r (tail_at code place) a w n
+    → Starts 0 code r t a w n → Returns r (tail_at code place) a w n
 does_run {code} {r} h small (to_return w a zero some) = absurd (omega arith)
 does_run h small (to_return w a (suc n) some) = rw h.here (gives h.instruction h.rest a w n h.says.0 h.says.1)
 does_run {code} {r} {t} {place} h small (to_place m w a n inside run) =

@@ -1,19 +1,16 @@
 -- The theorem: what is written answers every record as is decided.
 use Rattle.seccomp_tree.proofs.Common.{◌≡◌, ℕ, ◌+◌, ◌*◌, ◌≤◌, ◌^◌, List, [], ◌∷◌, length, Option, Some, None, refl, ap, inl, inr, arith}
-use Rattle.seccomp_tree.proofs.Common.{suc, zero, nat_tests, sock_filter, IsRecord, word_at, audit_word, Target, Give, Step, one}
-use Rattle.seccomp_tree.proofs.Common.{StartsAlways, to_return, LeadsAlways, IsPart, IsSound, Returns, chosen}
-use Rattle.seccomp_tree.proofs.Common.{Dword, Ruling, First, nothing, here, behind, Takes, stops, passes, ends, begins, run_steps}
-use Rattle.seccomp_tree.proofs.Common.{joined, DecisionSet, default_for, IsDecided}
-use Rattle.seccomp_tree.proofs.Common.{rulings_for, other_architecture, decided, one_value, value_for, TakesOwn, other, own, EndsAsDecided}
-use Rattle.seccomp_tree.proofs.Common.{IsTreeProgram, AreRanges, IsTested, greatest_length, load, word_fits, pow-succ', one-le-pow, give}
-use Rattle.seccomp_tree.specs.Code.{IsAnswer, AreCallSteps}
+use Rattle.seccomp_tree.proofs.Common.{IsAnswer, AreCallSteps, length_by, Equal, suc, zero, nat_tests, sock_filter, IsRecord, word_at}
+use Rattle.seccomp_tree.proofs.Common.{audit_word, Target, Give, Step, one, Leads, to_return, IsPart, IsSound, Returns, chosen, Dword}
+use Rattle.seccomp_tree.proofs.Common.{Ruling, First, nothing, here, behind, Takes, stops, passes, ends, begins, run_steps, joined}
+use Rattle.seccomp_tree.proofs.Common.{DecisionSet, default_for, IsDecided, rulings_for, other_architecture, decided, one_value, value_for}
+use Rattle.seccomp_tree.proofs.Common.{TakesOwn, other, own, EndsAsDecided, IsTreeProgram, AreRanges, IsTested, greatest_length, load}
+use Rattle.seccomp_tree.proofs.Common.{word_fits, pow-succ', one-le-pow, give}
 use Rattle.seccomp_tree.proofs.Deciding.{decided_some}
 use Rattle.seccomp_tree.proofs.Begun.{not_none}
-use Rattle.seccomp_tree.specs.TreeProgram.{length_by}
 use Rattle.seccomp_tree.proofs.Runs.{grown_long, returns_more}
 use Rattle.seccomp_tree.proofs.Trees.{load_run}
 use Rattle.seccomp_tree.proofs.CallsPushed.{fewest}
-use Rattle.seccomp_tree.specs.declared.code.Test.TheVariants.{Equal}
 use Rattle.seccomp_tree.proofs.Meeting.{rule_or_not}
 use Rattle.seccomp_tree.proofs.ProgramEnds.{program_ends, returns_short, sound_checked}
 
@@ -28,10 +25,10 @@ one_first default v w (d ∷ rulings) r is (behind e rest u not h) =
 answer_leads : (d : DecisionSet) (code : List sock_filter) (t : Target) (r : List ℕ) (w n : ℕ) → IsRecord r
     → IsAnswer code (default_for d.defaults (word_at r 0)) (rulings_for d.calls (word_at r 0)) t
     → word_at r 4 ≡ audit_word d.target_arch → First (default_for d.defaults (word_at r 0)) r (rulings_for d.calls (word_at r 0)) w
-    → TakesOwn d r n → LeadsAlways code r t w (n + 1)
+    → TakesOwn d r n → Leads 0 code r t w (n + 1)
 answer_leads d code t r w n rec h arch first takes = go (value_for d (word_at r 0)) refl n takes
   where
-    go : (o : Option ℕ) → value_for d (word_at r 0) ≡ o → (m : ℕ) → TakesOwn d r m → LeadsAlways code r t w (m + 1)
+    go : (o : Option ℕ) → value_for d (word_at r 0) ≡ o → (m : ℕ) → TakesOwn d r m → Leads 0 code r t w (m + 1)
     go (Some v) is m takes = λ a small.
         rw (h.one v is, one_first _ v w (rulings_for d.calls (word_at r 0)) r is first) (to_return v a (m + 1) (omega arith))
     go None is m (other not) = absurd (not arch)
@@ -76,7 +73,7 @@ pub record IsWritten (d : DecisionSet) (p : List sock_filter) : Type 0 where
 module _ (d : DecisionSet) (p : List sock_filter) (h : IsWritten d p) where
   -- the test of the architecture's word, after its load
   chosen_runs : (r : List ℕ) (u : Target) (w m : ℕ) → IsRecord r
-      → chosen Equal (audit_word d.target_arch) h.calls (Give 0x80000000) (word_at r 4) ≡ u → StartsAlways h.behind r u w m
+      → chosen Equal (audit_word d.target_arch) h.calls (Give 0x80000000) (word_at r 4) ≡ u → Leads 1 h.behind r u w m
       → Returns r p 0 w (suc (suc m))
   chosen_runs r u w m rec is enters =
       let small = word_fits r 4 rec in

@@ -1,15 +1,11 @@
 -- For `tree` and `word`: parts of steps, rows of tests, and the code of steps, put together of the code of fewer and a test.
-use Rattle.seccomp_tree.proofs.Common.{◌≡◌, ℕ, zero, suc, ◌+◌, ◌-◌, ◌*◌, ◌/◌, ◌^◌, ◌<◌, ◌≤◌, List, [], ◌∷◌, length, take, drop, get_or}
-use Rattle.seccomp_tree.proofs.Common.{true, false, refl, sym, ap, ◌∙◌, subst, nat_le, if◌then◌else◌, arith, length-drop, nat_eq}
-use Rattle.seccomp_tree.proofs.Common.{inl, inr, get_or-drop, get_or-take, length-take, length-take-le, take_all, nat_tests, pow-succ'}
-use Rattle.seccomp_tree.proofs.Common.{sock_filter, Target, Step, found_in, AreOver, single, same}
-use Rattle.seccomp_tree.proofs.Common.{second_stands_out, row, AreIn, Grows, GoesOn, chosen, IsTested, IsTree, Returns, IsPart, and_parts}
-use Rattle.seccomp_tree.proofs.Common.{◌++◌, drop_more, Give, At, Test, Dword, IsRecord, word_at, loads, load, word_fits}
-use Rattle.std.proofs.lemmas.Bool.{cases_Bool}
-use Rattle.seccomp_tree.specs.Code.{goes_on, passed}
-use Rattle.std.proofs.lemmas.List.{take-append-drop}
+use Rattle.seccomp_tree.proofs.Common.{take-append-drop, if◌then◌else◌, get_or-drop, get_or-take, length-take-le, second_stands_out, GoesOn}
+use Rattle.seccomp_tree.proofs.Common.{cases_Bool, length-drop, length-take, nat_tests, pow-succ', sock_filter, AreIn, and_parts, drop_more}
+use Rattle.seccomp_tree.proofs.Common.{goes_on, AtLeast, take_all, found_in, AreOver, IsTested, Returns, Give, IsRecord, word_at, word_fits}
+use Rattle.seccomp_tree.proofs.Common.{length, get_or, passed, Equal, nat_le, nat_eq, Target, single, Grows, chosen, IsTree, IsPart, Dword}
+use Rattle.seccomp_tree.proofs.Common.{ℕ, zero, List, take, drop, true, false, refl, subst, arith, inl, Step, same, ◌++◌, Test, loads, load}
+use Rattle.seccomp_tree.proofs.Common.{◌≡◌, suc, ◌+◌, ◌-◌, ◌*◌, ◌/◌, ◌^◌, ◌<◌, ◌≤◌, [], ◌∷◌, sym, ap, ◌∙◌, inr, row, At}
 use Rattle.seccomp_tree.proofs.Begun.{ascend_more, ascend_parts, found_back, found_before, found_front}
-use Rattle.seccomp_tree.specs.declared.code.Test.TheVariants.{Equal, AtLeast}
 use Rattle.seccomp_tree.proofs.Runs.{grows_not, grows_on, last_in, starts_more, starts_last, leads_by, leads_grown, grows_one, runs_last}
 
 -- ---- parts of steps

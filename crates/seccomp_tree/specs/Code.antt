@@ -1,8 +1,9 @@
--- What private functions promise each other: of code that is written from its end to its front, conditions, rulings and call numbers.
+-- What private functions promise each other: of steps that are looked up by a number, of code that is written from its end to its
+-- front, conditions, rulings and call numbers.
 use Rattle.std.specs.Prelude.{◌≡◌, ℕ, suc, ◌+◌, ◌-◌, ◌*◌, ◌/◌, ◌%◌, ◌<◌, ◌≤◌, ◌^◌, List, [], ◌∷◌, ◌++◌, length, drop, ⊤, nat_eq, nat_le}
-use Rattle.std.specs.Prelude.{slice_index_or, if◌then◌else◌, bit_and, Option, Some, None, Bool, true}
+use Rattle.std.specs.Prelude.{slice_index_or, if◌then◌else◌, bit_and, Some, None, Bool, true, ◌≢◌, false, ◌&&◌}
 use Rattle.seccompiler.specs.declared.bpf.sock_filter.{sock_filter}
-use Rattle.seccompiler.specs.Machine.{IsRecord, Does, IsFine, IsInRange, word_at, argument_at, greatest_length}
+use Rattle.seccompiler.specs.Machine.{IsRecord, Does, IsFine, IsInRange, word_at, greatest_length}
 use Rattle.seccompiler.specs.Policy.{Condition, Holds, Compares, RuleHolds, part_of}
 use Rattle.seccompiler.specs.declared.backend.SeccompCmpArgLen.{SeccompCmpArgLen}
 use Rattle.seccompiler.specs.declared.backend.SeccompCmpArgLen.TheVariants.{Dword, Qword}
@@ -15,11 +16,84 @@ use Rattle.seccomp_tree.specs.declared.steps.Target.TheVariants.{Give, At}
 use Rattle.seccomp_tree.specs.declared.steps.Step.{Step}
 use Rattle.seccomp_tree.specs.declared.code.Test.{Test}
 use Rattle.seccomp_tree.specs.declared.code.Test.TheVariants.{Equal, AtLeast}
-use Rattle.seccomp_tree.specs.Steps.{AreSteps, found_in, row, single}
 use Rattle.seccomp_tree.specs.Decisions.{Ruling, First, Takes, condition_length, condition_steps, conditions_length, conditions_steps}
 use Rattle.seccomp_tree.specs.Decisions.{is_plain, part_length, part_steps, rules_length}
 use Rattle.seccomp_tree.specs.Decided.{DecisionSet, default_for, rulings_for}
 use Rattle.seccomp_tree.specs.TreeProgram.{one_value, calls_length}
+
+-- The target for a number: that of the last step that starts at or below it, or this one if none does.
+abbrev pub found_from : Target → List Step → ℕ → Target
+found_from found [] a = found
+found_from found (x ∷ steps) a = if nat_le x.start a then found_from x.target steps a else found
+
+-- The target that steps have for a number, which is that of the first if the number is below all starts.
+abbrev pub found_in : List Step → ℕ → Target
+found_in [] a = Give 0
+found_in (x ∷ steps) a = found_from x.target steps a
+
+-- One target for all numbers.
+abbrev pub single : Target → List Step
+single target = record { start = 0; target = target } ∷ []
+
+-- The steps start at a number or above it and below the size, each above the one before it.
+abbrev pub AscendFrom : ℕ → ℕ → List Step → Type 0
+AscendFrom size start [] = ⊤
+AscendFrom size start (x ∷ steps) = (start ≤ x.start) × ((x.start < size) × AscendFrom size (x.start + 1) steps)
+
+-- There are steps over numbers of 32 bits; where the first starts doesn't matter.
+abbrev pub AreOver : List Step → Type 0
+AreOver [] = ⊥
+AreOver (x ∷ steps) = AscendFrom (2 ^ 32) 1 steps
+
+-- No two neighbours have one target, and the first has another than this.
+abbrev pub TightFrom : Target → List Step → Type 0
+TightFrom target [] = ⊤
+TightFrom target (x ∷ steps) = (target ≢ x.target) × TightFrom x.target steps
+
+abbrev pub AreTight : List Step → Type 0
+AreTight [] = ⊤
+AreTight (x ∷ steps) = TightFrom x.target steps
+
+-- Where the first of the steps starts, or the size.
+abbrev pub first_start : ℕ → List Step → ℕ
+first_start size [] = size
+first_start size (x ∷ steps) = x.start
+
+-- Steps over all numbers below the size, none if it is 0; no two neighbours have one target.
+pub record AreSteps (size : ℕ) (steps : List Step) : Type 0 where
+  pub first : first_start size steps ≡ 0
+  pub ascend : AscendFrom size 0 steps
+  pub tight : AreTight steps
+
+-- From start on the steps have this target, and below what they had.
+pub record IsPushed (old : List Step) (start : ℕ) (target : Target) (new : List Step) : Type 0 where
+  pub are : AreSteps (start + 1) new
+  pub from : (a : ℕ) → start ≤ a → found_in new a ≡ target
+  pub below : (a : ℕ) → a < start → found_in new a ≡ found_in old a
+  pub few : length new ≤ length old + 1
+
+-- ---- rows: how many tests tell steps apart, one after the other
+
+-- Whether two targets are one.
+abbrev pub same : Target → Target → Bool
+same (Give v) (Give w) = nat_eq v w
+same (At m) (At n) = nat_eq m n
+same _ _ = false
+
+-- Whether the second step is of one number, and its neighbours have one target.
+abbrev pub second_stands_out : List Step → Bool
+second_stands_out (x ∷ y ∷ z ∷ steps) = same x.target z.target && nat_eq (z.start - y.start) 1
+second_stands_out _ = false
+
+-- How many tests tell steps apart: each settles a step that stands out, and the one in front of it is answered as the one
+-- after it; or else it settles the first step.
+abbrev pub row : List Step → ℕ
+row [] = 0
+row (x ∷ []) = 0
+row (x ∷ y ∷ []) = 1
+row (x ∷ y ∷ z ∷ steps) = 1 + (if second_stands_out (x ∷ y ∷ z ∷ steps) then row (z ∷ steps) else row (y ∷ z ∷ steps))
+
+-- ---- code
 
 -- Each instruction is one of the seven, within its fields' ranges, and its jumps lead to instructions after it.
 abbrev pub AreFine : List sock_filter → Type 0
@@ -50,16 +124,10 @@ pub data Starts (reach : ℕ) (code : List sock_filter) (r : List ℕ) : Target 
   to_place : (m w a n : ℕ) → m < length code → Returns r (tail_at code m) a w n → Starts reach code r (At m) a w (suc n)
   near : (m w a n : ℕ) → m < length code → length code ≤ m + reach → Returns r (tail_at code m) a w n → Starts reach code r (At m) a w n
 
--- The same if each place may be far; and whatever the accumulator holds.
-abbrev pub Leads : List sock_filter → List ℕ → Target → ℕ → ℕ → ℕ → Type 0
-Leads code r t a w n = Starts 0 code r t a w n
-
-abbrev pub LeadsAlways : List sock_filter → List ℕ → Target → ℕ → ℕ → Type 0
-LeadsAlways code r t w n = (a : ℕ) → a < 2 ^ 32 → Leads code r t a w n
-
--- The same from what is written next, which needs no jump to the last place.
-abbrev pub StartsAlways : List sock_filter → List ℕ → Target → ℕ → ℕ → Type 0
-StartsAlways code r t w n = (a : ℕ) → a < 2 ^ 32 → Starts 1 code r t a w n
+-- So whatever the accumulator holds. From what is written next no jump is needed to the last place: there the reach is 1, and 0 if
+-- each place may be far.
+abbrev pub Leads : ℕ → List sock_filter → List ℕ → Target → ℕ → ℕ → Type 0
+Leads reach code r t w n = (a : ℕ) → a < 2 ^ 32 → Starts reach code r t a w n
 
 -- The target is a word of 32 bits, or a place of the code.
 abbrev pub IsIn : List sock_filter → Target → Type 0
@@ -115,7 +183,7 @@ pub record IsTested (old : List sock_filter) (test : Test) (k : ℕ) (yes no t :
 
 -- The target goes on as the steps say for the accumulator, in so many steps more than what they say takes.
 abbrev pub GoesOn : List sock_filter → List Step → ℕ → Target → List sock_filter → Type 0
-GoesOn old steps m t new = (r : List ℕ) (a w n : ℕ) → a < 2 ^ 32 → Leads old r (found_in steps a) a w n → Starts 1 new r t a w (n + m)
+GoesOn old steps m t new = (r : List ℕ) (a w n : ℕ) → a < 2 ^ 32 → Starts 0 old r (found_in steps a) a w n → Starts 1 new r t a w (n + m)
 
 -- It takes two steps for each halving; as many as it has tests if it is a row of few.
 pub record IsTree (old : List sock_filter) (steps : List Step) (t : Target) (new : List sock_filter) : Type 0 where
@@ -131,8 +199,8 @@ pub record IsPart (old : List sock_filter) (l : SeccompCmpArgLen) (number : List
     (new : List sock_filter) : Type 0 where
   pub grows : Grows old (part_length l (length steps)) new
   pub inside : IsIn new t
-  pub leads : (r : List ℕ) → IsRecord r → (w n k : ℕ) → length steps ≤ 2 ^ k → LeadsAlways old r (found_in steps (number r)) w n
-      → StartsAlways new r t w (n + part_steps l k)
+  pub leads : (r : List ℕ) → IsRecord r → (w n k : ℕ) → length steps ≤ 2 ^ k → Leads 0 old r (found_in steps (number r)) w n
+      → Leads 1 new r t w (n + part_steps l k)
 
 -- Numbers of 64 bits from one up to the next: up to the end if that has the same high half, else up to the next high half, or, if
 -- the number is the first of its high half, up to that of the end.
@@ -177,8 +245,8 @@ pub record IsMet (Is : List ℕ → Type 0) (most steps : ℕ) (old : List sock_
     Type 0 where
   pub grows : Grows old most new
   pub inside : IsIn new t
-  pub met : (r : List ℕ) → IsRecord r → Is r → (w n : ℕ) → LeadsAlways old r yes w n → LeadsAlways new r t w (n + steps)
-  pub unmet : (r : List ℕ) → IsRecord r → (Is r → ⊥) → (w n : ℕ) → LeadsAlways old r no w n → LeadsAlways new r t w (n + steps)
+  pub met : (r : List ℕ) → IsRecord r → Is r → (w n : ℕ) → Leads 0 old r yes w n → Leads 0 new r t w (n + steps)
+  pub unmet : (r : List ℕ) → IsRecord r → (Is r → ⊥) → (w n : ℕ) → Leads 0 old r no w n → Leads 0 new r t w (n + steps)
 
 abbrev pub IsConditionMet : List sock_filter → Condition → Target → Target → Target → List sock_filter → Type 0
 IsConditionMet old c met unmet t new =
@@ -198,7 +266,7 @@ IsRulingMet old q value after t new = IsMet (RuleHolds q) (conditions_length q) 
 pub record AreRules (old : List sock_filter) (rulings : List Ruling) (default : ℕ) (t : Target) (new : List sock_filter) : Type 0 where
   pub grows : Grows old (rules_length rulings) new
   pub inside : IsIn new t
-  pub leads : (r : List ℕ) → IsRecord r → (w n : ℕ) → First default r rulings w → Takes r 0 rulings n → LeadsAlways new r t w (n + 1)
+  pub leads : (r : List ℕ) → IsRecord r → (w n : ℕ) → First default r rulings w → Takes r 0 rulings n → Leads 0 new r t w (n + 1)
 
 -- There are more rulings than a program has room for: this comes only if that is so, or of memory.
 abbrev pub IsTooMany : ℕ → TreeError → Type 0
@@ -212,7 +280,7 @@ pub record IsAnswer (code : List sock_filter) (default : ℕ) (rulings : List Ru
   pub inside : IsIn code t
   pub one : (v : ℕ) → one_value default rulings ≡ Some v → t ≡ Give v
   pub own : one_value default rulings ≡ None → (r : List ℕ) → IsRecord r → (w n : ℕ) → First default r rulings w
-      → Takes r 0 rulings n → LeadsAlways code r t w (n + 1)
+      → Takes r 0 rulings n → Leads 0 code r t w (n + 1)
 
 -- A number after this one, up to which calls are answered as those of this one.
 pub record IsNextStart (defaults : List DefaultValue) (calls : List (ℕ × List Ruling)) (number next : ℕ) : Type 0 where

@@ -1,6 +1,6 @@
 -- Decisions on one call: rulings in order, of which the first that holds names the word.
-use Rattle.std.specs.Prelude.{◌≡◌, ℕ, suc, ◌+◌, ◌*◌, ◌≤◌, ◌^◌, List, [], ◌∷◌, Bool, true, false, ◌&&◌, nat_eq, if◌then◌else◌, Option, Some}
-use Rattle.std.specs.Prelude.{None, ◌-◌, option_map, unwrap_or}
+use Rattle.std.specs.Prelude.{ℕ, suc, ◌+◌, ◌*◌, ◌≤◌, ◌^◌, List, [], ◌∷◌, Bool, true, false, ◌&&◌, nat_eq, if◌then◌else◌, Option, Some, None}
+use Rattle.std.specs.Prelude.{◌-◌, option_map, unwrap_or}
 use Rattle.seccompiler.specs.declared.backend.SeccompCmpArgLen.{SeccompCmpArgLen}
 use Rattle.seccompiler.specs.declared.backend.SeccompCmpArgLen.TheVariants.{Dword, Qword}
 use Rattle.seccompiler.specs.Policy.{Condition, RuleHolds}

@@ -1,7 +1,6 @@
 -- The definitions that the contracts cite.
 
 -- Between layers: what private functions promise each other. No promise rests on how these are worded.
-pub mod Steps
 pub mod Code
 -- Decisions, what they decide, and their program.
 pub mod Decisions

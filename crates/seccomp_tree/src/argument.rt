@@ -3,8 +3,7 @@
 ghost use Rattle.std.specs.Prelude.{◌≤◌, ◌<◌, IfOk};
 ghost use Rattle.seccompiler.specs.Machine.{argument_at};
 ghost use Rattle.seccompiler.specs.Policy.{part_of};
-ghost use Rattle.seccomp_tree.specs.Steps.{AreSteps};
-ghost use Rattle.seccomp_tree.specs.Code.{AreIn, IsHalfTurn, IsPart, numbers_of};
+ghost use Rattle.seccomp_tree.specs.Code.{AreSteps, AreIn, IsHalfTurn, IsPart, numbers_of};
 
 use crate::code::Code;
 use crate::intervals::first_start;

@@ -2,8 +2,7 @@
 
 ghost use Rattle.std.specs.Prelude.{◌≡◌, ◌≤◌, ◌<◌, ◌^◌, ◌↔◌, IsTrue, IfOk, true};
 ghost use Rattle.seccompiler.specs.Policy.{Compares};
-ghost use Rattle.seccomp_tree.specs.Steps.{AreSteps, first_start};
-ghost use Rattle.seccomp_tree.specs.Code.{AreLaid, IsTurn, numbers_of};
+ghost use Rattle.seccomp_tree.specs.Code.{AreSteps, first_start, AreLaid, IsTurn, numbers_of};
 ghost use Rattle.seccomp_tree.specs.Decisions.{is_plain};
 
 use crate::steps::{Step, Target, push_step};

@@ -1,7 +1,7 @@
 // What is looked up by a number: steps, each from its start up to the next one's.
 
 ghost use Rattle.std.specs.Prelude.{◌≡◌, IfOk};
-ghost use Rattle.seccomp_tree.specs.Steps.{AreSteps, IsPushed, single};
+ghost use Rattle.seccomp_tree.specs.Code.{AreSteps, IsPushed, single};
 
 use std::alloc::{AllocError, Global};
 

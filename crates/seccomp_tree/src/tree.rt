@@ -1,10 +1,9 @@
 // The tree of tests of steps.
 
 ghost use Rattle.std.specs.Prelude.{◌≡◌, ◌≤◌, ◌+◌, ◌-◌, ◌*◌, ◌%◌, ◌↔◌, IsTrue, IfOk, length};
-ghost use Rattle.seccomp_tree.specs.Steps.{AreOver, row, second_stands_out};
+ghost use Rattle.seccomp_tree.specs.Code.{AreOver, row, second_stands_out, AreIn, IsPart, IsTree};
 ghost use Rattle.seccompiler.specs.Machine.{word_at};
 ghost use Rattle.seccompiler.specs.declared.backend.SeccompCmpArgLen.TheVariants.{Dword};
-ghost use Rattle.seccomp_tree.specs.Code.{AreIn, IsPart, IsTree};
 
 use crate::code::{Code, Test};
 use crate::steps::{Step, Target};

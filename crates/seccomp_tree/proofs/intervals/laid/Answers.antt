@@ -1,6 +1,6 @@
 use Rattle.seccomp_tree.proofs.Common.{◌≡◌, List, Step, ◌%◌, ◌∙◌, inl, inr, drop, refl, sym, false≢true, get_or, Give, Compares, part_of}
-use Rattle.seccomp_tree.specs.Steps.{first_start}
-use Rattle.seccomp_tree.specs.Code.{IsChosen, numbers_of}
+use Rattle.seccomp_tree.proofs.Common.{first_start, IsChosen}
+use Rattle.seccomp_tree.specs.Code.{numbers_of}
 use Rattle.seccomp_tree.proofs.Begun.{HasMoved, Laying, laying_begins, laying_on, laying_ends, part_left}
 use Rattle.seccomp_tree.proofs.Trees.{all_behind}
 use Rattle.seccomp_tree.proofs.intervals.laid.Goals.{After-turn-number, then-is_met, else-is_met}

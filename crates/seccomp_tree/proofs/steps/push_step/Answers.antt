@@ -1,5 +1,4 @@
-use Rattle.seccomp_tree.proofs.Common.{◌≤◌, length, ap, sym, ◌∙◌, arith, nat_tests, rules, Step, ◌≡◌, ◌↔◌, false≢true}
-use Rattle.std.specs.Prelude.{IsTrue}
+use Rattle.seccomp_tree.proofs.Common.{◌≤◌, length, ap, sym, ◌∙◌, arith, nat_tests, rules, Step, ◌≡◌, ◌↔◌, false≢true, IsTrue}
 use Rattle.seccomp_tree.proofs.Begun.{found_last, pushed_same, pushed_more}
 use Rattle.seccomp_tree.proofs.steps.push_step.Goals.{else-not-is_empty-via-then-not-is_empty+else-eq}
 use Rattle.seccomp_tree.proofs.steps.push_step.Goals.{else-not-is_empty-via-else-not-is_empty}

@@ -1,5 +1,4 @@
-use Rattle.seccomp_tree.proofs.Common.{◌≡◌, ◌^◌, List, Step, Give, IfOk-weaker, ap, ◌∙◌, arith, drop, inl, inr, refl}
-use Rattle.seccomp_tree.specs.Steps.{first_start}
+use Rattle.seccomp_tree.proofs.Common.{◌≡◌, ◌^◌, List, Step, Give, IfOk-weaker, ap, ◌∙◌, arith, drop, inl, inr, refl, first_start}
 use Rattle.seccomp_tree.proofs.Begun.{HasMoved}
 use Rattle.seccomp_tree.proofs.Meeting.{part_of_word}
 use Rattle.seccomp_tree.proofs.Trees.{all_behind}

@@ -1,5 +1,5 @@
-use Rattle.seccomp_tree.proofs.Common.{◌≡◌, ◌-◌, ◌<◌, ◌^◌, ◌∷◌, [], List, Ruling, only, rules_length, length, drop, drop_all, ap, sym, ◌∙◌}
-use Rattle.seccomp_tree.proofs.Common.{arith, refl, None, Some, Give, Condition, AreRules, alike, joined, zero, suc}
+use Rattle.seccomp_tree.proofs.Common.{◌≡◌, ◌-◌, ◌∷◌, [], List, Ruling, only, rules_length, length, drop, drop_all, ap, sym, ◌∙◌, arith}
+use Rattle.seccomp_tree.proofs.Common.{refl, Give, AreRules, joined, suc}
 use Rattle.seccomp_tree.proofs.Deciding.{drop_back}
 use Rattle.seccomp_tree.proofs.Begun.{are_in_below, numbers_many}
 use Rattle.seccomp_tree.proofs.Ruled.{IsBehind, alike_none, behind_along, behind_fresh, behind_laid, behind_many, behind_none, compared}

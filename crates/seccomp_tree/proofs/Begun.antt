@@ -1,10 +1,12 @@
 -- Steps that ascend: what they have for a number, what is left of them there, one step more, and comparisons laid over them.
-use Rattle.seccomp_tree.proofs.Common.{◌≡◌, ℕ, zero, suc, ◌+◌, ◌-◌, ◌^◌, ◌<◌, ◌≤◌, ◌≢◌, List, [], ◌∷◌, ◌++◌, length, drop, get_or, true, ap}
-use Rattle.seccomp_tree.proofs.Common.{first_start, IsTurn, false, refl, ◌∙◌, ◌⊎◌, inl, inr, nat_le, if◌then◌else◌, arith, length-append}
-use Rattle.seccomp_tree.proofs.Common.{nat_tests, Bool, Step, sock_filter, Target, found_from, found_in, AreOver, AscendFrom, AreSteps}
-use Rattle.seccomp_tree.proofs.Common.{TightFrom, IsPushed, IsIn, AreIn, nat_eq, nat_lt, cases_lt, cases_eq, bit_and, SeccompCmpArgLen}
-use Rattle.seccomp_tree.proofs.Common.{SeccompCmpOp, Dword, Qword, ◌%◌, MaskedEq, Condition, Compares, part_of, is_plain, IsChosen, AreLaid}
+use Rattle.seccomp_tree.proofs.Common.{AllIn, nat_le, take, take_all, length-drop, IsTurn, ◌≡◌, ℕ, zero, suc, ◌+◌, ◌-◌, ◌^◌, ◌<◌, ◌≤◌, ◌≢◌}
+use Rattle.seccomp_tree.proofs.Common.{List, [], ◌∷◌, ◌++◌, length, drop, get_or, true, ap, first_start, false, refl, ◌∙◌, ◌⊎◌, inl, inr}
+use Rattle.seccomp_tree.proofs.Common.{if◌then◌else◌, arith, length-append, nat_tests, Bool, Step, sock_filter, Target, found_from}
+use Rattle.seccomp_tree.proofs.Common.{found_in, AreOver, AscendFrom, AreSteps, TightFrom, IsPushed, IsIn, AreIn, nat_eq, nat_lt, cases_lt}
+use Rattle.seccomp_tree.proofs.Common.{cases_eq, bit_and, SeccompCmpArgLen, SeccompCmpOp, Dword, Qword, ◌%◌, MaskedEq, Condition, Compares}
+use Rattle.seccomp_tree.proofs.Common.{part_of, is_plain, IsChosen, AreLaid}
 use Rattle.seccomp_tree.specs.Code.{numbers_of}
+use mir.Val.{bool_byte}
 
 -- ---- ascending
 
@@ -87,26 +89,10 @@ in_below code m from t (x ∷ steps) up h (suc k) d lt = in_below code m (x.star
     (omega arith)
 
 pub are_in_below : (code : List sock_filter) (m : ℕ) (steps : List Step) → 0 < m → AreSteps m steps
-    → ((a : ℕ) → a < m → IsIn code (found_in steps a)) → AreIn code steps
+    → AllIn code m steps → AreIn code steps
 are_in_below code m [] some are h = absurd (omega (arith, are.first))
 are_in_below code m (x ∷ steps) some are h = in_below code m 0 x.target (x ∷ steps) are.ascend
     (λ a le lt. let yes : nat_le x.start a ≡ true = grind (arith, nat_tests, are.first) in rw yes (h a lt))
-
-in_from : (code : List sock_filter) (t : Target) (steps : List Step) (a : ℕ) → IsIn code t → AreIn code steps
-    → IsIn code (found_from t steps a)
-in_from code t [] a own h = own
-in_from code t (x ∷ steps) a own h =
-    pick (nat_le x.start a) _ (in_from code x.target steps a (h 0 x (omega arith)) (λ k d lt. h (suc k) d (omega arith)))
-  where
-    pick : (b : Bool) (u : Target) → IsIn code u → IsIn code (if b then u else t)
-    pick true u h = h
-    pick false u h = own
-
-pub found_in_code : (code : List sock_filter) (steps : List Step) (a : ℕ) → 1 ≤ length steps → AreIn code steps
-    → IsIn code (found_in steps a)
-found_in_code code [] a some h = absurd (omega arith)
-found_in_code code (x ∷ steps) a some h =
-    in_from code x.target steps a (h 0 x (omega arith)) (λ k d lt. h (suc k) d (omega arith))
 
 -- ---- what is left of steps from a number on
 
@@ -139,9 +125,25 @@ left_has [] d a h some le lt = absurd (h.from some)
 left_has {size} (x ∷ rest) d a h some le lt =
     h.same a le (omega (arith, lt, (left_end (x ∷ rest) h some).1.0)) ∙ found_until size x.target rest a lt
 
+-- the rest of a slice is what is left of the list
+pub all_behind : (steps : List Step) (n : ℕ) → take (length steps - n) (drop n steps) ≡ drop n steps
+all_behind steps n = take_all (length steps - n) (drop n steps) (omega (arith, length-drop n steps))
+
 -- What is left at the next number: the others, if the first ends there.
 abbrev pub HasMoved : ℕ → ℕ → List Step → List Step → Type 0
 HasMoved next end rest back = ((next ≡ end) × (back ≡ drop 1 rest)) ⊎ ((next ≢ end) × (back ≡ rest))
+
+-- a test as a number
+pub byte_is : (b : Bool) → bool_byte b ≡ (if b then 1 else 0)
+byte_is true = refl
+byte_is false = refl
+
+pub moves : (k next end : ℕ) (rest : List Step) → k ≡ (if nat_eq next end then 1 else 0)
+    → HasMoved next end rest (take (length rest - k) (drop k rest))
+moves k next end rest is = rw (all_behind rest k) (elim (cases_eq next end) [
+  | inl same ↦ let one : k ≡ 1 = grind (arith, nat_tests) in inl (same, rw one refl)
+  | inr other ↦ let none : k ≡ 0 = grind (arith, nat_tests) in inr (other, rw none refl)
+])
 
 pub left_on : {size number : ℕ} {steps : List Step} (next end : ℕ) (rest back : List Step) → AreLeft size steps number rest
     → number < size → end ≡ first_start size (drop 1 rest) → number < next → next ≤ end → HasMoved next end rest back
@@ -253,29 +255,29 @@ laying_begins c target others h = record {
 }
 
 -- a step more: numbers that compare alike, and have one of the others' targets
-pub laying_on : {c : Condition} {target t : Target} {others steps more : List Step} {value end number next : ℕ} (rest back : List Step)
+pub laying_on : {c : Condition} {target t : Target} {others steps more : List Step} {end number next : ℕ} (rest back : List Step)
     (d : Step) → is_plain c.operator ≡ true → Laying c target others number rest steps → number < numbers_of c.arg_len
-    → value ≡ part_of c.arg_len c.value → end ≡ first_start (numbers_of c.arg_len) (drop 1 rest) → IsTurn value number end next
+    → end ≡ first_start (numbers_of c.arg_len) (drop 1 rest)
+    → IsTurn number (part_of c.arg_len c.value + (if nat_le (part_of c.arg_len c.value) number then 1 else 0)) end next
     → IsChosen (Compares c.operator number (part_of c.arg_len c.value)) target (get_or rest 0 d).target t → IsPushed steps number t more
     → HasMoved next end rest back → Laying c target others next back more
-laying_on [] back d plain h some part ends turn chosen pushed moved = absurd (h.left.from some)
-laying_on {c} {value = value} {end} {number} {next} (x ∷ rest) back d plain h some part ends turn chosen pushed moved = record {
+laying_on [] back d plain h some ends turn chosen pushed moved = absurd (h.left.from some)
+laying_on {c} {end = end} {number} {next} (x ∷ rest) back d plain h some ends turn chosen pushed moved = record {
   left = left_on next end (x ∷ rest) back h.left some ends turn.above turn.within moved;
   are = steps_more (number + 1) next _ (omega arith) (omega (arith, turn.above)) pushed.are;
   each = λ a lt. elim (cases_lt a number) [
     | inl below ↦ rw (pushed.below a below) (h.each a below)
     | inr le ↦
         let other = left_has (x ∷ rest) d a h.left some le (omega (arith, ends, turn.within)) in
-        let side = rw part at (turn.alike a le lt) in
         rw (pushed.from a le, other) record {
-          met = λ is. chosen.met (alike_on c.operator a number (part_of c.arg_len c.value) plain (grind (arith, side, le)) is);
+          met = λ is. chosen.met (alike_on c.operator a number (part_of c.arg_len c.value) plain (grind (arith, nat_tests, turn.before, le, lt)) is);
           unmet = λ not. chosen.unmet (λ is. not (alike_on c.operator number a (part_of c.arg_len c.value) plain (grind
-              (arith, side, le)) is));
+              (arith, nat_tests, turn.before, le, lt)) is));
         }
   ];
   few = elim moved [
     | inl on ↦ rw on.1 (grind (arith, nat_tests, h.few, pushed.few, turn.above))
-    | inr not ↦ rw not.1 (grind (arith, nat_tests, h.few, pushed.few, turn.cut, turn.within, not.0, part))
+    | inr not ↦ rw not.1 (grind (arith, nat_tests, h.few, pushed.few, turn.stops, turn.within, turn.above, not.0))
   ];
 }
 
@@ -287,8 +289,7 @@ laying_ends {c} {number = number} plain h all =
 
 -- what is laid over targets of the code are targets of the code
 pub laid_in : (code : List sock_filter) (c : Condition) (target : Target) (others new : List Step) → AreLaid c target others new
-    → IsIn code target → ((a : ℕ) → a < numbers_of c.arg_len → IsIn code (found_in others a)) → (a : ℕ) → a < numbers_of c.arg_len
-    → IsIn code (found_in new a)
+    → IsIn code target → AllIn code (numbers_of c.arg_len) others → AllIn code (numbers_of c.arg_len) new
 laid_in code c target others new h own inside a lt = elim (compares_or_not c.operator a (part_of c.arg_len c.value)) [
   | inl met ↦ rw ((h.each a lt).met met) own
   | inr not ↦ rw ((h.each a lt).unmet not) (inside a lt)

@@ -1,11 +1,10 @@
 -- Arguments of 64 bits: steps by their high and their low halves.
-use Rattle.seccomp_tree.proofs.Common.{first_start, if◌then◌else◌, sock_filter, argument_at, number_halves, length-drop, IsHalfTurn, IsPart}
-use Rattle.seccomp_tree.proofs.Common.{cases_lt, nat_tests, pow-succ', word_at, IsRecord, word_fits, found_in, AreSteps, IsPushed, AreOver}
-use Rattle.seccomp_tree.proofs.Common.{ℕ, List, length, subst, arith, nat_lt, Step, Target, Dword, Qword, get_or, AreIn, Grows, IsIn, Leads}
-use Rattle.seccomp_tree.proofs.Common.{◌≡◌, suc, ◌+◌, ◌-◌, ◌*◌, ◌/◌, ◌%◌, ◌^◌, ◌<◌, ◌≤◌, [], ◌∷◌, drop, ap, ◌∙◌, inl, inr, refl, sym, ◌⊎◌}
+use Rattle.seccomp_tree.proofs.Common.{AllIn, IsTurn, first_start, if◌then◌else◌, sock_filter, argument_at, number_halves, length-drop}
+use Rattle.seccomp_tree.proofs.Common.{IsPart, cases_lt, nat_tests, pow-succ', word_at, IsRecord, word_fits, found_in, AreSteps, IsPushed}
+use Rattle.seccomp_tree.proofs.Common.{ℕ, List, length, subst, arith, nat_lt, Step, Target, Dword, Qword, get_or, Grows, IsIn, Leads, ◌≡◌}
+use Rattle.seccomp_tree.proofs.Common.{suc, ◌+◌, ◌-◌, ◌*◌, ◌/◌, ◌%◌, ◌^◌, ◌<◌, ◌≤◌, [], ◌∷◌, drop, ap, ◌∙◌, inl, inr, refl, sym, ◌⊎◌}
 use Rattle.seccomp_tree.proofs.Runs.{grows_not, grows_on, is_in_grown, leads_by, leads_grown, starts_more}
-use Rattle.seccomp_tree.proofs.Begun.{AreLeft, HasMoved, are_in_below, found_in_code, left_begins, left_end, left_has, left_on, over_zero}
-use Rattle.seccomp_tree.proofs.Begun.{steps_more}
+use Rattle.seccomp_tree.proofs.Begun.{AreLeft, HasMoved, left_begins, left_end, left_has, left_on, steps_more}
 
 -- How many further high halves a number may begin for which no step that is left starts.
 abbrev pub due : ℕ → List Step → ℕ
@@ -15,14 +14,25 @@ due number rest =
 due_few : (number : ℕ) (rest : List Step) → due number rest ≤ 2
 due_few number rest = grind (arith, nat_tests)
 
+-- The high half that is looked at behind that of a number: that of the end, if the number is the first of its own, else the next one.
+abbrev pub IsPast : ℕ → ℕ → ℕ → Type 0
+IsPast number end past =
+    ((number % 2 ^ 32 ≡ 0) × (past ≡ end / 2 ^ 32)) ⊎ ((0 < number % 2 ^ 32) × (past ≡ number / 2 ^ 32 + 1))
+
+next_is : (number end next past : ℕ) → IsTurn number (past * 2 ^ 32) end next → IsPast number end past → number / 2 ^ 32 < end / 2 ^ 32
+    → next ≡ past * 2 ^ 32
+next_is number end next past t (inl (first, is)) high = grind (arith, t.before, t.stops, t.within, t.above)
+next_is number end next past t (inr (later, is)) high = grind (arith, t.before, t.stops, t.within, t.above)
+
 -- a high half that is done is one of them, or a step fewer is left
-due_less : (number end next : ℕ) (rest back : List Step) → IsHalfTurn number end next → number / 2 ^ 32 < end / 2 ^ 32
-    → end ≡ first_start (2 ^ 64) (drop 1 rest) → HasMoved next end rest back
+due_less : (number end next past : ℕ) (rest back : List Step) → IsTurn number (past * 2 ^ 32) end next → IsPast number end past
+    → number / 2 ^ 32 < end / 2 ^ 32 → end ≡ first_start (2 ^ 64) (drop 1 rest) → HasMoved next end rest back
     → 1 + 2 * length (drop 1 back) + due next back ≤ 2 * length (drop 1 rest) + due number rest
-due_less number end next (x ∷ y ∷ rest) back t high ends (inl (at, is)) = rw is (grind (arith, nat_tests, t.behind))
-due_less number end next _ back t high ends (inl (at, is)) = rw (is, at, ends) (grind (arith, nat_tests, ends))
-due_less number end next rest back t high ends (inr (not, is)) =
-    rw (is, ← ends) (grind (arith, nat_tests, t.behind, t.first))
+due_less number end next past (x ∷ y ∷ rest) back t p high ends (inl (at, is)) =
+    rw is (grind (arith, nat_tests, next_is number end next past t p high))
+due_less number end next past _ back t p high ends (inl (at, is)) = rw (is, at, ends) (grind (arith, nat_tests, ends))
+due_less number end next past rest back t p high ends (inr (not, is)) =
+    rw (is, ← ends) (grind (arith, nat_tests, next_is number end next past t p high, p, t.within))
 
 some_left : (size : ℕ) (rest : List Step) → first_start size rest < size → 1 ≤ length rest
 some_left size [] lt = absurd (omega arith)
@@ -81,18 +91,23 @@ module _ {old code : List sock_filter} {index number end : ℕ} {steps lows push
     | inr more ↦ left_has rest d (high * 2 ^ 32 + a) h.left some (omega arith) (rw ends at lt) ∙ sym (p.from a more)
   ]
 
-  pub lows_in : AreIn old steps → AreOver pushed × AreIn code pushed
+  pub lows_in : AllIn old (2 ^ 64) steps → AreSteps (2 ^ 32) pushed × AllIn code (2 ^ 32) pushed
   lows_in inside = (
-    over_zero pushed (steps_more (number % 2 ^ 32 + 1) (2 ^ 32) pushed (omega arith) (omega arith) p.are),
-    are_in_below code (number % 2 ^ 32 + 1) pushed (omega arith) p.are
-        (λ a lt. rw (held (number / 2 ^ 32) a (omega arith) (inl refl) (omega arith) (omega (arith, up.0))) at
-        (is_in_grown (found_in steps (number / 2 ^ 32 * 2 ^ 32 + a)) h.grows (found_in_code old steps _ (omega (arith, h.few)) inside))),
+    steps_more (number % 2 ^ 32 + 1) (2 ^ 32) pushed (omega arith) (omega arith) p.are,
+    λ a lt. elim (cases_lt a (number % 2 ^ 32)) [
+      | inl less ↦ here a (omega arith)
+      | inr le ↦ rw (p.from a le ∙ sym (p.from (number % 2 ^ 32) (omega arith))) (here (number % 2 ^ 32) (omega arith))
+    ],
   )
+    where
+      here : (a : ℕ) → a ≤ number % 2 ^ 32 → IsIn code (found_in pushed a)
+      here a le = rw (held (number / 2 ^ 32) a (omega arith) (inl refl) (omega arith) (omega (arith, up.0))) at
+          (is_in_grown (found_in steps (number / 2 ^ 32 * 2 ^ 32 + a)) h.grows (inside _ (omega (arith, some))))
 
-  pub halving_on : (next : ℕ) (back : List Step) → IsHalfTurn number end next → HasMoved next end rest back
-      → number / 2 ^ 32 ≡ end / 2 ^ 32 → Halving old index steps next back pushed highs code
-  halving_on next back t (inr (not, is)) same = absurd (not (t.inside same))
-  halving_on next back t (inl (at, is)) same =
+  pub halving_on : (next past : ℕ) (back : List Step) → IsTurn number (past * 2 ^ 32) end next → IsPast number end past
+      → HasMoved next end rest back → number / 2 ^ 32 ≡ end / 2 ^ 32 → Halving old index steps next back pushed highs code
+  halving_on next past back t which (inr (not, is)) same = absurd (grind (arith, t.stops, t.within, t.above, which, not))
+  halving_on next past back t which (inl (at, is)) same =
       let high : next / 2 ^ 32 ≡ number / 2 ^ 32 = omega (arith, at, same) in
       let more = some_left (2 ^ 64) (drop 1 rest) (omega (arith, ends, same, some)) in
       let long = length-drop 1 rest in
@@ -111,23 +126,23 @@ module _ {old code : List sock_filter} {index number end : ℕ} {steps lows push
         leads = λ g lt. h.leads g (omega (arith, high));
       }
 
-  pub halving_done : (next : ℕ) (back more : List Step) (target : Target) (new : List sock_filter) → IsHalfTurn number end next
-      → HasMoved next end rest back → number / 2 ^ 32 < end / 2 ^ 32
+  pub halving_done : (next past : ℕ) (back more : List Step) (target : Target) (new : List sock_filter)
+      → IsTurn number (past * 2 ^ 32) end next → IsPast number end past → HasMoved next end rest back → number / 2 ^ 32 < end / 2 ^ 32
       → IsPart code Dword (λ r. word_at r (16 + 8 * index)) pushed target new → IsPushed highs (number / 2 ^ 32) target more
       → Halving old index steps next back [] more new
-  halving_done next back more target new t moved high half q = record {
+  halving_done next past back more target new t which moved high half q = record {
     left = left_on next end rest back h.left some ends t.above t.within moved;
-    are_lows = record { first = t.behind high; ascend = tt; tight = tt };
-    own = λ a lt. absurd (omega (arith, t.behind high));
+    are_lows = record { first = omega (arith, past_is); ascend = tt; tight = tt };
+    own = λ a lt. absurd (omega (arith, past_is));
     low_few = elim moved [
       | inl on ↦ rw on.1 (omega (arith, length-drop 1 rest, h.low_few))
       | inr not ↦ rw not.1 (omega (arith, h.low_few))
     ];
-    are_highs = steps_more (number / 2 ^ 32 + 1) (next / 2 ^ 32) more (omega arith) (omega (arith, t.above, t.behind high)) q.are;
-    few = omega (arith, due_less number end next rest back t high ends moved, h.few, q.few);
+    are_highs = steps_more (number / 2 ^ 32 + 1) (next / 2 ^ 32) more (omega arith) (omega (arith, t.above, past_is)) q.are;
+    few = omega (arith, due_less number end next past rest back t which high ends moved, h.few, q.few);
     before = h.before + (3 * length pushed - 2);
     grows = grows_on _ h.grows half.grows (omega arith);
-    room = omega (arith, due_less number end next rest back t high ends moved, h.room, p.few, due_few number rest);
+    room = omega (arith, due_less number end next past rest back t which high ends moved, h.room, p.few, due_few number rest);
     leads = λ g lt. elim (cases_lt g (number / 2 ^ 32)) [
       | inl less ↦ rw (q.below g less) (
         is_in_grown (found_in highs g) half.grows (h.leads g less).0,
@@ -138,23 +153,23 @@ module _ {old code : List sock_filter} {index number end : ℕ} {steps lows push
         λ r rec w n k few lead a small.
             let low = word_at r (16 + 8 * index) in
             let fits = word_fits r (16 + 8 * index) rec in
-            let at = held g low le (grind (arith, t.later high, lt)) fits (omega (arith, t.within, t.behind high, lt)) in
+            let at = held g low le (grind (arith, which, past_is, lt)) fits (omega (arith, t.within, past_is, lt)) in
             starts_more (n + 2 + 2 * k) (omega arith) (leads_by (half.leads r rec w n k (omega (arith, few, h.low_few, p.few, up.1.1))
             (λ b fits'. leads_grown h.grows (rw at at (lead b fits'))) a small)),
       )
     ];
   }
+    where
+      past_is : next ≡ past * 2 ^ 32
+      past_is = next_is number end next past t which high
 
 module _ {old code : List sock_filter} {index number : ℕ} {steps rest lows highs : List Step}
     (h : Halving old index steps number rest lows highs code) (all : 2 ^ 64 ≤ number) where
   end : number / 2 ^ 32 ≡ 2 ^ 32
   end = omega (arith, h.left.within)
 
-  pub are_all : AreSteps (2 ^ 32) highs
-  are_all = rw end at h.are_highs
-
-  pub highs_in : AreIn code highs
-  highs_in = are_in_below code (2 ^ 32) highs (omega arith) are_all (λ a lt. (h.leads a (omega (arith, end))).0)
+  pub highs_in : AreSteps (2 ^ 32) highs × AllIn code (2 ^ 32) highs
+  highs_in = (rw end at h.are_highs, λ a lt. (h.leads a (omega (arith, end))).0)
 
   -- both halves
   pub is_argument : (t : Target) (new : List sock_filter) → IsPart code Dword (λ r. word_at r (20 + 8 * index)) highs t new

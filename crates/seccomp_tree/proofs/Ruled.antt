@@ -1,11 +1,11 @@
 -- Rulings as a target, from the last to the first: each is put in front of what comes after it.
-use Rattle.seccomp_tree.proofs.Common.{◌≡◌, ℕ, zero, suc, ◌+◌, ◌*◌, ◌<◌, ◌≤◌, ◌^◌, List, [], ◌∷◌, length, drop, true, refl, ap, ◌∙◌, sym}
-use Rattle.seccomp_tree.proofs.Common.{◌-◌, get_or_read_under, Option, Some, None, arith, nat_tests, All-nil, All-cons, All-head, All-tail}
-use Rattle.seccomp_tree.proofs.Common.{Dword, sock_filter, SeccompCmpArgLen, IsRecord, argument_at, Condition, Holds, RuleHolds, part_of}
-use Rattle.seccomp_tree.proofs.Common.{Target, Give, Step, found_in, single, is_plain, AreLaid, IsConditionMet, Leads, to_return, Grows}
-use Rattle.seccomp_tree.proofs.Common.{only, part_length, Ruling, First, alike, same_length, joined, conditions_length, AreSteps, IsPart}
-use Rattle.seccomp_tree.proofs.Common.{IsIn, conditions_steps, rules_length, begins, Takes, stops, passes, IsRulingMet, AreRules, IsChosen}
-use Rattle.seccomp_tree.proofs.Common.{greatest_length, get_or, false, false≢true, option_map, unwrap_or}
+use Rattle.seccomp_tree.proofs.Common.{AllIn, ◌≡◌, ℕ, zero, suc, ◌+◌, ◌*◌, ◌<◌, ◌≤◌, ◌^◌, List, [], ◌∷◌, length, drop, true, refl, ap, ◌∙◌}
+use Rattle.seccomp_tree.proofs.Common.{sym, ◌-◌, get_or_read_under, Option, Some, None, arith, nat_tests, All-nil, All-cons, All-head}
+use Rattle.seccomp_tree.proofs.Common.{All-tail, Dword, sock_filter, SeccompCmpArgLen, IsRecord, argument_at, Condition, Holds, RuleHolds}
+use Rattle.seccomp_tree.proofs.Common.{part_of, Target, Give, Step, found_in, single, is_plain, AreLaid, IsConditionMet, Leads, to_return}
+use Rattle.seccomp_tree.proofs.Common.{Grows, only, part_length, Ruling, First, alike, same_length, joined, conditions_length, AreSteps}
+use Rattle.seccomp_tree.proofs.Common.{IsPart, conditions_steps, rules_length, begins, Takes, stops, passes, IsRulingMet, AreRules}
+use Rattle.seccomp_tree.proofs.Common.{IsChosen, greatest_length, get_or, false, false≢true, option_map, unwrap_or}
 use Rattle.seccomp_tree.specs.Code.{numbers_of}
 use Rattle.seccomp_tree.proofs.Runs.{grows_not, grows_on, leads_by, starts_more}
 use Rattle.seccomp_tree.proofs.Begun.{not_none, numbers_many, laid_in}
@@ -71,7 +71,7 @@ pub record IsBehind (old : List sock_filter) (default : ℕ) (like : SeccompCmpA
   pub some : 1 ≤ length steps
   pub few : length steps ≤ 2 * entered + 1
   pub are : AreSteps (numbers_of like.0) steps
-  pub inside : (a : ℕ) → a < numbers_of like.0 → IsIn code (found_in steps a)
+  pub inside : AllIn code (numbers_of like.0) steps
   pub leads : (r : List ℕ) → IsRecord r → (w n : ℕ) → First default r rulings w → Takes r entered rulings n
       → Leads 0 code r (found_in steps (part_of like.0 (argument_at r like.1))) w (n + 1)
 

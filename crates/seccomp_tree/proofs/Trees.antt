@@ -1,18 +1,14 @@
 -- For `tree` and `word`: parts of steps, rows of tests, and the code of steps, put together of the code of fewer and a test.
 use Rattle.seccomp_tree.proofs.Common.{take-append-drop, if◌then◌else◌, get_or-drop, get_or-take, length-take-le, second_stands_out, GoesOn}
 use Rattle.seccomp_tree.proofs.Common.{cases_Bool, length-drop, length-take, nat_tests, pow-succ', sock_filter, AreIn, and_parts, drop_more}
-use Rattle.seccomp_tree.proofs.Common.{goes_on, AtLeast, take_all, found_in, AreOver, IsTested, Returns, Give, IsRecord, word_at, word_fits}
-use Rattle.seccomp_tree.proofs.Common.{length, get_or, passed, Equal, nat_le, nat_eq, Target, single, Grows, chosen, IsTree, IsPart, Dword}
-use Rattle.seccomp_tree.proofs.Common.{ℕ, zero, List, take, drop, true, false, refl, subst, arith, inl, Step, same, ◌++◌, Test, loads, load}
-use Rattle.seccomp_tree.proofs.Common.{◌≡◌, suc, ◌+◌, ◌-◌, ◌*◌, ◌/◌, ◌^◌, ◌<◌, ◌≤◌, [], ◌∷◌, sym, ap, ◌∙◌, inr, row, At}
-use Rattle.seccomp_tree.proofs.Begun.{ascend_more, ascend_parts, found_back, found_before, found_front}
+use Rattle.seccomp_tree.proofs.Common.{goes_on, AtLeast, found_in, AreOver, IsTested, Returns, Give, IsRecord, word_at, word_fits, length}
+use Rattle.seccomp_tree.proofs.Common.{get_or, passed, Equal, nat_le, nat_eq, Target, single, Grows, chosen, IsTree, IsPart, Dword, ℕ, zero}
+use Rattle.seccomp_tree.proofs.Common.{List, take, drop, true, false, refl, subst, arith, inl, Step, same, ◌++◌, Test, loads, load, ◌≡◌}
+use Rattle.seccomp_tree.proofs.Common.{suc, ◌+◌, ◌-◌, ◌*◌, ◌/◌, ◌^◌, ◌<◌, ◌≤◌, [], ◌∷◌, sym, ap, ◌∙◌, inr, row, At}
+use Rattle.seccomp_tree.proofs.Begun.{all_behind, ascend_more, ascend_parts, found_back, found_before, found_front}
 use Rattle.seccomp_tree.proofs.Runs.{grows_not, grows_on, last_in, starts_more, starts_last, leads_by, leads_grown, grows_one, runs_last}
 
 -- ---- parts of steps
-
-pub over_some : (steps : List Step) → AreOver steps → 1 ≤ length steps
-over_some [] h = absurd h
-over_some (x ∷ steps) h = omega arith
 
 pub in_take : (code : List sock_filter) (n : ℕ) (steps : List Step) → AreIn code steps → AreIn code (take n steps)
 in_take code n steps h k d lt =
@@ -59,10 +55,6 @@ module _ (steps : List Step) (n : ℕ) (d : Step) (some : 1 ≤ n) (lt : n < len
       ≡ (if nat_le (get_or steps n d).start a then found_in (drop n steps) a else found_in (take n steps) a)
   found_halves a = rw cut (ap (λ l. found_in l a) whole
       ∙ found_parts (take n steps) (get_or steps n d) (drop (n + 1) steps) a front_some (subst AreOver whole over))
-
--- the rest of a slice is what is left of the list
-pub all_behind : (steps : List Step) (n : ℕ) → take (length steps - n) (drop n steps) ≡ drop n steps
-all_behind steps n = take_all (length steps - n) (drop n steps) (omega (arith, length-drop n steps))
 
 abbrev pub none : Step
 none = record { start = 0; target = Give 0 }

@@ -1,6 +1,6 @@
 -- What private functions promise each other: of steps that are looked up by a number, of code that is written from its end to its
 -- front, conditions, rulings and call numbers.
-use Rattle.std.specs.Prelude.{◌≡◌, ℕ, suc, ◌+◌, ◌-◌, ◌*◌, ◌/◌, ◌%◌, ◌<◌, ◌≤◌, ◌^◌, List, [], ◌∷◌, ◌++◌, length, drop, ⊤, nat_eq, nat_le}
+use Rattle.std.specs.Prelude.{◌≡◌, ℕ, suc, ◌+◌, ◌-◌, ◌*◌, ◌<◌, ◌≤◌, ◌^◌, List, [], ◌∷◌, ◌++◌, length, drop, ⊤, nat_eq, nat_le}
 use Rattle.std.specs.Prelude.{slice_index_or, if◌then◌else◌, bit_and, Some, None, Bool, true, ◌≢◌, false, ◌&&◌}
 use Rattle.seccompiler.specs.declared.bpf.sock_filter.{sock_filter}
 use Rattle.seccompiler.specs.Machine.{IsRecord, Does, IsFine, IsInRange, word_at, greatest_length}
@@ -138,6 +138,10 @@ IsIn code (At m) = m < length code
 abbrev pub AreIn : List sock_filter → List Step → Type 0
 AreIn code steps = (k : ℕ) (d : Step) → k < length steps → IsIn code (slice_index_or steps k d).target
 
+-- All that steps have for numbers below a size are.
+abbrev pub AllIn : List sock_filter → ℕ → List Step → Type 0
+AllIn code size steps = (a : ℕ) → a < size → IsIn code (found_in steps a)
+
 -- Instructions were put in front of the code, at most so many. (What starts at a place of the old code stays what it was.)
 pub record Grows (old : List sock_filter) (most : ℕ) (new : List sock_filter) : Type 0 where
   pub front : List sock_filter
@@ -202,16 +206,6 @@ pub record IsPart (old : List sock_filter) (l : SeccompCmpArgLen) (number : List
   pub leads : (r : List ℕ) → IsRecord r → (w n k : ℕ) → length steps ≤ 2 ^ k → Leads 0 old r (found_in steps (number r)) w n
       → Leads 1 new r t w (n + part_steps l k)
 
--- Numbers of 64 bits from one up to the next: up to the end if that has the same high half, else up to the next high half, or, if
--- the number is the first of its high half, up to that of the end.
-pub record IsHalfTurn (number end next : ℕ) : Type 0 where
-  pub above : number < next
-  pub within : next ≤ end
-  pub inside : number / 2 ^ 32 ≡ end / 2 ^ 32 → next ≡ end
-  pub behind : number / 2 ^ 32 < end / 2 ^ 32 → next % 2 ^ 32 ≡ 0
-  pub first : number / 2 ^ 32 < end / 2 ^ 32 → number % 2 ^ 32 ≡ 0 → next / 2 ^ 32 ≡ end / 2 ^ 32
-  pub later : number / 2 ^ 32 < end / 2 ^ 32 → 0 < number % 2 ^ 32 → next / 2 ^ 32 ≡ number / 2 ^ 32 + 1
-
 -- ---- conditions
 
 -- How many numbers a length has.
@@ -224,12 +218,12 @@ pub record IsChosen {A : Type 0} (Is : Type 0) (yes no t : A) : Type 0 where
   pub met : Is → t ≡ yes
   pub unmet : (Is → ⊥) → t ≡ no
 
--- The numbers from one up to the next lie to the value as it does; it is the last, or the next is the value or the one after it.
-pub record IsTurn (value number end next : ℕ) : Type 0 where
+-- The cut or the end, whichever comes first behind the number.
+pub record IsTurn (number cut end next : ℕ) : Type 0 where
   pub above : number < next
   pub within : next ≤ end
-  pub alike : (a : ℕ) → number ≤ a → a < next → (number < value → a < value) × (number ≡ value → a ≡ value)
-  pub cut : next < end → (number ≤ value) × ((number < value → next ≡ value) × (number ≡ value → next ≡ value + 1))
+  pub before : number < cut → next ≤ cut
+  pub stops : next < end → next ≡ cut
 
 -- The steps have the target for the numbers on which the condition's comparison holds, and else what others have; there are
 -- at most two more.

@@ -42,13 +42,9 @@ IsRefusalIn Tree f (FilterTooLarge n) = ⊥
 IsRefusalIn Tree f OutOfMemory = AreCallNumbers (numbers_of f.chains)
 IsRefusalIn Tree f TreeTooLarge = IsTreeTooLarge f
 
--- Two programs return one word for the record.
-pub record AnswerAlike (p q : List sock_filter) (r : List ℕ) : Type 0 where
-  pub word : ℕ
-  pub steps : ℕ
-  pub ends : Ends p r steps word
-  pub other_steps : ℕ
-  pub other_ends : Ends q r other_steps word
+-- Two programs return one word for the record, each after some steps.
+abbrev pub AnswerAlike : List sock_filter → List sock_filter → List ℕ → Type 0
+AnswerAlike p q r = (word : ℕ) × (steps : ℕ) × (other_steps : ℕ) × Ends p r steps word × Ends q r other_steps word
 
 -- The program answers every call record as whatever is compiled for the filter, in any layout.
 abbrev pub AgreesInAll : Filter → List sock_filter → Type 0

@@ -3,10 +3,10 @@
 ghost use Rattle.std.specs.Prelude.{◌≤◌, ◌<◌, IfOk};
 ghost use Rattle.seccompiler.specs.Machine.{argument_at};
 ghost use Rattle.seccompiler.specs.Policy.{part_of};
-ghost use Rattle.seccomp_tree.specs.Code.{AreSteps, AreIn, IsHalfTurn, IsPart, numbers_of};
+ghost use Rattle.seccomp_tree.specs.Code.{AllIn, AreSteps, IsPart, numbers_of};
 
 use crate::code::Code;
-use crate::intervals::first_start;
+use crate::intervals::{first_start, turn};
 use crate::steps::{Step, Target, push_step};
 use seccompiler::SeccompCmpArgLen;
 use std::alloc::{AllocError, Global};
@@ -28,7 +28,7 @@ impl Code {
     ) -> Result<Target, AllocError>
         requires index { index ≤ 5 }
         requires are { AreSteps (numbers_of size) steps.now }
-        requires inside { AreIn self.old steps.now }
+        requires inside { AllIn self.old (numbers_of size) steps.now }
         ensures { IfOk result (λ t. IsPart self.old size (λ r. part_of size (argument_at r index)) steps.now t self.new) }
     {
         if let SeccompCmpArgLen::Dword = size {
@@ -39,35 +39,19 @@ impl Code {
         let mut number = 0;
         let mut rest = steps;
         while number < NUMBERS {
-            let high = number / HALF;
             push_step(&mut lows, (number % HALF) as u64, rest[0].target)?;
             let end = first_start(&rest[1..], NUMBERS);
-            if high < end / HALF {
+            let (high, last) = (number / HALF, end / HALF);
+            if high < last {
                 let target = self.word(16 + 8 * index, &lows)?;
                 push_step(&mut highs, high as u64, target)?;
                 lows = Vec::new(alloc);
             }
-            number = turn(number, end);
-            if number == end {
-                rest = &rest[1..];
-            }
+            // High halves that begin with this number have what it has.
+            let past = if number % HALF == 0 { last } else { high + 1 };
+            number = turn(number, past * HALF, end);
+            rest = &rest[usize::from(number == end)..];
         }
         self.word(20 + 8 * index, &highs)
-    }
-}
-
-// Up to the end if that has the same high half; else up to the next high half, or, from the first number of one, up to that
-// of the end.
-fn turn(number: u128, end: u128) -> u128
-    requires some { number < end }
-    ensures { IsHalfTurn number end result }
-{
-    let (high, last) = (number / HALF, end / HALF);
-    if high == last {
-        end
-    } else if number % HALF == 0 {
-        last * HALF
-    } else {
-        (high + 1) * HALF
     }
 }

@@ -30,22 +30,18 @@ pub(crate) fn laid(
         let chosen = if is_met { target } else { rest[0].target };
         push_step(&mut steps, number as u64, chosen)?;
         let end = first_start(&rest[1..], size);
-        number = turn(value, number, end);
-        if number == end {
-            rest = &rest[1..];
-        }
+        number = turn(number, value + u128::from(value <= number), end);
+        rest = &rest[usize::from(number == end)..];
     }
     Ok(steps)
 }
 
-// Up to where the numbers from this one on compare with the value as it does, or the end if that comes before.
-fn turn(value: u128, number: u128, end: u128) -> u128
-    requires some { number < end }
-    requires fits { value < 2 ^ 64 }
-    ensures { IsTurn value number end result }
+/// The cut or the end, whichever comes first behind the number.
+pub(crate) fn turn(number: u128, cut: u128, end: u128) -> u128
+    requires { number < end }
+    ensures { IsTurn number cut end result }
 {
-    let turn = if number == value { value + 1 } else { value };
-    if number <= value { turn.min(end) } else { end }
+    if number < cut { cut.min(end) } else { end }
 }
 
 /// Where the first of the steps starts, or the size.

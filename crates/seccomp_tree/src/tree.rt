@@ -1,7 +1,7 @@
 // The tree of tests of steps.
 
-ghost use Rattle.std.specs.Prelude.{◌≡◌, ◌≤◌, ◌+◌, ◌-◌, ◌*◌, ◌%◌, ◌↔◌, IsTrue, IfOk, length};
-ghost use Rattle.seccomp_tree.specs.Code.{AreOver, row, second_stands_out, AreIn, IsPart, IsTree};
+ghost use Rattle.std.specs.Prelude.{◌≡◌, ◌≤◌, ◌+◌, ◌-◌, ◌*◌, ◌%◌, ◌^◌, ◌↔◌, IsTrue, IfOk, length};
+ghost use Rattle.seccomp_tree.specs.Code.{AllIn, AreIn, AreOver, AreSteps, IsPart, IsTree, row, second_stands_out};
 ghost use Rattle.seccompiler.specs.Machine.{word_at};
 ghost use Rattle.seccompiler.specs.declared.backend.SeccompCmpArgLen.TheVariants.{Dword};
 
@@ -62,8 +62,8 @@ impl Code {
     pub(crate) fn word(&mut self, byte: u8, steps: &[Step]) -> Result<Target, AllocError>
         requires aligned { byte % 4 ≡ 0 }
         requires inside_record { byte ≤ 60 }
-        requires over { AreOver steps.now }
-        requires inside { AreIn self.old steps.now }
+        requires are { AreSteps (2 ^ 32) steps.now }
+        requires inside { AllIn self.old (2 ^ 32) steps.now }
         ensures { IfOk result (λ t. IsPart self.old Dword (λ r. word_at r byte) steps.now t self.new) }
     {
         let tested = self.tree(steps)?;

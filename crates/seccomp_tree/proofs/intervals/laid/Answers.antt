@@ -1,8 +1,6 @@
-use Rattle.seccomp_tree.proofs.Common.{◌≡◌, List, Step, ◌%◌, ◌∙◌, inl, inr, drop, refl, sym, false≢true, get_or, Give, Compares, part_of}
-use Rattle.seccomp_tree.proofs.Common.{first_start, IsChosen}
+use Rattle.seccomp_tree.proofs.Common.{◌≡◌, ◌%◌, ◌∙◌, drop, refl, sym, false≢true, get_or, Give, Compares, part_of, first_start, IsChosen}
 use Rattle.seccomp_tree.specs.Code.{numbers_of}
-use Rattle.seccomp_tree.proofs.Begun.{HasMoved, Laying, laying_begins, laying_on, laying_ends, part_left}
-use Rattle.seccomp_tree.proofs.Trees.{all_behind}
+use Rattle.seccomp_tree.proofs.Begun.{all_behind, byte_is, moves, laying_begins, laying_on, laying_ends, part_left}
 use Rattle.seccomp_tree.proofs.intervals.laid.Goals.{After-turn-number, then-is_met, else-is_met}
 use Rattle.seccomp_tree.proofs.intervals.laid.Goals as goal
 
@@ -34,20 +32,13 @@ chosen c =
       | else-is_met w ↦ record { met = λ is. absurd (false≢true (sym w.if-is_met.false ∙ both.1 is)); unmet = λ not. w.chosen-is }
     ]
 
--- a step more
-on : (c : After-turn-number) (back : List Step) → HasMoved c.turn-number.result c.first_start-end.result c.loop-number.rest.now back
-    → Laying c.args.condition.now c.args.target c.args.others.now c.turn-number.result back c.push_step.new.steps.items
-on c back moved = laying_on c.loop-number.rest.now back _ c.requires.plain c.loop-number.invariant
-    (rw (c.numbers-size.ensures.numbers, c.arg_len.ensures) at c.loop-number-test.true) (value_is c) (end_is c) c.turn-number.ensures
-    (chosen c) c.in_ok-push_step.ensures moved
-
-pub loop-number-preserved-then-number-end : goal.loop-number-preserved-then-number-end
-loop-number-preserved-then-number-end c =
-    on ((goal.at.loop-number-preserved-then-number-end c).After-turn-number) _
-    (inl (c.if-number-end.true, all_behind c.loop-number.rest.now 1))
-
 pub loop-number-preserved : goal.loop-number-preserved
-loop-number-preserved c = on ((goal.at.loop-number-preserved c).After-turn-number) _ (inr (c.if-number-end.false, refl))
+loop-number-preserved c =
+    let b = (goal.at.loop-number-preserved c).After-turn-number in
+    laying_on c.loop-number.rest.now _ _ c.requires.plain c.loop-number.invariant
+    (rw (c.numbers-size.ensures.numbers, c.arg_len.ensures) at c.loop-number-test.true) (end_is b)
+    (rw (c.from-in-loop-number.ensures ∙ byte_is _, value_is b) at c.turn-number.ensures) (chosen b) c.in_ok-push_step.ensures
+    (moves _ c.turn-number.result c.first_start-end.result c.loop-number.rest.now (c.from-in-loop-number-2.ensures ∙ byte_is _))
 
 pub returns : goal.returns
 returns c = laying_ends c.requires.plain c.loop-number.invariant

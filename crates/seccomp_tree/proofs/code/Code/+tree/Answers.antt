@@ -1,7 +1,7 @@
 use Rattle.seccomp_tree.proofs.Common.{◌/◌, length, refl, sym, ◌∙◌, arith, inl, inr, cases_lt, false≢true, row, IfOk-weaker, length-take-le}
 use Rattle.seccomp_tree.proofs.Runs.{is_in_grown}
-use Rattle.seccomp_tree.proofs.Trees.{none, over_halves, in_take, all_behind, rest_of, out_long, tree_single, tree_out, tree_first}
-use Rattle.seccomp_tree.proofs.Trees.{tree_halves}
+use Rattle.seccomp_tree.proofs.Begun.{all_behind}
+use Rattle.seccomp_tree.proofs.Trees.{none, over_halves, in_take, rest_of, out_long, tree_single, tree_out, tree_first, tree_halves}
 use Rattle.seccomp_tree.proofs.code.Code.+tree.Goals as goal
 
 pub returns-then-steps-eq1 : goal.returns-then-steps-eq1

@@ -1,10 +1,9 @@
-use Rattle.seccomp_tree.proofs.Common.{◌≡◌, ◌^◌, List, Step, Give, IfOk-weaker, ap, ◌∙◌, arith, drop, inl, inr, refl, first_start}
-use Rattle.seccomp_tree.proofs.Begun.{HasMoved}
+use Rattle.seccomp_tree.proofs.Common.{◌≡◌, ◌^◌, Step, Give, IfOk-weaker, ap, ◌∙◌, arith, drop, inl, inr, first_start}
+use Rattle.seccomp_tree.proofs.Begun.{all_behind, byte_is, moves}
 use Rattle.seccomp_tree.proofs.Meeting.{part_of_word}
-use Rattle.seccomp_tree.proofs.Trees.{all_behind}
-use Rattle.seccomp_tree.proofs.Halves.{Halving, halving_begins, halving_on, halving_done, highs_in, is_argument, lows_in}
-use Rattle.seccomp_tree.proofs.code.Code.argument.Goals.{After-first_start-end, After-turn-number}
-use Rattle.seccomp_tree.proofs.code.Code.argument.Goals.{then-high-end+in_ok-target+in_ok-push_step-2, else-high-end}
+use Rattle.seccomp_tree.proofs.Halves.{IsPast, halving_begins, halving_on, halving_done, highs_in, is_argument, lows_in}
+use Rattle.seccomp_tree.proofs.code.Code.argument.Goals.{After-first_start-end, then-high-last+in_ok-target+in_ok-push_step-2}
+use Rattle.seccomp_tree.proofs.code.Code.argument.Goals.{else-high-last, then-number-eq0, else-number-eq0}
 use Rattle.seccomp_tree.proofs.code.Code.argument.Goals as goal
 
 pub returns-in-Dword : goal.returns-in-Dword
@@ -22,37 +21,36 @@ none = record { start = 0; target = Give 0 }
 end_is : (c : After-first_start-end) → c.first_start-end.result ≡ first_start (2 ^ 64) (drop 1 c.loop-number.rest.now)
 end_is c = c.first_start-end.ensures ∙ ap (first_start (2 ^ 64)) (all_behind c.loop-number.rest.now 1)
 
-pub word-requires-then-high-end : goal.word-requires-then-high-end
-word-requires-then-high-end c =
+pub word-requires-then-high-last : goal.word-requires-then-high-last
+word-requires-then-high-last c =
     let h = lows_in c.loop-number.rest.now none c.loop-number.invariant c.loop-number-test.true
-    (end_is ((goal.at.word-requires-then-high-end c).After-first_start-end)) c.in_ok-push_step.ensures c.requires.inside in
-    rw c.deref.ensures.value record { aligned = omega arith; inside_record = omega arith; over = h.0; inside = h.1 }
-
--- a step more
-on : (c : After-turn-number) (back : List Step) → HasMoved c.turn-number.result c.first_start-end.result c.loop-number.rest.now back
-    → Halving c.args.self.now c.args.index c.args.steps.now c.turn-number.result back c.if-high-end.lows.items c.if-high-end.highs.items
-    c.if-high-end.self
-on c back moved = elim c.if-high-end.branch [
-  | then-high-end+in_ok-target+in_ok-push_step-2 w ↦
-      rw (w.self-is, w.highs-is, w.lows-is, w.new-lows-then-high-end.ensures.items) (halving_done c.loop-number.rest.now none
-      c.loop-number.invariant c.loop-number-test.true (end_is c.before.before) c.in_ok-push_step.ensures c.turn-number.result back _
-      w.in_ok-target.target _ c.turn-number.ensures moved w.if-high-end.true (rw w.deref.ensures.value at w.in_ok-target.ensures)
-      w.in_ok-push_step-2.ensures)
-  | else-high-end w ↦ rw (w.self-is, w.highs-is, w.lows-is) (halving_on c.loop-number.rest.now none
-      c.loop-number.invariant c.loop-number-test.true (end_is c.before.before) c.in_ok-push_step.ensures c.turn-number.result back
-      c.turn-number.ensures moved (omega (arith, w.if-high-end.false)))
-]
-
-pub loop-number-preserved-then-number-end : goal.loop-number-preserved-then-number-end
-loop-number-preserved-then-number-end c =
-    on ((goal.at.loop-number-preserved-then-number-end c).After-turn-number) _
-    (inl (c.if-number-end.true, all_behind c.loop-number.rest.now 1))
+    (end_is ((goal.at.word-requires-then-high-last c).After-first_start-end)) c.in_ok-push_step.ensures (rw c.in_default.is at c.requires.inside) in
+    rw c.deref.ensures.value record { aligned = omega arith; inside_record = omega arith; are = h.0; inside = h.1 }
 
 pub loop-number-preserved : goal.loop-number-preserved
-loop-number-preserved c = on ((goal.at.loop-number-preserved c).After-turn-number) _ (inr (c.if-number-end.false, refl))
+loop-number-preserved c =
+    let ends = end_is ((goal.at.loop-number-preserved c).After-first_start-end) in
+    let moved = moves c.from.result c.turn-number.result c.first_start-end.result c.loop-number.rest.now
+        (c.from.ensures ∙ byte_is _) in
+    let which : IsPast c.loop-number.number c.first_start-end.result c.if-number-eq0.past = elim c.if-number-eq0.branch [
+      | then-number-eq0 w ↦ inl (w.if-number-eq0.true, w.past-is)
+      | else-number-eq0 w ↦ inr (omega (arith, w.if-number-eq0.false), w.past-is)
+    ] in
+    elim c.if-high-last.branch [
+      | then-high-last+in_ok-target+in_ok-push_step-2 w ↦
+          rw (w.self-is, w.highs-is, w.lows-is, w.new-lows-then-high-last.ensures.items) (halving_done c.loop-number.rest.now none
+          c.loop-number.invariant c.loop-number-test.true ends c.in_ok-push_step.ensures c.turn-number.result c.if-number-eq0.past _ _
+          w.in_ok-target.target _ c.turn-number.ensures which moved w.if-high-last.true
+          (rw w.deref.ensures.value at w.in_ok-target.ensures) w.in_ok-push_step-2.ensures)
+      | else-high-last w ↦ rw (w.self-is, w.highs-is, w.lows-is) (halving_on c.loop-number.rest.now none c.loop-number.invariant
+          c.loop-number-test.true ends c.in_ok-push_step.ensures c.turn-number.result c.if-number-eq0.past _ c.turn-number.ensures which
+          moved (omega (arith, w.if-high-last.false)))
+    ]
 
-pub word-requires-2-clause-inside : goal.word-requires-2-clause-inside
-word-requires-2-clause-inside c = rw c.deref-2.ensures.value (highs_in c.loop-number.invariant c.loop-number-test.false)
+pub word-requires-2 : goal.word-requires-2
+word-requires-2 c =
+    let h = highs_in c.loop-number.invariant c.loop-number-test.false in
+    rw c.deref-2.ensures.value record { aligned = omega arith; inside_record = omega arith; are = h.0; inside = h.1 }
 
 pub returns : goal.returns
 returns c =

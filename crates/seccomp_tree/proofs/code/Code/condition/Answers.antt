@@ -1,5 +1,5 @@
-use Rattle.seccomp_tree.proofs.Common.{◌≡◌, refl, rules, sym, ◌∙◌, arith, single, IfOk-weaker}
-use Rattle.seccomp_tree.proofs.Begun.{are_in_below, laid_in, numbers_many}
+use Rattle.seccomp_tree.proofs.Common.{◌≡◌, refl, rules, sym, ◌∙◌, single, IfOk-weaker}
+use Rattle.seccomp_tree.proofs.Begun.{laid_in}
 use Rattle.seccomp_tree.proofs.Meeting.{met_now, met_by_steps, masked_dword, masked_qword}
 use Rattle.seccomp_tree.proofs.code.Code.condition.Goals as goal
 
@@ -24,8 +24,8 @@ argument-requires c =
     record {
       index = c.arg_index.ensures.within;
       are = rw (c.arg_len-2.ensures, c.deref-2.ensures.value) h.are;
-      inside = rw c.deref-2.ensures.value (are_in_below _ _ _ (omega (arith, numbers_many c.args.condition.now.arg_len)) h.are
-          (laid_in c.args.self.now c.args.condition.now c.args.yes (single c.args.no) _ h c.requires.yes (λ a lt. c.requires.no)));
+      inside = rw (c.arg_len-2.ensures, c.deref-2.ensures.value) (laid_in c.args.self.now c.args.condition.now c.args.yes
+          (single c.args.no) _ h c.requires.yes (λ a lt. c.requires.no));
     }
 
 pub returns : goal.returns

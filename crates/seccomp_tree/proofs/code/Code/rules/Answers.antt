@@ -1,7 +1,6 @@
 use Rattle.seccomp_tree.proofs.Common.{◌≡◌, ◌-◌, ◌∷◌, [], List, Ruling, only, rules_length, length, drop, drop_all, ap, sym, ◌∙◌, arith}
 use Rattle.seccomp_tree.proofs.Common.{refl, Give, AreRules, joined, suc}
 use Rattle.seccomp_tree.proofs.Deciding.{drop_back}
-use Rattle.seccomp_tree.proofs.Begun.{are_in_below, numbers_many}
 use Rattle.seccomp_tree.proofs.Ruled.{IsBehind, alike_none, behind_along, behind_fresh, behind_laid, behind_many, behind_none, compared}
 use Rattle.seccomp_tree.proofs.Ruled.{front_is, in_front, joined_apart, joined_none, rules_alone, rules_less, rules_none, rules_settled}
 use Rattle.seccomp_tree.proofs.code.Code.rules.Goals.{After-only, After-len, After-index, then-left-eq0-via-then-left-eq0}
@@ -80,7 +79,7 @@ returns-then-len-gt-BPF_MAX_LEN-clause-err c = λ is.
 pub argument-requires-clause-inside : goal.argument-requires-clause-inside
 argument-requires-clause-inside c =
     let x = laid_is ((goal.at.argument-requires-clause-inside c).After-len) in
-    rw c.deref-then-left-eq0.ensures.value (are_in_below _ _ _ (omega (arith, numbers_many c.in-Some.condition.arg_len)) x.are x.inside)
+    rw (c.deref-then-left-eq0.ensures.value, c.arg_len-size.ensures) x.inside
 
 pub loop-left-preserved-in-loop-left : goal.loop-left-preserved-in-loop-left
 loop-left-preserved-in-loop-left c =

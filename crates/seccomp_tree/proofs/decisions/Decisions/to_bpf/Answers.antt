@@ -1,5 +1,4 @@
-use Rattle.seccomp_tree.proofs.Common.{◌^◌, refl, ◌∙◌, ◌∷◌, ap, arith, nat_tests, load, audit_word, DecisionSet}
-use Rattle.seccomp_tree.proofs.Begun.{are_in_below, over_zero}
+use Rattle.seccomp_tree.proofs.Common.{refl, ◌∙◌, ◌∷◌, ap, arith, nat_tests, load, audit_word, DecisionSet}
 use Rattle.seccomp_tree.proofs.Theorem.{IsWritten, written_program, written_short}
 use Rattle.seccomp_tree.proofs.decisions.Decisions.to_bpf.Goals.{After-len-is_large}
 use Rattle.seccomp_tree.proofs.decisions.Decisions.to_bpf.Goals as goal
@@ -10,8 +9,8 @@ word-requires c =
     rw c.deref.ensures.value record {
       aligned = refl;
       inside_record = omega arith;
-      over = over_zero _ answers.are;
-      inside = are_in_below _ (2 ^ 32) _ (omega arith) answers.are (λ a lt. (answers.each a lt).inside);
+      are = answers.are;
+      inside = λ a lt. (answers.each a lt).inside;
     }
 
 written : (c : After-len-is_large) → IsWritten c.args.self.now c.into_program-program.result.items

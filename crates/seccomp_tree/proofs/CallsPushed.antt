@@ -1,10 +1,10 @@
 -- Steps over call numbers: the numbers up to the next that is answered otherwise, and that the steps are as few as can be.
-use Rattle.seccomp_tree.proofs.Common.{◌≡◌, ℕ, ◌+◌, ◌<◌, ◌≤◌, ◌^◌, List, [], ◌∷◌, length, Option, Some, None, Vec, sym, ◌∙◌, arith, refl}
-use Rattle.seccomp_tree.proofs.Common.{IsAnswer, AreAnswers, AreCallSteps, IsNextStart, if◌then◌else◌, suc, get_or, ◌⊎◌, inl, inr, nat_lt}
-use Rattle.seccomp_tree.proofs.Common.{IsSome, nat_tests, cases_lt, is_at, lookup, Step, nat_cmp, Global, sock_filter, Target, IsPushed}
-use Rattle.seccomp_tree.proofs.Common.{Grows, Ruling, rules_length, DecisionSet, calls_of, default_for, rulings_for, default_from}
-use Rattle.seccomp_tree.proofs.Common.{calls_length, DefaultValue, Give, AreRules, ap, one_value, ◌-◌, Bool, true, false, nat_eq, nat_le}
-use Rattle.seccomp_tree.proofs.Common.{cases_eq, is_member, found_from, AscendFrom, TightFrom, AreRanges}
+use Rattle.seccomp_tree.proofs.Common.{IsAnswered, ◌≡◌, ℕ, ◌+◌, ◌<◌, ◌≤◌, ◌^◌, List, [], ◌∷◌, length, Option, Some, None, Vec, sym, ◌∙◌}
+use Rattle.seccomp_tree.proofs.Common.{arith, refl, IsAnswer, AreAnswers, AreCallSteps, IsNextStart, if◌then◌else◌, suc, get_or, ◌⊎◌, inl}
+use Rattle.seccomp_tree.proofs.Common.{inr, nat_lt, IsSome, nat_tests, cases_lt, is_at, lookup, Step, nat_cmp, Global, sock_filter, Target}
+use Rattle.seccomp_tree.proofs.Common.{IsPushed, Grows, Ruling, rules_length, DecisionSet, calls_of, default_for, rulings_for, default_from}
+use Rattle.seccomp_tree.proofs.Common.{calls_length, DefaultValue, ap, ◌-◌, Bool, true, false, nat_eq, nat_le, cases_eq, is_member}
+use Rattle.seccomp_tree.proofs.Common.{found_from, AscendFrom, TightFrom, AreRanges}
 use Rattle.seccomp_tree.proofs.Runs.{grows_not, grows_on, is_in_grown, leads_grown}
 use Rattle.seccomp_tree.proofs.Begun.{steps_more, found_before}
 use Rattle.seccomp_tree.proofs.Deciding.{items_of, rulings_under}
@@ -42,7 +42,7 @@ answer_grown : {old new : List sock_filter} {most default : ℕ} {rulings : List
 answer_grown {t = t} g h = record {
   inside = is_in_grown t g h.inside;
   one = h.one;
-  own = λ none r rec w n first takes a small. leads_grown g (h.own none r rec w n first takes a small);
+  leads = λ r rec w n first takes a small. leads_grown g (h.leads r rec w n first takes a small);
 }
 
 -- a number that the map has only if it is another's or above it
@@ -83,25 +83,6 @@ pub record CallsOn (d : DecisionSet) (old : List sock_filter) (next : ℕ) (step
   pub within : next ≤ 2 ^ 32
   pub grows : Grows old (below_length d.calls next) code
   pub answers : AreAnswers d next code steps
-
--- Code was put in front, and the target answers calls.
-pub record IsAnswered (old : List sock_filter) (default : ℕ) (rulings : List Ruling) (t : Target) (new : List sock_filter) : Type 0 where
-  pub grows : Grows old (rules_length rulings) new
-  pub answer : IsAnswer new default rulings t
-
-pub answered_one : {code : List sock_filter} {default v : ℕ} {rulings : List Ruling} → v < 2 ^ 32 → one_value default rulings ≡ Some v
-    → IsAnswered code default rulings (Give v) code
-answered_one {code} {rulings = rulings} fits is = record {
-  grows = grows_not code (rules_length rulings);
-  answer = record { inside = fits; one = λ w is'. ap Give (cc); own = λ none. absurd (cc) };
-}
-
-pub answered_rules : {old new : List sock_filter} {default : ℕ} {rulings : List Ruling} {t : Target} → one_value default rulings ≡ None
-    → AreRules old rulings default t new → IsAnswered old default rulings t new
-answered_rules none h = record {
-  grows = h.grows;
-  answer = record { inside = h.inside; one = λ v is. absurd (cc); own = λ _ r rec w n first takes. h.leads r rec w n first takes };
-}
 
 pub calls_on : {d : DecisionSet} {old mid new : List sock_filter} {steps more : List Step} {number next : ℕ} {t : Target}
     → CallsOn d old number steps mid → IsAnswered mid (default_for d.defaults number) (rulings_for d.calls number) t new

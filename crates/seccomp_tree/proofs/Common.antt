@@ -1,6 +1,6 @@
 -- The names that the proofs share, of std, of the library and of the definitions.
-pub use Rattle.seccomp_tree.specs.Code.{AllIn, AreAnswers, AreCallSteps, AreFine, AreIn, AreLaid, AreOver, AreRules, AreSteps, AscendFrom}
-pub use Rattle.seccomp_tree.specs.Code.{DoesAs, GoesOn, Grows, HasBits, IsAnswer, IsChosen, IsConditionMet, IsIn, IsMet, IsNextStart}
+pub use Rattle.seccomp_tree.specs.Code.{AllIn, AreAnswers, AreCallSteps, AreFine, AreIn, AreLaid, AreOver, AreSteps, AscendFrom, DoesAs}
+pub use Rattle.seccomp_tree.specs.Code.{GoesOn, Grows, HasBits, IsAnswer, IsAnswered, IsChosen, IsConditionMet, IsIn, IsMet, IsNextStart}
 pub use Rattle.seccomp_tree.specs.Code.{IsPart, IsPushed, IsReached, IsRulingMet, IsSound, IsTested, IsTree, IsTurn, Leads, Returns, Says}
 pub use Rattle.seccomp_tree.specs.Code.{Starts, TightFrom, chosen, first_start, found_from, found_in, gives, goes_on, near, passed, row}
 pub use Rattle.seccomp_tree.specs.Code.{same, second_stands_out, single, tail_at, to_place, to_return}

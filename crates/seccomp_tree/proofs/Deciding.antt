@@ -1,8 +1,8 @@
 -- What decisions decide: the first ruling that holds, the rulings of a number, the default.
-use Rattle.seccomp_tree.proofs.Common.{◌≡◌, ◌≤◌, ◌-◌, ℕ, ◌+◌, ◌<◌, List, [], ◌∷◌, length, drop, get_or, refl, sym, ap, ◌∙◌, Option, Some}
-use Rattle.seccomp_tree.proofs.Common.{None, Vec, inl, inr, arith, drop_more, nat_tests, is_at, lookup, nat_cmp, Global, RuleHolds, Ruling}
-use Rattle.seccomp_tree.proofs.Common.{First, here, behind, nothing, word_at, cases_eq, audit_word, DecisionSet, default_for, calls_of}
-use Rattle.seccomp_tree.proofs.Common.{rulings_for, IsDecided, other_architecture, decided}
+use Rattle.seccomp_tree.proofs.Common.{one_value, ◌≡◌, ◌≤◌, ◌-◌, ℕ, ◌+◌, ◌<◌, List, [], ◌∷◌, length, drop, get_or, refl, sym, ap, ◌∙◌}
+use Rattle.seccomp_tree.proofs.Common.{Option, Some, None, Vec, inl, inr, arith, drop_more, nat_tests, is_at, lookup, nat_cmp, Global}
+use Rattle.seccomp_tree.proofs.Common.{RuleHolds, Ruling, First, here, behind, nothing, word_at, cases_eq, audit_word, DecisionSet}
+use Rattle.seccomp_tree.proofs.Common.{default_for, calls_of, rulings_for, IsDecided, other_architecture, decided}
 use Rattle.seccomp_tree.proofs.Meeting.{rule_or_not}
 
 -- ---- lists that a loop goes down
@@ -29,6 +29,13 @@ first_behind d rest not (behind e q v other h) = h
 
 pub first_nothing : {default w : ℕ} {r : List ℕ} → First default r [] w → w ≡ default
 first_nothing nothing = refl
+
+-- the one value that answers is the word that is decided
+pub one_first : (default v w : ℕ) (rulings : List Ruling) (r : List ℕ) → one_value default rulings ≡ Some v → First default r rulings w → w ≡ v
+one_first default v w [] r is nothing = cc
+one_first default v w (d ∷ rulings) r is (here e rest holds) = grind (arith, nat_tests, is)
+one_first default v w (d ∷ rulings) r is (behind e rest u not h) =
+    let none : length d.conditions ≡ 0 = grind (arith, nat_tests, is) in absurd (not (λ k c lt. absurd (omega arith)))
 
 -- ---- the rulings of a number
 

@@ -1,15 +1,15 @@
 -- Rulings as a target, from the last to the first: each is put in front of what comes after it.
-use Rattle.seccomp_tree.proofs.Common.{AllIn, ◌≡◌, ℕ, zero, suc, ◌+◌, ◌*◌, ◌<◌, ◌≤◌, ◌^◌, List, [], ◌∷◌, length, drop, true, refl, ap, ◌∙◌}
-use Rattle.seccomp_tree.proofs.Common.{sym, ◌-◌, get_or_read_under, Option, Some, None, arith, nat_tests, All-nil, All-cons, All-head}
-use Rattle.seccomp_tree.proofs.Common.{All-tail, Dword, sock_filter, SeccompCmpArgLen, IsRecord, argument_at, Condition, Holds, RuleHolds}
-use Rattle.seccomp_tree.proofs.Common.{part_of, Target, Give, Step, found_in, single, is_plain, AreLaid, IsConditionMet, Leads, to_return}
-use Rattle.seccomp_tree.proofs.Common.{Grows, only, part_length, Ruling, First, alike, same_length, joined, conditions_length, AreSteps}
-use Rattle.seccomp_tree.proofs.Common.{IsPart, conditions_steps, rules_length, begins, Takes, stops, passes, IsRulingMet, AreRules}
-use Rattle.seccomp_tree.proofs.Common.{IsChosen, greatest_length, get_or, false, false≢true, option_map, unwrap_or}
+use Rattle.seccomp_tree.proofs.Common.{get_or_read_under, SeccompCmpArgLen, Condition, conditions_length, conditions_steps, greatest_length}
+use Rattle.seccomp_tree.proofs.Common.{AllIn, sock_filter, argument_at, IsConditionMet, part_length, same_length, rules_length, IsRulingMet}
+use Rattle.seccomp_tree.proofs.Common.{IsAnswered, one_value, nat_tests, All-cons, RuleHolds, to_return, false≢true, option_map, unwrap_or}
+use Rattle.seccomp_tree.proofs.Common.{[], All-nil, All-head, All-tail, IsRecord, found_in, is_plain, AreLaid, AreSteps, IsChosen}
+use Rattle.seccomp_tree.proofs.Common.{length, Option, Dword, part_of, Target, Give, single, Ruling, joined, IsPart, begins, passes, get_or}
+use Rattle.seccomp_tree.proofs.Common.{IsIn, ℕ, List, drop, Some, None, arith, Holds, Step, Leads, Grows, First, alike, Takes, stops, false}
+use Rattle.seccomp_tree.proofs.Common.{◌≡◌, zero, suc, ◌+◌, ◌*◌, ◌<◌, ◌≤◌, ◌^◌, ◌∷◌, true, refl, ap, ◌∙◌, sym, ◌-◌, only}
 use Rattle.seccomp_tree.specs.Code.{numbers_of}
 use Rattle.seccomp_tree.proofs.Runs.{grows_not, grows_on, leads_by, starts_more}
 use Rattle.seccomp_tree.proofs.Begun.{not_none, numbers_many, laid_in}
-use Rattle.seccomp_tree.proofs.Deciding.{first_here, first_behind, first_nothing}
+use Rattle.seccomp_tree.proofs.Deciding.{first_here, first_behind, first_nothing, one_first}
 use Rattle.seccomp_tree.proofs.Meeting.{holds_or_not, chosen_plain, part_fits, plain_cost, met_both}
 
 -- ---- one ruling
@@ -75,8 +75,28 @@ pub record IsBehind (old : List sock_filter) (default : ℕ) (like : SeccompCmpA
   pub leads : (r : List ℕ) → IsRecord r → (w n : ℕ) → First default r rulings w → Takes r entered rulings n
       → Leads 0 code r (found_in steps (part_of like.0 (argument_at r like.1))) w (n + 1)
 
+-- So does a target, if none is entered.
+pub record AreRules (old : List sock_filter) (rulings : List Ruling) (default : ℕ) (t : Target) (new : List sock_filter) : Type 0 where
+  pub grows : Grows old (rules_length rulings) new
+  pub inside : IsIn new t
+  pub leads : (r : List ℕ) → IsRecord r → (w n : ℕ) → First default r rulings w → Takes r 0 rulings n → Leads 0 new r t w (n + 1)
+
+pub answered_one : {code : List sock_filter} (default v : ℕ) (rulings : List Ruling) → v < 2 ^ 32 → one_value default rulings ≡ Some v
+    → IsAnswered code default rulings (Give v) code
+answered_one {code} default v rulings fits is = record {
+  grows = grows_not code (rules_length rulings);
+  answer = record {
+    inside = fits;
+    one = λ w is'. ap Give (cc);
+    leads = λ r rec w n first takes a small. rw (one_first default v w rulings r is first) (to_return v a (n + 1) (omega arith));
+  };
+}
+
+pub answered_more : {old new : List sock_filter} {default : ℕ} {rulings : List Ruling} {t : Target} → one_value default rulings ≡ None
+    → AreRules old rulings default t new → IsAnswered old default rulings t new
+answered_more none h = record { grows = h.grows; answer = record { inside = h.inside; one = λ v is. absurd (cc); leads = h.leads } }
+
 module _ {old code : List sock_filter} {default : ℕ} where
-  -- so does a target, if none is entered
   pub behind_fresh : (like : SeccompCmpArgLen × ℕ) (rulings : List Ruling) (t : Target) → AreRules old rulings default t code
       → IsBehind old default like 0 rulings (single t) code
   behind_fresh like rulings t h = record {

@@ -1,12 +1,11 @@
 -- The theorem: what is written answers every record as is decided.
-use Rattle.seccomp_tree.proofs.Common.{◌≡◌, ℕ, ◌+◌, ◌*◌, ◌≤◌, ◌^◌, List, [], ◌∷◌, length, Option, Some, None, refl, ap, inl, inr, arith}
-use Rattle.seccomp_tree.proofs.Common.{IsAnswer, AreCallSteps, length_by, Equal, suc, zero, nat_tests, sock_filter, IsRecord, word_at}
-use Rattle.seccomp_tree.proofs.Common.{audit_word, Target, Give, Step, one, Leads, to_return, IsPart, IsSound, Returns, chosen, Dword}
-use Rattle.seccomp_tree.proofs.Common.{Ruling, First, nothing, here, behind, Takes, stops, passes, ends, begins, run_steps, joined}
-use Rattle.seccomp_tree.proofs.Common.{DecisionSet, default_for, IsDecided, rulings_for, other_architecture, decided, one_value, value_for}
-use Rattle.seccomp_tree.proofs.Common.{TakesOwn, other, own, EndsAsDecided, IsTreeProgram, AreRanges, IsTested, greatest_length, load}
-use Rattle.seccomp_tree.proofs.Common.{word_fits, pow-succ', one-le-pow, give}
-use Rattle.seccomp_tree.proofs.Deciding.{decided_some}
+use Rattle.seccomp_tree.proofs.Common.{◌≡◌, ℕ, ◌+◌, ◌*◌, ◌≤◌, ◌^◌, List, [], ◌∷◌, length, ap, inl, inr, arith, IsAnswer, AreCallSteps}
+use Rattle.seccomp_tree.proofs.Common.{length_by, Equal, suc, zero, nat_tests, sock_filter, IsRecord, word_at, audit_word, Target, Give}
+use Rattle.seccomp_tree.proofs.Common.{Step, one, Leads, to_return, IsPart, IsSound, Returns, chosen, Dword, Ruling, First, behind, Takes}
+use Rattle.seccomp_tree.proofs.Common.{stops, passes, ends, begins, run_steps, joined, DecisionSet, default_for, IsDecided, rulings_for}
+use Rattle.seccomp_tree.proofs.Common.{other_architecture, decided, TakesOwn, other, own, EndsAsDecided, IsTreeProgram, AreRanges, IsTested}
+use Rattle.seccomp_tree.proofs.Common.{greatest_length, load, word_fits, pow-succ', one-le-pow, give}
+use Rattle.seccomp_tree.proofs.Deciding.{decided_some, one_first}
 use Rattle.seccomp_tree.proofs.Begun.{not_none}
 use Rattle.seccomp_tree.proofs.Runs.{grown_long, returns_more}
 use Rattle.seccomp_tree.proofs.Trees.{load_run}
@@ -14,26 +13,14 @@ use Rattle.seccomp_tree.proofs.CallsPushed.{fewest}
 use Rattle.seccomp_tree.proofs.Meeting.{rule_or_not}
 use Rattle.seccomp_tree.proofs.ProgramEnds.{program_ends, returns_short, sound_checked}
 
--- the one value that answers is the word that is decided
-one_first : (default v w : ℕ) (rulings : List Ruling) (r : List ℕ) → one_value default rulings ≡ Some v → First default r rulings w → w ≡ v
-one_first default v w [] r is nothing = cc
-one_first default v w (d ∷ rulings) r is (here e rest holds) = grind (arith, nat_tests, is)
-one_first default v w (d ∷ rulings) r is (behind e rest u not h) =
-    let none : length d.conditions ≡ 0 = grind (arith, nat_tests, is) in absurd (not (λ k c lt. absurd (omega arith)))
-
 -- what answers a number leads to what is decided, within its own steps and one
 answer_leads : (d : DecisionSet) (code : List sock_filter) (t : Target) (r : List ℕ) (w n : ℕ) → IsRecord r
     → IsAnswer code (default_for d.defaults (word_at r 0)) (rulings_for d.calls (word_at r 0)) t
     → word_at r 4 ≡ audit_word d.target_arch → First (default_for d.defaults (word_at r 0)) r (rulings_for d.calls (word_at r 0)) w
     → TakesOwn d r n → Leads 0 code r t w (n + 1)
-answer_leads d code t r w n rec h arch first takes = go (value_for d (word_at r 0)) refl n takes
-  where
-    go : (o : Option ℕ) → value_for d (word_at r 0) ≡ o → (m : ℕ) → TakesOwn d r m → Leads 0 code r t w (m + 1)
-    go (Some v) is m takes = λ a small.
-        rw (h.one v is, one_first _ v w (rulings_for d.calls (word_at r 0)) r is first) (to_return v a (m + 1) (omega arith))
-    go None is m (other not) = absurd (not arch)
-    go None is m (one v some) = absurd (cc)
-    go None is m (own k takes) = h.own is r rec w k first takes
+answer_leads d code t r w n rec h arch first (other not) = absurd (not arch)
+answer_leads d code t r w n rec h arch first (one v is) = λ a small. rw (h.one v is, one_first _ v w _ r is first) (to_return v a 1 (omega arith))
+answer_leads d code t r w n rec h arch first (own k takes) = h.leads r rec w k first takes
 
 -- ---- what there is for every record
 

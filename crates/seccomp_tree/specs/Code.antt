@@ -1,7 +1,7 @@
 -- What private functions promise each other: of steps that are looked up by a number, of code that is written from its end to its
 -- front, conditions, rulings and call numbers.
 use Rattle.std.specs.Prelude.{◌≡◌, ℕ, suc, ◌+◌, ◌-◌, ◌*◌, ◌<◌, ◌≤◌, ◌^◌, List, [], ◌∷◌, ◌++◌, length, drop, ⊤, nat_eq, nat_le}
-use Rattle.std.specs.Prelude.{slice_index_or, if◌then◌else◌, bit_and, Some, None, Bool, true, ◌≢◌, false, ◌&&◌}
+use Rattle.std.specs.Prelude.{slice_index_or, if◌then◌else◌, bit_and, Some, Bool, true, ◌≢◌, false, ◌&&◌}
 use Rattle.seccompiler.specs.declared.bpf.sock_filter.{sock_filter}
 use Rattle.seccompiler.specs.Machine.{IsRecord, Does, IsFine, IsInRange, word_at, greatest_length}
 use Rattle.seccompiler.specs.Policy.{Condition, Holds, Compares, RuleHolds, part_of}
@@ -256,25 +256,22 @@ HasBits byte mask value r = bit_and (word_at r byte) mask ≡ bit_and value mask
 abbrev pub IsRulingMet : List sock_filter → List Condition → ℕ → Target → Target → List sock_filter → Type 0
 IsRulingMet old q value after t new = IsMet (RuleHolds q) (conditions_length q) (conditions_steps q) old (Give value) after t new
 
--- The target goes on as the first of the rulings that holds says, or returns the default.
-pub record AreRules (old : List sock_filter) (rulings : List Ruling) (default : ℕ) (t : Target) (new : List sock_filter) : Type 0 where
+-- The target goes on as the first of the rulings that holds says, or returns the default; if one value answers calls, it returns that.
+pub record IsAnswer (code : List sock_filter) (default : ℕ) (rulings : List Ruling) (t : Target) : Type 0 where
+  pub inside : IsIn code t
+  pub one : (v : ℕ) → one_value default rulings ≡ Some v → t ≡ Give v
+  pub leads : (r : List ℕ) → IsRecord r → (w n : ℕ) → First default r rulings w → Takes r 0 rulings n → Leads 0 code r t w (n + 1)
+
+-- Code was put in front for that.
+pub record IsAnswered (old : List sock_filter) (default : ℕ) (rulings : List Ruling) (t : Target) (new : List sock_filter) : Type 0 where
   pub grows : Grows old (rules_length rulings) new
-  pub inside : IsIn new t
-  pub leads : (r : List ℕ) → IsRecord r → (w n : ℕ) → First default r rulings w → Takes r 0 rulings n → Leads 0 new r t w (n + 1)
+  pub answer : IsAnswer new default rulings t
 
 -- There are more rulings than a program has room for: this comes only if that is so, or of memory.
 abbrev pub IsTooMany : ℕ → TreeError → Type 0
 IsTooMany length e = e ≡ TooLarge → greatest_length < length
 
 -- ---- steps over call numbers
-
--- The target answers calls as their rulings do, whatever the accumulator holds; if one value answers them, it returns
--- that.
-pub record IsAnswer (code : List sock_filter) (default : ℕ) (rulings : List Ruling) (t : Target) : Type 0 where
-  pub inside : IsIn code t
-  pub one : (v : ℕ) → one_value default rulings ≡ Some v → t ≡ Give v
-  pub own : one_value default rulings ≡ None → (r : List ℕ) → IsRecord r → (w n : ℕ) → First default r rulings w
-      → Takes r 0 rulings n → Leads 0 code r t w (n + 1)
 
 -- A number after this one, up to which calls are answered as those of this one.
 pub record IsNextStart (defaults : List DefaultValue) (calls : List (ℕ × List Ruling)) (number next : ℕ) : Type 0 where

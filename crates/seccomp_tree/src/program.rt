@@ -1,8 +1,7 @@
 // The program of decisions.
 
-ghost use Rattle.std.specs.Prelude.{◌≡◌, ◌<◌, ◌^◌, IfOk, IfErr, IfSome};
+ghost use Rattle.std.specs.Prelude.{IfOk, IfErr};
 ghost use Rattle.seccomp_tree.specs.Decided.{calls_of};
-ghost use Rattle.seccomp_tree.specs.TreeProgram.{one_value};
 ghost use Rattle.seccomp_tree.specs.Code.{IsNextStart, IsTooMany};
 
 use crate::code::{Code, Test};
@@ -54,28 +53,12 @@ impl Decisions {
         let mut next: u64 = 0;
         while next < WORDS {
             let number = next as u32;
-            let rulings = self.rulings_for(number);
             let default = default_for(&self.defaults, number);
-            let target = match one_value(rulings, default) {
-                Some(value) => Target::Give(value),
-                None => code.rules(alloc, rulings, default)?,
-            };
+            let target = code.rules(alloc, self.rulings_for(number), default)?;
             push_step(&mut steps, next, target)?;
             next = next_start(&self.defaults, &self.calls, number);
         }
         Ok(steps)
-    }
-}
-
-// The value that alone answers calls of these rulings, if one does.
-fn one_value(rulings: &[Decision], default: u32) -> Option<u32>
-    ensures value { result ≡ one_value default rulings.now }
-    ensures fits { IfSome result (λ v. v < 2 ^ 32) }
-{
-    match rulings.first() {
-        None => Some(default),
-        Some(first) if first.conditions.is_empty() => Some(first.value),
-        _ => None,
     }
 }
 

@@ -1,7 +1,7 @@
 // Rulings as a target: what the first that holds says.
 
 ghost use Rattle.std.specs.Prelude.{◌≡◌, IfOk, IfErr};
-ghost use Rattle.seccomp_tree.specs.Code.{AreRules, IsIn, IsRulingMet, IsTooMany};
+ghost use Rattle.seccomp_tree.specs.Code.{IsAnswered, IsIn, IsRulingMet, IsTooMany};
 ghost use Rattle.seccomp_tree.specs.Decisions.{alike, only, rules_length};
 
 use crate::code::Code;
@@ -14,16 +14,22 @@ use seccompiler::{SeccompCmpOp, SeccompCondition};
 use std::alloc::{AllocError, Global};
 
 impl Code {
-    /// Goes on as the first of the rulings that holds says, or returns the default; whatever the accumulator holds.
+    /// Goes on as the first of the rulings that holds says, or returns the default; whatever the accumulator holds. If one
+    /// value answers each call, it is returned at once.
     pub(crate) fn rules(
         &mut self,
         alloc: Global,
         rulings: &[Decision],
         default: u32,
     ) -> Result<Target, TreeError>
-        ensures ok { IfOk result (λ t. AreRules self.old rulings.now default t self.new) }
+        ensures ok { IfOk result (λ t. IsAnswered self.old default rulings.now t self.new) }
         ensures err { IfErr result (IsTooMany (rules_length rulings.now)) }
     {
+        match rulings.first() {
+            None => return Ok(Target::Give(default)),
+            Some(first) if first.conditions.is_empty() => return Ok(Target::Give(first.value)),
+            _ => {}
+        }
         // What comes after the rulings: steps over what the ruling in front of them compares, or one.
         let mut steps = one(alloc, Target::Give(default))?;
         for left in (0..rulings.len()).rev() {

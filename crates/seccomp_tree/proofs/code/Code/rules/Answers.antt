@@ -1,11 +1,18 @@
-use Rattle.seccomp_tree.proofs.Common.{◌≡◌, ◌-◌, ◌∷◌, [], List, Ruling, only, rules_length, length, drop, drop_all, ap, sym, ◌∙◌, arith}
-use Rattle.seccomp_tree.proofs.Common.{refl, Give, AreRules, joined, suc}
+use Rattle.seccomp_tree.proofs.Common.{rules, one_value, None, ◌≡◌, ◌-◌, ◌∷◌, [], List, Ruling, only, rules_length, length, drop, drop_all}
+use Rattle.seccomp_tree.proofs.Common.{ap, sym, ◌∙◌, arith, refl, Give, joined, suc}
 use Rattle.seccomp_tree.proofs.Deciding.{drop_back}
-use Rattle.seccomp_tree.proofs.Ruled.{IsBehind, alike_none, behind_along, behind_fresh, behind_laid, behind_many, behind_none, compared}
-use Rattle.seccomp_tree.proofs.Ruled.{front_is, in_front, joined_apart, joined_none, rules_alone, rules_less, rules_none, rules_settled}
+use Rattle.seccomp_tree.proofs.Ruled.{AreRules, answered_one, IsBehind, answered_more, alike_none, behind_along, behind_fresh, behind_laid}
+use Rattle.seccomp_tree.proofs.Ruled.{behind_many, behind_none, compared, front_is, in_front, joined_apart, joined_none, rules_alone}
+use Rattle.seccomp_tree.proofs.Ruled.{rules_less, rules_none, rules_settled}
 use Rattle.seccomp_tree.proofs.code.Code.rules.Goals.{After-only, After-len, After-index, then-left-eq0-via-then-left-eq0}
 use Rattle.seccomp_tree.proofs.code.Code.rules.Goals.{then-left-eq0-via-else-left-eq0+then-not-joins}
 use Rattle.seccomp_tree.proofs.code.Code.rules.Goals as goal
+
+pub returns-in-None-clause-ok : goal.returns-in-None-clause-ok
+returns-in-None-clause-ok c = answered_one _ _ c.args.rulings.now c.ranges.default.fits (search rules)
+
+pub returns-in-Some-clause-ok : goal.returns-in-Some-clause-ok
+returns-in-Some-clause-ok c = answered_one _ _ c.args.rulings.now c.first-in-Some-1.invariant (search rules)
 
 pub loop-left-init : goal.loop-left-init
 loop-left-init c =
@@ -38,19 +45,19 @@ ready c =
 after : (c : After-index) → AreRules c.args.self.now (rest c.before.before.before) c.args.default c.index.result.now.target c.loop-left.self
 after c =
     let b : After-only = c.before.before.before in
-    let own = own_is b ∙ c.in_default.is in
+    let own = own_is b ∙ c.in_default-only.is in
     behind_none _ _ (rw (own, joined_none _ (rest b) own) at (ready b)) c.index.ensures
 
 pub conditions-requires : goal.conditions-requires
 conditions-requires c = record { after = (after ((goal.at.conditions-requires c).After-index)).inside }
 
-pub loop-left-preserved-in_default : goal.loop-left-preserved-in_default
-loop-left-preserved-in_default c =
-    let i = (goal.at.loop-left-preserved-in_default c).After-index in
+pub loop-left-preserved-in_default-only : goal.loop-left-preserved-in_default-only
+loop-left-preserved-in_default-only c =
+    let i = (goal.at.loop-left-preserved-in_default-only c).After-index in
     let b : After-only = i.before.before.before in
     let d = c.index-rulings-left.result in
-    let own = own_is b ∙ c.in_default.is in
-    let q = c.deref-in_default.ensures.value ∙ ap (λ (d : Ruling). d.conditions) c.ruling.view_is in
+    let own = own_is b ∙ c.in_default-only.is in
+    let q = c.deref-in_default-only.ensures.value ∙ ap (λ (d : Ruling). d.conditions) c.ruling.view_is in
     let front = in_front c.args.rulings.now (c.loop-left.left - 1) in
     let apart : joined front (d ∷ rest b) ≡ 0 = joined_apart front d _ (rw own (alike_none (only front))) in
     rw (from_here b, c.in_ok-steps-2.ensures, apart)
@@ -60,12 +67,12 @@ loop-left-preserved-in_default c =
 abbrev only_of : After-len → After-only
 only_of c = c.before.before.before.before.before.before.before.before.before.before
 
-laid_is : (c : After-len) → IsBehind c.args.self.now c.args.default (c.in-Some.condition.arg_len, c.in-Some.condition.arg_index)
+laid_is : (c : After-len) → IsBehind c.args.self.now c.args.default (c.in-Some-only.condition.arg_len, c.in-Some-only.condition.arg_index)
     (suc (joined c.index-rulings-left.result.conditions (rest (only_of c)))) (c.index-rulings-left.result ∷ rest (only_of c))
     c.in_ok-steps-3.steps.items c.loop-left.self
 laid_is c =
     let b = only_of c in
-    let own = own_is b ∙ c.in-Some.is in
+    let own = own_is b ∙ c.in-Some-only.is in
     let value : c.ruling.inside.value ≡ c.index-rulings-left.result.value = value_is b in
     behind_laid _ (rest b) own (rw (← value) c.ruling.invariant) (rw own at (ready b))
     (rw (value, c.deref-in-loop-left.ensures.value) at c.in_ok-steps-3.ensures)
@@ -95,7 +102,7 @@ loop-left-preserved-in-loop-left c =
               w.index-rulings-left-else-left-eq0.is in
           joined_apart front d _ (rw at (sym w.joins.ensures ∙ w.if-not-joins.true))
     ] in
-    rw (from_here b, c.in_ok-steps-4.ensures, apart) (behind_fresh _ _ _ (rules_settled d (rest b) (own_is b ∙ c.in-Some.is) c.argument.new.self
+    rw (from_here b, c.in_ok-steps-4.ensures, apart) (behind_fresh _ _ _ (rules_settled d (rest b) (own_is b ∙ c.in-Some-only.is) c.argument.new.self
     (laid_is l) (rw (c.deref-then-left-eq0.ensures.value, c.arg_len-size.ensures, c.arg_index-index.ensures.index) at c.in_ok-argument.ensures)))
 
 pub loop-left-preserved : goal.loop-left-preserved
@@ -105,10 +112,11 @@ loop-left-preserved c =
     let front = in_front c.args.rulings.now (c.loop-left.left - 1) in
     let at = front_is c.args.rulings.now (c.loop-left.left - 1) _ (omega (arith, c.if-left-eq0.false)) (omega arith)
         c.index-rulings-left-else-left-eq0.is in
-    rw (from_here b) (behind_along c.index-rulings-left.result (rest b) (own_is b ∙ c.in-Some.is) front (only front) refl
+    rw (from_here b) (behind_along c.index-rulings-left.result (rest b) (own_is b ∙ c.in-Some-only.is) front (only front) refl
     (rw at (sym c.joins.ensures ∙ c.if-not-joins.false)) (laid_is l))
 
 pub returns-clause-ok : goal.returns-clause-ok
 returns-clause-ok c =
     let none : c.loop-left.left ≡ 0 = omega arith in
-    behind_none _ _ (rw (joined_none [] c.args.rulings.now refl) at (rw none at c.loop-left.invariant)) c.index-2.ensures
+    let many : one_value c.args.default c.args.rulings.now ≡ None = search rules in
+    answered_more many (behind_none _ _ (rw (joined_none [] c.args.rulings.now refl) at (rw none at c.loop-left.invariant)) c.index-2.ensures)

@@ -7,7 +7,7 @@ use Rattle.seccomp_tree.proofs.Common.{calls_length, DefaultValue, ap, ◌-◌, 
 use Rattle.seccomp_tree.proofs.Common.{found_from, AscendFrom, TightFrom, AreRanges}
 use Rattle.seccomp_tree.proofs.Runs.{grows_not, grows_on, is_in_grown, leads_grown}
 use Rattle.seccomp_tree.proofs.Begun.{steps_more, found_before}
-use Rattle.seccomp_tree.proofs.Deciding.{items_of, rulings_under}
+use Rattle.seccomp_tree.proofs.Decided.{items_of, rulings_under}
 
 -- numbers that no start parts have one default
 same_from : (value : ℕ) (defaults : List DefaultValue) (m n : ℕ)

@@ -12,7 +12,7 @@ pub use Rattle.seccomp_tree.specs.Decided.{other_architecture, rulings_for}
 pub use Rattle.seccomp_tree.specs.FilterDecisions.{DecideAs, call_of, decisions_of, rulings_of}
 pub use Rattle.seccomp_tree.specs.Layouts.{AgreesInAll, IsCompiledIn}
 pub use Rattle.seccomp_tree.specs.TreeProgram.{AreRanges, EndsAsDecided, EndsWithin, IsTreeProgram, TakesOwn, calls_length, length_by, one}
-pub use Rattle.seccomp_tree.specs.TreeProgram.{one_value, other, own, value_for}
+pub use Rattle.seccomp_tree.specs.TreeProgram.{one_value, other, own}
 pub use Rattle.seccomp_tree.specs.declared.code.Test.{Test}
 pub use Rattle.seccomp_tree.specs.declared.decisions.DefaultValue.{DefaultValue}
 pub use Rattle.seccomp_tree.specs.declared.layout.Layout.{Layout}

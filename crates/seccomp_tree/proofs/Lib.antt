@@ -4,10 +4,8 @@ pub mod Runs
 pub mod Meeting
 pub mod Ruled
 pub mod Trees
-pub mod ProgramEnds
-pub mod Deciding
-pub mod CallsPushed
 pub mod Theorem
-pub mod FilterDecided
+pub mod Decided
+pub mod CallsPushed
 pub mod Begun
 pub mod Halves

@@ -2,14 +2,14 @@
 use Rattle.seccomp_tree.proofs.Common.{get_or_read_under, SeccompCmpArgLen, Condition, conditions_length, conditions_steps, greatest_length}
 use Rattle.seccomp_tree.proofs.Common.{AllIn, sock_filter, argument_at, IsConditionMet, part_length, same_length, rules_length, IsRulingMet}
 use Rattle.seccomp_tree.proofs.Common.{IsAnswered, one_value, nat_tests, All-cons, RuleHolds, to_return, false≢true, option_map, unwrap_or}
-use Rattle.seccomp_tree.proofs.Common.{[], All-nil, All-head, All-tail, IsRecord, found_in, is_plain, AreLaid, AreSteps, IsChosen}
-use Rattle.seccomp_tree.proofs.Common.{length, Option, Dword, part_of, Target, Give, single, Ruling, joined, IsPart, begins, passes, get_or}
-use Rattle.seccomp_tree.proofs.Common.{IsIn, ℕ, List, drop, Some, None, arith, Holds, Step, Leads, Grows, First, alike, Takes, stops, false}
-use Rattle.seccomp_tree.proofs.Common.{◌≡◌, zero, suc, ◌+◌, ◌*◌, ◌<◌, ◌≤◌, ◌^◌, ◌∷◌, true, refl, ap, ◌∙◌, sym, ◌-◌, only}
+use Rattle.seccomp_tree.proofs.Common.{[], All-nil, All-head, All-tail, IsRecord, found_in, is_plain, AreLaid, AreSteps, IsChosen, length}
+use Rattle.seccomp_tree.proofs.Common.{Option, Dword, part_of, Target, Give, single, Ruling, joined, IsPart, begins, passes, get_or, IsIn}
+use Rattle.seccomp_tree.proofs.Common.{ℕ, List, drop, Some, None, arith, Holds, Step, Leads, Grows, First, alike, Takes, stops, false, ◌≡◌}
+use Rattle.seccomp_tree.proofs.Common.{zero, suc, ◌+◌, ◌*◌, ◌<◌, ◌≤◌, ◌^◌, ◌∷◌, true, refl, ap, ◌∙◌, sym, ◌-◌, only}
 use Rattle.seccomp_tree.specs.Code.{numbers_of}
 use Rattle.seccomp_tree.proofs.Runs.{grows_not, grows_on, leads_by, starts_more}
 use Rattle.seccomp_tree.proofs.Begun.{not_none, numbers_many, laid_in}
-use Rattle.seccomp_tree.proofs.Deciding.{first_here, first_behind, first_nothing, one_first}
+use Rattle.seccomp_tree.proofs.Decided.{first_here, first_behind, first_nothing, one_first}
 use Rattle.seccomp_tree.proofs.Meeting.{holds_or_not, chosen_plain, part_fits, plain_cost, met_both}
 
 -- ---- one ruling

@@ -1,5 +1,5 @@
 use Rattle.seccomp_tree.proofs.Common.{◌≡◌, ◌+◌, drop, sym, ap, ◌∙◌, false≢true, RuleHolds, Ruling, here, behind, nothing, drop_all}
-use Rattle.seccomp_tree.proofs.Deciding.{drop_at, first_here, first_behind, first_nothing}
+use Rattle.seccomp_tree.proofs.Decided.{drop_at, first_here, first_behind, first_nothing}
 use Rattle.seccomp_tree.proofs.decisions.first_value.Goals.{After-all_hold}
 use Rattle.seccomp_tree.proofs.decisions.first_value.Goals as goal
 

@@ -1,5 +1,5 @@
 use Rattle.seccomp_tree.proofs.Common.{ap, ◌∙◌, rulings_of}
-use Rattle.seccomp_tree.proofs.FilterDecided.{calls_begin, calls_next}
+use Rattle.seccomp_tree.proofs.Decided.{calls_begin, calls_next}
 use Rattle.seccomp_tree.proofs.filter.calls_of.Goals as goal
 
 pub loop-number-init : goal.loop-number-init

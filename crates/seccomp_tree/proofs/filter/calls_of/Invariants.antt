@@ -1,4 +1,4 @@
-use Rattle.seccomp_tree.proofs.FilterDecided.{CallsSoFar}
+use Rattle.seccomp_tree.proofs.Decided.{CallsSoFar}
 use Rattle.seccomp_tree.proofs.filter.calls_of.Given as goal
 
 abbrev pub invariant-loop-number : goal.invariant-loop-number

@@ -1,5 +1,5 @@
 use Rattle.seccomp_tree.proofs.Common.{◌≡◌, ◌≤◌, ◌<◌, ℕ, [], ap, ◌∙◌, sym, arith, nat_tests, calls_of, rulings_for, cases_lt, inl, inr}
-use Rattle.seccomp_tree.proofs.Deciding.{items_of, rulings_under}
+use Rattle.seccomp_tree.proofs.Decided.{items_of, rulings_under}
 use Rattle.seccomp_tree.proofs.CallsPushed.{next_is, none_before}
 use Rattle.seccomp_tree.proofs.program.next_start.Goals.{in-Some, in-None}
 use Rattle.seccomp_tree.proofs.program.next_start.Goals as goal

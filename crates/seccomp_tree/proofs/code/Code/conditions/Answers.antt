@@ -1,5 +1,5 @@
 use Rattle.seccomp_tree.proofs.Common.{◌≡◌, drop, length, arith, drop_all, refl, All-nil, Condition, Holds}
-use Rattle.seccomp_tree.proofs.Deciding.{drop_back}
+use Rattle.seccomp_tree.proofs.Decided.{drop_back}
 use Rattle.seccomp_tree.proofs.Meeting.{met_now}
 use Rattle.seccomp_tree.proofs.Ruled.{ruling_one}
 use Rattle.seccomp_tree.proofs.code.Code.conditions.Goals as goal

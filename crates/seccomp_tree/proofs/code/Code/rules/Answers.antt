@@ -1,6 +1,6 @@
 use Rattle.seccomp_tree.proofs.Common.{rules, one_value, None, ◌≡◌, ◌-◌, ◌∷◌, [], List, Ruling, only, rules_length, length, drop, drop_all}
 use Rattle.seccomp_tree.proofs.Common.{ap, sym, ◌∙◌, arith, refl, Give, joined, suc}
-use Rattle.seccomp_tree.proofs.Deciding.{drop_back}
+use Rattle.seccomp_tree.proofs.Decided.{drop_back}
 use Rattle.seccomp_tree.proofs.Ruled.{AreRules, answered_one, IsBehind, answered_more, alike_none, behind_along, behind_fresh, behind_laid}
 use Rattle.seccomp_tree.proofs.Ruled.{behind_many, behind_none, compared, front_is, in_front, joined_apart, joined_none, rules_alone}
 use Rattle.seccomp_tree.proofs.Ruled.{rules_less, rules_none, rules_settled}

@@ -1,5 +1,5 @@
 use Rattle.seccomp_tree.proofs.Common.{rules, ◌≡◌, calls_of, decisions_of}
-use Rattle.seccomp_tree.proofs.FilterDecided.{decide_as}
+use Rattle.seccomp_tree.proofs.Decided.{decide_as}
 use Rattle.seccomp_tree.proofs.decisions.Decisions.of_filter.Goals as goal
 
 pub calls_of-requires : goal.calls_of-requires

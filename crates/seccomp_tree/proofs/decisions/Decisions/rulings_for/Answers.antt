@@ -1,5 +1,5 @@
 use Rattle.seccomp_tree.proofs.Common.{ap, ◌∙◌, DecisionSet, rulings_for}
-use Rattle.seccomp_tree.proofs.Deciding.{items_of, rulings_under}
+use Rattle.seccomp_tree.proofs.Decided.{items_of, rulings_under}
 use Rattle.seccomp_tree.proofs.decisions.Decisions.rulings_for.Goals as goal
 
 pub returns-in-Some : goal.returns-in-Some

@@ -2,7 +2,7 @@
 use Rattle.seccomp_tree.proofs.Common.{AllIn, nat_le, take, take_all, length-drop, IsTurn, ◌≡◌, ℕ, zero, suc, ◌+◌, ◌-◌, ◌^◌, ◌<◌, ◌≤◌, ◌≢◌}
 use Rattle.seccomp_tree.proofs.Common.{List, [], ◌∷◌, ◌++◌, length, drop, get_or, true, ap, first_start, false, refl, ◌∙◌, ◌⊎◌, inl, inr}
 use Rattle.seccomp_tree.proofs.Common.{if◌then◌else◌, arith, length-append, nat_tests, Bool, Step, sock_filter, Target, found_from}
-use Rattle.seccomp_tree.proofs.Common.{found_in, AreOver, AscendFrom, AreSteps, TightFrom, IsPushed, IsIn, AreIn, nat_eq, nat_lt, cases_lt}
+use Rattle.seccomp_tree.proofs.Common.{found_in, AreOver, AscendFrom, AreSteps, AreTight, IsPushed, IsIn, AreIn, nat_eq, nat_lt, cases_lt}
 use Rattle.seccomp_tree.proofs.Common.{cases_eq, bit_and, SeccompCmpArgLen, SeccompCmpOp, Dword, Qword, ◌%◌, MaskedEq, Condition, Compares}
 use Rattle.seccomp_tree.proofs.Common.{part_of, is_plain, IsChosen, AreLaid}
 use Rattle.seccomp_tree.specs.Code.{numbers_of}
@@ -176,11 +176,11 @@ ascend_push : (from : ℕ) (steps : List Step) (x : Step) → from ≤ x.start �
 ascend_push from [] x le h = (le, (omega arith, tt))
 ascend_push from (y ∷ steps) x le h = (h.0, (omega (arith, h.1.0), ascend_push (y.start + 1) steps x (omega (arith, h.1.0)) h.1.1))
 
-tight_from : (t : Target) (from : ℕ) (steps : List Step) (x : Step) → AscendFrom x.start from steps
-    → (found_from t steps x.start ≢ x.target) → TightFrom t steps → TightFrom t (steps ++ x ∷ [])
-tight_from t from [] x h not tight = (not, tt)
-tight_from t from (y ∷ steps) x h not tight =
-    (tight.0, tight_from y.target (y.start + 1) steps x h.1.1 (λ e. not (grind (arith, nat_tests, h.1.0, e))) tight.1)
+tight_from : (z : Step) (from : ℕ) (steps : List Step) (x : Step) → AscendFrom x.start from steps
+    → (found_from z.target steps x.start ≢ x.target) → AreTight (z ∷ steps) → AreTight (z ∷ (steps ++ x ∷ []))
+tight_from z from [] x h not tight = (not, tt)
+tight_from z from (y ∷ steps) x h not tight =
+    (tight.0, tight_from y (y.start + 1) steps x h.1.1 (λ e. not (grind (arith, nat_tests, h.1.0, e))) tight.1)
 
 pub pushed_more : (old : List Step) (x : Step) → AreSteps x.start old → (1 ≤ length old → found_in old x.start ≢ x.target)
     → IsPushed old x.start x.target (old ++ x ∷ [])
@@ -194,7 +194,7 @@ pushed_more (y ∷ old) x h not = record {
   are = record {
     first = h.first;
     ascend = ascend_push 0 (y ∷ old) x (omega arith) h.ascend;
-    tight = tight_from y.target (y.start + 1) old x h.ascend.1.1 (not (omega arith)) h.tight;
+    tight = tight_from y (y.start + 1) old x h.ascend.1.1 (not (omega arith)) h.tight;
   };
   from = λ a le. found_back y.target (y.start + 1) old x [] a h.ascend.1.1 le;
   below = λ a lt. found_front y.target old x [] a lt;

@@ -4,7 +4,7 @@ use Rattle.seccomp_tree.proofs.Common.{arith, refl, IsAnswer, AreAnswers, AreCal
 use Rattle.seccomp_tree.proofs.Common.{inr, nat_lt, IsSome, nat_tests, cases_lt, is_at, lookup, Step, nat_cmp, Global, sock_filter, Target}
 use Rattle.seccomp_tree.proofs.Common.{IsPushed, Grows, Ruling, rules_length, DecisionSet, calls_of, default_for, rulings_for, default_from}
 use Rattle.seccomp_tree.proofs.Common.{calls_length, DefaultValue, ap, ◌-◌, Bool, true, false, nat_eq, nat_le, cases_eq, is_member}
-use Rattle.seccomp_tree.proofs.Common.{found_from, AscendFrom, TightFrom, AreRanges}
+use Rattle.seccomp_tree.proofs.Common.{found_from, AscendFrom, AreTight, AreRanges}
 use Rattle.seccomp_tree.proofs.Runs.{grows_not, grows_on, is_in_grown, leads_grown}
 use Rattle.seccomp_tree.proofs.Begun.{steps_more, found_before}
 use Rattle.seccomp_tree.proofs.Decided.{items_of, rulings_under}
@@ -129,22 +129,22 @@ above_one m n (s ∷ starts) lt h = elim (cases_eq m s) [
 ]
 
 -- where each step starts, ranges start
-few_from : (d : DecisionSet) (code : List sock_filter) (starts : List ℕ) (start : ℕ) (t : Target) (steps : List Step) → AreRanges d starts
-    → AscendFrom (2 ^ 32) (start + 1) steps → TightFrom t steps
-    → ((n : ℕ) → start ≤ n → n < 2 ^ 32 → IsAnswer code (default_for d.defaults n) (rulings_for d.calls n) (found_from t steps n))
-    → length steps ≤ above (start + 1) starts
-few_from d code starts start t [] ranges ascend tight each = omega arith
-few_from d code starts start t (x ∷ steps) ranges ascend tight each =
+few_from : (d : DecisionSet) (code : List sock_filter) (starts : List ℕ) (y : Step) (steps : List Step) → AreRanges d starts
+    → AscendFrom (2 ^ 32) (y.start + 1) steps → AreTight (y ∷ steps)
+    → ((n : ℕ) → y.start ≤ n → n < 2 ^ 32 → IsAnswer code (default_for d.defaults n) (rulings_for d.calls n) (found_from y.target steps n))
+    → length steps ≤ above (y.start + 1) starts
+few_from d code starts y [] ranges ascend tight each = omega arith
+few_from d code starts y (x ∷ steps) ranges ascend tight each =
     let s = x.start in
     let here : is_member nat_eq starts s ≡ true = begins (is_member nat_eq starts (s - 1 + 1)) refl in
-    let rest = few_from d code starts s x.target steps ranges ascend.1.1 tight.1 (λ n le lt.
+    let rest = few_from d code starts x steps ranges ascend.1.1 tight.1 (λ n le lt.
     let yes : nat_le s n ≡ true = grind (arith, nat_tests) in rw yes at (each n (omega (arith, ascend.0)) lt)) in
-    omega (arith, rest, above_one s (s + 1) starts (omega arith) here, above_less (start + 1) s starts ascend.0)
+    omega (arith, rest, above_one s (s + 1) starts (omega arith) here, above_less (y.start + 1) s starts ascend.0)
   where
-    below : found_from t (x ∷ steps) (x.start - 1) ≡ t
+    below : found_from y.target (x ∷ steps) (x.start - 1) ≡ y.target
     below = grind (arith, nat_tests, ascend.0)
 
-    at : found_from t (x ∷ steps) (x.start - 1 + 1) ≡ x.target
+    at : found_from y.target (x ∷ steps) (x.start - 1 + 1) ≡ x.target
     at = grind (arith, nat_tests, ascend.0, found_before (2 ^ 32) (x.start + 1) x.target steps (x.start - 1 + 1) ascend.1.1)
 
     begins : (b : Bool) → is_member nat_eq starts (x.start - 1 + 1) ≡ b → is_member nat_eq starts x.start ≡ true
@@ -160,7 +160,7 @@ pub fewest : (d : DecisionSet) (code : List sock_filter) (steps : List Step) (st
 fewest d code [] starts h ranges = omega arith
 fewest d code (x ∷ steps) starts h ranges =
     let zero : x.start ≡ 0 = h.are.first in
-    let rest = few_from d code starts x.start x.target steps ranges h.are.ascend.1.1 h.are.tight (λ n le lt. h.each n lt) in
+    let rest = few_from d code starts x steps ranges h.are.ascend.1.1 h.are.tight (λ n le lt. h.each n lt) in
     let first = above_one 0 1 starts (omega arith) ranges.zero in
     let up = above_less 1 (x.start + 1) starts (omega arith) in
     omega (arith, rest, first, up, above_all 0 starts)

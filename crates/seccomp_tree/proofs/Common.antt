@@ -2,7 +2,7 @@
 pub use Rattle.seccomp_tree.specs.Code.{AllIn, AreAnswers, AreCallSteps, AreFine, AreIn, AreLaid, AreOver, AreSteps, AscendFrom, DoesAs}
 pub use Rattle.seccomp_tree.specs.Code.{GoesOn, Grows, HasBits, IsAnswer, IsAnswered, IsChosen, IsConditionMet, IsIn, IsMet, IsNextStart}
 pub use Rattle.seccomp_tree.specs.Code.{IsPart, IsPushed, IsReached, IsRulingMet, IsSound, IsTested, IsTree, IsTurn, Leads, Returns, Says}
-pub use Rattle.seccomp_tree.specs.Code.{Starts, TightFrom, chosen, first_start, found_from, found_in, gives, goes_on, near, passed, row}
+pub use Rattle.seccomp_tree.specs.Code.{Starts, AreTight, chosen, first_start, found_from, found_in, gives, goes_on, near, passed, row}
 pub use Rattle.seccomp_tree.specs.Code.{same, second_stands_out, single, tail_at, to_place, to_return}
 pub use Rattle.seccomp_tree.specs.Decisions.{First, Ruling, Takes, alike, begins, behind, condition_length, condition_steps}
 pub use Rattle.seccomp_tree.specs.Decisions.{conditions_length, conditions_steps, ends, here, is_plain, joined, nothing, only, part_length}

@@ -58,13 +58,6 @@ plain_operator : (l : SeccompCmpArgLen) (o : SeccompCmpOp) → is_plain o ≡ tr
 plain_operator l (MaskedEq m) plain = absurd (cc)
 plain_operator l _ plain = refl
 
-pub plain_cost : (l : SeccompCmpArgLen) (o : SeccompCmpOp) → is_plain o ≡ true
-    → (condition_steps l o ≡ part_steps l 2) × (condition_length l o ≡ part_length l 3)
-plain_cost l o plain = rw plain (refl, refl)
-
-pub shorter_part : (l : SeccompCmpArgLen) (n m : ℕ) → n ≤ m → part_length l n ≤ part_length l m
-shorter_part l n m le = grind (arith, le)
-
 -- whether a condition without a mask holds is what its comparison says of the argument's part
 pub chosen_plain : (c : Condition) (r : List ℕ) (fit unfit t : Target) → is_plain c.operator ≡ true
     → IsChosen (Compares c.operator (part_of c.arg_len (argument_at r c.arg_index)) (part_of c.arg_len c.value)) fit unfit t
@@ -75,7 +68,9 @@ pub met_by_steps : {old new : List sock_filter} {c : Condition} {fit unfit t : T
     → AreLaid c fit (single unfit) steps
     → IsPart old c.arg_len (λ r. part_of c.arg_len (argument_at r c.arg_index)) steps t new → IsConditionMet old c fit unfit t new
 met_by_steps {old} {new} {c} {fit} {unfit} {t} {steps} h part = record {
-  grows = grows_on _ part.grows (grows_not new 0) (omega (arith, cost.1, shorter_part c.arg_len (length steps) 3 (omega (arith, h.few))));
+  grows =
+      let few : part_length c.arg_len (length steps) ≤ part_length c.arg_len 3 = grind (arith, h.few) in
+      grows_on _ part.grows (grows_not new 0) (omega (arith, cost.1, few));
   inside = part.inside;
   met = λ r rec is w n lead. goes r rec w n (rw ((own r rec).met is) lead);
   unmet = λ r rec not w n lead. goes r rec w n (rw ((own r rec).unmet not) lead);
@@ -83,7 +78,7 @@ met_by_steps {old} {new} {c} {fit} {unfit} {t} {steps} h part = record {
   where
     cost : (condition_steps c.arg_len c.operator ≡ part_steps c.arg_len 2)
         × (condition_length c.arg_len c.operator ≡ part_length c.arg_len 3)
-    cost = plain_cost c.arg_len c.operator h.plain
+    cost = rw h.plain (refl, refl)
 
     number : List ℕ → ℕ
     number r = part_of c.arg_len (argument_at r c.arg_index)

@@ -1,16 +1,16 @@
 -- Rulings as a target, from the last to the first: each is put in front of what comes after it.
 use Rattle.seccomp_tree.proofs.Common.{get_or_read_under, SeccompCmpArgLen, Condition, conditions_length, conditions_steps, greatest_length}
-use Rattle.seccomp_tree.proofs.Common.{AllIn, sock_filter, argument_at, IsConditionMet, part_length, same_length, rules_length, IsRulingMet}
-use Rattle.seccomp_tree.proofs.Common.{IsAnswered, one_value, nat_tests, All-cons, RuleHolds, to_return, false≢true, option_map, unwrap_or}
-use Rattle.seccomp_tree.proofs.Common.{[], All-nil, All-head, All-tail, IsRecord, found_in, is_plain, AreLaid, AreSteps, IsChosen, length}
-use Rattle.seccomp_tree.proofs.Common.{Option, Dword, part_of, Target, Give, single, Ruling, joined, IsPart, begins, passes, get_or, IsIn}
-use Rattle.seccomp_tree.proofs.Common.{ℕ, List, drop, Some, None, arith, Holds, Step, Leads, Grows, First, alike, Takes, stops, false, ◌≡◌}
-use Rattle.seccomp_tree.proofs.Common.{zero, suc, ◌+◌, ◌*◌, ◌<◌, ◌≤◌, ◌^◌, ◌∷◌, true, refl, ap, ◌∙◌, sym, ◌-◌, only}
+use Rattle.seccomp_tree.proofs.Common.{AllIn, sock_filter, argument_at, IsConditionMet, part_length, rules_length, IsRulingMet, IsAnswered}
+use Rattle.seccomp_tree.proofs.Common.{one_value, nat_tests, All-cons, RuleHolds, to_return, false≢true, option_map, unwrap_or, [], All-nil}
+use Rattle.seccomp_tree.proofs.Common.{All-head, All-tail, IsRecord, found_in, is_plain, AreLaid, AreSteps, IsChosen, length, Option, Dword}
+use Rattle.seccomp_tree.proofs.Common.{part_of, Target, Give, single, Ruling, joined, IsPart, begins, passes, get_or, IsIn, ℕ, List, drop}
+use Rattle.seccomp_tree.proofs.Common.{Some, None, arith, Holds, Step, Leads, Grows, First, alike, Takes, stops, false, ◌≡◌, zero, suc, ◌+◌}
+use Rattle.seccomp_tree.proofs.Common.{◌*◌, ◌<◌, ◌≤◌, ◌^◌, ◌∷◌, true, refl, ap, ◌∙◌, sym, ◌-◌, only}
 use Rattle.seccomp_tree.specs.Code.{numbers_of}
 use Rattle.seccomp_tree.proofs.Runs.{grows_not, grows_on, leads_by, starts_more}
 use Rattle.seccomp_tree.proofs.Begun.{not_none, numbers_many, laid_in}
 use Rattle.seccomp_tree.proofs.Decided.{first_here, first_behind, first_nothing, one_first}
-use Rattle.seccomp_tree.proofs.Meeting.{holds_or_not, chosen_plain, part_fits, plain_cost, met_both}
+use Rattle.seccomp_tree.proofs.Meeting.{holds_or_not, chosen_plain, part_fits, met_both}
 
 -- ---- one ruling
 
@@ -28,15 +28,12 @@ only_is [] c e = absurd (cc)
 only_is (x ∷ []) c e = grind (arith, e)
 only_is (x ∷ y ∷ q) c e = absurd (cc)
 
-same_length_is : (l m : SeccompCmpArgLen) → same_length l m ≡ true → l ≡ m
-same_length_is l m e = grind (arith, e)
-
 pub alike_is : (c d : Condition) → alike (Some c) (Some d) ≡ true → (c.arg_index ≡ d.arg_index) × (c.arg_len ≡ d.arg_len)
-alike_is c d e = grind (arith, nat_tests, e, same_length_is c.arg_len d.arg_len)
+alike_is c d e = grind (arith, nat_tests, e)
 
 only_length : (q : List Condition) (c : Condition) → only q ≡ Some c → conditions_length q ≡ part_length c.arg_len 3
 only_length q c is =
-    let own = only_is q c is in omega (arith, ap conditions_length own.0, (plain_cost c.arg_len c.operator own.1).1)
+    let own = only_is q c is in rw (own.0, own.1) (omega arith)
 
 only_holds : (q : List Condition) (c : Condition) (r : List ℕ) → only q ≡ Some c → (Holds c r → RuleHolds q r) × (RuleHolds q r → Holds c r)
 only_holds q c r is =

@@ -45,14 +45,10 @@ abbrev pub AreOver : List Step → Type 0
 AreOver [] = ⊥
 AreOver (x ∷ steps) = AscendFrom (2 ^ 32) 1 steps
 
--- No two neighbours have one target, and the first has another than this.
-abbrev pub TightFrom : Target → List Step → Type 0
-TightFrom target [] = ⊤
-TightFrom target (x ∷ steps) = (target ≢ x.target) × TightFrom x.target steps
-
+-- No two neighbours have one target.
 abbrev pub AreTight : List Step → Type 0
-AreTight [] = ⊤
-AreTight (x ∷ steps) = TightFrom x.target steps
+AreTight (x ∷ y ∷ steps) = (x.target ≢ y.target) × AreTight (y ∷ steps)
+AreTight _ = ⊤
 
 -- Where the first of the steps starts, or the size.
 abbrev pub first_start : ℕ → List Step → ℕ
@@ -88,10 +84,8 @@ second_stands_out _ = false
 -- How many tests tell steps apart: each settles a step that stands out, and the one in front of it is answered as the one
 -- after it; or else it settles the first step.
 abbrev pub row : List Step → ℕ
-row [] = 0
-row (x ∷ []) = 0
-row (x ∷ y ∷ []) = 1
 row (x ∷ y ∷ z ∷ steps) = 1 + (if second_stands_out (x ∷ y ∷ z ∷ steps) then row (z ∷ steps) else row (y ∷ z ∷ steps))
+row steps = length steps - 1
 
 -- ---- code
 

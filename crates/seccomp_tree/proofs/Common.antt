@@ -1,12 +1,12 @@
 -- The names that the proofs share, of std, of the library and of the definitions.
-pub use Rattle.seccomp_tree.specs.Code.{AllIn, AreAnswers, AreCallSteps, AreFine, AreIn, AreLaid, AreOver, AreSteps, AscendFrom, DoesAs}
-pub use Rattle.seccomp_tree.specs.Code.{GoesOn, Grows, HasBits, IsAnswer, IsAnswered, IsChosen, IsConditionMet, IsIn, IsMet, IsNextStart}
-pub use Rattle.seccomp_tree.specs.Code.{IsPart, IsPushed, IsReached, IsRulingMet, IsSound, IsTested, IsTree, IsTurn, Leads, Returns, Says}
-pub use Rattle.seccomp_tree.specs.Code.{Starts, AreTight, chosen, first_start, found_from, found_in, gives, goes_on, near, passed, row}
-pub use Rattle.seccomp_tree.specs.Code.{same, second_stands_out, single, tail_at, to_place, to_return}
+pub use Rattle.seccomp_tree.specs.Code.{AllIn, AreAnswers, AreCallSteps, AreFine, AreIn, AreLaid, AreOver, AreSteps, AreTight, AscendFrom}
+pub use Rattle.seccomp_tree.specs.Code.{DoesAs, GoesOn, Grows, HasBits, IsAnswer, IsAnswered, IsChosen, IsConditionMet, IsIn, IsMet}
+pub use Rattle.seccomp_tree.specs.Code.{IsNextStart, IsPart, IsPushed, IsReached, IsRulingMet, IsSound, IsTested, IsTree, IsTurn, Leads}
+pub use Rattle.seccomp_tree.specs.Code.{Returns, Starts, chosen, first_start, found_from, found_in, gives, goes_on, near, passed, row, same}
+pub use Rattle.seccomp_tree.specs.Code.{second_stands_out, single, tail_at, to_place, to_return}
 pub use Rattle.seccomp_tree.specs.Decisions.{First, Ruling, Takes, alike, begins, behind, condition_length, condition_steps}
 pub use Rattle.seccomp_tree.specs.Decisions.{conditions_length, conditions_steps, ends, here, is_plain, joined, nothing, only, part_length}
-pub use Rattle.seccomp_tree.specs.Decisions.{part_steps, passes, rules_length, run_steps, same_length, stops}
+pub use Rattle.seccomp_tree.specs.Decisions.{part_steps, passes, rules_length, run_steps, stops}
 pub use Rattle.seccomp_tree.specs.Decided.{DecisionSet, IsDecided, StartAbove, calls_of, decided, default_for, default_from}
 pub use Rattle.seccomp_tree.specs.Decided.{other_architecture, rulings_for}
 pub use Rattle.seccomp_tree.specs.FilterDecisions.{DecideAs, call_of, decisions_of, rulings_of}

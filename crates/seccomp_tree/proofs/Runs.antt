@@ -4,7 +4,7 @@ use Rattle.seccomp_tree.proofs.Common.{goes_on, Equal, AtLeast, arith, ◌≤◌
 use Rattle.seccomp_tree.proofs.Common.{drop-drop, get_or-reverse, At, length-reverse, sock_filter, tail_at, IsIn, Grows, Returns, gives}
 use Rattle.seccomp_tree.proofs.Common.{Starts, to_return, near, to_place, IsSound, Target, Give, IsFine, IsInRange, ◌⊎◌, inl, inr, ⊎_elim}
 use Rattle.seccomp_tree.proofs.Common.{nat_tests, cases_eq, Does, cases_lt, jumps, is_equal, is_not_equal, is_at_least, is_less, Test, give}
-use Rattle.seccomp_tree.proofs.Common.{fine_return, fine_jump, DoesAs, Says, IsReached, chosen, IsTested}
+use Rattle.seccomp_tree.proofs.Common.{fine_return, fine_jump, DoesAs, IsReached, chosen, IsTested}
 use Rattle.std.proofs.Math.Seq.{drop-append-add}
 
 -- what starts at a place stays what it was
@@ -129,22 +129,30 @@ sound_push code i h fine range room =
 abbrev pub IsFar : List sock_filter → Target → Type 0
 IsFar code t = (m : ℕ) → t ≡ At m → m + 255 < length code
 
+-- An instruction at a place says so: it returns the word, or jumps to the target's place.
+abbrev pub Says : Target → sock_filter → ℕ → Type 0
+Says (Give w) i place = (i.code ≡ 0x06) × (i.k ≡ w)
+Says (At m) i place = (i.code ≡ 0x05) × (m + 1 + i.k ≡ place)
+
+-- a run from such a place
+does_run : {code : List sock_filter} {r : List ℕ} {t : Target} {a w n : ℕ} (place : ℕ) (i : sock_filter) (rest : List sock_filter)
+    → place < length code → tail_at code place ≡ i ∷ rest → Says t i place → a < 2 ^ 32 → Starts 0 code r t a w n
+    → Returns r (tail_at code place) a w n
+does_run place i rest inside here says small (to_return w a zero some) = absurd (omega arith)
+does_run place i rest inside here says small (to_return w a (suc n) some) = rw here (gives i rest a w n says.0 says.1)
+does_run {code} place i rest inside here says small (to_place m w a n _ run) =
+    let at = jump_from code place i.k m i rest inside here says.1 in
+    rw here (goes_on i rest a a w n i.k (λ p. jumps says.0 (omega arith) refl) small (rw at run))
+does_run place i rest inside here says small (near m w a n _ close run) = absurd (omega arith)
+
 -- what was written at a place, as the code has it
 pub written_does : {code : List sock_filter} {t : Target} (back : List sock_filter) (place : ℕ) (i : sock_filter) → reverse back ≡ code
     → place < length code → i ≡ get_or back place i → Says t i place → DoesAs code t place
 written_does back place i view inside here says =
-    let at = tail_written back place i (omega (arith, ap length view, length-reverse back)) here in
-    record { inside = inside; instruction = i; rest = at.0; here = ap (λ l. tail_at l place) (sym view) ∙ at.1; says = says }
-
--- a run from such a place
-does_run : {code : List sock_filter} {r : List ℕ} {t : Target} {place a w n : ℕ} → DoesAs code t place → a < 2 ^ 32
-    → Starts 0 code r t a w n → Returns r (tail_at code place) a w n
-does_run {code} {r} h small (to_return w a zero some) = absurd (omega arith)
-does_run h small (to_return w a (suc n) some) = rw h.here (gives h.instruction h.rest a w n h.says.0 h.says.1)
-does_run {code} {r} {t} {place} h small (to_place m w a n inside run) =
-    let at = jump_from code place h.instruction.k m h.instruction h.rest h.inside h.here h.says.1 in
-    rw h.here (goes_on h.instruction h.rest a a w n h.instruction.k (λ p. jumps h.says.0 (omega arith) refl) small (rw at run))
-does_run h small (near m w a n inside close run) = absurd (omega arith)
+    let at = tail_written back place i (omega (arith, ap length view, length-reverse back)) here in record {
+      inside = inside;
+      leads = λ r a w n small h. does_run place i at.0 inside (ap (λ l. tail_at l place) (sym view) ∙ at.1) says small h;
+    }
 
 -- a place by itself
 run_itself : {d : ℕ} {r : List ℕ} {code : List sock_filter} {m a w n : ℕ} → Starts d code r (At m) a w n → Returns r (tail_at code m) a w n
@@ -162,7 +170,7 @@ reached_by g far does close = record {
   grows = g;
   inside = does.inside;
   near = close;
-  leads = λ r a w n small h. does_run does small (starts_grown g (λ m is inside le. absurd (omega (arith, far m is))) h);
+  leads = λ r a w n small h. does.leads r a w n small (starts_grown g (λ m is inside le. absurd (omega (arith, far m is))) h);
 }
 
 -- an instruction that is written for it
@@ -172,10 +180,7 @@ reached_new {code} {place = place} i far written last says =
     let at : place ≡ length code = omega (arith, ap length written) in
     rw (written, at) (reached_by (grows_one code i) far (record {
       inside = omega arith;
-      instruction = i;
-      rest = code;
-      here = tail_whole (i ∷ code) (length code) (omega arith);
-      says = says;
+      leads = λ r a w n small h. does_run (length code) i code (omega arith) (tail_whole (i ∷ code) (length code) (omega arith)) says small h;
     }) (omega arith))
 
 -- An instruction that is written for a target that is far.

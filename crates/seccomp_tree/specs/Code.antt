@@ -142,18 +142,10 @@ pub record Grows (old : List sock_filter) (most : ℕ) (new : List sock_filter) 
   pub whole : new ≡ front ++ old
   pub few : length front ≤ most
 
--- An instruction at a place does what the target says: it returns the word, or jumps to the target's place.
-abbrev pub Says : Target → sock_filter → ℕ → Type 0
-Says (Give w) i place = (i.code ≡ 0x06) × (i.k ≡ w)
-Says (At m) i place = (i.code ≡ 0x05) × (m + 1 + i.k ≡ place)
-
--- What stands at the place does.
+-- What stands at the place does what the target says.
 pub record DoesAs (code : List sock_filter) (t : Target) (place : ℕ) : Type 0 where
   pub inside : place < length code
-  pub instruction : sock_filter
-  pub rest : List sock_filter
-  pub here : tail_at code place ≡ instruction ∷ rest
-  pub says : Says t instruction place
+  pub leads : (r : List ℕ) (a w n : ℕ) → a < 2 ^ 32 → Starts 0 code r t a w n → Returns r (tail_at code place) a w n
 
 -- The place does what the target says, and is so near that a jump to it fits 8 bits though one more instruction may come
 -- between. A place that is near is taken as it is.

@@ -1,7 +1,7 @@
 // A filter as decisions.
 
-ghost use Rattle.std.specs.Prelude.{◌≡◌, ℤ, pos, map, IfOk, IfErr, OnOk, IsOkUnless};
-ghost use Rattle.seccompiler.specs.Policy.{IsCallNumber, chains_of};
+ghost use Rattle.std.specs.Prelude.{◌≡◌, ℤ, map, IfOk, IfErr, OnOk, IsOkUnless};
+ghost use Rattle.seccompiler.specs.Policy.{chains_of};
 ghost use Rattle.seccompiler.specs.Compiled.{AreCallNumbers, IsLeastUnfit, numbers_of};
 ghost use Rattle.seccomp_tree.specs.declared.error.FilterError.TheVariants.{InvalidSyscallNumber, OutOfMemory};
 ghost use Rattle.seccomp_tree.specs.Decided.{calls_of};
@@ -67,17 +67,10 @@ fn calls_of(
 {
     let mut calls = BTreeMap::new(alloc);
     for (number, chain) in chains {
-        drop(calls.insert(call_number(number), rulings_of(alloc, chain, value)?)?);
+        let rulings = rulings_of(alloc, chain, value)?;
+        drop(calls.insert(*number as u32, rulings)?);
     }
     Ok(calls)
-}
-
-// The call number as a record has it.
-fn call_number(number: &i64) -> u32
-    requires { IsCallNumber number.now }
-    ensures { number.now ≡ pos result }
-{
-    *number as u32
 }
 
 // The rulings of a chain.

@@ -1,4 +1,4 @@
-use Rattle.seccomp_tree.proofs.Common.{ap, ◌∙◌, rulings_of}
+use Rattle.seccomp_tree.proofs.Common.{rules, ap, ◌∙◌, rulings_of}
 use Rattle.seccomp_tree.proofs.Decided.{calls_begin, calls_next}
 use Rattle.seccomp_tree.proofs.filter.calls_of.Goals as goal
 
@@ -9,10 +9,8 @@ loop-number-init c =
 
 pub loop-number-preserved : goal.loop-number-preserved
 loop-number-preserved c =
-    rw c.in_ok-insert.ensures.entries (calls_next c.args.value c.call_number.result c.in-Some.number.now c.in-Some.chain.now
-    c.in_ok-rulings_of.field-0 c.args.chains.now.entries c.next.new.self c.loop-number.calls.entries
-    (rw c.in-Some.ensures.steps at c.loop-number.invariant) c.call_number.ensures
-    (c.in_ok-rulings_of.ensures.made ∙ ap (rulings_of c.args.value) c.deref.ensures.value))
-
-pub call_number-requires : goal.call_number-requires
-call_number-requires c = (rw c.in-Some.ensures.steps at c.loop-number.invariant.rise).0
+    let so_far = rw c.in-Some.ensures.steps at c.loop-number.invariant in
+    let number = so_far.rise.0 in
+    rw c.in_ok-insert.ensures.entries (calls_next c.args.value _ c.in-Some.number.now c.in-Some.chain.now
+    c.in_ok-rulings.rulings c.args.chains.now.entries c.next.new.self c.loop-number.calls.entries so_far
+    (search (rules, number.1, number.2)) (c.in_ok-rulings.ensures.made ∙ ap (rulings_of c.args.value) c.deref.ensures.value))

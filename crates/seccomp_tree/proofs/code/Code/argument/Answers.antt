@@ -31,7 +31,7 @@ pub loop-number-preserved : goal.loop-number-preserved
 loop-number-preserved c =
     let ends = end_is ((goal.at.loop-number-preserved c).After-first_start-end) in
     let moved = moves c.from.result c.turn-number.result c.first_start-end.result c.loop-number.rest.now
-        (c.from.ensures ∙ byte_is _) in
+    (c.from.ensures ∙ byte_is _) in
     let which : IsPast c.loop-number.number c.first_start-end.result c.if-number-eq0.past = elim c.if-number-eq0.branch [
       | then-number-eq0 w ↦ inl (w.if-number-eq0.true, w.past-is)
       | else-number-eq0 w ↦ inr (omega (arith, w.if-number-eq0.false), w.past-is)

@@ -38,7 +38,7 @@ ready : (c : After-only) → IsBehind c.args.self.now c.args.default (compared c
     (joined c.index-rulings-left.result.conditions (rest c)) (rest c) c.loop-left.steps.items c.loop-left.self
 ready c =
     let front = front_is c.args.rulings.now c.loop-left.left c.index-rulings-left.result c.loop-left-test.true c.loop-left.auto.left
-        c.index-rulings-left.is in
+    c.index-rulings-left.is in
     rw front at c.loop-left.invariant
 
 -- if it has more than a condition, a target
@@ -97,9 +97,9 @@ loop-left-preserved-in-loop-left c =
     let apart : joined front (d ∷ rest b) ≡ 0 = elim c.then-left-eq0.branch [
       | then-left-eq0-via-then-left-eq0 w ↦
           let first : c.loop-left.left - 1 ≡ 0 = w.if-left-eq0.true in rw first refl
-      | then-left-eq0-via-else-left-eq0+then-not-joins w ↦ 
+      | then-left-eq0-via-else-left-eq0+then-not-joins w ↦
           let at = front_is c.args.rulings.now (c.loop-left.left - 1) _ (omega (arith, w.if-left-eq0.false)) (omega arith)
-              w.index-rulings-left-else-left-eq0.is in
+          w.index-rulings-left-else-left-eq0.is in
           joined_apart front d _ (rw at (sym w.joins.ensures ∙ w.if-not-joins.true))
     ] in
     rw (from_here b, c.in_ok-steps-4.ensures, apart) (behind_fresh _ _ _ (rules_settled d (rest b) (own_is b ∙ c.in-Some-only.is) c.argument.new.self
@@ -111,7 +111,7 @@ loop-left-preserved c =
     let b = only_of l in
     let front = in_front c.args.rulings.now (c.loop-left.left - 1) in
     let at = front_is c.args.rulings.now (c.loop-left.left - 1) _ (omega (arith, c.if-left-eq0.false)) (omega arith)
-        c.index-rulings-left-else-left-eq0.is in
+    c.index-rulings-left-else-left-eq0.is in
     rw (from_here b) (behind_along c.index-rulings-left.result (rest b) (own_is b ∙ c.in-Some-only.is) front (only front) refl
     (rw at (sym c.joins.ensures ∙ c.if-not-joins.false)) (laid_is l))
 

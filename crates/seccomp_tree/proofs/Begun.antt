@@ -88,8 +88,7 @@ in_below code m from t (x ∷ steps) up h (suc k) d lt = in_below code m (x.star
     (λ a le lt'. let yes : nat_le x.start a ≡ true = grind (arith, nat_tests) in rw yes at (h a (omega (arith, up.0)) lt')) k d
     (omega arith)
 
-pub are_in_below : (code : List sock_filter) (m : ℕ) (steps : List Step) → 0 < m → AreSteps m steps
-    → AllIn code m steps → AreIn code steps
+pub are_in_below : (code : List sock_filter) (m : ℕ) (steps : List Step) → 0 < m → AreSteps m steps → AllIn code m steps → AreIn code steps
 are_in_below code m [] some are h = absurd (omega (arith, are.first))
 are_in_below code m (x ∷ steps) some are h = in_below code m 0 x.target (x ∷ steps) are.ascend
     (λ a le lt. let yes : nat_le x.start a ≡ true = grind (arith, nat_tests, are.first) in rw yes (h a lt))
@@ -145,9 +144,8 @@ moves k next end rest is = rw (all_behind rest k) (elim (cases_eq next end) [
   | inr other ↦ let none : k ≡ 0 = grind (arith, nat_tests) in inr (other, rw none refl)
 ])
 
-pub left_on : {size number : ℕ} {steps : List Step} (next end : ℕ) (rest back : List Step) → AreLeft size steps number rest
-    → number < size → end ≡ first_start size (drop 1 rest) → number < next → next ≤ end → HasMoved next end rest back
-    → AreLeft size steps next back
+pub left_on : {size number : ℕ} {steps : List Step} (next end : ℕ) (rest back : List Step) → AreLeft size steps number rest → number < size
+    → end ≡ first_start size (drop 1 rest) → number < next → next ≤ end → HasMoved next end rest back → AreLeft size steps next back
 left_on next end [] back h some ends up le moved = absurd (h.from some)
 left_on next end (x ∷ []) back h some ends up le (inl (at, is)) =
     rw is record { within = omega arith; from = λ less. absurd (omega arith); same = λ a le lt. absurd (omega arith) }
@@ -270,7 +268,8 @@ laying_on {c} {end = end} {number} {next} (x ∷ rest) back d plain h some ends 
     | inr le ↦
         let other = left_has (x ∷ rest) d a h.left some le (omega (arith, ends, turn.within)) in
         rw (pushed.from a le, other) record {
-          met = λ is. chosen.met (alike_on c.operator a number (part_of c.arg_len c.value) plain (grind (arith, nat_tests, turn.before, le, lt)) is);
+          met = λ is. chosen.met (alike_on c.operator a number (part_of c.arg_len c.value) plain (grind
+              (arith, nat_tests, turn.before, le, lt)) is);
           unmet = λ not. chosen.unmet (λ is. not (alike_on c.operator number a (part_of c.arg_len c.value) plain (grind
               (arith, nat_tests, turn.before, le, lt)) is));
         }

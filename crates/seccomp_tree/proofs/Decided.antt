@@ -38,7 +38,8 @@ pub first_nothing : {default w : ℕ} {r : List ℕ} → First default r [] w �
 first_nothing nothing = refl
 
 -- the one value that answers is the word that is decided
-pub one_first : (default v w : ℕ) (rulings : List Ruling) (r : List ℕ) → one_value default rulings ≡ Some v → First default r rulings w → w ≡ v
+pub one_first : (default v w : ℕ) (rulings : List Ruling) (r : List ℕ) → one_value default rulings ≡ Some v → First default r rulings w
+    → w ≡ v
 one_first default v w [] r is nothing = cc
 one_first default v w (d ∷ rulings) r is (here e rest holds) = grind (arith, nat_tests, is)
 one_first default v w (d ∷ rulings) r is (behind e rest u not h) =

@@ -131,7 +131,8 @@ pub joined_none : (q : List Condition) (rulings : List Ruling) → only q ≡ No
 joined_none q [] own = refl
 joined_none q (d ∷ rest) own = rw own refl
 
-pub joined_apart : (q : List Condition) (d : Ruling) (rest : List Ruling) → alike (only q) (only d.conditions) ≡ false → joined q (d ∷ rest) ≡ 0
+pub joined_apart : (q : List Condition) (d : Ruling) (rest : List Ruling) → alike (only q) (only d.conditions) ≡ false
+    → joined q (d ∷ rest) ≡ 0
 joined_apart q d rest apart = rw apart refl
 
 pub alike_none : (o : Option Condition) → alike o None ≡ false
@@ -167,9 +168,8 @@ module _ {old code : List sock_filter} {default : ℕ} (d : Ruling) (rest : List
 
   -- one laid over the steps, if it has one condition
   module _ {c : Condition} (own : only d.conditions ≡ Some c) where
-    pub behind_laid : {j : ℕ} {steps laid : List Step} → d.value < 2 ^ 32
-        → IsBehind old default (c.arg_len, c.arg_index) j rest steps code → AreLaid c (Give d.value) steps laid
-        → IsBehind old default (c.arg_len, c.arg_index) (suc j) (d ∷ rest) laid code
+    pub behind_laid : {j : ℕ} {steps laid : List Step} → d.value < 2 ^ 32 → IsBehind old default (c.arg_len, c.arg_index) j rest steps code
+        → AreLaid c (Give d.value) steps laid → IsBehind old default (c.arg_len, c.arg_index) (suc j) (d ∷ rest) laid code
     behind_laid {j} {steps} {laid} fits x h = record {
       before = x.before;
       grows = x.grows;

@@ -180,7 +180,8 @@ reached_new {code} {place = place} i far written last says =
     let at : place ≡ length code = omega (arith, ap length written) in
     rw (written, at) (reached_by (grows_one code i) far (record {
       inside = omega arith;
-      leads = λ r a w n small h. does_run (length code) i code (omega arith) (tail_whole (i ∷ code) (length code) (omega arith)) says small h;
+      leads = λ r a w n small h.
+          does_run (length code) i code (omega arith) (tail_whole (i ∷ code) (length code) (omega arith)) says small h;
     }) (omega arith))
 
 -- An instruction that is written for a target that is far.
@@ -245,6 +246,5 @@ tested {old} {mid} {code} {new} {met} {other} {t} {y} {n} test i is over_yes ove
 }
   where
     jumps_on : (r : List ℕ) (a w m : ℕ) → a < 2 ^ 32 → (d place : ℕ) → d + place + 1 ≡ length code
-        → ((p : ℕ) → Does i r p a (p + (1 + d)) a)
-        → Returns r (tail_at code place) a w m → Returns r (i ∷ code) a w (suc m)
+        → ((p : ℕ) → Does i r p a (p + (1 + d)) a) → Returns r (tail_at code place) a w m → Returns r (i ∷ code) a w (suc m)
     jumps_on r a w m small d place over does h = goes_on i code a a w m d does small (rw (jump_to code d place over) h)

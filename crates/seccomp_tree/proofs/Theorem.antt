@@ -107,11 +107,11 @@ sound_checked p h few =
 
 -- what answers a number leads to what is decided, within its own steps and one
 answer_leads : (d : DecisionSet) (code : List sock_filter) (t : Target) (r : List ℕ) (w n : ℕ) → IsRecord r
-    → IsAnswer code (default_for d.defaults (word_at r 0)) (rulings_for d.calls (word_at r 0)) t
-    → word_at r 4 ≡ audit_word d.target_arch → First (default_for d.defaults (word_at r 0)) r (rulings_for d.calls (word_at r 0)) w
-    → TakesOwn d r n → Leads 0 code r t w (n + 1)
+    → IsAnswer code (default_for d.defaults (word_at r 0)) (rulings_for d.calls (word_at r 0)) t → word_at r 4 ≡ audit_word d.target_arch
+    → First (default_for d.defaults (word_at r 0)) r (rulings_for d.calls (word_at r 0)) w → TakesOwn d r n → Leads 0 code r t w (n + 1)
 answer_leads d code t r w n rec h arch first (other not) = absurd (not arch)
-answer_leads d code t r w n rec h arch first (one v is) = λ a small. rw (h.one v is, one_first _ v w _ r is first) (to_return v a 1 (omega arith))
+answer_leads d code t r w n rec h arch first (one v is) =
+    λ a small. rw (h.one v is, one_first _ v w _ r is first) (to_return v a 1 (omega arith))
 answer_leads d code t r w n rec h arch first (own k takes) = h.leads r rec w k first takes
 
 -- ---- what there is for every record

@@ -129,8 +129,7 @@ test_goes {test = test} {k = k} steps high low m is above below h r a w n small 
 -- a test of a row, and the rest of it
 row_tree : {old mid new : List sock_filter} {rest : List Step} {test : Test} {k : ℕ} {u v x t : Target} (steps : List Step)
     → IsTree old rest x mid → IsTested mid test k u v t new → row steps ≡ suc (row rest) → row steps ≤ 6 → 1 ≤ length rest
-    → length rest < length steps
-    → GoesOn old steps (suc (row rest)) t new → IsTree old steps t new
+    → length rest < length steps → GoesOn old steps (suc (row rest)) t new → IsTree old steps t new
 row_tree {new = new} {t = t} steps tree h one six some less run = record {
   grows = grows_on _ tree.grows h.grows (omega arith);
   inside = last_in new t h.last h.some;

@@ -15,8 +15,7 @@ end_is c =
     rw (c.first_start-end.ensures, c.numbers-size.ensures.numbers, c.arg_len.ensures, all_behind c.loop-number.rest.now 1) refl
 
 -- what counts of the value
-value_is : (c : After-turn-number) → c.from.result % c.numbers-size.result
-    ≡ part_of c.args.condition.now.arg_len c.args.condition.now.value
+value_is : (c : After-turn-number) → c.from.result % c.numbers-size.result ≡ part_of c.args.condition.now.arg_len c.args.condition.now.value
 value_is c =
     rw (c.from.ensures, c.value.ensures, c.numbers-size.ensures.numbers, c.arg_len.ensures)
     (part_left c.args.condition.now.arg_len c.args.condition.now.value (rw c.value.ensures at c.value.type_inv))

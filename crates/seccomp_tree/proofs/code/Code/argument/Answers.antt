@@ -24,7 +24,8 @@ end_is c = c.first_start-end.ensures ∙ ap (first_start (2 ^ 64)) (all_behind c
 pub word-requires-then-high-last : goal.word-requires-then-high-last
 word-requires-then-high-last c =
     let h = lows_in c.loop-number.rest.now none c.loop-number.invariant c.loop-number-test.true
-    (end_is ((goal.at.word-requires-then-high-last c).After-first_start-end)) c.in_ok-push_step.ensures (rw c.in_default.is at c.requires.inside) in
+    (end_is ((goal.at.word-requires-then-high-last c).After-first_start-end)) c.in_ok-push_step.ensures
+    (rw c.in_default.is at c.requires.inside) in
     rw c.deref.ensures.value record { aligned = omega arith; inside_record = omega arith; are = h.0; inside = h.1 }
 
 pub loop-number-preserved : goal.loop-number-preserved

@@ -17,7 +17,8 @@ returns-in-Some-clause-ok c = answered_one _ _ c.args.rulings.now c.first-in-Som
 pub loop-left-init : goal.loop-left-init
 loop-left-init c =
     let none = drop_all (length c.args.rulings.now) c.args.rulings.now (omega arith) in
-    rw (none, c.in_ok-steps.ensures) (behind_fresh _ [] (Give c.args.default) (rules_none c.args.self.now c.args.default c.ranges.default.fits))
+    rw (none, c.in_ok-steps.ensures) (behind_fresh _ [] (Give c.args.default)
+    (rules_none c.args.self.now c.args.default c.ranges.default.fits))
 
 -- the rulings behind this one, and what there is of it
 abbrev rest : After-only → List Ruling
@@ -102,8 +103,9 @@ loop-left-preserved-in-loop-left c =
           w.index-rulings-left-else-left-eq0.is in
           joined_apart front d _ (rw at (sym w.joins.ensures ∙ w.if-not-joins.true))
     ] in
-    rw (from_here b, c.in_ok-steps-4.ensures, apart) (behind_fresh _ _ _ (rules_settled d (rest b) (own_is b ∙ c.in-Some-only.is) c.argument.new.self
-    (laid_is l) (rw (c.deref-then-left-eq0.ensures.value, c.arg_len-size.ensures, c.arg_index-index.ensures.index) at c.in_ok-argument.ensures)))
+    rw (from_here b, c.in_ok-steps-4.ensures, apart) (behind_fresh _ _ _
+    (rules_settled d (rest b) (own_is b ∙ c.in-Some-only.is) c.argument.new.self (laid_is l)
+    (rw (c.deref-then-left-eq0.ensures.value, c.arg_len-size.ensures, c.arg_index-index.ensures.index) at c.in_ok-argument.ensures)))
 
 pub loop-left-preserved : goal.loop-left-preserved
 loop-left-preserved c =
@@ -119,4 +121,5 @@ pub returns-clause-ok : goal.returns-clause-ok
 returns-clause-ok c =
     let none : c.loop-left.left ≡ 0 = omega arith in
     let many : one_value c.args.default c.args.rulings.now ≡ None = search rules in
-    answered_more many (behind_none _ _ (rw (joined_none [] c.args.rulings.now refl) at (rw none at c.loop-left.invariant)) c.index-2.ensures)
+    let all = rw (joined_none [] c.args.rulings.now refl) at (rw none at c.loop-left.invariant) in
+    answered_more many (behind_none _ _ all c.index-2.ensures)

@@ -16,5 +16,6 @@ returns-then-steps-eq1 c = word_one c.args.byte c.if-steps-eq1.true c.in_ok-test
 pub returns : goal.returns
 returns c =
     let written = c.in_ok-push.ensures ∙ ap (λ i. i ∷ c.tree.new.self) (c.bpf_stmt.ensures ∙ ap load c.from.ensures) in
-    word_more c.args.byte c.requires.inside_record (omega (arith, not_none (2 ^ 32) c.args.steps.now c.requires.are (omega arith))) c.in_ok-tested.ensures
+    let some = not_none (2 ^ 32) c.args.steps.now c.requires.are (omega arith) in
+    word_more c.args.byte c.requires.inside_record (omega (arith, some)) c.in_ok-tested.ensures
     written (ap (λ n. At (n - 1)) c.len.ensures.len)

@@ -1,9 +1,9 @@
 // A filter as decisions.
 
-ghost use Rattle.std.specs.Prelude.{◌≡◌, ℤ, map, IfOk, IfErr, OnOk, IsOkUnless};
+ghost use Rattle.std.specs.Prelude.{◌≡◌, map, IfOk, IfErr, OnOk, IsOkUnless};
 ghost use Rattle.seccompiler.specs.Policy.{chains_of};
-ghost use Rattle.seccompiler.specs.Compiled.{AreCallNumbers, IsLeastUnfit, numbers_of};
-ghost use Rattle.seccomp_tree.specs.declared.error.FilterError.TheVariants.{InvalidSyscallNumber, OutOfMemory};
+ghost use Rattle.seccompiler.specs.Compiled.{AreCallNumbers, numbers_of};
+ghost use Rattle.seccomp_tree.specs.declared.error.FilterError.TheVariants.{OutOfMemory};
 ghost use Rattle.seccomp_tree.specs.Decided.{calls_of};
 ghost use Rattle.seccomp_tree.specs.FilterDecisions.{call_of, rulings_of};
 
@@ -29,7 +29,9 @@ impl Decisions {
         ensures numbers { OnOk result (AreCallNumbers (numbers_of filter.now.chains)) }
         ensures refused { IfErr result (IsUndecidable filter.now) }
     {
-        check_numbers(filter)?;
+        if let Err(BackendError::InvalidSyscallNumber(number)) = filter.compiled_len() {
+            return Err(FilterError::InvalidSyscallNumber(number));
+        }
         let calls = calls_of(alloc, filter.rules(), filter.match_action().into())?;
         let value = filter.mismatch_action().into();
         let defaults = vec![in alloc; DefaultValue { start: 0, value }]?;
@@ -39,19 +41,6 @@ impl Decisions {
             defaults,
             calls,
         })
-    }
-}
-
-// Refuses a filter of which a number is no call number.
-fn check_numbers(filter: &SeccompFilter) -> Result<(), FilterError>
-    ensures fit { OnOk result (AreCallNumbers (numbers_of filter.now.chains)) }
-    ensures unfit { IfErr result (λ e. (n : ℤ) × (e ≡ InvalidSyscallNumber n) × IsLeastUnfit (numbers_of filter.now.chains) n) }
-{
-    match filter.compiled_len() {
-        Err(BackendError::InvalidSyscallNumber(number)) => {
-            Err(FilterError::InvalidSyscallNumber(number))
-        }
-        _ => Ok(()),
     }
 }
 

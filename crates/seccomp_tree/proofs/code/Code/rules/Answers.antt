@@ -12,7 +12,7 @@ pub returns-in-None-clause-ok : goal.returns-in-None-clause-ok
 returns-in-None-clause-ok c = answered_one _ _ c.args.rulings.now c.ranges.default.fits (search rules)
 
 pub returns-in-Some-clause-ok : goal.returns-in-Some-clause-ok
-returns-in-Some-clause-ok c = answered_one _ _ c.args.rulings.now c.first-in-Some-1.invariant (search rules)
+returns-in-Some-clause-ok c = answered_one _ _ c.args.rulings.now (search rules) (search rules)
 
 pub loop-left-init : goal.loop-left-init
 loop-left-init c =

@@ -1,4 +1,4 @@
-use Rattle.seccomp_tree.proofs.Common.{ap, ◌∙◌, DecisionSet, default_for, rulings_for}
+use Rattle.seccomp_tree.proofs.Common.{ap, ◌∙◌, DecisionSet, default_for}
 use Rattle.seccomp_tree.proofs.CallsPushed.{calls_on}
 use Rattle.seccomp_tree.proofs.decisions.Decisions.call_steps.Goals as goal
 

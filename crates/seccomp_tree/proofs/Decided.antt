@@ -196,15 +196,7 @@ module _ (f : Filter) (r : List ℕ) where
 
 -- a filter names one word for a record
 pub one_decision : (f : Filter) (r : List ℕ) (v w : ℕ) → IsDecision f r v → IsDecision f r w → v ≡ w
-one_decision f r v w (other not is) (other not' is') = is ∙ sym is'
-one_decision f r v w (other not is) (policy_matches own m is') = absurd (not own)
-one_decision f r v w (other not is) (policy_differs own never is') = absurd (not own)
-one_decision f r v w (policy_matches own m is) (other not is') = absurd (not own)
-one_decision f r v w (policy_matches own m is) (policy_matches own' m' is') = is ∙ sym is'
-one_decision f r v w (policy_matches own m is) (policy_differs own' never is') = absurd (never m)
-one_decision f r v w (policy_differs own never is) (other not is') = absurd (not own)
-one_decision f r v w (policy_differs own never is) (policy_matches own' m is') = absurd (never m)
-one_decision f r v w (policy_differs own never is) (policy_differs own' no' is') = is ∙ sym is'
+one_decision f r v w h k = grind arith
 
 -- what is decided is what the filter decides; and as something is decided, and the filter decides one word, also the other way
 pub decide_as : (f : Filter) → AreCallNumbers (numbers_of f.chains) → DecideAs f (decisions_of f)

@@ -67,13 +67,7 @@ program_ends p r w n h = rw zero-add at (ends_from p r p 0 0 0 w n refl stays (o
 
 -- an instruction is as fine if one more comes in front
 fine_behind : (i : sock_filter) (place n : ℕ) → IsFine i place n → IsFine i (suc place) (suc n)
-fine_behind i place n (fine_load c m k) = fine_load c m k
-fine_behind i place n (fine_mask c) = fine_mask c
-fine_behind i place n (fine_jump c k) = fine_jump c (omega arith)
-fine_behind i place n (fine_equal c t f) = fine_equal c (omega arith) (omega arith)
-fine_behind i place n (fine_greater c t f) = fine_greater c (omega arith) (omega arith)
-fine_behind i place n (fine_at_least c t f) = fine_at_least c (omega arith) (omega arith)
-fine_behind i place n (fine_return c) = fine_return c
+fine_behind i place n h = grind arith
 
 each_fine : (p : List sock_filter) (place : ℕ) (i : sock_filter) → AreFine p → slice_get p place ≡ Some i
     → IsFine i place (length p) × IsInRange i

@@ -1,10 +1,10 @@
 -- Steps that ascend: what they have for a number, what is left of them there, one step more, and comparisons laid over them.
 use Rattle.seccomp_tree.proofs.Common.{AllIn, nat_le, take, take_all, length-drop, IsTurn, ◌≡◌, ℕ, zero, suc, ◌+◌, ◌-◌, ◌^◌, ◌<◌, ◌≤◌, ◌≢◌}
-use Rattle.seccomp_tree.proofs.Common.{List, [], ◌∷◌, ◌++◌, length, drop, get_or, true, ap, first_start, false, refl, ◌∙◌, ◌⊎◌, inl, inr}
+use Rattle.seccomp_tree.proofs.Common.{List, [], ◌∷◌, ◌++◌, length, drop, get_or, true, ap, first_start, refl, ◌∙◌, ◌⊎◌, inl, inr}
 use Rattle.seccomp_tree.proofs.Common.{if◌then◌else◌, arith, length-append, nat_tests, Bool, Step, sock_filter, Target, found_from}
 use Rattle.seccomp_tree.proofs.Common.{found_in, AreOver, AscendFrom, AreSteps, AreTight, IsPushed, IsIn, AreIn, nat_eq, nat_lt, cases_lt}
-use Rattle.seccomp_tree.proofs.Common.{cases_eq, bit_and, SeccompCmpArgLen, SeccompCmpOp, Dword, Qword, ◌%◌, MaskedEq, Condition, Compares}
-use Rattle.seccomp_tree.proofs.Common.{part_of, is_plain, IsChosen, AreLaid}
+use Rattle.seccomp_tree.proofs.Common.{cases_eq, bit_and, SeccompCmpArgLen, SeccompCmpOp, ◌%◌, MaskedEq, Condition, Compares, part_of}
+use Rattle.seccomp_tree.proofs.Common.{is_plain, IsChosen, AreLaid}
 use Rattle.seccomp_tree.specs.Code.{numbers_of}
 use mir.Val.{bool_byte}
 
@@ -16,8 +16,7 @@ ascend_more m n from to (x ∷ steps) le le' h =
     (omega (arith, h.0), (omega (arith, h.1.0), ascend_more m n (x.start + 1) (x.start + 1) steps le (omega arith) h.1.1))
 
 pub not_none : (m : ℕ) (steps : List Step) → AreSteps m steps → 0 < m → 1 ≤ length steps
-not_none m [] h some = absurd (omega (arith, h.first))
-not_none m (x ∷ steps) h some = omega arith
+not_none m steps h some = grind (arith, h.first)
 
 -- steps below a number are below a greater one
 pub steps_more : (m n : ℕ) (steps : List Step) → 0 < m → m ≤ n → AreSteps m steps → AreSteps n steps
@@ -27,9 +26,7 @@ steps_more m n (x ∷ steps) some le h =
 
 -- and are over all numbers of 32 bits
 pub over_zero : (steps : List Step) → AreSteps (2 ^ 32) steps → AreOver steps
-over_zero [] h = absurd (omega (arith, h.first))
-over_zero (x ∷ steps) h =
-    ascend_more (2 ^ 32) (2 ^ 32) (x.start + 1) 1 steps (omega arith) (omega (arith, h.first)) h.ascend.1.1
+over_zero steps h = grind (arith, h.first, h.ascend, ascend_more)
 
 -- steps in front of one ascend up to its start, and those behind it from there on
 pub ascend_parts : (m from : ℕ) (front : List Step) (x : Step) (back : List Step) → AscendFrom m from (front ++ x ∷ back)
@@ -48,8 +45,7 @@ found_before m from t (x ∷ steps) a h lt = grind (arith, nat_tests, h.0)
 
 -- so for one below the first start
 pub found_until : (m : ℕ) (t : Target) (steps : List Step) (a : ℕ) → a < first_start m steps → found_from t steps a ≡ t
-found_until m t [] a lt = refl
-found_until m t (x ∷ steps) a lt = grind (arith, nat_tests)
+found_until m t steps a lt = grind (arith, nat_tests)
 
 -- numbers below the start of a step have what those in front of it have, and others what it and those behind it have
 pub found_front : (t : Target) (front : List Step) (x : Step) (back : List Step) (a : ℕ) → a < x.start
@@ -106,23 +102,17 @@ pub record AreLeft (size : ℕ) (steps : List Step) (number : ℕ) (rest : List 
   pub same : (a : ℕ) → number ≤ a → a < size → found_in steps a ≡ found_in rest a
 
 pub left_begins : (size : ℕ) (steps : List Step) → 0 < size → AreSteps size steps → AreLeft size steps 0 steps
-left_begins size [] some h = absurd (omega (arith, h.first))
-left_begins size (x ∷ steps) some h =
-    record { within = omega arith; from = λ less. rw h.first at h.ascend.1.1; same = λ a le lt. refl }
+left_begins size steps some h = grind (arith, h.first, h.ascend)
 
 -- where the next of them starts
 pub left_end : {size number : ℕ} {steps : List Step} (rest : List Step) → AreLeft size steps number rest → number < size
     → (number < first_start size (drop 1 rest)) × ((first_start size (drop 1 rest) ≤ size) × (1 ≤ length rest))
-left_end [] h some = absurd (h.from some)
-left_end (x ∷ []) h some = (some, (omega arith, omega arith))
-left_end (x ∷ y ∷ rest) h some = let up = h.from some in (omega (arith, up.0), (omega (arith, up.1.0), omega arith))
+left_end rest h some = grind (arith, h.from some)
 
 -- numbers up to there have what the first of them has
 pub left_has : {size number : ℕ} {steps : List Step} (rest : List Step) (d : Step) (a : ℕ) → AreLeft size steps number rest → number < size
     → number ≤ a → a < first_start size (drop 1 rest) → found_in steps a ≡ (get_or rest 0 d).target
-left_has [] d a h some le lt = absurd (h.from some)
-left_has {size} (x ∷ rest) d a h some le lt =
-    h.same a le (omega (arith, lt, (left_end (x ∷ rest) h some).1.0)) ∙ found_until size x.target rest a lt
+left_has rest d a h some le lt = grind (arith, h.from some, h.same a le, left_end rest h some, found_until)
 
 -- the rest of a slice is what is left of the list
 pub all_behind : (steps : List Step) (n : ℕ) → take (length steps - n) (drop n steps) ≡ drop n steps
@@ -134,8 +124,7 @@ HasMoved next end rest back = ((next ≡ end) × (back ≡ drop 1 rest)) ⊎ ((n
 
 -- a test as a number
 pub byte_is : (b : Bool) → bool_byte b ≡ (if b then 1 else 0)
-byte_is true = refl
-byte_is false = refl
+byte_is b = grind arith
 
 pub moves : (k next end : ℕ) (rest : List Step) → k ≡ (if nat_eq next end then 1 else 0)
     → HasMoved next end rest (take (length rest - k) (drop k rest))
@@ -219,13 +208,11 @@ compares_or_not _ a v = grind arith
 -- numbers that lie alike to a value compare alike
 alike_on : (o : SeccompCmpOp) (a b v : ℕ) → is_plain o ≡ true
     → ((a < v) × (b < v)) ⊎ (((a ≡ v) × (b ≡ v)) ⊎ ((v < a) × (v < b))) → Compares o a v → Compares o b v
-alike_on (MaskedEq m) a b v plain side h = absurd (cc)
-alike_on _ a b v plain side h = grind (arith, side)
+alike_on o a b v plain side h = grind (arith, plain, side, h)
 
 -- what counts of a value is what is left of it
 pub part_left : (l : SeccompCmpArgLen) (v : ℕ) → v < 2 ^ 64 → v % numbers_of l ≡ part_of l v
-part_left Dword v fits = refl
-part_left Qword v fits = omega arith
+part_left l v fits = grind (arith, fits)
 
 pub numbers_many : (l : SeccompCmpArgLen) → 2 ^ 32 ≤ numbers_of l
 numbers_many l = grind arith

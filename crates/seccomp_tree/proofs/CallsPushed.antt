@@ -1,8 +1,8 @@
 -- Steps over call numbers: the numbers up to the next that is answered otherwise, and that the steps are as few as can be.
-use Rattle.seccomp_tree.proofs.Common.{IsAnswered, ◌≡◌, ℕ, ◌+◌, ◌<◌, ◌≤◌, ◌^◌, List, [], ◌∷◌, length, Option, Some, None, Vec, sym, ◌∙◌}
-use Rattle.seccomp_tree.proofs.Common.{arith, refl, IsAnswer, AreAnswers, AreCallSteps, IsNextStart, if◌then◌else◌, suc, get_or, ◌⊎◌, inl}
-use Rattle.seccomp_tree.proofs.Common.{inr, nat_lt, IsSome, nat_tests, cases_lt, is_at, lookup, Step, nat_cmp, Global, sock_filter, Target}
-use Rattle.seccomp_tree.proofs.Common.{IsPushed, Grows, Ruling, rules_length, DecisionSet, calls_of, default_for, rulings_for, default_from}
+use Rattle.seccomp_tree.proofs.Common.{IsAnswered, ◌≡◌, ℕ, ◌+◌, ◌<◌, ◌≤◌, ◌^◌, List, [], ◌∷◌, length, Option, Vec, sym, ◌∙◌, arith, refl}
+use Rattle.seccomp_tree.proofs.Common.{IsAnswer, AreAnswers, AreCallSteps, IsNextStart, if◌then◌else◌, suc, get_or, ◌⊎◌, inl, inr, nat_lt}
+use Rattle.seccomp_tree.proofs.Common.{IsSome, nat_tests, cases_lt, is_at, lookup, Step, nat_cmp, Global, sock_filter, Target, IsPushed}
+use Rattle.seccomp_tree.proofs.Common.{Grows, Ruling, rules_length, DecisionSet, calls_of, default_for, rulings_for, default_from}
 use Rattle.seccomp_tree.proofs.Common.{calls_length, DefaultValue, ap, ◌-◌, Bool, true, false, nat_eq, nat_le, cases_eq, is_member}
 use Rattle.seccomp_tree.proofs.Common.{found_from, AscendFrom, AreTight, AreRanges}
 use Rattle.seccomp_tree.proofs.Runs.{grows_not, grows_on, is_in_grown, leads_grown}
@@ -51,8 +51,7 @@ pub none_before : (entries : List (ℕ × Vec Ruling Global)) (n next : ℕ)
 none_before entries n next least lt = sym (rulings_under entries n) ∙ go (lookup (is_at (nat_cmp n)) entries) least
   where
     go : (o : Option (Vec Ruling Global)) → (IsSome o → next ≤ n) → items_of o ≡ []
-    go None least = refl
-    go (Some v) least = absurd (omega (arith, least refl))
+    go o least = grind (arith, least)
 
 -- How many instructions the rulings of the numbers below one take.
 abbrev pub below_length : List (ℕ × List Ruling) → ℕ → ℕ

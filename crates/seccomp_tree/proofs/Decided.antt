@@ -26,13 +26,11 @@ drop_back l n x some le is = drop_at l (n - 1) x (omega arith) is ∙ ap (λ k. 
 
 pub first_here : {default w : ℕ} {r : List ℕ} (d : Ruling) (rest : List Ruling) → RuleHolds d.conditions r → First default r (d ∷ rest) w
     → w ≡ d.value
-first_here d rest holds (here e q h) = refl
-first_here d rest holds (behind e q v not h) = absurd (not holds)
+first_here d rest holds h = grind (arith, holds, h)
 
 pub first_behind : {default w : ℕ} {r : List ℕ} (d : Ruling) (rest : List Ruling) → (RuleHolds d.conditions r → ⊥)
     → First default r (d ∷ rest) w → First default r rest w
-first_behind d rest not (here e q h) = absurd (not h)
-first_behind d rest not (behind e q v _ h) = h
+first_behind d rest not h = grind (arith, not, h)
 
 pub first_nothing : {default w : ℕ} {r : List ℕ} → First default r [] w → w ≡ default
 first_nothing nothing = refl
@@ -40,10 +38,7 @@ first_nothing nothing = refl
 -- the one value that answers is the word that is decided
 pub one_first : (default v w : ℕ) (rulings : List Ruling) (r : List ℕ) → one_value default rulings ≡ Some v → First default r rulings w
     → w ≡ v
-one_first default v w [] r is nothing = cc
-one_first default v w (d ∷ rulings) r is (here e rest holds) = grind (arith, nat_tests, is)
-one_first default v w (d ∷ rulings) r is (behind e rest u not h) =
-    let none : length d.conditions ≡ 0 = grind (arith, nat_tests, is) in absurd (not (λ k c lt. absurd (omega arith)))
+one_first default v w rulings r is h = grind (arith, nat_tests, is, h)
 
 -- ---- the rulings of a number
 

@@ -28,15 +28,11 @@ next_is number end next past t (inr (later, is)) high = grind (arith, t.before, 
 due_less : (number end next past : ℕ) (rest back : List Step) → IsTurn number (past * 2 ^ 32) end next → IsPast number end past
     → number / 2 ^ 32 < end / 2 ^ 32 → end ≡ first_start (2 ^ 64) (drop 1 rest) → HasMoved next end rest back
     → 1 + 2 * length (drop 1 back) + due next back ≤ 2 * length (drop 1 rest) + due number rest
-due_less number end next past (x ∷ y ∷ rest) back t p high ends (inl (at, is)) =
-    rw is (grind (arith, nat_tests, next_is number end next past t p high))
-due_less number end next past _ back t p high ends (inl (at, is)) = rw (is, at, ends) (grind (arith, nat_tests, ends))
-due_less number end next past rest back t p high ends (inr (not, is)) =
-    rw (is, ← ends) (grind (arith, nat_tests, next_is number end next past t p high, p, t.within))
+due_less number end next past rest back t p high ends moved =
+    grind (arith, nat_tests, next_is number end next past t p high, ends, moved, p, t.within)
 
 some_left : (size : ℕ) (rest : List Step) → first_start size rest < size → 1 ≤ length rest
-some_left size [] lt = absurd (omega arith)
-some_left size (x ∷ rest) lt = omega arith
+some_left size rest lt = grind (arith, lt)
 
 -- ---- the loop of `argument`
 

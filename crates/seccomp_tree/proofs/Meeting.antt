@@ -22,9 +22,8 @@ high_word r index rec =
     omega (arith, number_halves r (16 + 8 * index), same, word_fits r (16 + 8 * index) rec)
 
 pub part_fits : (l : SeccompCmpArgLen) (r : List ℕ) (index : ℕ) → IsRecord r → part_of l (argument_at r index) < numbers_of l
-part_fits Dword r index rec = omega arith
-part_fits Qword r index rec =
-    omega (arith, number_halves r (16 + 8 * index), word_fits r (16 + 8 * index) rec, word_fits r (16 + 8 * index + 4) rec)
+part_fits l r index rec =
+    grind (arith, number_halves r (16 + 8 * index), word_fits r (16 + 8 * index) rec, word_fits r (16 + 8 * index + 4) rec)
 
 -- each condition holds or doesn't
 pub holds_or_not : (c : Condition) (r : List ℕ) → Holds c r ⊎ (Holds c r → ⊥)
@@ -55,8 +54,7 @@ part_of_word index word = record {
 -- ---- conditions without a mask
 
 plain_operator : (l : SeccompCmpArgLen) (o : SeccompCmpOp) → is_plain o ≡ true → operator_part l o ≡ o
-plain_operator l (MaskedEq m) plain = absurd (cc)
-plain_operator l _ plain = refl
+plain_operator l o plain = grind (arith, plain)
 
 -- whether a condition without a mask holds is what its comparison says of the argument's part
 pub chosen_plain : (c : Condition) (r : List ℕ) (fit unfit t : Target) → is_plain c.operator ≡ true

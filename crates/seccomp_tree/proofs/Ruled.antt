@@ -24,9 +24,7 @@ ruling_one c rest h one = met_both _ _ (holds_or_not c) (λ r rec. (
 -- ---- what a condition alone is
 
 pub only_is : (q : List Condition) (c : Condition) → only q ≡ Some c → (q ≡ c ∷ []) × (is_plain c.operator ≡ true)
-only_is [] c e = absurd (cc)
-only_is (x ∷ []) c e = grind (arith, e)
-only_is (x ∷ y ∷ q) c e = absurd (cc)
+only_is q c e = grind (arith, e)
 
 pub alike_is : (c d : Condition) → alike (Some c) (Some d) ≡ true → (c.arg_index ≡ d.arg_index) × (c.arg_len ≡ d.arg_len)
 alike_is c d e = grind (arith, nat_tests, e)
@@ -136,8 +134,7 @@ pub joined_apart : (q : List Condition) (d : Ruling) (rest : List Ruling) → al
 joined_apart q d rest apart = rw apart refl
 
 pub alike_none : (o : Option Condition) → alike o None ≡ false
-alike_none None = refl
-alike_none (Some c) = refl
+alike_none o = grind arith
 
 run_more : (l : SeccompCmpArgLen) (j : ℕ) → suc j * part_length l 3 ≡ part_length l 3 + j * part_length l 3
 run_more l j = grind arith

@@ -58,8 +58,7 @@ grown_long {old} g =
     let long = ap length g.whole ∙ length-append g.front old in (omega (arith, long), omega (arith, long, g.few))
 
 pub is_in_grown : {old new : List sock_filter} {most : ℕ} (t : Target) → Grows old most new → IsIn old t → IsIn new t
-is_in_grown (Give w) g h = h
-is_in_grown (At m) g h = omega (arith, (grown_long g).0)
+is_in_grown t g h = grind (arith, grown_long g)
 
 -- the place that was written last is inside
 pub last_in : (code : List sock_filter) (t : Target) → t ≡ At (length code - 1) → 1 ≤ length code → IsIn code t

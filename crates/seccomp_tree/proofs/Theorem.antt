@@ -3,12 +3,11 @@
 use Rattle.seccomp_tree.proofs.Common.{◌≡◌, ℕ, zero, suc, ◌+◌, ◌-◌, ◌<◌, ◌≤◌, ◌^◌, List, [], ◌∷◌, ◌++◌, length, drop, Some, length-append}
 use Rattle.seccomp_tree.proofs.Common.{goes_on, EndsWithin, length-drop, subst, refl, sym, ap, ◌∙◌, arith, add-one, zero-add, slice_get}
 use Rattle.seccomp_tree.proofs.Common.{drop-drop, sock_filter, give, Goes, stays, then_step, IsFine, IsInRange, IsChecked, greatest_length}
-use Rattle.seccomp_tree.proofs.Common.{fine_load, fine_mask, fine_jump, fine_equal, fine_greater, fine_at_least, fine_return, AreFine}
-use Rattle.seccomp_tree.proofs.Common.{IsSound, Returns, gives, ◌*◌, inl, inr, IsAnswer, AreCallSteps, length_by, Equal, nat_tests}
+use Rattle.seccomp_tree.proofs.Common.{AreFine, IsSound, Returns, gives, ◌*◌, inl, inr, IsAnswer, AreCallSteps, length_by, Equal, nat_tests}
 use Rattle.seccomp_tree.proofs.Common.{IsRecord, word_at, audit_word, Target, Give, Step, one, Leads, to_return, IsPart, chosen, Dword}
-use Rattle.seccomp_tree.proofs.Common.{Ruling, First, Takes, stops, passes, ends, begins, run_steps, joined, DecisionSet}
-use Rattle.seccomp_tree.proofs.Common.{default_for, IsDecided, rulings_for, other_architecture, decided, TakesOwn, other, own}
-use Rattle.seccomp_tree.proofs.Common.{EndsAsDecided, IsTreeProgram, AreRanges, IsTested, load, word_fits, pow-succ', one-le-pow}
+use Rattle.seccomp_tree.proofs.Common.{Ruling, First, Takes, stops, passes, ends, begins, run_steps, joined, DecisionSet, default_for}
+use Rattle.seccomp_tree.proofs.Common.{IsDecided, rulings_for, other_architecture, decided, TakesOwn, other, own, EndsAsDecided}
+use Rattle.seccomp_tree.proofs.Common.{IsTreeProgram, AreRanges, IsTested, load, word_fits, pow-succ', one-le-pow}
 use Rattle.seccomp_tree.proofs.Runs.{returns_more, grown_long}
 use Rattle.seccomp_tree.proofs.Decided.{decided_some, one_first}
 use Rattle.seccomp_tree.proofs.Begun.{not_none}

@@ -77,8 +77,7 @@ pub same_one : (t u : Target) → same t u ≡ true → t ≡ u
 same_one t u e = grind (arith, nat_tests)
 
 pub out_long : (steps : List Step) → second_stands_out steps ≡ true → 3 ≤ length steps
-out_long (x ∷ y ∷ z ∷ steps) out = omega arith
-out_long _ out = absurd (cc)
+out_long steps out = grind (arith, out)
 
 -- a row has fewer tests than steps
 pub row_few : (steps : List Step) → 1 ≤ length steps → row steps + 1 ≤ length steps

@@ -1,7 +1,7 @@
-use Rattle.seccomp_tree.proofs.Common.{◌≡◌, ◌%◌, ◌∙◌, drop, refl, sym, false≢true, get_or, Give, Compares, part_of, first_start, IsChosen}
+use Rattle.seccomp_tree.proofs.Common.{arith, ◌≡◌, ◌%◌, ◌∙◌, drop, refl, get_or, Give, Compares, part_of, first_start, IsChosen}
 use Rattle.seccomp_tree.specs.Code.{numbers_of}
 use Rattle.seccomp_tree.proofs.Begun.{all_behind, byte_is, moves, laying_begins, laying_on, laying_ends, part_left}
-use Rattle.seccomp_tree.proofs.intervals.laid.Goals.{After-turn-number, then-is_met, else-is_met}
+use Rattle.seccomp_tree.proofs.intervals.laid.Goals.{After-turn-number}
 use Rattle.seccomp_tree.proofs.intervals.laid.Goals as goal
 
 pub loop-number-init : goal.loop-number-init
@@ -26,10 +26,7 @@ chosen : (c : After-turn-number) → IsChosen (Compares c.args.condition.now.ope
     (get_or c.loop-number.rest.now 0 (record { start = 0; target = Give 0 })).target c.if-is_met.chosen
 chosen c =
     let both = rw (c.operator.ensures, value_is c) at c.compares-is_met.ensures in
-    elim c.if-is_met.branch [
-      | then-is_met w ↦ record { met = λ is. w.chosen-is; unmet = λ not. absurd (not (both.0 w.if-is_met.true)) }
-      | else-is_met w ↦ record { met = λ is. absurd (false≢true (sym w.if-is_met.false ∙ both.1 is)); unmet = λ not. w.chosen-is }
-    ]
+    record { met = λ is. grind (arith, both.1 is); unmet = λ not. grind (arith, both, not) }
 
 pub loop-number-preserved : goal.loop-number-preserved
 loop-number-preserved c =

@@ -1,9 +1,9 @@
-use Rattle.seccomp_tree.proofs.Common.{◌≡◌, ◌^◌, Step, Give, IfOk-weaker, ap, ◌∙◌, arith, drop, inl, inr, first_start}
+use Rattle.seccomp_tree.proofs.Common.{◌≡◌, ◌^◌, Step, Give, IfOk-weaker, ap, ◌∙◌, arith, drop, first_start}
 use Rattle.seccomp_tree.proofs.Begun.{all_behind, byte_is, moves}
 use Rattle.seccomp_tree.proofs.Meeting.{part_of_word}
 use Rattle.seccomp_tree.proofs.Halves.{IsPast, halving_begins, halving_on, halving_done, highs_in, is_argument, lows_in}
 use Rattle.seccomp_tree.proofs.code.Code.argument.Goals.{After-first_start-end, then-high-last+in_ok-target+in_ok-push_step-2}
-use Rattle.seccomp_tree.proofs.code.Code.argument.Goals.{else-high-last, then-number-eq0, else-number-eq0}
+use Rattle.seccomp_tree.proofs.code.Code.argument.Goals.{else-high-last}
 use Rattle.seccomp_tree.proofs.code.Code.argument.Goals as goal
 
 pub returns-in-Dword : goal.returns-in-Dword
@@ -33,10 +33,7 @@ loop-number-preserved c =
     let ends = end_is ((goal.at.loop-number-preserved c).After-first_start-end) in
     let moved = moves c.from.result c.turn-number.result c.first_start-end.result c.loop-number.rest.now
     (c.from.ensures ∙ byte_is _) in
-    let which : IsPast c.loop-number.number c.first_start-end.result c.if-number-eq0.past = elim c.if-number-eq0.branch [
-      | then-number-eq0 w ↦ inl (w.if-number-eq0.true, w.past-is)
-      | else-number-eq0 w ↦ inr (omega (arith, w.if-number-eq0.false), w.past-is)
-    ] in
+    let which : IsPast c.loop-number.number c.first_start-end.result c.if-number-eq0.past = grind arith in
     elim c.if-high-last.branch [
       | then-high-last+in_ok-target+in_ok-push_step-2 w ↦
           rw (w.self-is, w.highs-is, w.lows-is, w.new-lows-then-high-last.ensures.items) (halving_done c.loop-number.rest.now none

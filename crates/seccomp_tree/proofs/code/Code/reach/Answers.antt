@@ -1,4 +1,4 @@
-use Rattle.seccomp_tree.proofs.Common.{◌≡◌, sym, ◌∙◌, arith}
+use Rattle.seccomp_tree.proofs.Common.{rules, ◌≡◌, arith}
 use Rattle.seccomp_tree.proofs.Runs.{grows_not, StandsIn, jump_stands, reached_itself, reached_by, reached_new, return_stands}
 use Rattle.seccomp_tree.proofs.code.Code.reach.Goals.{After-twin, in-Give, in-At+else-over-le-REACH}
 use Rattle.seccomp_tree.proofs.code.Code.reach.Goals as goal
@@ -19,10 +19,7 @@ stands c = elim c.match-target.branch [
 ]
 
 same : (c : After-twin) → c.match-target.target ≡ c.args.target
-same c = elim c.match-target.branch [
-  | in-Give w ↦ w.target-is ∙ sym w.in-Give.is
-  | in-At+else-over-le-REACH w ↦ w.target-is ∙ sym w.in-At.is
-]
+same c = search rules
 
 pub push-requires : goal.push-requires
 push-requires c =

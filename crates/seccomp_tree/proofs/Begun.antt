@@ -135,26 +135,11 @@ moves k next end rest is = rw (all_behind rest k) (elim (cases_eq next end) [
 
 pub left_on : {size number : ℕ} {steps : List Step} (next end : ℕ) (rest back : List Step) → AreLeft size steps number rest → number < size
     → end ≡ first_start size (drop 1 rest) → number < next → next ≤ end → HasMoved next end rest back → AreLeft size steps next back
-left_on next end [] back h some ends up le moved = absurd (h.from some)
-left_on next end (x ∷ []) back h some ends up le (inl (at, is)) =
-    rw is record { within = omega arith; from = λ less. absurd (omega arith); same = λ a le lt. absurd (omega arith) }
-left_on {size} next end (x ∷ y ∷ rest) back h some ends up le (inl (at, is)) =
-    let rise = h.from some in
-    let start : next ≡ y.start = at ∙ ends in
-    rw (is, start) record {
-      within = omega (arith, rise.1.0);
-      from = λ less. rise.1.1;
-      same = λ a le lt. h.same a (omega arith) lt ∙ grind (arith, nat_tests);
-    }
-left_on {size} {number} next end (x ∷ rest) back h some ends up le (inr (not, is)) = rw is record {
-  within = omega (arith, (left_end (x ∷ rest) h some).1.0);
-  from = λ less. later rest (h.from some) (omega arith);
-  same = λ a le lt. h.same a (omega arith) lt;
+left_on next end rest back h some ends up le moved = record {
+  within = grind (arith, left_end rest h some);
+  from = λ less. grind (arith, h.from some, left_end rest h some, moved, ends);
+  same = λ a le lt. h.same a (omega arith) lt ∙ grind (arith, nat_tests, h.from some, moved, ends);
 }
-  where
-    later : (l : List Step) → AscendFrom size (number + 1) l → next < first_start size l → AscendFrom size (next + 1) l
-    later [] rise lt = tt
-    later (y ∷ l) rise lt = (omega arith, rise.1)
 
 -- ---- one step more
 

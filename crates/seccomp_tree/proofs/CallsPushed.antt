@@ -122,10 +122,7 @@ above_less m n (s ∷ starts) le = grind (arith, nat_tests, above_less m n start
 -- one of them that is below the others
 above_one : (m n : ℕ) (starts : List ℕ) → m < n → is_member nat_eq starts m ≡ true → 1 + above n starts ≤ above m starts
 above_one m n [] lt h = absurd (cc)
-above_one m n (s ∷ starts) lt h = elim (cases_eq m s) [
-  | inl same ↦ grind (arith, nat_tests, above_less m n starts, same)
-  | inr other ↦ let none : nat_eq m s ≡ false = grind (arith, nat_tests) in grind (arith, nat_tests, above_one m n starts lt (rw none at h))
-]
+above_one m n (s ∷ starts) lt h = grind (arith, nat_tests, above_less m n starts, above_one m n starts lt, h)
 
 -- where each step starts, ranges start
 few_from : (d : DecisionSet) (code : List sock_filter) (starts : List ℕ) (y : Step) (steps : List Step) → AreRanges d starts

@@ -155,8 +155,7 @@ written_does back place i view inside here says =
 
 -- a place by itself
 run_itself : {d : ℕ} {r : List ℕ} {code : List sock_filter} {m a w n : ℕ} → Starts d code r (At m) a w n → Returns r (tail_at code m) a w n
-run_itself (to_place m w a n inside h) = returns_more (suc n) (omega arith) h
-run_itself (near m w a n inside close h) = h
+run_itself h = grind (arith, returns_more, h)
 
 pub reached_itself : (code : List sock_filter) (m : ℕ) → m < length code → length code ≤ m + 255 → IsReached code (At m) m code
 reached_itself code m inside close =

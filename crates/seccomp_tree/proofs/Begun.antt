@@ -246,10 +246,7 @@ laying_on {c} {end = end} {number} {next} (x ∷ rest) back d plain h some ends 
               (arith, nat_tests, turn.before, le, lt)) is));
         }
   ];
-  few = elim moved [
-    | inl on ↦ rw on.1 (grind (arith, nat_tests, h.few, pushed.few, turn.above))
-    | inr not ↦ rw not.1 (grind (arith, nat_tests, h.few, pushed.few, turn.stops, turn.within, turn.above, not.0))
-  ];
+  few = grind (arith, nat_tests, h.few, pushed.few, turn.above, turn.stops, turn.within, moved);
 }
 
 pub laying_ends : {c : Condition} {target : Target} {others rest steps : List Step} {number : ℕ} → is_plain c.operator ≡ true
@@ -261,7 +258,5 @@ laying_ends {c} {number = number} plain h all =
 -- what is laid over targets of the code are targets of the code
 pub laid_in : (code : List sock_filter) (c : Condition) (target : Target) (others new : List Step) → AreLaid c target others new
     → IsIn code target → AllIn code (numbers_of c.arg_len) others → AllIn code (numbers_of c.arg_len) new
-laid_in code c target others new h own inside a lt = elim (compares_or_not c.operator a (part_of c.arg_len c.value)) [
-  | inl met ↦ rw ((h.each a lt).met met) own
-  | inr not ↦ rw ((h.each a lt).unmet not) (inside a lt)
-]
+laid_in code c target others new h own inside a lt =
+    grind (arith, h.each a lt, compares_or_not c.operator a (part_of c.arg_len c.value), own, inside a lt)

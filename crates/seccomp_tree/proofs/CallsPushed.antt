@@ -3,8 +3,8 @@ use Rattle.seccomp_tree.proofs.Common.{IsAnswered, ◌≡◌, ℕ, ◌+◌, ◌<
 use Rattle.seccomp_tree.proofs.Common.{IsAnswer, AreAnswers, AreCallSteps, IsNextStart, if◌then◌else◌, suc, get_or, ◌⊎◌, inl, inr, nat_lt}
 use Rattle.seccomp_tree.proofs.Common.{IsSome, nat_tests, cases_lt, is_at, lookup, Step, nat_cmp, Global, sock_filter, Target, IsPushed}
 use Rattle.seccomp_tree.proofs.Common.{Grows, Ruling, rules_length, DecisionSet, calls_of, default_for, rulings_for, default_from}
-use Rattle.seccomp_tree.proofs.Common.{calls_length, DefaultValue, ap, ◌-◌, Bool, true, false, nat_eq, nat_le, cases_eq, is_member}
-use Rattle.seccomp_tree.proofs.Common.{found_from, AscendFrom, AreTight, AreRanges}
+use Rattle.seccomp_tree.proofs.Common.{calls_length, DefaultValue, ap, ◌-◌, Bool, true, false, nat_eq, nat_le, is_member, found_from}
+use Rattle.seccomp_tree.proofs.Common.{AscendFrom, AreTight, AreRanges}
 use Rattle.seccomp_tree.proofs.Runs.{grows_not, grows_on, is_in_grown, leads_grown}
 use Rattle.seccomp_tree.proofs.Begun.{steps_more, found_before}
 use Rattle.seccomp_tree.proofs.Decided.{items_of, rulings_under}

@@ -24,9 +24,9 @@ pub use Rattle.seccompiler.proofs.Words.{mask_halves, number_halves, word_fits}
 pub use Rattle.seccompiler.specs.Architecture.{audit_word}
 pub use Rattle.seccompiler.specs.Code.{give, load, mask}
 pub use Rattle.seccompiler.specs.Compiled.{AreCallNumbers, EndsAtDecision, numbers_of}
-pub use Rattle.seccompiler.specs.Machine.{Does, Ends, Goes, IsChecked, IsFine, IsInRange, IsRecord, argument_at, fine_at_least, fine_equal}
-pub use Rattle.seccompiler.specs.Machine.{fine_greater, fine_jump, fine_load, fine_mask, fine_return, greatest_length, is_at_least}
-pub use Rattle.seccompiler.specs.Machine.{is_equal, is_less, is_not_equal, jumps, loads, masks, stays, then_step, word_at}
+pub use Rattle.seccompiler.specs.Machine.{Does, Ends, Goes, IsChecked, IsFine, IsInRange, IsRecord, argument_at, fine_jump, fine_return}
+pub use Rattle.seccompiler.specs.Machine.{greatest_length, is_at_least, is_equal, is_less, is_not_equal, jumps, loads, masks, stays}
+pub use Rattle.seccompiler.specs.Machine.{then_step, word_at}
 pub use Rattle.seccompiler.specs.Policy.{Chain, ChainMatches, Compares, Condition, Filter, Holds, IsCallNumber, IsDecision, Rule, RuleHolds}
 pub use Rattle.seccompiler.specs.Policy.{chain_under, chains_of, operator_part, part_of, policy_differs, policy_matches, word_of}
 pub use Rattle.seccompiler.specs.declared.backend.SeccompCmpArgLen.{SeccompCmpArgLen}

@@ -130,10 +130,7 @@ module _ {old code : List sock_filter} {index number end : ℕ} {steps lows push
     left = left_on next end rest back h.left some ends t.above t.within moved;
     are_lows = record { first = omega (arith, past_is); ascend = tt; tight = tt };
     own = λ a lt. absurd (omega (arith, past_is));
-    low_few = elim moved [
-      | inl on ↦ rw on.1 (omega (arith, length-drop 1 rest, h.low_few))
-      | inr not ↦ rw not.1 (omega (arith, h.low_few))
-    ];
+    low_few = grind (arith, length-drop 1 rest, h.low_few, moved);
     are_highs = steps_more (number / 2 ^ 32 + 1) (next / 2 ^ 32) more (omega arith) (omega (arith, t.above, past_is)) q.are;
     few = omega (arith, due_less number end next past rest back t which high ends moved, h.few, q.few);
     before = h.before + (3 * length pushed - 2);

@@ -2,23 +2,19 @@
 
 mod notes;
 
-ghost use Rattle.std.specs.Prelude.{IfOk, string_cmp};
-ghost use Rattle.std.specs.List.{AllZip};
-ghost use Rattle.std.specs.List.Sorted.{IsStrictlySortedBy};
-ghost use Rattle.std.specs.Map.{keys_of};
+ghost use Rattle.std.specs.Prelude.{IfOk};
 ghost use Rattle.seccompiler.specs.JsonAnswers.{OfValue};
-ghost use Rattle.seccomptool.specs.Compile.{ArePrograms, IsCompiledAs};
+ghost use Rattle.seccomptool.specs.Compile.{ArePrograms};
 
 use crate::compile::{NamedProgram, program_value};
 use crate::error::ToolError;
 use crate::json::push_item;
 use seccomp_command_line::readable::{TextKind, push_readable};
 use seccomp_compare::machine::JUMP_IF_SET;
-use seccomp_tree::{FilterError, Layout, to_bpf_in};
+use seccomp_tree::{Layout, to_bpf_in};
 use seccompiler::bpf::{JUMP, JUMP_AT_LEAST, JUMP_EQUAL, JUMP_GREATER, LOAD, MASK, RETURN};
-use seccompiler::{BpfProgramRef, JsonCompiler, SeccompFilter, TargetArch, sock_filter};
+use seccompiler::{BpfProgramRef, JsonCompiler, TargetArch, sock_filter};
 use std::alloc::{AllocError, Global};
-use std::collections::BTreeMap;
 
 /// The programs of all filters of a policy's text, in byte order of the filters' names.
 pub fn programs_in(
@@ -30,18 +26,6 @@ pub fn programs_in(
     ensures { IfOk result (λ programs. OfValue text.now (λ d. ArePrograms layout target d programs.items)) }
 {
     let filters = JsonCompiler::new(target).policies_of(alloc, text)?;
-    Ok(compiled(alloc, layout, filters)?)
-}
-
-// The programs of filters in this layout.
-fn compiled(
-    alloc: Global,
-    layout: Layout,
-    filters: BTreeMap<String, SeccompFilter>,
-) -> Result<Vec<NamedProgram>, FilterError>
-    ensures programs { IfOk result (λ programs. AllZip (IsCompiledAs layout) filters.entries programs.items) }
-    ensures ordered { IsStrictlySortedBy string_cmp (keys_of filters.entries) }
-{
     let mut programs = Vec::new(alloc);
     for (name, filter) in filters {
         let program = to_bpf_in(alloc, &filter, layout)?;

@@ -1,12 +1,9 @@
 // How long programs are, and how many steps they take.
 
-ghost use Rattle.std.specs.Prelude.{◌≡◌, ◌≢◌, ◌+◌, ◌<◌, length, IfOk, string_cmp};
-ghost use Rattle.std.specs.List.{AllZip};
-ghost use Rattle.std.specs.List.Sorted.{IsStrictlySortedBy};
-ghost use Rattle.std.specs.Map.{keys_of};
+ghost use Rattle.std.specs.Prelude.{◌≡◌, ◌≢◌, ◌+◌, ◌<◌, length, IfOk};
 ghost use Rattle.seccompiler.specs.JsonAnswers.{OfValue};
 ghost use Rattle.seccomp_compare.specs.Machine.{IsChecked, IsFine};
-ghost use Rattle.seccomptool.specs.Stats.{AreStats, IsMeasureIn, IsMeasureOf, IsMeasured, passing_record};
+ghost use Rattle.seccomptool.specs.Stats.{AreStats, IsMeasureIn, IsMeasureOf, passing_record};
 ghost use Rattle.seccomptool.specs.Ways.{IsGreatestNext, IsMost};
 
 use crate::error::ToolError;
@@ -20,7 +17,6 @@ use seccompiler::{
 };
 use serde_json::json;
 use std::alloc::{AllocError, Global};
-use std::collections::BTreeMap;
 
 /// How long a program is, and how many steps it takes.
 #[derive(Clone, Copy)]
@@ -58,20 +54,8 @@ pub fn stats_of(
     for (_, filter) in &filters {
         filter.compiled_len()?;
     }
-    Ok(measured(alloc, target, &filters)?)
-}
-
-// The numbers of the programs of filters.
-fn measured(
-    alloc: Global,
-    target: TargetArch,
-    filters: &BTreeMap<String, SeccompFilter>,
-) -> Result<Vec<FilterStats>, FilterError>
-    ensures measured { IfOk result (λ all. AllZip (IsMeasured target) filters.now.entries all.items) }
-    ensures ordered { IsStrictlySortedBy string_cmp (keys_of filters.now.entries) }
-{
     let mut all = Vec::new(alloc);
-    for (name, filter) in filters {
+    for (name, filter) in &filters {
         let linear = measure_in(alloc, target, filter, Layout::Linear)?;
         let tree = measure_in(alloc, target, filter, Layout::Tree)?;
         let name = name.clone()?;

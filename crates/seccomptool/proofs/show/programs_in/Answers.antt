@@ -1,21 +1,51 @@
-use Rattle.std.proofs.Common.{ap, string_bytes, subst}
+use Rattle.std.proofs.Common.{◌≡◌, ◌∷◌, ◌++◌, [], List, String, Global, refl, rules, sym, ap, ◌∙◌, subst, append_assoc, append-nil}
+use Rattle.std.proofs.Common.{string_bytes, string_cmp}
 use Rattle.std.specs.BTreeMap.{get_by_text}
+use Rattle.std.specs.List.{AllZip}
+use Rattle.std.specs.List.Sorted.{IsStrictlySortedBy}
+use Rattle.std.specs.Map.{keys_of}
+use Rattle.std.proofs.lemmas.Slice.Zip.{all_zipped_more}
 use Rattle.seccompiler.specs.JsonAnswers.{ArePoliciesOf, HasPolicy}
+use Rattle.seccompiler.specs.Policy.{Filter}
 use Rattle.seccomp_command_line.proofs.ByName.{by_text}
 use Rattle.seccomptool.specs.Compile.{HasProgram, IsCompiledAs, name_of}
+use Rattle.seccomptool.specs.declared.compile.NamedProgram.{NamedProgram}
 use Rattle.seccomptool.proofs.Named.{are_named}
 use Rattle.seccomptool.proofs.show.programs_in.Goals as goal
 
+pub loop-name-init : goal.loop-name-init
+loop-name-init c = record {
+  whole = refl;
+  compiled = subst (AllZip (IsCompiledAs c.args.layout) []) (sym c.new-programs.ensures.items) tt;
+}
+
+pub loop-name-preserved : goal.loop-name-preserved
+loop-name-preserved c =
+    let l = c.loop-name in
+    let f : String Global × Filter = (c.in-Some.name, c.in-Some.filter) in
+    let p : NamedProgram = record { name = c.in-Some.name; program = c.in_ok-program.program } in
+    record {
+      whole = l.invariant.whole ∙ ap (λ es. l.yielded ++ es) c.in-Some.ensures.steps
+          ∙ sym (append_assoc l.yielded (f ∷ []) c.next.new.self);
+      compiled = subst (AllZip (IsCompiledAs c.args.layout) (l.yielded ++ f ∷ [])) (sym c.in_ok-push.ensures.items)
+          (all_zipped_more (IsCompiledAs c.args.layout) l.yielded l.programs.items f p l.invariant.compiled
+          (record { name = refl; compiled = c.in_ok-program.ensures.compiled }));
+    }
+
 pub returns : goal.returns
 returns c =
+    let l = c.loop-name in
     let filters = c.in_ok-filters.filters in
     let of = c.in_ok-filters.ensures.policies in
-    let are = subst (λ target. ArePoliciesOf target (get_by_text filters) of.0) c.new.ensures of.2 in (
+    let are = subst (λ target. ArePoliciesOf target (get_by_text filters) of.0) c.new.ensures of.2 in
+    let order : IsStrictlySortedBy string_cmp (keys_of filters.entries) = search rules in
+    let all : filters.entries ≡ l.yielded = sym c.into_iter-name-iterator.ensures.into_iter_gives.0 ∙ l.invariant.whole
+    ∙ ap (λ es. l.yielded ++ es) c.in-None.ensures.steps.0 ∙ append-nil l.yielded in (
       of.0,
       of.1,
-      are_named (HasPolicy c.args.target) (get_by_text filters) of.0 are filters.entries c.in_ok-compiled.ensures.ordered
+      are_named (HasPolicy c.args.target) (get_by_text filters) of.0 are filters.entries order
           (λ name. by_text name filters.entries) name_of (IsCompiledAs c.args.layout)
           (λ made value. HasProgram c.args.layout c.args.target value made.program.items) (λ e made is. ap string_bytes is.name)
           (λ e made value is has. record { policy = e.1; is_policy = has; compiled = is.compiled })
-          c.in_ok-compiled.field-0.items c.in_ok-compiled.ensures.programs,
+          l.programs.items (subst (λ fs. AllZip (IsCompiledAs c.args.layout) fs l.programs.items) (sym all) l.invariant.compiled),
     )

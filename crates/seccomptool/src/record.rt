@@ -1,10 +1,8 @@
 // Calls and their records, and numbers as they are written in words.
 
-ghost use Rattle.std.specs.Prelude.{◌≡◌, ◌++◌, ℕ, All, map, IfOk, IfErr, IfSome, IfNone, OnOk};
-ghost use Rattle.std.specs.Int.{w64, to_le_bytes};
-ghost use Rattle.std.specs.List.{concat};
+ghost use Rattle.std.specs.Prelude.{ℕ, All, IfOk, IfErr, IfSome, IfNone};
 ghost use Rattle.seccomptool.specs.Numbers.{IsNumber};
-ghost use Rattle.seccomptool.specs.Record.{IsCall, IsRecordOf, IsUncalled, record_bytes};
+ghost use Rattle.seccomptool.specs.Record.{IsCall, IsRecordOf, IsUncalled};
 
 use crate::error::ToolError;
 use crate::findings::parts::name_of;
@@ -30,7 +28,14 @@ pub fn called_record(
     let Some(number) = call_number(target, call) else {
         return Err(ToolError::UnknownCall(String::from_str(alloc, call)?, target));
     };
-    Ok(record_of(alloc, target, number, arguments)?)
+    let mut bytes = Vec::new(alloc);
+    bytes.extend_from_slice(&number.to_le_bytes())?;
+    bytes.extend_from_slice(&target.get_audit_value().to_le_bytes())?;
+    bytes.extend_from_slice(&0u64.to_le_bytes())?;
+    for argument in arguments {
+        bytes.extend_from_slice(&argument.to_le_bytes())?;
+    }
+    Ok(bytes)
 }
 
 /// A call of an architecture.
@@ -99,33 +104,6 @@ pub(crate) fn call_number(target: TargetArch, call: &str) -> Option<u32>
         Some(number) => u32::try_from(number).ok(),
         None => u32::try_from(SyscallTable::new(target).get_syscall_nr(call)?).ok(),
     }
-}
-
-// The bytes of a record.
-fn record_of(
-    alloc: Global,
-    target: TargetArch,
-    number: u32,
-    arguments: &[u64],
-) -> Result<Vec<u8>, AllocError>
-    ensures { IfOk result (λ bytes. bytes.items ≡ record_bytes target number arguments.now) }
-{
-    let mut bytes = Vec::new(alloc);
-    bytes.extend_from_slice(&number.to_le_bytes())?;
-    bytes.extend_from_slice(&target.get_audit_value().to_le_bytes())?;
-    bytes.extend_from_slice(&0u64.to_le_bytes())?;
-    push_arguments(&mut bytes, arguments)?;
-    Ok(bytes)
-}
-
-// Adds the bytes of arguments.
-fn push_arguments(bytes: &mut Vec<u8>, arguments: &[u64]) -> Result<(), AllocError>
-    ensures { OnOk result (bytes.new.items ≡ bytes.old.items ++ concat (map (to_le_bytes w64) arguments.now)) }
-{
-    for argument in arguments {
-        bytes.extend_from_slice(&argument.to_le_bytes())?;
-    }
-    Ok(())
 }
 
 // The number that a text of decimal digits writes, or of hexadecimal ones after `0x`, if 64 bits hold it. Numbers that begin with a

@@ -1,5 +1,4 @@
 -- Lemmas for the functions of `findings`.
-pub mod Verdicts
 pub mod Names
 pub mod Found
 pub mod Covered

@@ -2,22 +2,22 @@
 
 pub(crate) mod lines;
 pub(crate) mod parts;
-mod tries;
 
 ghost use Rattle.std.specs.Prelude.{◌≡◌, ℕ, List, ◌↔◌, IfOk};
-ghost use Rattle.seccomp_compare.specs.Compare.{IsCallOf};
+ghost use Rattle.seccomp_compare.specs.Compare.{Compares, IsCallOf};
 ghost use Rattle.seccomp_compare.specs.Machine.{IsChecked};
-ghost use Rattle.seccomptool.specs.Findings as spec;
-ghost use Rattle.seccomptool.specs.Findings.{AreFoundOn, AreReturned, IsFound, IsInPart, worse, verdict_of};
+ghost use Rattle.seccomptool.specs.Findings.{AreFoundOn, AreReturned, IsInPart, worse, verdict_of};
 ghost use Rattle.seccomptool.specs.Rulings.{AreFindingsOf, Ruling, StandsFor};
 
 use crate::error::ToolError;
 use crate::findings::parts::parts;
-use crate::findings::tries::try_comparisons;
 use crate::progress::Progress;
-use seccomp_compare::{Calls, Comparison, Relation, machine};
+use seccomp_compare::{Calls, Comparison, Relation, compare, machine};
 use seccompiler::{BpfProgramRef, TargetArch};
 use std::alloc::Global;
+
+// So many sets of records are looked at in the first of several tries.
+const FIRST: usize = 250_000;
 
 /// On which terms two sides are compared.
 #[derive(Clone, Copy)]
@@ -105,24 +105,17 @@ impl Verdict {
     }
 }
 
-// The verdict of what is found on a part.
-fn verdict_on(answer: Answer) -> Verdict
-    ensures { result ≡ spec.verdict_on answer }
-{
-    match answer {
-        Answer::Holds => Verdict::Same,
-        Answer::Fails { .. } => Verdict::Different,
-        Answer::Undecided => Verdict::Undecided,
-    }
-}
-
 /// The verdict of what is found on all parts.
 pub(crate) fn verdict_of(findings: &[Finding]) -> Verdict
     ensures { result ≡ verdict_of findings.now }
 {
     let mut verdict = Verdict::Same;
     for finding in findings {
-        verdict = verdict.worse(verdict_on(finding.answer));
+        verdict = verdict.worse(match finding.answer {
+            Answer::Holds => Verdict::Same,
+            Answer::Fails { .. } => Verdict::Different,
+            Answer::Undecided => Verdict::Undecided,
+        });
     }
     verdict
 }
@@ -171,34 +164,55 @@ pub(crate) fn findings_on<G: Progress>(
 {
     let mut findings = Vec::new(alloc);
     for part in parts {
-        findings.push(finding_on(alloc, terms, *part, new, old, progress)?)?;
+        let part = *part;
+        let calls = calls_of(terms.target, part);
+        let answer = match try_comparisons(alloc, terms, part, &calls, new, old, progress)? {
+            Comparison::Holds => Answer::Holds,
+            Comparison::Fails(call) => Answer::Fails {
+                call,
+                old: machine::run(old, &call).word,
+                new: machine::run(new, &call).word,
+            },
+            Comparison::Undecided => Answer::Undecided,
+        };
+        findings.push(Finding { part, answer })?;
     }
     Ok(findings)
 }
 
-// What is found on a part.
-fn finding_on<G: Progress>(
+// Compares two programs on the calls of a part: programs that are the same without a search. Where the progress is shown, it tries with
+// few sets first and then with twice as many each time, since a comparison can't be interrupted; a try that has an answer is the last
+// one.
+fn try_comparisons<G: Progress>(
     alloc: Global,
     terms: Terms,
     part: Part,
+    calls: &Calls,
     new: BpfProgramRef<'_>,
     old: BpfProgramRef<'_>,
     progress: &mut G,
-) -> Result<Finding, ToolError>
+) -> Result<Comparison, ToolError>
     requires new_checked { IsChecked new.now }
     requires old_checked { IsChecked old.now }
-    ensures part { IfOk result (λ finding. finding.part ≡ part) }
-    ensures found { IfOk result (λ finding. IsFound terms.target terms.relation (AreReturned new.now old.now) part finding.answer) }
+    ensures { IfOk result (Compares calls.now terms.relation new.now old.now) }
 {
-    let calls = calls_of(terms.target, part);
-    let answer = match try_comparisons(alloc, terms, part, &calls, new, old, progress)? {
-        Comparison::Holds => Answer::Holds,
-        Comparison::Fails(call) => Answer::Fails {
-            call,
-            old: machine::run(old, &call).word,
-            new: machine::run(new, &call).word,
-        },
-        Comparison::Undecided => Answer::Undecided,
+    if new == old {
+        return Ok(Comparison::Holds);
+    }
+    let mut sets = if progress.is_shown() {
+        FIRST.min(terms.most)
+    } else {
+        terms.most
     };
-    Ok(Finding { part, answer })
+    loop {
+        let answer = compare(alloc, new, old, calls, terms.relation, sets)?;
+        if !matches!(answer, Comparison::Undecided) {
+            return Ok(answer);
+        }
+        progress.looked_at(terms.target, part, sets);
+        if sets >= terms.most {
+            return Ok(answer);
+        }
+        sets = sets.saturating_add(sets).min(terms.most);
+    }
 }

@@ -1,4 +1,4 @@
--- For `push_both`: where nothing is found, the relation holds on every call of the architecture.
+-- For `findings_of`: where nothing is found, the relation holds on every call of the architecture.
 use Rattle.std.proofs.Common.{◌≡◌, ℕ, ◌^◌, ◌<◌, ◌≤◌, List, [], ◌∷◌, map, All, Contains, get_or, refl, sym, subst, inl, inr, arith}
 use Rattle.std.proofs.lemmas.Bool.{cases_eq, cases_lt}
 use Rattle.std.proofs.lemmas.List.Elements.{All-nil, All-cons, All-map, All-contains, Contains-append_left, Contains-push}

@@ -1,5 +1,5 @@
 use Rattle.std.proofs.Common.{◌<◌, ◌-◌}
-use Rattle.seccomptool.proofs.findings.tries.try_comparisons.Given as goal
+use Rattle.seccomptool.proofs.findings.try_comparisons.Given as goal
 
 -- where more sets may be looked at, some are
 abbrev pub invariant-loop-answer : goal.invariant-loop-answer

@@ -3,7 +3,7 @@ use Rattle.std.proofs.lemmas.Bool.Decides.{nat_tests}
 use Rattle.std.proofs.lemmas.Slice.Eq.{slice_eq-Decides}
 use Rattle.seccompiler.specs.declared.bpf.sock_filter.{sock_filter}
 use Rattle.seccomptool.proofs.findings.Ending.{same_holds}
-use Rattle.seccomptool.proofs.findings.tries.try_comparisons.Goals as goal
+use Rattle.seccomptool.proofs.findings.try_comparisons.Goals as goal
 
 abbrev instruction : ℕ → ℕ → ℕ → ℕ → sock_filter
 instruction code jt jf k = record { code = code; jt = jt; jf = jf; k = k }

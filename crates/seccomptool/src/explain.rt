@@ -9,14 +9,15 @@ ghost use Rattle.std.specs.Prelude.{◌≡◌, All, IfOk, OnOk, option_map};
 ghost use Rattle.std.specs.List.{AllZip};
 ghost use Rattle.seccompiler.specs.JsonPolicyOf.{IsFineEntry};
 ghost use Rattle.seccomp_oci.specs.Types.{AllOnArguments};
-ghost use Rattle.seccomp_oci.specs.ProfileText.{IsProfileText};
 ghost use Rattle.seccomptool.specs.Explain as spec;
 ghost use Rattle.seccomptool.specs.Explain.{AreMatched, HavePolicies, IsExplainedBy, IsExplainedByProfile, IsOfPolicy, IsOfProfile};
 
 use crate::chosen::chosen_name;
 use crate::error::ToolError;
 use crate::explain::search::{Reason, reason_of, word_at};
-use seccomp_oci::{CompileError, Container, Profile, ProfileError, decision_of_profile};
+use seccomp_oci::{
+    CompileError, Container, Profile, ProfileError, decision_of_profile, profile_of,
+};
 use seccompiler::json::filters_of;
 use seccompiler::{JsonCompiler, JsonFilter, JsonFilterMap, SeccompAction, TargetArch};
 use std::alloc::{AllocError, Global};
@@ -163,7 +164,11 @@ pub fn explain_profile(
 ) -> Result<Explanation, ToolError>
     ensures { IfOk result (IsOfProfile target container.now text.now records.now) }
 {
-    let profile = profile_in(alloc, text)?;
+    let profile = match profile_of(alloc, text) {
+        Ok(profile) => profile,
+        Err(ProfileError::OutOfMemory) => return Err(ToolError::OutOfMemory),
+        Err(fault) => return Err(ToolError::Profile(CompileError::Profile(fault))),
+    };
     let records = explain_each_by(alloc, target, container, &profile, records)?;
     let name = String::new(alloc);
     Ok(Explanation { name, records })
@@ -185,18 +190,6 @@ fn explain_each_by(
         all.push(explained_by_profile(target, container, profile, call))?;
     }
     Ok(all)
-}
-
-// The profile of a text.
-fn profile_in(alloc: Global, text: &[u8]) -> Result<Profile, ToolError>
-    ensures read { IfOk result (IsProfileText text.now) }
-    ensures arguments { IfOk result (λ p. AllOnArguments p.entries) }
-{
-    match seccomp_oci::profile_of(alloc, text) {
-        Ok(profile) => Ok(profile),
-        Err(ProfileError::OutOfMemory) => Err(ToolError::OutOfMemory),
-        Err(fault) => Err(ToolError::Profile(CompileError::Profile(fault))),
-    }
 }
 
 // What a profile decides on a record, and by which of its entries.

@@ -39,24 +39,23 @@ pub(crate) fn explained_text(
 ) -> Result<Vec<u8>, AllocError> {
     let mut text = Vec::new(alloc);
     let (name, mut callers) = (explanation.name.as_str(), callers.iter());
+    let readable_name = readable(alloc, name, TextKind::Name)?;
     for Explained { word, why } in &explanation.records {
         let (word, why) = (*word, *why);
         let caller = callers.next().copied().unwrap_or(Caller {
             program: "",
             process: "",
         });
+        if matches!(format, LineFormat::Json) {
+            let value = value_of(alloc, target, name, caller, word, why)?;
+            push_item(&mut text, alloc, &value)?;
+            continue;
+        }
+        let reason = reason_text(alloc, target, format, readable_name.as_str(), why)?;
         let line = match format {
-            LineFormat::Json => {
-                let value = value_of(alloc, target, name, caller, word, why)?;
-                push_item(&mut text, alloc, &value)?;
-                continue;
-            }
-            LineFormat::Word => {
-                let reason = reason_in_numbers(alloc, target, why)?;
-                format!(in alloc; "{caller}{word:08x} {reason}\n")?
-            }
-            LineFormat::Path => {
-                let (action, reason) = (Word(word), reason_by_path(alloc, target, name, why)?);
+            LineFormat::Word => format!(in alloc; "{caller}{word:08x} {reason}\n")?,
+            _ => {
+                let action = Word(word);
                 format!(in alloc; "{caller}{action}: {reason}\n")?
             }
         };
@@ -94,11 +93,10 @@ fn told_of(why: Why) -> Told {
         Why::Filter(Reason::Entry { place, number, .. }) => {
             ("entry", Some(number), Some(place), None, None)
         }
-        Why::Profile {
-            number,
-            entry: None,
-        } => ("no-entry", Some(number), None, None, None),
-        Why::Profile { number, entry } => ("entry", Some(number), entry, None, None),
+        Why::Profile { number, entry } => {
+            let kind = if entry.is_some() { "entry" } else { "no-entry" };
+            (kind, Some(number), entry, None, None)
+        }
         Why::Program { number, steps } => ("program", number, None, None, Some(steps)),
     }
 }
@@ -116,64 +114,46 @@ fn path_of(alloc: Global, name: &str, why: Why) -> Result<String, AllocError> {
     }
 }
 
-// A reason in numbers.
-fn reason_in_numbers(alloc: Global, target: TargetArch, why: Why) -> Result<String, AllocError> {
-    match why {
-        Why::Elsewhere | Why::Filter(Reason::AnotherArchitecture) => {
-            String::from_str(alloc, "another architecture")
-        }
-        Why::Filter(Reason::NoEntry { number }) => format!(in alloc; "no entry of call {number}"),
-        Why::Filter(
-            Reason::NoMatch {
-                entries,
-                number,
-                ..
-            },
-        ) => format!(in alloc; "no match among {entries} entries of call {number}"),
-        Why::Filter(
-            Reason::Entry {
-                place,
-                rule,
-                number,
-            },
-        ) => format!(in alloc; "entry {place}, rule {rule} of call {number}"),
-        Why::Profile { entry: None, .. } => String::from_str(alloc, "defaultAction"),
-        Why::Profile {
-            number,
-            entry: Some(place),
-        } => {
-            let name = CallName { target, number };
-            format!(in alloc; "syscalls[{place}] ({name})")
-        }
-        Why::Program { steps, .. } => format!(in alloc; "{steps}"),
-    }
-}
-
-// A reason by paths in the policy of a filter of this name, and the call, by its number alone if the architecture has no name for it.
-fn reason_by_path(
+// A reason and the call: in numbers, or by paths in the policy of a filter of this name, and by the call's name too if it has one.
+fn reason_text(
     alloc: Global,
     target: TargetArch,
+    format: LineFormat,
     name: &str,
     why: Why,
 ) -> Result<String, AllocError> {
-    let Some(number) = told_of(why).1 else {
+    let (in_numbers, told) = (matches!(format, LineFormat::Word), told_of(why));
+    if let (true, Why::Program { steps, .. }) = (in_numbers, why) {
+        return format!(in alloc; "{steps}");
+    }
+    let Some(number) = told.1 else {
         return String::from_str(alloc, "another architecture");
     };
     let call = match name_of(target, number) {
-        Some(name) => format!(in alloc; "{name} ({number})")?,
-        None => format!(in alloc; "call {number}")?,
+        Some(name) if !in_numbers => format!(in alloc; "{name} ({number})")?,
+        _ => format!(in alloc; "call {number}")?,
     };
-    let name = readable(alloc, name, TextKind::Name)?;
-    let path = path_of(alloc, name.as_str(), why)?;
+    let path = path_of(alloc, name, why)?;
     match why {
         Why::Program { .. } => Ok(call),
+        Why::Profile { entry: None, .. } if in_numbers => String::from_str(alloc, "defaultAction"),
+        Why::Profile { entry: None, .. } => format!(in alloc; "defaultAction of {call}"),
+        Why::Profile { .. } if in_numbers => {
+            let name = CallName { target, number };
+            format!(in alloc; "{path} ({name})")
+        }
+        Why::Filter(Reason::Entry { place, rule, .. }) if in_numbers => {
+            format!(in alloc; "entry {place}, rule {rule} of {call}")
+        }
+        Why::Filter(Reason::NoMatch { entries, .. }) if in_numbers => {
+            format!(in alloc; "no match among {entries} entries of {call}")
+        }
         Why::Filter(Reason::NoMatch { entries: 1, .. }) => {
             format!(in alloc; "no match: {path} of {call} does not hold")
         }
         Why::Filter(Reason::NoMatch { entries, .. }) => format!(in alloc;
             "no match: {path} of {call} does not hold, the nearest of {entries} entries"
         ),
-        Why::Profile { entry: None, .. } => format!(in alloc; "defaultAction of {call}"),
         _ if path.is_empty() => format!(in alloc; "no entry of {call}"),
         _ => format!(in alloc; "{path} of {call}"),
     }

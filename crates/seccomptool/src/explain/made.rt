@@ -1,15 +1,14 @@
 // What `explain` makes of what is given, and of the calls that it is asked about.
 
 ghost use Rattle.std.specs.Prelude.{◌≡◌, IfOk};
-ghost use Rattle.seccomptool.specs.Chosen.{text_of};
-ghost use Rattle.seccomptool.specs.Commands.{IsExplained, IsExplainedAs, OnRecords, records_in};
+ghost use Rattle.seccomptool.specs.Commands.{IsExplained, OnRecords, records_in};
 ghost use Rattle.seccomptool.specs.declared.findings.Verdict.TheVariants.{Same};
 
 use super::lines::explained_text;
 use super::log::{Caller, log_of};
-use super::{Explanation, explain_policy, explain_profile};
+use super::{explain_policy, explain_profile};
 use crate::chosen::refuse_name;
-use crate::error::{FaultAt, ToolError};
+use crate::error::FaultAt;
 use crate::findings::Verdict;
 use crate::kind::{Subject, subject_of};
 use crate::learn::notes::strange_note;
@@ -53,38 +52,25 @@ fn explain_records(
 ) -> Result<Made, FaultAt>
     ensures { IfOk result (λ made. IsExplained asked.now given.now (records_in records.now) × (made.verdict ≡ Same)) }
 {
+    let (arch, filter) = (asked.arch, asked.filter);
     let subject = subject_of(alloc, &asked.reading, given)?;
     let (records, rest) = records.as_chunks::<64>();
-    let explanation = explanation_of(alloc, asked, subject, given, records)?;
-    let text = explained_text(alloc, asked.arch, asked.format, &explanation, callers)?;
+    let explanation = match subject {
+        Subject::Policy => explain_policy(alloc, arch, filter, given, records)?,
+        Subject::Profile(container) => {
+            refuse_name(alloc, filter)?;
+            explain_profile(alloc, arch, container, given, records)?
+        }
+        Subject::Program => {
+            refuse_name(alloc, filter)?;
+            explain_program(alloc, arch, given, records)?
+        }
+    };
+    let text = explained_text(alloc, arch, asked.format, &explanation, callers)?;
     Ok(Made {
         text,
         rest: rest.len(),
         verdict: Verdict::Same,
         notes: Vec::new(alloc),
     })
-}
-
-// What is decided on records, and why.
-fn explanation_of(
-    alloc: Global,
-    asked: &Explaining<'_>,
-    subject: Subject<'_>,
-    given: &[u8],
-    records: &[[u8; 64]],
-) -> Result<Explanation, ToolError>
-    ensures { IfOk result (IsExplainedAs asked.now.arch subject.entry (text_of asked.now.filter) given.now records.now) }
-{
-    let arch = asked.arch;
-    match subject {
-        Subject::Policy => explain_policy(alloc, arch, asked.filter, given, records),
-        Subject::Profile(container) => {
-            refuse_name(alloc, asked.filter)?;
-            explain_profile(alloc, arch, container, given, records)
-        }
-        Subject::Program => {
-            refuse_name(alloc, asked.filter)?;
-            explain_program(alloc, arch, given, records)
-        }
-    }
 }

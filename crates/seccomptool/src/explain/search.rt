@@ -59,23 +59,16 @@ pub(crate) fn reason_of(target: TargetArch, entries: &[JsonRule], call: &[u8; 64
     let (mut rule, mut nearest) = (0, None);
     for (place, entry) in entries.iter().enumerate() {
         if is_for(target, entry, number) {
-            match failing(entry, call) {
-                Some(condition) => {
-                    let miss = Miss {
-                        entry: place,
-                        condition,
-                    };
-                    nearest = Some(nearer(nearest, miss));
-                    rule += 1;
-                }
-                None => {
-                    return Reason::Entry {
-                        place,
-                        rule,
-                        number,
-                    };
-                }
-            }
+            let Some(condition) = failing(entry, call) else {
+                return Reason::Entry {
+                    place,
+                    rule,
+                    number,
+                };
+            };
+            let entry = place;
+            nearest = Some(nearer(nearest, Miss { entry, condition }));
+            rule += 1;
         }
     }
     match nearest {

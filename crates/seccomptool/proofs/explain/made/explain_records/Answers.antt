@@ -1,13 +1,31 @@
-use Rattle.std.proofs.Common.{refl, subst}
+use Rattle.std.proofs.Common.{List, ℕ, refl, subst, sym}
 use Rattle.seccomptool.specs.Chosen.{text_of}
 use Rattle.seccomptool.specs.Commands.{IsExplainedAs}
+use Rattle.seccomptool.specs.declared.explain.Explanation.{Explanation}
+use Rattle.seccomptool.specs.declared.kind.Subject.{Subject}
 use Rattle.seccomptool.proofs.explain.made.explain_records.Goals as goal
+use Rattle.seccomptool.proofs.explain.made.explain_records.Goals.{in-Policy+in_ok-explanation-in-Policy}
+use Rattle.seccomptool.proofs.explain.made.explain_records.Goals.{in-Profile+in_ok-refuse_name-in-Profile+in_ok-explanation-in-Profile}
+use Rattle.seccomptool.proofs.explain.made.explain_records.Goals.{in-Program+in_ok-refuse_name-in-Program+in_ok-explanation-in-Program}
 
 pub returns : goal.returns
 returns c =
     let asked = c.args.asked.now in
     let subject = c.in_ok-subject.subject in
-    let e = c.in_ok-explanation.explanation in
-    let is = subst (λ records. IsExplainedAs asked.arch subject (text_of asked.filter) c.args.given.now records e) c.as_chunks.ensures.front
-    c.in_ok-explanation.ensures in
+    let e = c.match-subject.explanation in
+    let records = c.as_chunks.result.0.now in
+    let As = λ (kind : Subject) (e : Explanation). IsExplainedAs asked.arch kind (text_of asked.filter) c.args.given.now records e in
+    let own : As subject e = elim c.match-subject.branch [
+      | in-Policy+in_ok-explanation-in-Policy w ↦
+          subst (As subject) (sym w.explanation-is) (subst (λ k. As k w.in_ok-explanation-in-Policy.explanation) (sym w.in-Policy.is)
+          w.in_ok-explanation-in-Policy.ensures)
+      | in-Profile+in_ok-refuse_name-in-Profile+in_ok-explanation-in-Profile w ↦
+          subst (As subject) (sym w.explanation-is) (subst (λ k. As k w.in_ok-explanation-in-Profile.explanation) (sym w.in-Profile.is)
+          w.in_ok-explanation-in-Profile.ensures)
+      | in-Program+in_ok-refuse_name-in-Program+in_ok-explanation-in-Program w ↦
+          subst (As subject) (sym w.explanation-is) (subst (λ k. As k w.in_ok-explanation-in-Program.explanation) (sym w.in-Program.is)
+          w.in_ok-explanation-in-Program.ensures)
+    ] in
+    let is = subst (λ (records : List (List ℕ)). IsExplainedAs asked.arch subject (text_of asked.filter) c.args.given.now records e)
+    c.as_chunks.ensures.front own in
     ((subject, c.in_ok-subject.ensures, e, is), refl)

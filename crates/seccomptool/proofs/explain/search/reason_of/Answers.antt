@@ -42,8 +42,8 @@ loop-place-preserved c =
           }
     ]
 
-pub returns-in-None : goal.returns-in-None
-returns-in-None c =
+pub returns-in_default : goal.returns-in_default
+returns-in_default c =
     let entries = c.args.entries.now in
     let l = c.loop-place in
     let entry : JsonRule = c.index-entries-place.result in
@@ -53,7 +53,7 @@ returns-in-None c =
     let for_call = sym c.is_for.ensures ∙ c.if-is_for.true in
     let at = place_within own entries l.place entry c.loop-place-test.true c.index-entries-place.is for_call in
     let first = first_match entries c.args.call.now (places own 0 entries) front at.0 l.place l.nearest at.1 l.invariant.nearest
-    (entry, there, c.in-None.ensures.holds) in
+    (entry, there, c.in_default.ensures.holds) in
     reason_among c.args.target entries c.args.call.now c.word_at-number.result _
     (sym c.word_at.ensures ∙ c.if-word_at-get_audit_value.false ∙ c.get_audit_value.ensures) c.word_at-number.ensures
     (c.word_at-number.ensures, subst (IsFirstMatch entries c.args.call.now (places own 0 entries) l.place) (sym l.invariant.counted) first)
@@ -72,8 +72,8 @@ returns-in-Some-nearest c =
           (subst (λ es. IsNearestOf entries c.args.call.now (places own 0 es) l.nearest) all l.invariant.nearest),
     )
 
-pub returns-in-None-nearest : goal.returns-in-None-nearest
-returns-in-None-nearest c =
+pub returns-in-None : goal.returns-in-None
+returns-in-None c =
     let entries = c.args.entries.now in
     let l = c.loop-place in
     let own = is_for c.args.target (pos c.word_at-number.result) in
@@ -81,6 +81,6 @@ returns-in-None-nearest c =
     reason_among c.args.target entries c.args.call.now c.word_at-number.result _
     (sym c.word_at.ensures ∙ c.if-word_at-get_audit_value.false ∙ c.get_audit_value.ensures) c.word_at-number.ensures (
       c.word_at-number.ensures,
-      subst (IsNearestOf entries c.args.call.now (places own 0 entries)) c.in-None-nearest.is
+      subst (IsNearestOf entries c.args.call.now (places own 0 entries)) c.in-None.is
           (subst (λ es. IsNearestOf entries c.args.call.now (places own 0 es) l.nearest) all l.invariant.nearest),
     )

@@ -2,19 +2,18 @@
 
 pub(crate) mod text;
 
-ghost use Rattle.std.specs.Prelude.{◌≡◌, IfOk, option_map, string_bytes};
+ghost use Rattle.std.specs.Prelude.{◌≡◌, IfOk, Some, option_map};
 ghost use Rattle.std.specs.BTreeMap.{get_by_text};
-ghost use Rattle.seccomp_compare.specs.Machine.{IsChecked};
 ghost use Rattle.seccomptool.specs.Diff as spec;
-ghost use Rattle.seccomptool.specs.Diff.{AreByName, IsComparison, IsDiff, IsFoundOf, IsPairOf, name_bytes, verdict_all};
-ghost use Rattle.seccomptool.specs.DiffParts.{AreFoundUnder, IsFoundUnder};
-ghost use Rattle.seccomptool.specs.Rulings.{Ruling, StandsFor};
+ghost use Rattle.seccomptool.specs.Diff.{AreByName, IsDiff, IsFoundOf, IsPairOf};
+ghost use Rattle.seccomptool.specs.DiffParts.{AreFoundUnder};
 
 use crate::error::{FaultAt, ToolError};
 use crate::findings::{Finding, Part, Terms, Verdict, findings_of, findings_on, verdict_of};
 use crate::kind::Subject;
 use crate::progress::Progress;
-use crate::sides::{Side, fitting_program, ruled_by};
+use crate::sides::{Side, ruled_by};
+use seccomp_tree::fitting_bpf;
 use seccompiler::bpf::LOAD;
 use seccompiler::{BpfProgramRef, JsonCompiler, SeccompFilter, sock_filter};
 use std::alloc::Global;
@@ -125,7 +124,13 @@ impl Diff {
         ensures { result ≡ spec.verdict_in scope self.now }
     {
         match self {
-            Diff::ByName(all) => verdict_by_name(all),
+            Diff::ByName(all) => {
+                let mut verdict = Verdict::Same;
+                for named in all {
+                    verdict = verdict.worse(verdict_found(&named.found));
+                }
+                verdict
+            }
             Diff::OfPair(pair) => {
                 let own = verdict_of(&pair.found.own);
                 match scope {
@@ -135,17 +140,6 @@ impl Diff {
             }
         }
     }
-}
-
-// The verdict of what is found under all names.
-fn verdict_by_name(all: &[NamedFound]) -> Verdict
-    ensures { result ≡ verdict_all all.now }
-{
-    let mut verdict = Verdict::Same;
-    for named in all {
-        verdict = verdict.worse(verdict_found(&named.found));
-    }
-    verdict
 }
 
 // The verdict of what is found under a name.
@@ -172,28 +166,8 @@ fn diff_pair<G: Progress>(
         Ok(by_new) => by_new,
         Err(error) => return Err(FaultAt::in_new(error)),
     };
-    let found = compare_pair(alloc, terms, &by_new.program, &by_old.program, progress)?;
-    let loads_pointer = loads_pointer(&by_old.program) || loads_pointer(&by_new.program);
-    Ok(Pair {
-        old_name: by_old.name,
-        new_name: by_new.name,
-        loads_pointer,
-        found,
-    })
-}
-
-// What is found of two programs, whatever they stand for.
-fn compare_pair<G: Progress>(
-    alloc: Global,
-    terms: Terms,
-    new: BpfProgramRef<'_>,
-    old: BpfProgramRef<'_>,
-    progress: &mut G,
-) -> Result<Compared, ToolError>
-    requires new_checked { IsChecked new.now }
-    requires old_checked { IsChecked old.now }
-    ensures { IfOk result (λ found. (by_new by_old : Ruling) → StandsFor terms.target by_new new.now → StandsFor terms.target by_old old.now → IsComparison terms.target terms.relation by_new by_old found) }
-{
+    let new: BpfProgramRef<'_> = &by_new.program;
+    let old: BpfProgramRef<'_> = &by_old.program;
     let own = findings_of(alloc, terms, new, old, progress)?;
     // The calls of the architectures with a lesser word than this one, and of those with a greater one.
     let word = terms.target.get_audit_value();
@@ -208,7 +182,13 @@ fn compare_pair<G: Progress>(
         },
     ];
     let others = findings_on(alloc, terms, &elsewhere, new, old, progress)?;
-    Ok(Compared { own, others })
+    let loads_pointer = loads_pointer(old) || loads_pointer(new);
+    Ok(Pair {
+        old_name: by_old.name,
+        new_name: by_new.name,
+        loads_pointer,
+        found: Compared { own, others },
+    })
 }
 
 // Whether a program loads a word of the instruction pointer.
@@ -246,60 +226,43 @@ fn found_by_name<G: Progress>(
     ensures { IfOk result (λ all. AreFoundUnder terms.target terms.relation (get_by_text old.now) (get_by_text new.now) all.items) }
 {
     let mut all = Vec::new(alloc);
-    for (name, _) in old {
-        all.push(found_under(alloc, terms, name, old, new, progress)?)?;
+    for (name, filter) in old {
+        let found = found_of(alloc, terms, filter, new.get(name.as_str()), progress)?;
+        let name = name.clone()?;
+        all.push(NamedFound { name, found })?;
     }
     for (name, _) in new {
         match old.get(name.as_str()) {
             Some(_) => {}
-            None => all.push(found_under(alloc, terms, name, old, new, progress)?)?,
+            None => all.push(NamedFound {
+                name: name.clone()?,
+                found: Found::OnlyNew,
+            })?,
         }
     }
     Ok(all)
 }
 
-// What is found under a name.
-fn found_under<G: Progress>(
-    alloc: Global,
-    terms: Terms,
-    name: &String,
-    old: &BTreeMap<String, SeccompFilter>,
-    new: &BTreeMap<String, SeccompFilter>,
-    progress: &mut G,
-) -> Result<NamedFound, FaultAt>
-    ensures named { IfOk result (λ one. name_bytes one ≡ string_bytes name.now) }
-    ensures found { IfOk result (IsFoundUnder terms.target terms.relation (get_by_text old.now) (get_by_text new.now)) }
-{
-    let text = name.as_str();
-    let found = found_of(alloc, terms, text, old.get(text), new.get(text), progress)?;
-    Ok(NamedFound {
-        name: name.clone()?,
-        found,
-    })
-}
-
-// What is found of the filters that two policies have under a name, each compiled once.
+// What is found of a filter of the old policy and of the one that the new policy has under its name, each compiled once.
 fn found_of<G: Progress>(
     alloc: Global,
     terms: Terms,
-    name: &str,
-    old: Option<&SeccompFilter>,
+    old: &SeccompFilter,
     new: Option<&SeccompFilter>,
     progress: &mut G,
 ) -> Result<Found, FaultAt>
-    ensures { IfOk result (IsFoundOf terms.target terms.relation (option_map (λ f. f.now) old.entry) (option_map (λ f. f.now) new.entry)) }
+    ensures { IfOk result (IsFoundOf terms.target terms.relation (Some old.now) (option_map (λ f. f.now) new.entry)) }
 {
-    match (old, new) {
-        (Some(old), Some(new)) => {
-            let old = fitting_program(alloc, old)?;
-            let new = match fitting_program(alloc, new) {
-                Ok(new) => new,
-                Err(error) => return Err(FaultAt::in_new(error)),
-            };
-            Ok(Found::Both(findings_of(alloc, terms, &new, &old, progress)?))
-        }
-        (Some(_), None) => Ok(Found::OnlyOld),
-        (None, Some(_)) => Ok(Found::OnlyNew),
-        (None, None) => Err(ToolError::NoFilter(String::from_str(alloc, name)?).into()),
-    }
+    let Some(new) = new else {
+        return Ok(Found::OnlyOld);
+    };
+    let old = match fitting_bpf(alloc, old) {
+        Ok(old) => old,
+        Err(error) => return Err(ToolError::from(error).into()),
+    };
+    let new = match fitting_bpf(alloc, new) {
+        Ok(new) => new,
+        Err(error) => return Err(FaultAt::in_new(error.into())),
+    };
+    Ok(Found::Both(findings_of(alloc, terms, &new, &old, progress)?))
 }

@@ -7,7 +7,7 @@ ghost use Rattle.seccomptool.specs.CheckProfile.{IsRefusedProfile};
 use crate::error::ToolError;
 use crate::notes::note;
 use seccomp_command_line::readable::{TextKind, readable};
-use seccomp_oci::{CompileError, CompiledProfile, Container, Flag, ProfileError, compile_profile};
+use seccomp_oci::{CompileError, CompiledProfile, Container, Flag, compile_profile};
 use seccompiler::TargetArch;
 use std::alloc::{AllocError, Global};
 use std::collections::BTreeMap;
@@ -26,7 +26,6 @@ pub(crate) fn compiled_of(
     match compile_profile(alloc, target, container, strict, text) {
         Ok(compiled) => Ok(compiled),
         Err(CompileError::OutOfMemory) => Err(ToolError::OutOfMemory),
-        Err(CompileError::Profile(ProfileError::OutOfMemory)) => Err(ToolError::OutOfMemory),
         Err(error) => Err(ToolError::Profile(error)),
     }
 }

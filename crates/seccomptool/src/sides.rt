@@ -1,9 +1,7 @@
 // A side of a comparison: what it rules, and a program that stands for it.
 
 ghost use Rattle.std.specs.Prelude.{IfOk};
-ghost use Rattle.seccompiler.specs.declared.backend.TargetArch.{TargetArch};
 ghost use Rattle.seccomptool.specs.Chosen.{text_of};
-ghost use Rattle.seccomptool.specs.Rulings.{StandsFor, of_filter};
 ghost use Rattle.seccomptool.specs.Sides.{IsProgramFor};
 
 use crate::chosen::{chosen_of, refuse_name};
@@ -13,7 +11,7 @@ use crate::kind::Subject;
 use crate::profile::compiled_of;
 use crate::run::program::program_of;
 use seccomp_tree::fitting_bpf;
-use seccompiler::{BpfProgram, JsonCompiler, SeccompFilter, TargetArch};
+use seccompiler::{JsonCompiler, TargetArch};
 use std::alloc::Global;
 
 /// A side of a comparison.
@@ -47,7 +45,7 @@ pub(crate) fn ruled_by(
         Subject::Policy => {
             let filters = JsonCompiler::new(target).policies_of(alloc, side.given)?;
             let (name, chosen) = chosen_of(alloc, side.filter, &filters)?;
-            let program = fitting_program(alloc, chosen)?;
+            let program = fitting_bpf(alloc, chosen)?;
             Ok(NamedProgram { name, program })
         }
         Subject::Profile(container) => {
@@ -66,14 +64,4 @@ pub(crate) fn ruled_by(
             })
         }
     }
-}
-
-/// The program of a filter as a tree if that fits, else in the linear layout.
-pub(crate) fn fitting_program(
-    alloc: Global,
-    filter: &SeccompFilter,
-) -> Result<BpfProgram, ToolError>
-    ensures { IfOk result (λ program. (target : TargetArch) → StandsFor target (of_filter filter.now) program.items) }
-{
-    Ok(fitting_bpf(alloc, filter)?)
 }

@@ -1,13 +1,14 @@
--- For `found_by_name` and `found_under`: what is found, name by name.
+-- For `found_by_name`: what is found, name by name.
 use Rattle.std.proofs.Common.{◌≡◌, ℕ, List, [], ◌∷◌, ◌++◌, map, All, Contains, Some, Option, String, Global, string_bytes}
-use Rattle.std.proofs.Common.{sym, ap, ◌∙◌, subst, append-nil, append_assoc}
+use Rattle.std.proofs.Common.{sym, ap, ◌∙◌, subst, append-nil, append_assoc, string_cmp, refl, arith}
 use Rattle.std.specs.BTreeMap.{is_at}
-use Rattle.std.specs.Map.{lookup}
+use Rattle.std.specs.List.Sorted.{IsStrictlySortedBy}
+use Rattle.std.specs.Map.{keys_of, lookup}
 use Rattle.std.proofs.lemmas.List.{map-append}
-use Rattle.std.proofs.lemmas.List.Elements.{All-map, All-push, All-weaker, All-contains, Contains-append_left, Contains-push}
+use Rattle.std.proofs.lemmas.List.Elements.{All-map, All-push, All-weaker, All-contains, Contains-append_left, Contains-append_right, Contains-push}
 use Rattle.std.proofs.lemmas.Map.Text.{text_cmp}
 use Rattle.seccompiler.specs.Policy.{Filter}
-use Rattle.seccomp_command_line.proofs.ByName.{by_text, found_name}
+use Rattle.seccomp_command_line.proofs.ByName.{by_text, found_name, found_there}
 use Rattle.seccompiler.specs.declared.backend.TargetArch.{TargetArch}
 use Rattle.seccomp_compare.specs.declared.Relation.{Relation}
 use Rattle.seccomptool.specs.Diff.{IsFoundOf, name_bytes}
@@ -75,6 +76,14 @@ found_among all entries among name f is =
     All-contains (Contains (map name_bytes all)) (map (λ (e : String Global × Filter). string_bytes e.0) entries) name
     (All-map (Contains (map name_bytes all)) (λ (e : String Global × Filter). string_bytes e.0) entries among)
     (found_name name f entries (sym (by_text name entries) ∙ is))
+
+-- In order, the filter that comes next is found under its name.
+pub next_found : (entries done left rest : Entries) (e : String Global × Filter) → IsStrictlySortedBy string_cmp (keys_of entries)
+    → entries ≡ done ++ left → left ≡ e ∷ rest → lookup (is_at (text_cmp (string_bytes e.0))) entries ≡ Some e.1
+next_found entries done left rest e order whole step =
+    by_text (string_bytes e.0) entries ∙ found_there entries e order
+    (subst (λ (es : Entries). Contains es e) (sym (whole ∙ ap (λ (es : Entries). done ++ es) step))
+    (Contains-append_right done (e ∷ rest) e (0, omega arith, refl)))
 
 -- What is found of two filters is found under their name.
 pub under_name : (target : TargetArch) (relation : Relation) (old new : Policies) (one : NamedFound)

@@ -1,4 +1,4 @@
--- For `fitting_program`: a compiled program stands for its filter.
+-- For `ruled_by` and `found_of`: the program that fits stands for its filter.
 use Rattle.std.proofs.Common.{ℕ, List}
 use Rattle.seccompiler.specs.declared.backend.TargetArch.{TargetArch}
 use Rattle.seccompiler.specs.declared.bpf.sock_filter.{sock_filter}
@@ -6,13 +6,18 @@ use Rattle.seccompiler.specs.Compiled.{EndsAtDecision}
 use Rattle.seccompiler.specs.Machine.{IsChecked, IsRecord}
 use Rattle.seccompiler.specs.Policy.{Filter}
 use Rattle.seccomp_compare.proofs.OfSeven.{checked_of_seven, ends_of_seven}
+use Rattle.seccomp_tree.specs.Layouts.{IsFitting, as_linear, as_tree}
 use Rattle.seccomptool.specs.Rulings.{StandsFor, of_filter}
 
-pub stands_for : (f : Filter) (p : List sock_filter) → IsChecked p → ((r : List ℕ) → IsRecord r → EndsAtDecision f p r)
-    → (target : TargetArch) → StandsFor target (of_filter f) p
-stands_for f p checked decides target = record {
-  checked = checked_of_seven p checked;
-  decides = λ r rec.
-      let at = decides r rec in
-      record { steps = at.steps; word = at.word; ends = ends_of_seven p r at.steps at.word at.ends; decided = at.decision };
-}
+module _ (target : TargetArch) (f : Filter) (p : List sock_filter) where
+  stands_for : IsChecked p → ((r : List ℕ) → IsRecord r → EndsAtDecision f p r) → StandsFor target (of_filter f) p
+  stands_for checked decides = record {
+    checked = checked_of_seven p checked;
+    decides = λ r rec.
+        let at = decides r rec in
+        record { steps = at.steps; word = at.word; ends = ends_of_seven p r at.steps at.word at.ends; decided = at.decision };
+  }
+
+  pub fitting_stands : IsFitting f p → StandsFor target (of_filter f) p
+  fitting_stands (as_tree is) = stands_for is.tree.checked is.decides
+  fitting_stands (as_linear large is) = stands_for is.checked is.decides

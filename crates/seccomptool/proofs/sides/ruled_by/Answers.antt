@@ -3,6 +3,7 @@ use Rattle.std.specs.BTreeMap.{get_by_text}
 use Rattle.seccompiler.specs.JsonAnswers.{ArePoliciesOf}
 use Rattle.seccomptool.specs.Chosen.{text_of}
 use Rattle.seccomptool.specs.Sides.{IsProgramFor}
+use Rattle.seccomptool.proofs.sides.Filters.{fitting_stands}
 use Rattle.seccomptool.proofs.sides.ruled_by.Goals as goal
 
 pub returns-in_ok-program-in-Policy : goal.returns-in_ok-program-in-Policy
@@ -19,7 +20,8 @@ returns-in_ok-program-in-Policy c =
         name = string_bytes c.in_ok-name-in-Policy.name;
         chosen = c.in_ok-name-in-Policy.ensures;
       },
-      c.in_ok-program-in-Policy.ensures target,
+      fitting_stands target c.in_ok-name-in-Policy.chosen.now c.in_ok-program-in-Policy.program.items
+          c.in_ok-program-in-Policy.ensures.fitting,
     )
 
 pub returns-in_ok-from_str-in-Profile : goal.returns-in_ok-from_str-in-Profile

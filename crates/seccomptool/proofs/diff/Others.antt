@@ -1,4 +1,4 @@
--- For `compared`: where nothing is found on other architectures, the relation holds on every call of them.
+-- For `diff_pair`: where nothing is found on other architectures, the relation holds on every call of them.
 use Rattle.std.proofs.Common.{◌≡◌, ℕ, ◌+◌, ◌-◌, ◌^◌, ◌<◌, List, [], ◌∷◌, All, subst, inl, inr, arith}
 use Rattle.std.proofs.lemmas.Bool.{cases_lt}
 use Rattle.std.proofs.lemmas.List.Elements.{All-head, All-tail}

@@ -1,4 +1,4 @@
--- For `findings_of` and `compare_pair`: what is found of two programs is found of whatever they stand for.
+-- For `findings_of` and `diff_pair`: what is found of two programs is found of whatever they stand for.
 use Rattle.std.proofs.Common.{ℕ, ◌^◌, List, refl, sym, subst}
 use Rattle.std.proofs.lemmas.List.Elements.{All-weaker}
 use Rattle.seccompiler.specs.declared.backend.TargetArch.{TargetArch}

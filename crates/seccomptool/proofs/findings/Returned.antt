@@ -1,4 +1,4 @@
--- For `finding_on` of programs: what a comparison says of two programs is what is found on a part.
+-- For `findings_on`: what a comparison says of two programs is what is found on a part.
 use Rattle.std.proofs.Common.{◌≡◌, ◌↔◌, ℕ, List}
 use Rattle.seccompiler.specs.declared.backend.TargetArch.{TargetArch}
 use Rattle.seccompiler.specs.declared.bpf.sock_filter.{sock_filter}

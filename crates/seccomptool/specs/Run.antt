@@ -37,9 +37,3 @@ AreRefusedBytes bytes e = ⊥
 -- Why what is given isn't run; of a text of initializers it isn't said.
 abbrev pub IsRefusedProgram : List ℕ → ToolError → Type 0
 IsRefusedProgram given e = BeginsAsInitializers given ⊎ AreRefusedBytes given e
-
--- Between layers: a fault of bytes that aren't those of a program of a length that is taken.
-abbrev pub IsCutFault : List ℕ → ProgramFault → Type 0
-IsCutFault bytes (fault.Short rest) = IsProgramFault bytes (fault.Short rest)
-IsCutFault bytes (fault.Length count) = IsProgramFault bytes (fault.Length count)
-IsCutFault bytes fault = ⊥

@@ -83,34 +83,28 @@ pub(crate) fn program_text(
             }
         }
         ProgramFormat::Json => {
-            push_json(
-                &mut text,
-                alloc,
-                &program_value(alloc, name, program, None)?,
-            )?;
+            let value = program_value(alloc, name, program, &[])?;
+            push_json(&mut text, alloc, &value)?;
             text.push(b'\n')?;
         }
     }
     Ok(text)
 }
 
-// A program as JSON, with notes on its instructions if they are given.
+// A program as JSON, with notes on its instructions if there are any.
 pub(crate) fn program_value(
     alloc: Global,
     name: &str,
     program: BpfProgramRef<'_>,
-    notes: Option<&[String]>,
+    notes: &[String],
 ) -> Result<Value, AllocError> {
     let mut instructions = Vec::new(alloc);
     for (place, instruction) in program.iter().enumerate() {
         let sock_filter { code, jt, jf, k } = *instruction;
-        let value = match notes {
+        let value = match notes.get(place) {
             None => json!(in alloc; { "code": code, "jt": jt, "jf": jf, "k": k })?,
-            Some(notes) => {
-                let note = match notes.get(place) {
-                    Some(note) => said_or_null(alloc, note.as_str())?,
-                    None => Value::Null,
-                };
+            Some(note) => {
+                let note = said_or_null(alloc, note.as_str())?;
                 json!(in alloc; { "code": code, "jt": jt, "jf": jf, "k": k, "note": note })?
             }
         };

@@ -8,7 +8,7 @@ ghost use Rattle.seccomptool.specs.Diff as spec;
 ghost use Rattle.seccomptool.specs.Diff.{AreByName, IsDiff, IsFoundOf, IsPairOf};
 ghost use Rattle.seccomptool.specs.DiffParts.{AreFoundUnder};
 
-use crate::error::{FaultAt, ToolError};
+use crate::error::ToolError;
 use crate::findings::{Finding, Part, Terms, Verdict, findings_of, findings_on, verdict_of};
 use crate::kind::Subject;
 use crate::progress::Progress;
@@ -98,7 +98,7 @@ pub fn diff_of<G: Progress>(
     old: Side<'_>,
     new: Side<'_>,
     progress: &mut G,
-) -> Result<Diff, FaultAt>
+) -> Result<Diff, ToolError>
     ensures { IfOk result (IsDiff terms.target terms.relation old.entry new.entry) }
 {
     if is_whole(old) && is_whole(new) {
@@ -158,13 +158,13 @@ fn diff_pair<G: Progress>(
     old: Side<'_>,
     new: Side<'_>,
     progress: &mut G,
-) -> Result<Pair, FaultAt>
+) -> Result<Pair, ToolError>
     ensures { IfOk result (IsPairOf terms.target terms.relation old.entry new.entry) }
 {
     let by_old = ruled_by(alloc, terms.target, old)?;
     let by_new = match ruled_by(alloc, terms.target, new) {
         Ok(by_new) => by_new,
-        Err(error) => return Err(FaultAt::in_new(error)),
+        Err(error) => return Err(ToolError::in_second(alloc, error)?),
     };
     let new: BpfProgramRef<'_> = &by_new.program;
     let old: BpfProgramRef<'_> = &by_old.program;
@@ -203,14 +203,14 @@ fn diff_policies<G: Progress>(
     old: &[u8],
     new: &[u8],
     progress: &mut G,
-) -> Result<Vec<NamedFound>, FaultAt>
+) -> Result<Vec<NamedFound>, ToolError>
     ensures { IfOk result (λ all. AreByName terms.target terms.relation old.now new.now all.items) }
 {
     let compiler = JsonCompiler::new(terms.target);
     let old = compiler.policies_of(alloc, old)?;
     let new = match compiler.policies_of(alloc, new) {
         Ok(new) => new,
-        Err(error) => return Err(FaultAt::in_new(error.into())),
+        Err(error) => return Err(ToolError::in_second(alloc, error.into())?),
     };
     found_by_name(alloc, terms, &old, &new, progress)
 }
@@ -222,7 +222,7 @@ fn found_by_name<G: Progress>(
     old: &BTreeMap<String, SeccompFilter>,
     new: &BTreeMap<String, SeccompFilter>,
     progress: &mut G,
-) -> Result<Vec<NamedFound>, FaultAt>
+) -> Result<Vec<NamedFound>, ToolError>
     ensures { IfOk result (λ all. AreFoundUnder terms.target terms.relation (get_by_text old.now) (get_by_text new.now) all.items) }
 {
     let mut all = Vec::new(alloc);
@@ -250,19 +250,16 @@ fn found_of<G: Progress>(
     old: &SeccompFilter,
     new: Option<&SeccompFilter>,
     progress: &mut G,
-) -> Result<Found, FaultAt>
+) -> Result<Found, ToolError>
     ensures { IfOk result (IsFoundOf terms.target terms.relation (Some old.now) (option_map (λ f. f.now) new.entry)) }
 {
     let Some(new) = new else {
         return Ok(Found::OnlyOld);
     };
-    let old = match fitting_bpf(alloc, old) {
-        Ok(old) => old,
-        Err(error) => return Err(ToolError::from(error).into()),
-    };
+    let old = fitting_bpf(alloc, old)?;
     let new = match fitting_bpf(alloc, new) {
         Ok(new) => new,
-        Err(error) => return Err(FaultAt::in_new(error.into())),
+        Err(error) => return Err(ToolError::in_second(alloc, error.into())?),
     };
     Ok(Found::Both(findings_of(alloc, terms, &new, &old, progress)?))
 }

@@ -1,4 +1,4 @@
-// Why an engine of the program fails.
+// Why the program fails.
 
 use crate::notes::front_of;
 use crate::run::fault::ProgramFault;
@@ -11,7 +11,7 @@ use std::alloc::{AllocError, AllocFailed, Global};
 use std::io::ErrorKind;
 use std::{fmt, io};
 
-/// Why an engine of the program fails.
+/// Why the program fails.
 ///
 /// Running out of memory is `OutOfMemory` alone, and never inside another variant.
 #[derive(Drop)]
@@ -24,10 +24,14 @@ pub enum ToolError {
     Unchosen(String),
     /// The architecture has no call of this name or number.
     UnknownCall(String, TargetArch),
-    /// No architecture has a call of this name or number.
-    NoCall(String),
-    /// What is given, read or written has this fault.
+    /// The arguments have this fault.
+    Misused(&'static str),
+    /// The first one of what is read has this fault, or a value of an option.
     Fault(String),
+    /// The second one of what is read has this fault.
+    Second(String),
+    /// This is wrong, and the text says where.
+    Told(String),
     /// The policy has this fault, which has a place; the text is the fault's.
     Placed(String, Fault),
     /// A filter would have more than 4096 instructions as a tree.
@@ -41,103 +45,30 @@ pub enum ToolError {
 }
 
 impl ToolError {
-    ghost use Rattle.std.specs.Prelude.{◌≡◌, ◌≢◌, false};
-    ghost use Rattle.seccomptool.specs.declared.error.ToolError.TheVariants.{OutOfMemory};
-
-    /// Whether memory ran out.
-    pub(crate) fn is_out_of_memory(&self) -> bool
-        ensures { result ≡ false → self.now ≢ OutOfMemory }
-    {
-        matches!(self, ToolError::OutOfMemory)
-    }
-}
-
-/// Where a fault is.
-#[derive(Clone, Copy)]
-pub enum Place {
-    /// Nowhere in what is read; the text of the error may begin with a path.
-    Nowhere,
-    /// In the first one of what is read.
-    First,
-    /// In the second one.
-    Second,
-}
-
-/// Why a command isn't carried out, and where that is.
-#[derive(Drop)]
-pub struct FaultAt {
-    /// Where it is.
-    pub place: Place,
-    /// What it is.
-    pub error: ToolError,
-}
-
-impl FaultAt {
-    // An error of the new one of two sides.
-    pub(crate) fn in_new(error: ToolError) -> FaultAt {
+    // An error of the second one of what is read.
+    pub(crate) fn in_second(alloc: Global, error: ToolError) -> Result<ToolError, AllocError> {
         match error {
-            ToolError::OutOfMemory => error.into(),
-            error => FaultAt {
-                place: Place::Second,
-                error,
-            },
+            ToolError::OutOfMemory => Err(AllocError),
+            error => Ok(ToolError::Second(format!(in alloc; "{error}")?)),
         }
     }
 
     // That what is at a path can't be opened, read or written.
-    pub(crate) fn of_io(alloc: Global, path: &str, error: io::Error) -> FaultAt {
-        if error.kind() == ErrorKind::OutOfMemory {
-            return ToolError::OutOfMemory.into();
-        }
-        match format!(in alloc; "{error}") {
-            Ok(told) => FaultAt::of_path(alloc, path, told.as_str()),
-            Err(error) => error.into(),
+    pub(crate) fn of_io(
+        alloc: Global,
+        path: &str,
+        error: io::Error,
+    ) -> Result<ToolError, AllocError> {
+        match error.kind() {
+            ErrorKind::OutOfMemory => Err(AllocError),
+            _ => ToolError::of_path(alloc, path, format!(in alloc; "{error}")?.as_str()),
         }
     }
 
     // What is wrong with what is at a path.
-    pub(crate) fn of_path(alloc: Global, path: &str, told: &str) -> FaultAt {
-        let line = match front_of(alloc, path) {
-            Ok(front) => format!(in alloc; "{front}{told}"),
-            Err(error) => Err(error),
-        };
-        match line {
-            Ok(line) => FaultAt {
-                place: Place::Nowhere,
-                error: ToolError::Fault(line),
-            },
-            Err(error) => error.into(),
-        }
-    }
-}
-
-/// An error of the first one of what is read, or of the arguments; running out of memory has no place.
-impl From<ToolError> for FaultAt {
-    fn from(error: ToolError) -> FaultAt {
-        let place = match error {
-            ToolError::UnknownCall(_, _) | ToolError::NoCall(_) | ToolError::OutOfMemory =>
-                Place::Nowhere,
-            _ => Place::First,
-        };
-        FaultAt { place, error }
-    }
-}
-
-impl From<AllocError> for FaultAt {
-    fn from(_refused: AllocError) -> FaultAt {
-        ToolError::OutOfMemory.into()
-    }
-}
-
-impl<T: Drop> From<AllocFailed<T>> for FaultAt {
-    fn from(_failed: AllocFailed<T>) -> FaultAt {
-        ToolError::OutOfMemory.into()
-    }
-}
-
-impl From<JsonFrontendError> for FaultAt {
-    fn from(refusal: JsonFrontendError) -> FaultAt {
-        ToolError::from(refusal).into()
+    pub(crate) fn of_path(alloc: Global, path: &str, told: &str) -> Result<ToolError, AllocError> {
+        let front = front_of(alloc, path)?;
+        Ok(ToolError::Told(format!(in alloc; "{front}{told}")?))
     }
 }
 
@@ -154,13 +85,11 @@ impl fmt::Display for ToolError {
             ToolError::UnknownCall(call, arch) => {
                 write!(f, "No call of {arch} has this name or number: {call}.")
             }
-            ToolError::NoCall(call) => {
-                write!(
-                    f,
-                    "No architecture has a call of this name or number: {call}."
-                )
+            ToolError::Misused(told) => f.write_str(told),
+            ToolError::Fault(told) | ToolError::Second(told) | ToolError::Told(told) => {
+                f.write_str(told.as_str())
             }
-            ToolError::Fault(told) | ToolError::Placed(told, _) => f.write_str(told.as_str()),
+            ToolError::Placed(told, _) => f.write_str(told.as_str()),
             ToolError::TreeTooLarge => {
                 f.write_str("A filter needs more than 4096 instructions in the tree layout.")
             }
@@ -245,16 +174,5 @@ impl<T: Drop> From<AllocFailed<T>> for ToolError {
 
     fn from(_failed: AllocFailed<T>) -> ToolError {
         ToolError::OutOfMemory
-    }
-}
-
-impl From<ProgramFault> for ToolError {
-    ghost use Rattle.std.specs.Prelude.{◌≡◌};
-    ghost use Rattle.seccomptool.specs.declared.error.ToolError.TheVariants.{Program};
-
-    ghost from_gives = { λ fault error. error ≡ Program fault };
-
-    fn from(fault: ProgramFault) -> ToolError {
-        ToolError::Program(fault)
     }
 }

@@ -2,7 +2,7 @@
 
 ghost use Rattle.std.specs.Prelude.{◌≡◌, IfOk, IfSome};
 
-use crate::error::FaultAt;
+use crate::error::ToolError;
 use std::alloc::Global;
 use std::collections::VecDeque;
 use std::fs::File;
@@ -35,13 +35,13 @@ impl<F: Read, I: Read> Read for Source<F, I> {
 pub(crate) fn open<R: Files + Input + AllocGlobal>(
     rt: &R,
     path: Option<&str>,
-) -> Result<Source<R::File, R::Reader>, FaultAt> {
+) -> Result<Source<R::File, R::Reader>, ToolError> {
     match path {
         None => Ok(Source::Bytes(VecDeque::new(rt.alloc()))),
         Some("-") => Ok(Source::Input(rt.reader())),
         Some(path) => match fs::open(rt, path) {
             Ok(file) => Ok(Source::File(file)),
-            Err(error) => Err(FaultAt::of_io(rt.alloc(), path, error)),
+            Err(error) => Err(ToolError::of_io(rt.alloc(), path, error)?),
         },
     }
 }
@@ -51,13 +51,13 @@ pub(crate) fn text_of<R: Read + Drop>(
     alloc: Global,
     path: Option<&str>,
     mut reader: R,
-) -> Result<Vec<u8>, FaultAt>
+) -> Result<Vec<u8>, ToolError>
     ensures { IfOk result (λ text. IfSome (R.remaining reader) (λ known. text.items ≡ known)) }
 {
     let mut text = Vec::new(alloc);
     match reader.read_to_end(&mut text) {
         Ok(_) => Ok(text),
-        Err(error) => Err(FaultAt::of_io(alloc, path.unwrap_or("-"), error)),
+        Err(error) => Err(ToolError::of_io(alloc, path.unwrap_or("-"), error)?),
     }
 }
 
@@ -66,7 +66,7 @@ pub(crate) fn push_whole(
     rt: &(impl Files + Input + AllocGlobal),
     bytes: &mut Vec<u8>,
     path: &str,
-) -> Result<(), FaultAt> {
+) -> Result<(), ToolError> {
     let text = text_of(rt.alloc(), Some(path), open(rt, Some(path))?)?;
     bytes.extend_from_slice(&text)?;
     let is_cut = matches!(text.last(), Some(byte) if *byte != b'\n');

@@ -8,7 +8,7 @@ ghost use Rattle.seccomptool.specs.Learn.{IsBase, IsLearned, IsLesson};
 ghost use Rattle.seccomptool.specs.declared.findings.Verdict.TheVariants.{Same};
 
 use crate::chosen::chosen_name;
-use crate::error::{FaultAt, ToolError};
+use crate::error::ToolError;
 use crate::findings::Verdict;
 use crate::learn::notes::{learned_json, notes_of, refuse_strange};
 use crate::made::Made;
@@ -64,17 +64,8 @@ pub struct Learning<'a> {
     pub further: Vec<&'a str>,
 }
 
-/// A filter that is learned, in the policy that it is of.
-#[derive(Drop)]
-pub(crate) struct LearnedFilter {
-    pub name: String,
-    pub lesson: Lesson,
-    /// The policy's other filters.
-    pub others: JsonFilterMap,
-}
-
-// The name of a filter that calls are added to, the filter, and the policy's other ones.
-type Base = (String, JsonFilter, JsonFilterMap);
+// The name of a filter that calls are added to, the filter or what is learned, and the policy's other filters.
+type Named<F> = (String, F, JsonFilterMap);
 
 pub(crate) fn learn_made(
     alloc: Global,
@@ -82,36 +73,43 @@ pub(crate) fn learn_made(
     inputs: Inputs<'_>,
     given: &[u8],
     policy: &[u8],
-) -> Result<Made, FaultAt>
+) -> Result<Made, ToolError>
     ensures { IfOk result (λ made. IsLesson learning.now policy.now × (made.verdict ≡ Same)) }
 {
     let arch = learning.arch;
     let mut trace = read_trace(alloc, arch, given)?;
     if learning.runnable {
-        trace
-            .observed
-            .extend_from_slice(&start_and_exit(alloc, arch)?)?;
+        let observed = start_and_exit(alloc, arch)?;
+        trace.observed.extend_from_slice(&observed)?;
     }
     if learning.strict {
         refuse_strange(alloc, &trace)?;
     }
     let wanted = wanted_in(alloc, learning, &trace.observed)?;
-    let learned = match learned_of(alloc, learning, &trace.observed, &wanted, policy) {
+    let learned = learned_of(alloc, learning, &trace.observed, &wanted, policy);
+    let (name, lesson, others) = match learned {
         Ok(learned) => learned,
-        Err(error) => return Err(FaultAt::in_new(error)),
+        Err(error) => return Err(ToolError::in_second(alloc, error)?),
     };
     let path = inputs.first.unwrap_or("-");
-    let notes = notes_of(alloc, learning, path, &trace, &wanted, &learned)?;
-    let filter = &learned.lesson.learned.json;
+    let notes = notes_of(alloc, learning, path, &trace, &wanted, &lesson.kept)?;
+    let filter = &lesson.learned.json;
     let mut text = if learning.as_profile {
         profile_text(alloc, arch, filter)?
     } else {
-        written_policy(alloc, &learned.others, learned.name.as_str(), filter)?
+        written_policy(alloc, &others, name.as_str(), filter)?
     };
     if inputs.json {
-        let (observed, kept) = (&trace.observed, &learned.lesson.kept);
-        let is_profile = learning.as_profile;
-        text = learned_json(alloc, arch, observed, kept, &notes, is_profile, &text)?;
+        let (observed, is_profile) = (&trace.observed, learning.as_profile);
+        text = learned_json(
+            alloc,
+            arch,
+            observed,
+            &lesson.kept,
+            &notes,
+            is_profile,
+            &text,
+        )?;
     }
     Ok(Made::noting(text, Verdict::Same, notes))
 }
@@ -123,17 +121,13 @@ fn learned_of(
     observed: &[Observation],
     wanted: &[Kept],
     policy: &[u8],
-) -> Result<LearnedFilter, ToolError>
-    ensures { IfOk result (λ own. IsLearned learning.now wanted.now observed.now policy.now own.lesson) }
+) -> Result<Named<Lesson>, ToolError>
+    ensures { IfOk result (λ own. IsLearned learning.now wanted.now observed.now policy.now own.1) }
 {
     let (name, filter, others) = base_of(alloc, learning.start, learning.name, policy)?;
     let (arch, most) = (learning.arch, learning.most);
     let lesson = learn_within(alloc, arch, observed, wanted, most, filter)?;
-    Ok(LearnedFilter {
-        name,
-        lesson,
-        others,
-    })
+    Ok((name, lesson, others))
 }
 
 // What calls are added to: nothing yet, or the filter that is asked for, or a policy's only one, if it allows what it lists.
@@ -142,7 +136,7 @@ fn base_of(
     start: Start,
     asked: Option<&str>,
     policy: &[u8],
-) -> Result<Base, ToolError>
+) -> Result<Named<JsonFilter>, ToolError>
     ensures { IfOk result (λ base. IsBase start (text_of asked.entry) policy.now base.1) }
 {
     match start {

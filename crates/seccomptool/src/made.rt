@@ -9,7 +9,7 @@ use crate::chosen::{chosen_of, refuse_name};
 use crate::compile::{NamedProgram, program_text, too_large};
 use crate::diff::diff_of;
 use crate::diff::text::diff_text;
-use crate::error::{FaultAt, ToolError};
+use crate::error::ToolError;
 use crate::findings::Verdict;
 use crate::json::{push_item, written};
 use crate::kind::{Subject, subject_of};
@@ -71,7 +71,7 @@ pub(crate) fn compile_made(
     asked: &Compiling<'_>,
     path: &str,
     given: &[u8],
-) -> Result<Made, FaultAt>
+) -> Result<Made, ToolError>
     ensures { IfOk result (λ made. IsCompiled asked.now given.now × (made.verdict ≡ Same)) }
 {
     match subject_of(alloc, &asked.reading, given)? {
@@ -98,7 +98,7 @@ fn policy_made(
     asked: &Compiling<'_>,
     path: &str,
     policy: &[u8],
-) -> Result<Made, FaultAt>
+) -> Result<Made, ToolError>
     ensures { IfOk result (λ made. IsCompiledAs asked.now Policy policy.now × (made.verdict ≡ Same)) }
 {
     let (arch, layout) = (asked.arch, asked.layout);
@@ -107,9 +107,7 @@ fn policy_made(
     let (name, chosen) = chosen_of(alloc, asked.filter, &policies)?;
     let program = match to_bpf_in(alloc, chosen, layout) {
         Ok(program) => NamedProgram { name, program },
-        Err(cause) => {
-            return Err(too_large(alloc, chosen, name.as_str(), layout, cause)?.into());
-        }
+        Err(cause) => return Err(too_large(alloc, chosen, name.as_str(), layout, cause)?),
     };
     let text = program_text(alloc, asked.format, &program)?;
     let notes = counted(alloc, asked.quiet, arch, path, policy)?;
@@ -122,13 +120,13 @@ fn profile_made(
     container: &Container,
     path: &str,
     profile: &[u8],
-) -> Result<Made, FaultAt>
+) -> Result<Made, ToolError>
     ensures { IfOk result (λ made. IsProfileCompiled asked.now.arch container.now asked.now.strict profile.now × (made.verdict ≡ Same)) }
 {
     let arch = asked.arch;
     let compiled = match compiled_of(alloc, arch, container, asked.strict, profile) {
         Ok(compiled) => compiled,
-        Err(error) => return Err(uncompiled(alloc, arch, error)?.into()),
+        Err(error) => return Err(uncompiled(alloc, arch, error)?),
     };
     let notes = if asked.quiet {
         Vec::new(alloc)
@@ -156,7 +154,7 @@ pub(crate) fn show_made(
     asked: &Showing<'_>,
     json: bool,
     given: &[u8],
-) -> Result<Made, FaultAt>
+) -> Result<Made, ToolError>
     ensures { IfOk result (λ made. IsShown asked.now given.now × (made.verdict ≡ Same)) }
 {
     let subject = subject_of(alloc, &asked.reading, given)?;
@@ -209,7 +207,7 @@ fn shown_text(
 
 // A line for each code of a warning, in the order of `Code::all`: its name, `: `, and what is so if a warning has the code. As JSON
 // their list.
-pub(crate) fn codes_made(alloc: Global, json: bool) -> Result<Made, FaultAt>
+pub(crate) fn codes_made(alloc: Global, json: bool) -> Result<Made, ToolError>
     ensures { IfOk result (λ made. made.verdict ≡ Same) }
 {
     let mut text = Vec::new(alloc);
@@ -226,7 +224,7 @@ pub(crate) fn codes_made(alloc: Global, json: bool) -> Result<Made, FaultAt>
     Ok(Made::plain(alloc, text))
 }
 
-pub(crate) fn call_made(alloc: Global, asked: &Calling<'_>, json: bool) -> Result<Made, FaultAt>
+pub(crate) fn call_made(alloc: Global, asked: &Calling<'_>, json: bool) -> Result<Made, ToolError>
     ensures { IfOk result (λ made. IsCalled asked.now × (made.verdict ≡ Same)) }
 {
     let Calling {
@@ -254,7 +252,7 @@ pub(crate) fn diff_made<G: Progress>(
     old: &[u8],
     new: &[u8],
     progress: &mut G,
-) -> Result<Made, FaultAt>
+) -> Result<Made, ToolError>
     ensures { IfOk result (λ made. IsCompared asked.now old.now new.now made.verdict) }
 {
     let terms = asked.terms;

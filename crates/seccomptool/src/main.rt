@@ -33,13 +33,9 @@ use std::process::ExitCode;
 
 fn main(rt: HostRuntime) -> ExitCode {
     let mut progress = Watch::new(&rt, rt.stderr().is_terminal());
+    let to_terminal = rt.stdout().is_terminal();
     match behind_the_name(&rt) {
-        Ok(words) => answer(
-            &rt,
-            words.as_slice(),
-            rt.stdout().is_terminal(),
-            &mut progress,
-        ),
+        Ok(words) => answer(&rt, words.as_slice(), to_terminal, &mut progress),
         Err(error) => unread(&rt, &error),
     }
 }

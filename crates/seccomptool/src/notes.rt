@@ -1,7 +1,7 @@
 // What the program tells on standard error: failures, and notes on what stands at a path.
 
 use crate::check::warnings_in;
-use crate::error::{FaultAt, Place};
+use crate::error::ToolError;
 use crate::words::Inputs;
 use seccomp_command_line::readable::{TextKind, readable as readable_text};
 use seccompiler::json::filters_of;
@@ -9,8 +9,8 @@ use seccompiler::{JsonFrontendError, TargetArch};
 use std::alloc::{AllocError, Global};
 
 // Tells a failure: the program, the file that it is in, and the error, in one line.
-pub(crate) fn tell(rt: &(impl Eprint + AllocGlobal), inputs: Inputs<'_>, fault: &FaultAt) {
-    let _ = match failure_line(rt.alloc(), inputs, fault) {
+pub(crate) fn tell(rt: &(impl Eprint + AllocGlobal), inputs: Inputs<'_>, error: &ToolError) {
+    let _ = match failure_line(rt.alloc(), inputs, error) {
         Ok(line) => eprintln!(rt; "{line}"),
         Err(_) => eprintln!(rt; "seccomptool: Out of memory."),
     };
@@ -23,13 +23,17 @@ pub(crate) fn tell_notes(rt: &(impl Eprint + AllocGlobal), notes: &[u8]) {
     }
 }
 
-fn failure_line(alloc: Global, inputs: Inputs<'_>, fault: &FaultAt) -> Result<String, AllocError> {
-    let front = match fault.place {
-        Place::Nowhere => String::new(alloc),
-        Place::First => front_of(alloc, inputs.first.unwrap_or("-"))?,
-        Place::Second => front_of(alloc, inputs.second.unwrap_or("-"))?,
+fn failure_line(
+    alloc: Global,
+    inputs: Inputs<'_>,
+    error: &ToolError,
+) -> Result<String, AllocError> {
+    let front = match error {
+        ToolError::OutOfMemory => return Err(AllocError),
+        ToolError::UnknownCall(_, _) | ToolError::Told(_) => String::new(alloc),
+        ToolError::Second(_) => front_of(alloc, inputs.second.unwrap_or("-"))?,
+        _ => front_of(alloc, inputs.first.unwrap_or("-"))?,
     };
-    let error = &fault.error;
     let line = format!(in alloc; "seccomptool: {front}{error}")?;
     readable(alloc, line.as_bytes(), TextKind::Line)
 }

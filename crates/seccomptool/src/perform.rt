@@ -5,7 +5,7 @@ ghost use Rattle.seccompiler.specs.Reads.{Reads};
 ghost use Rattle.seccomptool.specs.Commands.{IsCarriedOut};
 
 use crate::check::made::check_made;
-use crate::error::{FaultAt, Place};
+use crate::error::ToolError;
 use crate::explain::made::explain_made;
 use crate::files::text_of;
 use crate::learn::learn_made;
@@ -32,7 +32,7 @@ pub(crate) fn perform<P: Read + Drop, R: Read + Drop, G: Progress>(
     first: P,
     second: R,
     progress: &mut G,
-) -> Result<Made, FaultAt>
+) -> Result<Made, ToolError>
     ensures { IfOk result (λ made. Reads (P.remaining first) (λ one. Reads (R.remaining second) (λ two. IsCarriedOut command.now one two made.verdict))) }
 {
     let first = text_of(alloc, inputs.first, first)?;
@@ -41,8 +41,8 @@ pub(crate) fn perform<P: Read + Drop, R: Read + Drop, G: Progress>(
         // A fault of the first text comes before that the second one can't be read.
         Err(unread) => {
             return match made_by(alloc, command, inputs, &first, b"", progress) {
-                Err(fault) if !matches!(fault.place, Place::Second) => Err(fault),
-                _ => Err(unread),
+                Ok(_) | Err(ToolError::Second(_)) => Err(unread),
+                Err(error) => Err(error),
             };
         }
     };
@@ -62,7 +62,7 @@ fn made_by<G: Progress>(
     first: &[u8],
     second: &[u8],
     progress: &mut G,
-) -> Result<Made, FaultAt>
+) -> Result<Made, ToolError>
     ensures { IfOk result (λ made. IsCarriedOut command.now first.now second.now made.verdict) }
 {
     let path = inputs.first.unwrap_or("-");

@@ -66,7 +66,9 @@ pub fn known_calls(
         }
     }
     if calls.is_empty() {
-        return Err(ToolError::NoCall(String::from_str(alloc, call)?));
+        return Err(ToolError::Told(format!(in alloc;
+            "No architecture has a call of this name or number: {call}."
+        )?));
     }
     Ok(calls)
 }

@@ -63,11 +63,8 @@ fn returned_for(target: TargetArch, program: BpfProgramRef<'_>, call: &[u8; 64])
     ensures { IsReturned program.now call.now result }
 {
     let Outcome { word, steps } = machine::run(program, call);
-    let number = if word_at(call, 4) == target.get_audit_value() {
-        Some(word_at(call, 0))
-    } else {
-        None
-    };
+    let is_own = word_at(call, 4) == target.get_audit_value();
+    let number = is_own.then_some(word_at(call, 0));
     let why = Why::Program { number, steps };
     Explained { word, why }
 }

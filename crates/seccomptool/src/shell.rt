@@ -8,7 +8,7 @@ ghost use Rattle.seccomptool.specs.Commands.{EndWith, EndsWith, IsPerformed, ver
 
 use crate::check::format::CheckFormat;
 use crate::compile::ProgramFormat;
-use crate::error::FaultAt;
+use crate::error::ToolError;
 use crate::files::{Source, is_same, open, push_whole, write_whole};
 use crate::findings::Verdict;
 use crate::json::list_text;
@@ -57,7 +57,8 @@ pub(crate) fn answer<G: Progress>(
             return ExitCode::from(TROUBLE);
         }
     }
-    match read(rt.alloc(), words) {
+    let mut codes = Vec::new(rt.alloc());
+    match read(rt.alloc(), words, &mut codes) {
         Ok(asked) => ExitCode::from(carry_out_each(rt, &asked, to_terminal, progress)),
         Err(error) => misused(rt, &error),
     }
@@ -69,8 +70,13 @@ fn misused(rt: &(impl Print + Eprint + AllocGlobal), error: &clap::Error) -> Exi
     ensures shown { exit_status result ≤ 1 → (kind_of error.now ≡ DisplayHelp) ⊎ (kind_of error.now ≡ DisplayVersion) }
 {
     match error.kind() {
-        ErrorKind::DisplayHelp => printed(rt, error),
-        ErrorKind::DisplayVersion => printed(rt, error),
+        ErrorKind::DisplayHelp | ErrorKind::DisplayVersion => match error.print(rt) {
+            Ok(()) => ExitCode::SUCCESS,
+            Err(error) => {
+                let _ = eprintln!(rt; "seccomptool: standard output: {error}");
+                ExitCode::from(TROUBLE)
+            }
+        },
         ErrorKind::OutOfMemory => {
             let _ = eprintln!(rt; "seccomptool: Out of memory.");
             ExitCode::from(2)
@@ -80,19 +86,6 @@ fn misused(rt: &(impl Print + Eprint + AllocGlobal), error: &clap::Error) -> Exi
                 tell_notes(rt, told.as_bytes());
             }
             ExitCode::from(2)
-        }
-    }
-}
-
-// Writes help or the version: status 0, or 2 where that fails.
-fn printed(rt: &(impl Print + Eprint), error: &clap::Error) -> ExitCode
-    ensures { exit_status result ≤ 2 }
-{
-    match error.print(rt) {
-        Ok(()) => ExitCode::SUCCESS,
-        Err(error) => {
-            let _ = eprintln!(rt; "seccomptool: standard output: {error}");
-            ExitCode::from(TROUBLE)
         }
     }
 }
@@ -118,14 +111,14 @@ fn carry_out_each<G: Progress>(
     ensures ended { result ≤ 3 }
     ensures each { EndWith asked.now.command asked.now.inputs.items result }
 {
-    let mut status = 0;
+    let mut status: u8 = 0;
     let mut left = asked.inputs.len();
     let mut gathered = Vec::new(rt.alloc());
     for inputs in &asked.inputs {
         left = left.saturating_sub(1);
         let own = carry_out(rt, asked, *inputs, to_terminal, progress, &mut gathered);
         let ended = once_written(rt, asked, *inputs, left, &gathered, own);
-        status = greater(status, ended);
+        status = status.max(ended);
     }
     status
 }
@@ -133,7 +126,7 @@ fn carry_out_each<G: Progress>(
 // The status of what a command is carried out on, of which so many are left: of the last one it is that of trouble if what is
 // gathered of all can't be written.
 fn once_written(
-    rt: &(impl Print + Eprint + AllocGlobal),
+    rt: &(impl Files + Print + Eprint + AllocGlobal),
     asked: &Asked<'_>,
     inputs: Inputs<'_>,
     left: usize,
@@ -146,13 +139,13 @@ fn once_written(
         return status;
     }
     let written = match list_text(rt.alloc(), "diagnostics", gathered) {
-        Ok(text) => io::writer(rt).write_all(&text),
+        Ok(text) => write(rt, None, &text),
         Err(error) => Err(error.into()),
     };
     match written {
         Ok(()) => status,
         Err(error) => {
-            tell(rt, inputs, &FaultAt::of_io(rt.alloc(), OUTPUT, error));
+            tell(rt, inputs, &error);
             TROUBLE
         }
     }
@@ -160,16 +153,7 @@ fn once_written(
 
 // Whether what a command makes is written at once, behind the last of what it is carried out on.
 fn gathers(command: &Command<'_>) -> bool {
-    match command {
-        Command::Check(asked) => matches!(asked.format, CheckFormat::Json),
-        _ => false,
-    }
-}
-
-fn greater(first: u8, second: u8) -> u8
-    ensures { (first ≤ result) × (second ≤ result) × ((result ≡ first) ⊎ (result ≡ second)) }
-{
-    if first < second { second } else { first }
+    matches!(command, Command::Check(asked) if matches!(asked.format, CheckFormat::Json))
 }
 
 // Carries out a command on the files and standard input that it names. Where standard output is a terminal, no bytes of programs
@@ -191,8 +175,8 @@ fn carry_out<G: Progress>(
             tell_notes(rt, &made.notes);
             status_of(made.verdict)
         }
-        Err(fault) => {
-            tell(rt, inputs, &fault);
+        Err(error) => {
+            tell(rt, inputs, &error);
             TROUBLE
         }
     }
@@ -207,24 +191,23 @@ fn carried_out<G: Progress>(
     to_terminal: bool,
     progress: &mut G,
     gathered: &mut Vec<u8>,
-) -> Result<Made, FaultAt>
+) -> Result<Made, ToolError>
     ensures { IfOk result (λ made. IsPerformed asked.now.command made.verdict) }
 {
-    let alloc = rt.alloc();
     refuse_output(rt, asked, inputs, to_terminal)?;
     let first = first_of(rt, &asked.command, inputs)?;
     let second = open(rt, inputs.second)?;
-    let made = perform(alloc, &asked.command, inputs, first, second, progress)?;
-    match write_made(rt, asked, &made.text, gathered) {
-        Ok(()) if made.rest == 0 => Ok(made),
-        Ok(()) => {
-            let rest = made.rest;
-            let told = format!(in alloc;
-                "The input ends inside a record, after {rest} bytes of it."
-            )?;
-            Err(FaultAt::of_path(alloc, inputs.second.unwrap_or("-"), told.as_str()))
-        }
-        Err(error) => Err(FaultAt::of_io(alloc, asked.output.unwrap_or(OUTPUT), error)),
+    let made = perform(rt.alloc(), &asked.command, inputs, first, second, progress)?;
+    if gathers(&asked.command) {
+        gathered.extend_from_slice(&made.text)?;
+    } else {
+        write(rt, asked.output, &made.text)?;
+    }
+    match made.rest {
+        0 => Ok(made),
+        rest => Err(ToolError::Second(format!(in rt.alloc();
+            "The input ends inside a record, after {rest} bytes of it."
+        )?)),
     }
 }
 
@@ -234,30 +217,32 @@ fn refuse_output(
     asked: &Asked<'_>,
     inputs: Inputs<'_>,
     to_terminal: bool,
-) -> Result<(), FaultAt> {
-    let told = if to_terminal && asked.output.is_none() && writes_bytes(&asked.command) {
-        "bytes aren't written to a terminal; use a file or a pipe"
-    } else if is_onto(rt, asked, inputs) {
-        "the output would overwrite the input"
-    } else {
-        return Ok(());
+) -> Result<(), ToolError> {
+    let told = match asked.output {
+        None if to_terminal && writes_bytes(&asked.command) => {
+            "bytes aren't written to a terminal; use a file or a pipe"
+        }
+        Some(path) if is_read(rt, &asked.command, inputs, path) => {
+            "the output would overwrite the input"
+        }
+        _ => return Ok(()),
     };
-    Err(FaultAt::of_path(rt.alloc(), asked.output.unwrap_or(OUTPUT), told))
+    Err(ToolError::of_path(rt.alloc(), asked.output.unwrap_or(OUTPUT), told)?)
 }
 
-// Writes what is made where it is asked for, or gathers it.
-fn write_made(
+// Writes a file whole, or standard output.
+fn write(
     rt: &(impl Files + Print + AllocGlobal),
-    asked: &Asked<'_>,
+    output: Option<&str>,
     text: &[u8],
-    gathered: &mut Vec<u8>,
-) -> io::Result<()> {
-    if gathers(&asked.command) {
-        return Ok(gathered.extend_from_slice(text)?);
-    }
-    match asked.output {
+) -> Result<(), ToolError> {
+    let written = match output {
         Some(path) => write_whole(rt, path, text),
         None => io::writer(rt).write_all(text),
+    };
+    match written {
+        Ok(()) => Ok(()),
+        Err(error) => Err(ToolError::of_io(rt.alloc(), output.unwrap_or(OUTPUT), error)?),
     }
 }
 
@@ -266,7 +251,7 @@ fn first_of<R: Files + Input + AllocGlobal>(
     rt: &R,
     command: &Command<'_>,
     inputs: Inputs<'_>,
-) -> Result<Source<R::File, R::Reader>, FaultAt> {
+) -> Result<Source<R::File, R::Reader>, ToolError> {
     match command {
         Command::Learn(learning) if !learning.further.is_empty() => {
             let mut traces = Vec::new(rt.alloc());
@@ -280,22 +265,21 @@ fn first_of<R: Files + Input + AllocGlobal>(
     }
 }
 
-// Whether the file that is written is the one that is read.
-fn is_onto(rt: &(impl Files + AllocGlobal), asked: &Asked<'_>, inputs: Inputs<'_>) -> bool {
-    let Some(output) = asked.output else {
-        return false;
-    };
-    if let Command::Learn(learning) = &asked.command {
-        for path in &learning.further {
-            if is_same(rt, path, output) {
+// Whether a command reads the file at a path.
+fn is_read(
+    rt: &(impl Files + AllocGlobal),
+    command: &Command<'_>,
+    inputs: Inputs<'_>,
+    path: &str,
+) -> bool {
+    if let Command::Learn(learning) = command {
+        for further in &learning.further {
+            if is_same(rt, further, path) {
                 return true;
             }
         }
     }
-    match inputs.first {
-        Some(first) => is_same(rt, first, output),
-        None => false,
-    }
+    matches!(inputs.first, Some(first) if is_same(rt, first, path))
 }
 
 // Whether a command writes bytes that are no text.

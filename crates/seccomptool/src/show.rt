@@ -70,7 +70,7 @@ pub(crate) fn program_text(
     let mut text = Vec::new(alloc);
     let notes = notes::notes(alloc, target, program)?;
     if json {
-        let value = program_value(alloc, name, program, Some(notes.as_slice()))?;
+        let value = program_value(alloc, name, program, &notes)?;
         push_item(&mut text, alloc, &value)?;
         return Ok(text);
     }

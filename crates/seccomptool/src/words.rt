@@ -9,6 +9,7 @@ mod values;
 use crate::check::format::CheckFormat;
 use crate::compile::ProgramFormat;
 use crate::diff::Scope;
+use crate::error::ToolError;
 use crate::explain::lines::LineFormat;
 use crate::findings::Terms;
 use crate::kind::Reading;
@@ -19,7 +20,7 @@ use clap::error::ErrorKind;
 use seccomp_tree::Layout;
 use seccomp_warnings::Code;
 use seccompiler::TargetArch;
-use std::alloc::{AllocError, AllocFailed, Global};
+use std::alloc::{AllocError, Global};
 
 /// A command of the program, with its options.
 #[derive(Drop)]
@@ -165,30 +166,7 @@ pub struct Asked<'a> {
     pub output: Option<&'a str>,
 }
 
-// Why the matches of clap ask for nothing.
-#[derive(Drop)]
-enum Misuse {
-    // This is wrong with them.
-    Told(&'static str),
-    // This is wrong with a name among them.
-    Named(String),
-    // Memory ran out.
-    OutOfMemory,
-}
-
-impl From<AllocError> for Misuse {
-    fn from(_error: AllocError) -> Misuse {
-        Misuse::OutOfMemory
-    }
-}
-
-impl<T: Drop> From<AllocFailed<T>> for Misuse {
-    fn from(_error: AllocFailed<T>) -> Misuse {
-        Misuse::OutOfMemory
-    }
-}
-
-/// Reads the arguments that follow the program's name: what they ask for.
+/// Reads the arguments that follow the program's name: what they ask for. The names of all codes of warnings are added to `codes`.
 ///
 /// # Errors
 ///
@@ -199,23 +177,22 @@ impl<T: Drop> From<AllocFailed<T>> for Misuse {
 /// `--record`, if the values of `learn`'s `--otherwise`, `--args` or `--values` are none, if `learn` is given `--into` and
 /// `--otherwise` or `--profile`, or `--name` and `--profile`, and if two files would both be read from standard input: what is
 /// explained and records or a log, both of what is compared, or a trace and the policy. `OutOfMemory` may come in place of any.
-pub(crate) fn read<'a>(alloc: Global, words: &'a [String]) -> Result<Asked<'a>, clap::Error> {
-    let mut program = program(alloc)?;
+pub(crate) fn read<'a>(
+    alloc: Global,
+    words: &'a [String],
+    codes: &'a mut Vec<&'static str>,
+) -> Result<Asked<'a>, clap::Error> {
+    for code in Code::all() {
+        codes.push(code.name())?;
+    }
+    let mut program = program(alloc, codes)?;
     let matches = program.try_get_matches_from_mut(words)?;
-    let misuse = match matches.subcommand() {
-        None => Misuse::Told("no command is given"),
-        Some((name, found)) => match asked_in(alloc, name, found) {
-            Ok(asked) => return Ok(asked),
-            Err(misuse) => misuse,
-        },
-    };
-    let message = match &misuse {
-        Misuse::Told(message) => *message,
-        Misuse::Named(message) => message.as_str(),
-        Misuse::OutOfMemory => return Err(clap::Error::from(AllocError)),
-    };
-    match program.error(ErrorKind::ValueValidation, message) {
-        Ok(error) => Err(error),
-        Err(error) => Err(clap::Error::from(error)),
+    match asked_in(alloc, &matches) {
+        Ok(asked) => Ok(asked),
+        Err(ToolError::OutOfMemory) => Err(clap::Error::from(AllocError)),
+        Err(misuse) => {
+            let told = format!(in alloc; "{misuse}")?;
+            Err(program.error(ErrorKind::ValueValidation, told.as_str())?)
+        }
     }
 }

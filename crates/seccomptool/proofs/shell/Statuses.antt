@@ -1,7 +1,8 @@
 -- For `carry_out` and `carry_out_each`: with which statuses commands end.
-use Rattle.std.proofs.Common.{◌≡◌, ◌∙◌, ℕ, ◌+◌, ◌≤◌, ◌<◌, List, [], ◌∷◌, ◌++◌, All, Contains, arith, get_or, inl, inr, length, refl}
+use Rattle.std.proofs.Common.{◌≡◌, ◌∙◌, ℕ, ◌+◌, ◌≤◌, ◌<◌, List, [], ◌∷◌, ◌++◌, All, Contains, arith, get_or, inl, inr, length, max, refl}
 use Rattle.std.proofs.Common.{subst, sym, take}
 use Rattle.std.specs.Prelude.{◌⊎◌}
+use Rattle.std.proofs.Math.Nat.{eq-or-lt_of_le}
 use Rattle.std.proofs.lemmas.List.{take_more}
 use Rattle.std.proofs.lemmas.List.Elements.{All-nil, All-push, All-weaker, Contains-append_left, Contains-push}
 use Rattle.std.proofs.lemmas.Slice.Zip.{all_zipped_more}
@@ -47,22 +48,27 @@ none_ended command = record { statuses = []; each = tt; most = All-nil (λ s. s 
 
 -- One more, where the status behind it is the greater one of the status before it and of its own.
 module _ (command : Command) (inputs : List Inputs) (one : Inputs) (before own after : ℕ) (ended : EndWith command inputs before)
-    (ends : EndsWith command own) (above : before ≤ after) (covers : own ≤ after) (either : (after ≡ before) ⊎ (after ≡ own)) where
+    (ends : EndsWith command own) (greater : after ≡ max before own) where
   abbrev statuses : List ℕ
   statuses = ended.statuses ++ own ∷ []
 
+  above : before ≤ after
+  above = omega (arith, greater)
+
   reached : (after ≡ 0) ⊎ Contains statuses after
-  reached = elim either [
+  reached = elim (eq-or-lt_of_le above) [
     | inl same ↦ elim ended.reached [
-      | inl zero ↦ inl (same ∙ zero)
-      | inr there ↦ inr (subst (Contains statuses) (sym same) (Contains-append_left ended.statuses (own ∷ []) before there))
+      | inl zero ↦ inl (sym same ∙ zero)
+      | inr there ↦ inr (subst (Contains statuses) same (Contains-append_left ended.statuses (own ∷ []) before there))
     ]
-    | inr same ↦ inr (subst (Contains statuses) (sym same) (Contains-push ended.statuses own))
+    | inr less ↦ let last : own ≡ after = omega (arith, greater, less) in
+        inr (subst (Contains statuses) last (Contains-push ended.statuses own))
   ]
 
   most : All (λ s. s ≤ after) statuses
   most = All-push (λ s. s ≤ after) ended.statuses own
-      (All-weaker (λ s. s ≤ before) (λ s. s ≤ after) (λ s le. omega (arith, le, above)) ended.statuses ended.most) covers
+      (All-weaker (λ s. s ≤ before) (λ s. s ≤ after) (λ s le. omega (arith, le, above)) ended.statuses ended.most)
+      (omega (arith, greater))
 
   pub one_more : EndWith command (inputs ++ one ∷ []) after
   one_more = record {
@@ -74,9 +80,9 @@ module _ (command : Command) (inputs : List Inputs) (one : Inputs) (before own a
 
 -- The next one of what a command is carried out on.
 pub next_ended : (command : Command) (inputs : List Inputs) (at : ℕ) (before own after : ℕ) → at < length inputs
-    → EndWith command (take at inputs) before → EndsWith command own → before ≤ after → own ≤ after → (after ≡ before) ⊎ (after ≡ own)
+    → EndWith command (take at inputs) before → EndsWith command own → after ≡ max before own
     → EndWith command (take (at + 1) inputs) after
-next_ended command [] at before own after room ended ends above covers either = absurd (omega (arith, room))
-next_ended command (first ∷ rest) at before own after room ended ends above covers either =
+next_ended command [] at before own after room ended ends greater = absurd (omega (arith, room))
+next_ended command (first ∷ rest) at before own after room ended ends greater =
     subst (λ some. EndWith command some after) (sym (take_more (first ∷ rest) at first room))
-    (one_more command (take at (first ∷ rest)) (get_or (first ∷ rest) at first) before own after ended ends above covers either)
+    (one_more command (take at (first ∷ rest)) (get_or (first ∷ rest) at first) before own after ended ends greater)

@@ -10,7 +10,7 @@ use crate::check::format::{CheckFormat, lines_of};
 use crate::check::profile::lines::profile_diagnostics;
 use crate::check::profile::profile_checked;
 use crate::check::{checked, verdict_where};
-use crate::error::{FaultAt, ToolError};
+use crate::error::ToolError;
 use crate::findings::Verdict;
 use crate::kind::{Subject, subject_of};
 use crate::made::Made;
@@ -26,13 +26,13 @@ pub(crate) fn check_made(
     asked: &Checking,
     path: &str,
     given: &[u8],
-) -> Result<Made, FaultAt>
+) -> Result<Made, ToolError>
     ensures { IfOk result (λ made. IsCheck asked.now given.now made.verdict) }
 {
     let subject = subject_of(alloc, &asked.reading, given)?;
     match accepted(alloc, asked, subject, path, given) {
         Ok(made) => Ok(made),
-        Err(fault) if fault.is_out_of_memory() => Err(fault.into()),
+        Err(ToolError::OutOfMemory) => Err(ToolError::OutOfMemory),
         Err(fault) => Ok(rejected(alloc, asked.format, path, given, fault)?),
     }
 }

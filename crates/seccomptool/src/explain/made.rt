@@ -8,7 +8,7 @@ use super::lines::explained_text;
 use super::log::{Caller, log_of};
 use super::{explain_policy, explain_profile};
 use crate::chosen::refuse_name;
-use crate::error::FaultAt;
+use crate::error::ToolError;
 use crate::findings::Verdict;
 use crate::kind::{Subject, subject_of};
 use crate::learn::notes::strange_note;
@@ -24,7 +24,7 @@ pub(crate) fn explain_made(
     path: &str,
     given: &[u8],
     bytes: &[u8],
-) -> Result<Made, FaultAt>
+) -> Result<Made, ToolError>
     ensures { IfOk result (λ made. OnRecords asked.now.arch asked.now.calls bytes.now (IsExplained asked.now given.now) × (made.verdict ≡ Same)) }
 {
     match asked.calls {
@@ -49,7 +49,7 @@ fn explain_records(
     given: &[u8],
     records: &[u8],
     callers: &[Caller<'_>],
-) -> Result<Made, FaultAt>
+) -> Result<Made, ToolError>
     ensures { IfOk result (λ made. IsExplained asked.now given.now (records_in records.now) × (made.verdict ≡ Same)) }
 {
     let (arch, filter) = (asked.arch, asked.filter);

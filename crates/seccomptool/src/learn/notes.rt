@@ -1,6 +1,6 @@
 // What is noted of a trace, and what is learned as JSON.
 
-use super::{LearnedFilter, Learning};
+use super::Learning;
 use crate::error::ToolError;
 use crate::findings::parts::name_of;
 use crate::json::{call_or_null, push_json};
@@ -27,7 +27,7 @@ pub(super) fn notes_of(
     path: &str,
     trace: &Trace,
     wanted: &[Kept],
-    learned: &LearnedFilter,
+    kept: &[Kept],
 ) -> Result<Vec<u8>, AllocError> {
     let arch = learning.arch;
     let mut notes = strange_note(alloc, path, trace.strange, trace.first_strange)?;
@@ -46,7 +46,7 @@ pub(super) fn notes_of(
     // The calls that are allowed with any arguments, since more values of them were seen than are kept.
     let mut before = None;
     for each in wanted {
-        let (number, kept, most) = (each.number, &learned.lesson.kept, learning.most);
+        let (number, most) = (each.number, learning.most);
         if before != Some(number) && !kept.iter().any(|one| one.number == number) {
             before = Some(number);
             let name = name_of(arch, number).unwrap_or("a call");
@@ -97,19 +97,16 @@ pub(super) fn learned_json(
     text: &[u8],
 ) -> Result<Vec<u8>, AllocError> {
     let (mut kept, mut lines) = (Vec::new(alloc), Vec::new(alloc));
-    for Kept {
-        number,
-        arg_index,
-        arg_len,
-    } in all {
-        if observed.iter().any(|call| call.number == *number) {
-            let length = match arg_len {
+    for each in all {
+        let (number, index) = (each.number, each.arg_index);
+        if observed.iter().any(|call| call.number == number) {
+            let length = match each.arg_len {
                 SeccompCmpArgLen::Dword => "dword",
                 SeccompCmpArgLen::Qword => "qword",
             };
-            let call = call_or_null(alloc, arch, Some(*number))?;
+            let call = call_or_null(alloc, arch, Some(number))?;
             kept.push(json!(in alloc;
-                { "call": call, "number": *number, "index": *arg_index, "type": length }
+                { "call": call, "number": number, "index": index, "type": length }
             )?)?;
         }
     }

@@ -5,7 +5,7 @@ ghost use Rattle.std.specs.List.{concat};
 ghost use Rattle.seccompiler.specs.Machine.{IsInRange};
 ghost use Rattle.seccomp_compare.specs.Machine.{IsChecked};
 ghost use Rattle.seccomptool.specs.Compile.{instruction_bytes};
-ghost use Rattle.seccomptool.specs.Run.{AreRefusedBytes, HasBytes, IsCutFault, IsProgramOf, IsRefusedProgram};
+ghost use Rattle.seccomptool.specs.Run.{AreRefusedBytes, HasBytes, IsProgramOf, IsRefusedProgram};
 ghost use Rattle.seccomptool.specs.RunFaults.{IsAmiss};
 ghost use Rattle.seccomptool.specs.RunParts.{CantStand, IsUnfit};
 
@@ -54,18 +54,18 @@ fn program_of_bytes(alloc: Global, bytes: &[u8]) -> Result<BpfProgram, ToolError
 }
 
 // Bytes, cut into as many instructions as a program may have.
-fn cut(bytes: &[u8]) -> Result<&[[u8; 8]], ProgramFault>
+fn cut(bytes: &[u8]) -> Result<&[[u8; 8]], ToolError>
     ensures joined { IfOk result (λ pieces. concat pieces.now ≡ bytes.now) }
     ensures some { IfOk result (λ pieces. 1 ≤ length pieces.now) }
     ensures few { IfOk result (λ pieces. length pieces.now ≤ 4096) }
-    ensures fault { IfErr result (IsCutFault bytes.now) }
+    ensures fault { IfErr result (AreRefusedBytes bytes.now) }
 {
     let (pieces, rest) = bytes.as_chunks::<8>();
     if !rest.is_empty() {
-        return Err(ProgramFault::Short(rest.len()));
+        return Err(ToolError::Program(ProgramFault::Short(rest.len())));
     }
     if pieces.is_empty() || pieces.len() > BPF_MAX_LEN {
-        return Err(ProgramFault::Length(pieces.len()));
+        return Err(ToolError::Program(ProgramFault::Length(pieces.len())));
     }
     Ok(pieces)
 }
@@ -97,7 +97,7 @@ fn instruction(bytes: &[u8; 8]) -> sock_filter
 }
 
 // Refuses a program that may not be run, by its first instruction that may not stand where it does.
-pub(crate) fn refuse_unfit(program: BpfProgramRef<'_>) -> Result<(), ProgramFault>
+fn refuse_unfit(program: BpfProgramRef<'_>) -> Result<(), ToolError>
     requires some { 1 ≤ length program.now }
     requires few { length program.now ≤ 4096 }
     ensures checked { IfOk result (λ done. IsChecked program.now) }
@@ -105,7 +105,10 @@ pub(crate) fn refuse_unfit(program: BpfProgramRef<'_>) -> Result<(), ProgramFaul
 {
     match first_unfit(program) {
         None => Ok(()),
-        Some(place) => Err(ProgramFault::Unfit(place, amiss(program[place], place, program.len()))),
+        Some(place) => Err(ToolError::Program(ProgramFault::Unfit(
+            place,
+            amiss(program[place], place, program.len()),
+        ))),
     }
 }
 

@@ -1,6 +1,6 @@
 // What the options say of a profile's container.
 
-use super::Misuse;
+use crate::error::ToolError;
 use crate::kind::Reading;
 use clap::ArgMatches;
 use seccomp_command_line::readable::{TextKind, readable};
@@ -16,11 +16,11 @@ const LONGEST: usize = 64;
 
 // How what is given is read: whether as profiles, and in the container of the capabilities that `--cap` names, of the kernel that
 // `--kernel` names, and of the runtime of `--runtime`; and whether names that are left out are listed.
-pub(super) fn reading_in(alloc: Global, found: &ArgMatches<'_>) -> Result<Reading, Misuse> {
+pub(super) fn reading_in(alloc: Global, found: &ArgMatches<'_>) -> Result<Reading, ToolError> {
     let kernel = match found.get_str("kernel") {
         None => None,
         Some(text) => match kernel_of(text) {
-            None => return Err(Misuse::Told(NO_KERNEL)),
+            None => return Err(ToolError::Misused(NO_KERNEL)),
             kernel => kernel,
         },
     };
@@ -39,13 +39,13 @@ pub(super) fn reading_in(alloc: Global, found: &ArgMatches<'_>) -> Result<Readin
 }
 
 // The capabilities that are given, as profiles name them.
-fn caps_in(alloc: Global, found: &ArgMatches<'_>) -> Result<Vec<String>, Misuse> {
+fn caps_in(alloc: Global, found: &ArgMatches<'_>) -> Result<Vec<String>, ToolError> {
     let mut caps = Vec::new(alloc);
     for list in found.get_strs("cap").unwrap_or(&[]) {
         for name in list.split(',') {
             match capability(name) {
                 Some(cap) => caps.push(String::from_str(alloc, cap)?)?,
-                None => return Err(Misuse::Named(no_capability(alloc, name)?)),
+                None => return Err(ToolError::Fault(no_capability(alloc, name)?)),
             }
         }
     }

@@ -1,8 +1,9 @@
 // What `learn` is asked for.
 
+use super::Command;
 use super::matches::{Read, on};
-use super::values::{arch_in, number_in};
-use super::{Command, Misuse};
+use super::values::{arch_in, number_in, path_in};
+use crate::error::ToolError;
 use crate::learn::{AskedArguments, Learning, Start};
 use crate::record::read_number;
 use clap::ArgMatches;
@@ -17,22 +18,17 @@ const NO_ARGUMENTS: &str =
 
 // What the matches of `learn` ask for.
 pub(super) fn learn_in<'a>(alloc: Global, found: &ArgMatches<'a>) -> Read<'a> {
-    if let Some(told) = refusal(found) {
-        return Err(Misuse::Told(told));
-    }
+    refuse_pairs(found)?;
     let most = number_in(alloc, found, "values")?;
     let into = found.get_str("into");
-    let start = match (
-        into,
-        action_of(found.get_str("otherwise").unwrap_or("kill_process")),
-    ) {
+    let action = action_of(found.get_str("otherwise").unwrap_or("kill_process"));
+    let start = match (into, action) {
         (Some(_), _) => Start::Into,
         (None, Some(action)) => Start::Otherwise(action),
-        (None, None) => return Err(Misuse::Told(NO_ACTION)),
+        (None, None) => return Err(ToolError::Misused(NO_ACTION)),
     };
-    let traces = found.get_strs("TRACE").unwrap_or(&["-"]);
     let mut further = Vec::new(alloc);
-    for path in traces.iter().skip(1) {
+    for path in found.get_strs("TRACE").unwrap_or(&[]).iter().skip(1) {
         further.push(*path)?;
     }
     let command = Command::Learn(Learning {
@@ -46,26 +42,25 @@ pub(super) fn learn_in<'a>(alloc: Global, found: &ArgMatches<'a>) -> Read<'a> {
         as_profile: found.get_flag("profile"),
         further,
     });
-    on(alloc, found, command, traces.first().copied(), into)
+    on(alloc, found, command, &[path_in(found, "TRACE")], into)
 }
 
-// Why options can't be given together, if two can't.
-fn refusal(found: &ArgMatches<'_>) -> Option<&'static str> {
+// Refuses options that can't be given together.
+fn refuse_pairs(found: &ArgMatches<'_>) -> Result<(), ToolError> {
     let is_profile = found.get_flag("profile");
     let into = found.get_str("into");
-    if into.is_some() && found.get_str("otherwise").is_some() {
-        return Some("--otherwise can't be given with --into");
-    }
-    if into.is_some() && is_profile {
-        return Some("--profile can't be given with --into");
-    }
-    if is_profile && found.get_str("name").is_some() {
-        return Some("--profile can't be given with --name");
-    }
-    if into == Some("-") && found.get_strs("TRACE").unwrap_or(&[]).contains(&"-") {
-        return Some("TRACE and POLICY can't both be read from standard input");
-    }
-    None
+    let told = if into.is_some() && found.get_str("otherwise").is_some() {
+        "--otherwise can't be given with --into"
+    } else if into.is_some() && is_profile {
+        "--profile can't be given with --into"
+    } else if is_profile && found.get_str("name").is_some() {
+        "--profile can't be given with --name"
+    } else if into == Some("-") && found.get_strs("TRACE").unwrap_or(&[]).contains(&"-") {
+        "TRACE and POLICY can't both be read from standard input"
+    } else {
+        return Ok(());
+    };
+    Err(ToolError::Misused(told))
 }
 
 // The action that a text names; a number that it has is one that 16 bits hold.
@@ -90,12 +85,12 @@ fn action_of(text: &str) -> Option<SeccompAction> {
 fn arguments_in<'a>(
     alloc: Global,
     found: &ArgMatches<'a>,
-) -> Result<Vec<AskedArguments<'a>>, Misuse> {
+) -> Result<Vec<AskedArguments<'a>>, ToolError> {
     let mut all = Vec::new(alloc);
     for text in found.get_strs("args").unwrap_or(&[]) {
         match arguments_of(text) {
             Some(arguments) => all.push(arguments)?,
-            None => return Err(Misuse::Told(NO_ARGUMENTS)),
+            None => return Err(ToolError::Misused(NO_ARGUMENTS)),
         }
     }
     Ok(all)

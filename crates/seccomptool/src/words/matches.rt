@@ -8,12 +8,12 @@ use super::values::{
     arch_in, arguments_in, calls_in, format_in, given_arch, layout_in, number_in, path_in,
 };
 use super::{
-    Asked, Call, Calling, Checking, Command, Comparing, Compiling, Explaining, Inputs, Misuse,
-    Showing,
+    Asked, Call, Calling, Checking, Command, Comparing, Compiling, Explaining, Inputs, Showing,
 };
 use crate::check::format::CheckFormat;
 use crate::compile::ProgramFormat;
 use crate::diff::Scope;
+use crate::error::ToolError;
 use crate::explain::lines::LineFormat;
 use crate::findings::Terms;
 use clap::ArgMatches;
@@ -21,43 +21,48 @@ use seccomp_compare::Relation;
 use seccomp_warnings::Code;
 use std::alloc::Global;
 
-pub(super) type Read<'a> = Result<Asked<'a>, Misuse>;
+pub(super) type Read<'a> = Result<Asked<'a>, ToolError>;
 
-// What the matches of the subcommand of this name ask for.
-pub(super) fn asked_in<'a>(alloc: Global, name: &str, found: &ArgMatches<'a>) -> Read<'a> {
-    match name {
-        "check" => check_in(alloc, found),
-        "compile" => compile_in(alloc, found),
-        "show" => show_in(alloc, found),
-        "explain" => explain_in(alloc, found),
-        "diff" => diff_in(alloc, found),
-        "learn" => learn_in(alloc, found),
-        "call" => call_of(alloc, found),
-        _ => Err(Misuse::Told("no command is given")),
+// What the matches of a subcommand ask for.
+pub(super) fn asked_in<'a>(alloc: Global, matches: &ArgMatches<'a>) -> Read<'a> {
+    match matches.subcommand() {
+        Some(("check", found)) => check_in(alloc, found),
+        Some(("compile", found)) => compile_in(alloc, found),
+        Some(("show", found)) => show_in(alloc, found),
+        Some(("explain", found)) => explain_in(alloc, found),
+        Some(("diff", found)) => diff_in(alloc, found),
+        Some(("learn", found)) => learn_in(alloc, found),
+        Some(("call", found)) => call_of(alloc, found),
+        _ => Err(ToolError::Misused("no command is given")),
     }
 }
 
-// A command that is carried out once, on what it reads at these paths. It writes standard output where the file is `-`.
+// A command that is carried out on what it reads first, one after the other, and second; once if it reads nothing first. It
+// writes standard output where the file is `-`.
 pub(super) fn on<'a>(
     alloc: Global,
     found: &ArgMatches<'a>,
     command: Command<'a>,
-    first: Option<&'a str>,
+    firsts: &[&'a str],
     second: Option<&'a str>,
 ) -> Read<'a> {
-    let inputs = Inputs {
-        first,
-        second,
-        // A format that can't be given beside --json is refused where it is read.
-        json: matches!(format_in(found), Ok("json")),
-    };
+    // A format that can't be given beside --json is refused where it is read.
+    let json = matches!(format_in(found), Ok("json"));
+    let mut inputs = Vec::new(alloc);
+    for index in 0..firsts.len().max(1) {
+        inputs.push(Inputs {
+            first: firsts.get(index).copied(),
+            second,
+            json,
+        })?;
+    }
     let output = match found.get_str("output") {
         Some("-") => None,
         output => output,
     };
     Ok(Asked {
         command,
-        inputs: vec![in alloc; inputs]?,
+        inputs,
         output,
     })
 }
@@ -69,15 +74,7 @@ fn check_in<'a>(alloc: Global, found: &ArgMatches<'a>) -> Read<'a> {
         _ => CheckFormat::Text,
     };
     if found.get_flag("list") {
-        return on(alloc, found, Command::Codes, None, None);
-    }
-    let mut inputs = Vec::new(alloc);
-    for path in found.get_strs("SUBJECT").unwrap_or(&[]) {
-        inputs.push(Inputs {
-            first: Some(*path),
-            second: None,
-            json: false,
-        })?;
+        return on(alloc, found, Command::Codes, &[], None);
     }
     let mut allowed = Vec::new(alloc);
     for name in found.get_strs("allow").unwrap_or(&[]) {
@@ -92,11 +89,13 @@ fn check_in<'a>(alloc: Global, found: &ArgMatches<'a>) -> Read<'a> {
         allowed,
         format,
     });
-    Ok(Asked {
+    on(
+        alloc,
+        found,
         command,
-        inputs,
-        output: None,
-    })
+        found.get_strs("SUBJECT").unwrap_or(&[]),
+        None,
+    )
 }
 
 fn compile_in<'a>(alloc: Global, found: &ArgMatches<'a>) -> Read<'a> {
@@ -114,7 +113,7 @@ fn compile_in<'a>(alloc: Global, found: &ArgMatches<'a>) -> Read<'a> {
         },
         quiet: found.get_flag("quiet"),
     });
-    on(alloc, found, command, Some(path_in(found, "SUBJECT")), None)
+    on(alloc, found, command, &[path_in(found, "SUBJECT")], None)
 }
 
 fn show_in<'a>(alloc: Global, found: &ArgMatches<'a>) -> Read<'a> {
@@ -125,7 +124,7 @@ fn show_in<'a>(alloc: Global, found: &ArgMatches<'a>) -> Read<'a> {
         layout: layout_in(found),
         measured: found.get_flag("stats"),
     });
-    on(alloc, found, command, Some(path_in(found, "SUBJECT")), None)
+    on(alloc, found, command, &[path_in(found, "SUBJECT")], None)
 }
 
 fn explain_in<'a>(alloc: Global, found: &ArgMatches<'a>) -> Read<'a> {
@@ -142,14 +141,14 @@ fn explain_in<'a>(alloc: Global, found: &ArgMatches<'a>) -> Read<'a> {
         },
         calls,
     });
-    on(alloc, found, command, Some(subject), second)
+    on(alloc, found, command, &[subject], second)
 }
 
 fn diff_in<'a>(alloc: Global, found: &ArgMatches<'a>) -> Read<'a> {
     let (old, of_old) = named_in(path_in(found, "OLD"));
     let (new, of_new) = named_in(path_in(found, "NEW"));
     if old == "-" && new == "-" {
-        return Err(Misuse::Told("OLD and NEW can't both be read from standard input"));
+        return Err(ToolError::Misused("OLD and NEW can't both be read from standard input"));
     }
     let command = Command::Diff(Comparing {
         terms: Terms {
@@ -171,7 +170,7 @@ fn diff_in<'a>(alloc: Global, found: &ArgMatches<'a>) -> Read<'a> {
         },
         quiet: found.get_flag("quiet"),
     });
-    on(alloc, found, command, Some(old), Some(new))
+    on(alloc, found, command, &[old], Some(new))
 }
 
 // A path, and the name of a filter, where one stands behind the last colon: none where nothing does.
@@ -186,10 +185,10 @@ fn named_in(text: &str) -> (&str, Option<&str>) {
 fn call_of<'a>(alloc: Global, found: &ArgMatches<'a>) -> Read<'a> {
     let recorded = found.get_flag("record");
     if !recorded && !matches!(found.get_str("output"), None | Some("-")) {
-        return Err(Misuse::Told("--output needs --record"));
+        return Err(ToolError::Misused("--output needs --record"));
     }
     if recorded && found.get_flag("json") {
-        return Err(Misuse::Told("--json and --record can't both be given"));
+        return Err(ToolError::Misused("--json and --record can't both be given"));
     }
     let call = Call {
         name: path_in(found, "CALL"),
@@ -200,5 +199,5 @@ fn call_of<'a>(alloc: Global, found: &ArgMatches<'a>) -> Read<'a> {
         call,
         recorded,
     });
-    on(alloc, found, command, None, None)
+    on(alloc, found, command, &[], None)
 }

@@ -6,36 +6,8 @@ use std::alloc::{AllocError, Global};
 // Over the 40 characters behind `commit` tools/package writes the commit, so that the program isn't proved again for it.
 const VERSION: &str = "0.6.0 (commit unknown, since it was built from sources)";
 
-const CODES: &[&str] = &[
-    "fake-success",
-    "errno-too-large",
-    "endless-retry",
-    "trace-without-tracer",
-    "allows-by-default",
-    "denies-everything",
-    "high-half-ignored",
-    "value-outside-mask",
-    "always-holds",
-    "never-holds",
-    "high-half-evades",
-    "flag-evades",
-    "pointer-compared",
-    "signed-compared",
-    "kills-exit",
-    "clone-by-clone3",
-    "no-execve",
-    "no-restart",
-    "sibling-allowed",
-    "crate-differs",
-    "unreachable-entry",
-    "redundant-entry",
-    "undecided-entry",
-    "no-effect",
-    "open-order",
-    "refused-by-libseccomp",
-    "runtimes-differ",
-    "unknown-key",
-];
+// The options that have their first letter too.
+const LETTERED: [&str; 5] = ["arch", "filter", "output", "quiet", "verbose"];
 
 const AFTER: &str = "\
 SUBJECT, OLD and NEW are a policy, a seccomp profile of a container runtime, or a
@@ -135,8 +107,9 @@ call: Print the name and the number of a call, or write its struct seccomp_data
 CALL: The call's name or number
 ARG*: The call's arguments; those that aren't given are 0";
 
-/// The subcommands and their arguments. The arguments that it reads are those after the program's own name.
-pub(super) fn program<'a>(alloc: Global) -> Result<Command<'a>, AllocError> {
+/// The subcommands and their arguments, with these codes of warnings. The arguments that it reads are those after the program's own
+/// name.
+pub(super) fn program<'a>(alloc: Global, codes: &'a [&'a str]) -> Result<Command<'a>, AllocError> {
     let named = Command::new(alloc, "seccomptool").bin_name("seccomptool")?;
     let mut program = named
         .version(VERSION)
@@ -146,42 +119,48 @@ pub(super) fn program<'a>(alloc: Global) -> Result<Command<'a>, AllocError> {
         .subcommand_required(true)
         .arg_required_else_help(true);
     for command in [CHECK, COMPILE, SHOW, EXPLAIN, DIFF] {
-        program = program.subcommand(subcommand(alloc, command, COMMON)?)?;
+        program = program.subcommand(subcommand(alloc, command, COMMON, codes)?)?;
     }
     for command in [LEARN, CALL] {
-        program = program.subcommand(subcommand(alloc, command, "")?)?;
+        program = program.subcommand(subcommand(alloc, command, "", codes)?)?;
     }
     Ok(program)
 }
 
 // The command of a table, with the options of another one too.
-fn subcommand<'a>(alloc: Global, own: &'a str, common: &'a str) -> Result<Command<'a>, AllocError> {
+fn subcommand<'a>(
+    alloc: Global,
+    own: &'a str,
+    common: &'a str,
+    codes: &'a [&'a str],
+) -> Result<Command<'a>, AllocError> {
     let (head, own) = own.split_once('\n').unwrap_or((own, ""));
     let (name, about) = head.split_once(": ").unwrap_or((head, ""));
     let mut command = Command::new(alloc, name).about(about);
     for rows in [common, own] {
         for row in rows.lines() {
-            command = command.arg(arg_of(alloc, name, row))?;
+            command = command.arg(arg_of(alloc, name, row, codes))?;
         }
     }
     Ok(command)
 }
 
 // The option or argument of a row of a command.
-fn arg_of<'a>(alloc: Global, command: &str, row: &'a str) -> Arg<'a> {
+fn arg_of<'a>(alloc: Global, command: &str, row: &'a str, codes: &'a [&'a str]) -> Arg<'a> {
     let (words, help) = row.split_once(": ").unwrap_or((row, ""));
     let Some(option) = words.strip_prefix("--") else {
         return argument_of(alloc, words, help);
     };
     let (name, value) = option.split_once(' ').unwrap_or((option, ""));
     let mut arg = Arg::new(alloc, name).long(name).help(help);
-    if let Some(letter) = letter_of(name) {
-        arg = arg.short(letter);
+    match name.chars().next() {
+        Some(letter) if LETTERED.contains(&name) => arg = arg.short(letter),
+        _ => {}
     }
     if value.is_empty() {
         return arg.action(ArgAction::SetTrue);
     }
-    let values = values_of(command, name);
+    let values = values_of(command, name, codes);
     if !values.is_empty() {
         arg = arg.value_parser(values);
     }
@@ -206,30 +185,16 @@ fn argument_of<'a>(alloc: Global, word: &'a str, help: &'a str) -> Arg<'a> {
     }
 }
 
-// The letter that an option has beside its name.
-fn letter_of(name: &str) -> Option<char> {
-    match name {
-        "arch" => Some('a'),
-        "filter" => Some('f'),
-        "output" => Some('o'),
-        "quiet" => Some('q'),
-        "verbose" => Some('v'),
-        _ => None,
-    }
-}
-
 // What an option of a command takes; anything if there is none.
-fn values_of<'a>(command: &str, option: &str) -> &'a [&'a str] {
-    match option {
-        "arch" => &["x86_64", "aarch64", "riscv64", "amd64", "arm64"],
-        "layout" => &["linear", "tree"],
-        "runtime" => &["crun", "runc"],
-        "allow" => CODES,
-        "format" => match command {
-            "check" => &["text", "gcc", "json"],
-            "compile" => &["raw", "listing", "c"],
-            _ => &["path", "word"],
-        },
+fn values_of<'a>(command: &str, option: &str, codes: &'a [&'a str]) -> &'a [&'a str] {
+    match (option, command) {
+        ("arch", _) => &["x86_64", "aarch64", "riscv64", "amd64", "arm64"],
+        ("layout", _) => &["linear", "tree"],
+        ("runtime", _) => &["crun", "runc"],
+        ("allow", _) => codes,
+        ("format", "check") => &["text", "gcc", "json"],
+        ("format", "compile") => &["raw", "listing", "c"],
+        ("format", _) => &["path", "word"],
         _ => &[],
     }
 }

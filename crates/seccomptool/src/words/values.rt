@@ -1,6 +1,7 @@
 // The values of options and arguments, in clap's matches.
 
-use super::{Call, Calls, Misuse};
+use super::{Call, Calls};
+use crate::error::ToolError;
 use crate::record::read_number;
 use clap::ArgMatches;
 use seccomp_tree::Layout;
@@ -39,11 +40,11 @@ pub(super) fn layout_in(found: &ArgMatches<'_>) -> Layout {
 }
 
 // The format that is asked for: `json` with --json, beside which none but that and the usual one may be given.
-pub(super) fn format_in<'a>(found: &ArgMatches<'a>) -> Result<&'a str, Misuse> {
+pub(super) fn format_in<'a>(found: &ArgMatches<'a>) -> Result<&'a str, ToolError> {
     match found.get_str("format").unwrap_or("") {
         format if !found.get_flag("json") => Ok(format),
         "" | "json" | "raw" | "path" => Ok("json"),
-        _ => Err(Misuse::Told("--json and another --format can't both be given")),
+        _ => Err(ToolError::Misused("--json and another --format can't both be given")),
     }
 }
 
@@ -52,10 +53,10 @@ pub(super) fn number_in(
     alloc: Global,
     found: &ArgMatches<'_>,
     option: &str,
-) -> Result<usize, Misuse> {
+) -> Result<usize, ToolError> {
     match read_number(found.get_str(option).unwrap_or("")) {
         Some(number) => Ok(number as usize),
-        None => Err(Misuse::Named(format!(in alloc;
+        None => Err(ToolError::Fault(format!(in alloc;
             "the value of --{option} isn't a number from 0 to 18446744073709551615, decimal or hexadecimal after 0x"
         )?)),
     }
@@ -65,36 +66,40 @@ pub(super) fn number_in(
 pub(super) fn calls_in<'a>(
     found: &ArgMatches<'a>,
     subject: &str,
-) -> Result<(Calls<'a>, Option<&'a str>), Misuse> {
+) -> Result<(Calls<'a>, Option<&'a str>), ToolError> {
     let arguments = arguments_in(found)?;
     let (log, records) = (found.get_str("log"), found.get_str("records"));
     let (calls, path) = match (found.get_str("CALL"), records, log) {
-        (Some(_), Some(_), _) => return Err(Misuse::Told("CALL and --records can't both be given")),
-        (Some(_), None, Some(_)) => return Err(Misuse::Told("CALL and --log can't both be given")),
+        (Some(_), Some(_), _) => return Err(ToolError::Misused(
+            "CALL and --records can't both be given",
+        )),
+        (Some(_), None, Some(_)) => return Err(ToolError::Misused(
+            "CALL and --log can't both be given",
+        )),
         (Some(name), None, None) => return Ok((Calls::One(Call { name, arguments }), None)),
         (None, Some(_), Some(_)) => {
-            return Err(Misuse::Told("--records and --log can't both be given"));
+            return Err(ToolError::Misused("--records and --log can't both be given"));
         }
         (None, None, Some(path)) => (Calls::Log, path),
         (None, records, None) => (Calls::Records, records.unwrap_or("-")),
     };
     if path == "-" && subject == "-" {
-        return Err(Misuse::Told(BOTH));
+        return Err(ToolError::Misused(BOTH));
     }
     Ok((calls, Some(path)))
 }
 
 // The arguments of a call, with zeros behind them.
-pub(super) fn arguments_in(found: &ArgMatches<'_>) -> Result<[u64; 6], Misuse> {
+pub(super) fn arguments_in(found: &ArgMatches<'_>) -> Result<[u64; 6], ToolError> {
     let mut arguments = [0; 6];
     let texts = found.get_strs("ARG").unwrap_or(&[]);
     if texts.len() > 6 {
-        return Err(Misuse::Told("a call has at most 6 arguments"));
+        return Err(ToolError::Misused("a call has at most 6 arguments"));
     }
     for (argument, text) in arguments.iter_mut().zip(texts) {
         match argument_of(text) {
             Some(number) => *argument = number,
-            None => return Err(Misuse::Told(NO_ARGUMENT)),
+            None => return Err(ToolError::Misused(NO_ARGUMENT)),
         }
     }
     Ok(arguments)

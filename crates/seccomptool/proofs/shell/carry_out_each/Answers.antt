@@ -10,7 +10,6 @@ loop-inputs-init g c = (none_ended c.args.asked.now.command, omega arith)
 pub loop-inputs-preserved : goal.loop-inputs-preserved
 loop-inputs-preserved g c =
     let before = c.loop-inputs.invariant in
-    let greater = c.greater-status.ensures in
     let own = c.carry_out-own.ensures in
     let either = c.once_written-ended.ensures in
     let own_status : c.once_written-ended.result ≤ 3 = elim either [
@@ -19,14 +18,12 @@ loop-inputs-preserved g c =
     ] in
     let performed : EndsWith c.args.asked.now.command c.once_written-ended.result =
     once_ended c.args.asked.now.command c.carry_out-own.result c.once_written-ended.result own.performed either in
-    let at_most : c.greater-status.result ≤ 3 = elim greater.2 [
-      | inl same ↦ let le = before.1 in omega (arith, same, le)
-      | inr same ↦ omega (arith, same, own_status)
-    ] in (
+    let greater = c.max-status.ensures in
+    let at_most : c.max-status.result ≤ 3 = let le = before.1 in omega (arith, greater, le, own_status) in (
       next_ended c.args.asked.now.command c.args.asked.now.inputs.items c.loop-inputs.inputs-index c.loop-inputs.status
-          c.once_written-ended.result c.greater-status.result
+          c.once_written-ended.result c.max-status.result
           (subst (λ items. c.loop-inputs.inputs-index < length items) c.deref-inputs-items.ensures.value c.loop-inputs-test.true)
-          before.0 performed greater.0 greater.1 greater.2,
+          before.0 performed greater,
       at_most,
     )
 

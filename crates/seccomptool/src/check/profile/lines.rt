@@ -65,23 +65,18 @@ struct Spot<'a> {
     number: Option<u32>,
 }
 
-fn of_key<'a>(entry: Option<usize>, key: &'a str, rank: (usize, usize)) -> Spot<'a> {
+fn about<'a>(
+    entry: Option<usize>,
+    rank: (usize, usize),
+    key: Option<&'a str>,
+    number: Option<u32>,
+) -> Spot<'a> {
     Spot {
         entry,
         rank,
-        key: Some(key),
+        key,
         condition: None,
-        number: None,
-    }
-}
-
-fn of_call<'a>(entry: usize, number: u32, rank: (usize, usize)) -> Spot<'a> {
-    Spot {
-        entry: Some(entry),
-        rank,
-        key: None,
-        condition: None,
-        number: Some(number),
+        number,
     }
 }
 
@@ -89,25 +84,27 @@ fn of_call<'a>(entry: usize, number: u32, rank: (usize, usize)) -> Spot<'a> {
 fn spot_of(target: TargetArch, warning: &ProfileWarning, nth: usize) -> Spot<'_> {
     match warning {
         ProfileWarning::Doubtful(doubt) => match *doubt {
-            Doubt::LargeDefaultErrno => of_key(None, "defaultAction", (0, 0)),
+            Doubt::LargeDefaultErrno => about(None, (0, 0), Some("defaultAction"), None),
             Doubt::EqualsDefault { place } | Doubt::LargeErrno { place } => {
-                of_key(Some(place), "action", (0, 0))
+                about(Some(place), (0, 0), Some("action"), None)
             }
-            Doubt::Behind { place, number } => of_call(place, number, (1, number as usize)),
-            Doubt::ManyConditions { place } => of_key(Some(place), "args", (2, 0)),
+            Doubt::Behind { place, number } => {
+                about(Some(place), (1, number as usize), None, Some(number))
+            }
+            Doubt::ManyConditions { place } => about(Some(place), (2, 0), Some("args"), None),
             Doubt::SameConditions {
                 first,
                 second,
                 number,
-            } => of_call(second, number, (3, first)),
+            } => about(Some(second), (3, first), None, Some(number)),
             Doubt::OpenOrder {
                 first,
                 second,
                 call,
-            } => of_call(second, word_at(&call, 0), (3, first)),
+            } => about(Some(second), (3, first), None, Some(word_at(&call, 0))),
         },
-        ProfileWarning::Flags => of_key(None, "flags", (2, 0)),
-        ProfileWarning::UnknownKey(name) => of_key(None, name.as_str(), (3, nth)),
+        ProfileWarning::Flags => about(None, (2, 0), Some("flags"), None),
+        ProfileWarning::UnknownKey(name) => about(None, (3, nth), Some(name.as_str()), None),
         ProfileWarning::OfEntries(warning, part) => spot_of_part(target, warning.subject, *part),
     }
 }
@@ -115,24 +112,25 @@ fn spot_of(target: TargetArch, warning: &ProfileWarning, nth: usize) -> Spot<'_>
 // What a warning of a filter is about, in the profile.
 fn spot_of_part<'a>(target: TargetArch, subject: Subject, part: ProfilePart) -> Spot<'a> {
     let origin = match (part, subject) {
-        (ProfilePart::Default, Subject::MismatchCall(call)) => return Spot {
-            number: call_number(target, call.name()),
-            ..of_key(None, "defaultAction", (1, call as usize))
-        },
-        (ProfilePart::Default, _) => return of_key(None, "defaultAction", (0, 0)),
-        (ProfilePart::Action(place), _) => return of_key(Some(place), "action", (0, 0)),
+        (ProfilePart::Default, Subject::MismatchCall(call)) => {
+            let number = call_number(target, call.name());
+            return about(None, (1, call as usize), Some("defaultAction"), number);
+        }
+        (ProfilePart::Default, _) => return about(None, (0, 0), Some("defaultAction"), None),
+        (ProfilePart::Action(place), _) => return about(Some(place), (0, 0), Some("action"), None),
         (ProfilePart::Rule(origin), _) => origin,
     };
     let condition = match subject {
         Subject::Condition(comparison) => Some(origin.condition.unwrap_or(comparison.place)),
         _ => origin.condition,
     };
+    let (entry, number) = (Some(origin.entry), origin.number);
     match condition {
         Some(place) => Spot {
             condition,
-            ..of_key(Some(origin.entry), "args", (2, place))
+            ..about(entry, (2, place), Some("args"), None)
         },
-        None => of_call(origin.entry, origin.number, (1, origin.number as usize)),
+        None => about(entry, (1, number as usize), None, Some(number)),
     }
 }
 

@@ -1,5 +1,5 @@
-use Rattle.std.proofs.Common.{◌≡◌, ◌∷◌, [], ◌++◌, All, Bor, Contains, Global, Option, Some, None, String, ap, inl, inr, map, rules, subst, sym}
-use Rattle.std.proofs.Common.{◌∙◌, string_bytes, string_cmp}
+use Rattle.std.proofs.Common.{◌≡◌, ◌∷◌, [], ◌++◌, All, Bor, Contains, Global, Option, Some, None, String, ap, inl, inr, map, rules}
+use Rattle.std.proofs.Common.{subst, sym, ◌∙◌, string_bytes, string_cmp}
 use Rattle.std.specs.List.Sorted.{IsStrictlySortedBy}
 use Rattle.std.specs.Map.{keys_of}
 use Rattle.std.specs.BTreeMap.{get_by_text}

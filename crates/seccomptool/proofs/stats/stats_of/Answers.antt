@@ -46,8 +46,8 @@ returns c =
     let order : IsStrictlySortedBy string_cmp (keys_of filters.entries) = search rules in
     let done : List (String Global × Filter) = l.invariant.done in
     let began : filters.entries ≡ c.into_iter-name-iterator.result = search rules in
-    let all : filters.entries ≡ done = began ∙ l.invariant.whole ∙ ap (λ (es : List (String Global × Filter)). done ++ es) c.in-None-2.ensures.steps.0
-    ∙ append-nil done in (
+    let all : filters.entries ≡ done = began ∙ l.invariant.whole
+    ∙ ap (λ (es : List (String Global × Filter)). done ++ es) c.in-None-2.ensures.steps.0 ∙ append-nil done in (
       of.0,
       of.1,
       are_named (HasPolicy target) (get_by_text filters) of.0 are filters.entries order

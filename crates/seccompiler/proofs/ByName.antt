@@ -53,8 +53,7 @@ module _ {X : Type 0} where
 
   -- In order, no name stands twice.
   once : (xs : ByName X) → AreInOrder xs → IsDistinct string_eq (keys_of xs)
-  once xs h = subst (λ e. IsDistinct e (keys_of xs)) (λ i x y. is_eq-slice_cmp (string_bytes x) (string_bytes y) i)
-      (IsDistinct-from_sorted string_cmp (keys_of xs) h)
+  once xs h = grind (arith, is_eq-slice_cmp, IsDistinct-from_sorted)
 
   -- Each value is found under its name.
   pub found_there : (front : ByName X) (e : String Global × X) (back : ByName X) → AreInOrder (front ++ e ∷ back)
@@ -110,24 +109,21 @@ module _ {X Y : Type 0} (R : X → Y → Type 0) where
   made_more : (xs : ByName X) (ys : ByName Y) (x : String Global × X) (y : String Global × Y)
       → AreMade R xs ys → string_bytes y.0 ≡ string_bytes x.0 → R x.1 y.1 → AreMade R (xs ++ x ∷ []) (ys ++ y ∷ [])
   made_more [] [] x y h name made = ((name, made), tt)
-  made_more [] (b ∷ ys) x y h name made = absurd h
-  made_more (a ∷ xs) [] x y h name made = absurd h
   made_more (a ∷ xs) (b ∷ ys) x y h name made = (h.0, made_more xs ys x y h.1 name made)
+  made_more _ _ x y h name made = absurd h
 
   -- The names are the same, so they stand in the same order.
   all_below : (a b : String Global) → string_bytes b ≡ string_bytes a → (xs : ByName X) (ys : ByName Y) → AreMade R xs ys
       → AllByRecursion (λ key. string_cmp a key ≡ Less) (keys_of xs) → AllByRecursion (λ key. string_cmp b key ≡ Less) (keys_of ys)
   all_below a b same [] [] h below = below
-  all_below a b same [] (y ∷ ys) h below = absurd h
-  all_below a b same (x ∷ xs) [] h below = absurd h
   all_below a b same (x ∷ xs) (y ∷ ys) h below = (rw (same, h.0.0) below.0, all_below a b same xs ys h.1 below.1)
+  all_below a b same _ _ h below = absurd h
 
   same_order : (xs : ByName X) (ys : ByName Y) → AreMade R xs ys → AreInOrder xs → AreInOrder ys
   unfolding IsStrictlySortedBy
   same_order [] [] h order = order
-  same_order [] (y ∷ ys) h order = absurd h
-  same_order (x ∷ xs) [] h order = absurd h
   same_order (x ∷ xs) (y ∷ ys) h order = (all_below x.0 y.0 h.0.0 xs ys h.1 order.0, same_order xs ys h.1 order.1)
+  same_order _ _ h order = absurd h
 
   -- What a loop has made of the values so far, and the values that are left, for which there is room.
   pub record IsMaking (given left : ByName X) (ys : Vec (String Global × Y) Global) : Type 0 where
@@ -147,28 +143,19 @@ module _ {X Y : Type 0} (R : X → Y → Type 0) where
     pub making_more : (x : String Global × X) (y : String Global × Y) (rest : ByName X) (zs : Vec (String Global × Y) Global)
         → left ≡ x ∷ rest → zs.items ≡ ys.items ++ y ∷ [] → zs.len ≡ ys.len + 1 → zs.cap ≡ ys.cap
         → string_bytes y.0 ≡ string_bytes x.0 → R x.1 y.1 → IsMaking given rest zs
-    making_more x y rest zs next added longer same name own = record {
-      done = so_far.done ++ x ∷ [];
-      all = at_next x rest next ∙ sym (append_assoc so_far.done (x ∷ []) rest);
-      made = subst (AreMade R (so_far.done ++ x ∷ [])) (sym added) (made_more so_far.done ys.items x y so_far.made name own);
-      room = omega (arith, so_far.room, ap length next, longer, same);
-    }
+    making_more x y rest zs next added longer same name own = grind (arith, at_next, append_assoc, made_more)
 
     -- In the end all of what was given are made, in the same order.
     pub making_done : (listed : ByName X) → given ≡ listed → length left ≡ 0 → AreInOrder listed
         → AreMade R listed ys.items × AreInOrder ys.items
-    making_done listed gives none order =
-        let rest = ap (λ es. so_far.done ++ es) (nil_from_length left none) ∙ append-nil so_far.done in
-        let all = subst (λ xs. AreMade R xs ys.items) (sym (sym gives ∙ so_far.all ∙ rest)) so_far.made in
-        (all, same_order listed ys.items all order)
+    making_done listed gives none order = grind (arith, nil_from_length, append-nil, same_order)
 
   -- Under a name there is what is made of the value that is found; where none is found, there is nothing.
   pub made_under : (xs : ByName X) (ys : ByName Y) → AreMade R xs ys → (q : List ℕ)
       → MatchOption (under xs q) (under ys q ≡ None) (λ x. (y : Y) × (under ys q ≡ Some y) × R x y)
   made_under [] [] h q = refl
-  made_under [] (b ∷ ys) h q = absurd h
-  made_under (a ∷ xs) [] h q = absurd h
   made_under (a ∷ xs) (b ∷ ys) h q =
       rw h.0.0 (elim (bytes_eq q (string_bytes a.0)) as
       (λ t. MatchOption (cond t (Some a.1) (under xs q)) (cond t (Some b.1) (under ys q) ≡ None)
       (λ x. (y : Y) × (cond t (Some b.1) (under ys q) ≡ Some y) × R x y)) [ true ↦ (b.1, refl, h.0.1) | false ↦ made_under xs ys h.1 q ])
+  made_under _ _ h q = absurd h

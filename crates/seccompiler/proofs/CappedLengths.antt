@@ -15,13 +15,12 @@ lent_length lent = sum_by (λ chain. chain_length chain.now.items) lent
 lent_chains : (entries : List (ℤ × Vec Rule Global)) (lent : List (Bor (Vec Rule Global)))
     → map deref lent ≡ values_of entries → lent_length lent ≡ chains_length (chains_of entries)
 lent_chains [] [] same = refl
-lent_chains [] (chain ∷ lent) same = cc
-lent_chains (e ∷ entries) [] same = cc
 lent_chains (e ∷ entries) (chain ∷ lent) same = let first : chain.now ≡ e.1 = cc in
     let rest : map deref lent ≡ values_of entries = cc in
     sum_by-cons (λ c. chain_length c.now.items) chain lent ∙ ap (λ v. chain_length v.items + lent_length lent) first
     ∙ ap (λ n. chain_length e.1.items + n) (lent_chains entries lent rest)
     ∙ sym (sum_by-cons (λ (c : ℤ × Chain). chain_length c.1) (e.0, e.1.items) (chains_of entries))
+lent_chains _ _ same = cc
 
 -- The counted length of a filter, as the map has its chains
 pub counted_full : (entries : List (ℤ × Vec Rule Global)) (chains : List (ℤ × Chain))
@@ -44,5 +43,4 @@ capped_filter m f entries lent so_far same some all first = first ∙ ap (λ n. 
 -- A filter that has none.
 pub empty_filter : (m : ℕ) (f : Filter) (entries : List (ℤ × Vec Rule Global)) → 4 ≤ m
     → chains_of entries ≡ f.chains → length entries ≡ 0 → 4 ≡ min (counted_length f) m
-empty_filter m f entries large same none = let four : 4 ≡ min 4 m = omega arith in
-    four ∙ ap (λ n. min n m) (sym (counted_empty entries f.chains same none))
+empty_filter m f entries large same none = grind (arith, counted_empty)

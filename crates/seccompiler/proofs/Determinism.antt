@@ -1,11 +1,10 @@
 -- A program that ends on a record does so with one word and one number of steps.
-use Rattle.std.proofs.Common.{◌≡◌, ◌≢◌, ℕ, ◌+◌, ◌-◌, ◌<◌, List, nat_lt, nat_le, bit_and, sym, ◌∙◌, refl, arith, ⊎_elim}
+use Rattle.std.proofs.Common.{◌≡◌, ◌≢◌, ℕ, ◌+◌, ◌-◌, ◌<◌, List, nat_lt, nat_le, bit_and, refl, arith, ⊎_elim}
 use Rattle.std.proofs.lemmas.Bool.{cases_lt}
 use Rattle.std.specs.Prelude.{◌==◌, if◌then◌else◌}
 use Rattle.std.proofs.lemmas.Bool.Decides.{nat_tests}
 use Rattle.seccompiler.specs.declared.bpf.sock_filter.{sock_filter}
-use Rattle.seccompiler.specs.Machine.{word_at, Does, loads, masks, jumps, is_equal, is_not_equal, is_greater, is_not_greater, is_at_least}
-use Rattle.seccompiler.specs.Machine.{is_less, Step, Goes, stays, then_step, Ends}
+use Rattle.seccompiler.specs.Machine.{word_at, Does, Step, Goes, stays, then_step, Ends}
 
 -- Where an instruction leads.
 abbrev place_after : sock_filter → ℕ → ℕ → ℕ
@@ -21,32 +20,20 @@ accumulator_after i r a = if i.code == 0x20 then word_at r i.k else (if i.code =
 -- An instruction that does something leads to the place and leaves the accumulator that its fields tell, and it is no return.
 told : (i : sock_filter) (r : List ℕ) (place a place' a' : ℕ) → Does i r place a place' a'
     → (place' ≡ place_after i place a) × (a' ≡ accumulator_after i r a) × (i.code ≢ 0x06)
-told i r place a place' a' (loads code _ to is) = (grind (arith, nat_tests), grind (arith, nat_tests), λ returns. omega arith)
-told i r place a place' a' (masks code to is) = (grind (arith, nat_tests), grind (arith, nat_tests), λ returns. omega arith)
-told i r place a place' a' (jumps code to is) = (grind (arith, nat_tests), grind (arith, nat_tests), λ returns. omega arith)
-told i r place a place' a' (is_equal code test to is) = (grind (arith, nat_tests), grind (arith, nat_tests), λ returns. omega arith)
-told i r place a place' a' (is_not_equal code test to is) = (grind (arith, nat_tests), grind (arith, nat_tests), λ returns. omega arith)
-told i r place a place' a' (is_greater code test to is) = (grind (arith, nat_tests), grind (arith, nat_tests), λ returns. omega arith)
-told i r place a place' a' (is_not_greater code test to is) = (grind (arith, nat_tests), grind (arith, nat_tests), λ returns. omega arith)
-told i r place a place' a' (is_at_least code test to is) = (grind (arith, nat_tests), grind (arith, nat_tests), λ returns. omega arith)
-told i r place a place' a' (is_less code test to is) = (grind (arith, nat_tests), grind (arith, nat_tests), λ returns. omega arith)
+told i r place a place' a' does = grind (arith, nat_tests)
 
 -- A step from one place and accumulator leads to one place and accumulator.
 step_only : (p : List sock_filter) (r : List ℕ) {place a place' a' at b at' b' : ℕ} → Step p r place a place' a'
     → Step p r at b at' b' → place ≡ at → a ≡ b → (place' ≡ at') × (a' ≡ b')
-step_only p r {place} {a} {place'} {a'} {at} {b} {at'} {b'} s t here with_same =
-    let same : s.instruction ≡ t.instruction = cc (s.here, t.here) in let one = told s.instruction r place a place' a' s.does in
-    let other = told t.instruction r at b at' b' t.does in
-    ((rw (same, here, with_same) at one.0) ∙ sym other.0, (rw (same, with_same) at one.1) ∙ sym other.1)
+step_only p r s t here with_same = grind (arith, told)
 
 -- So do equally many steps.
 goes_only : (p : List sock_filter) (r : List ℕ) {place a n place' a' m place'' a'' : ℕ}
     → Goes p r place a n place' a' → Goes p r place a m place'' a'' → n ≡ m → (place' ≡ place'') × (a' ≡ a'')
 goes_only p r stays stays equally_many = (refl, refl)
-goes_only p r stays (then_step g s) equally_many = absurd (omega arith)
-goes_only p r (then_step g s) stays equally_many = absurd (omega arith)
 goes_only p r (then_step g s) (then_step h t) equally_many = let before = goes_only p r g h (omega arith) in
     step_only p r s t before.0 before.1
+goes_only p r _ _ equally_many = absurd (omega arith)
 
 -- A run goes on after each lesser number of steps.
 goes_on_before : (p : List sock_filter) (r : List ℕ) {place a m place' a' : ℕ} (n : ℕ)

@@ -1,6 +1,6 @@
 -- What is found under a call number in chains with one more behind them, and the entries of a map of chains that are left.
-use Rattle.std.proofs.Common.{◌≡◌, ◌≢◌, ℕ, ℤ, pos, List, [], ◌∷◌, ◌++◌, Some, None, Bool, true, false, cond, refl, sym, ap, ◌∙◌, subst}
-use Rattle.std.proofs.Common.{arith, append_assoc, Vec, map}
+use Rattle.std.proofs.Common.{◌≡◌, ◌≢◌, ℕ, ℤ, pos, List, [], ◌∷◌, ◌++◌, Some, None, cond, refl, sym, ap, ◌∙◌, subst, arith, append_assoc}
+use Rattle.std.proofs.Common.{Vec, map}
 use Rattle.std.proofs.lemmas.List.Elements.{All-head, All-tail}
 use Rattle.std.proofs.lemmas.Bool.Decides.{nat_tests}
 use Rattle.std.specs.Prelude.{All}
@@ -16,35 +16,21 @@ Entry = ℤ × Chain
 pub found_before : (chains : List Entry) (e : Entry) (a : ℕ) (chain : Chain) → chain_under chains a ≡ Some chain
     → chain_under (chains ++ e ∷ []) a ≡ Some chain
 found_before [] e a chain h = cc
-found_before (x ∷ chains) e a chain h = go (is_at (int_cmp (pos a)) x.0) h (found_before chains e a chain)
-  where
-    go : (b : Bool) → cond b (Some x.1) (chain_under chains a) ≡ Some chain
-        → (chain_under chains a ≡ Some chain → chain_under (chains ++ e ∷ []) a ≡ Some chain)
-        → cond b (Some x.1) (chain_under (chains ++ e ∷ []) a) ≡ Some chain
-    go true h rest = h
-    go false h rest = rest h
+found_before (x ∷ chains) e a chain h = grind (arith, found_before chains e a chain)
 
 -- where none is found, the one behind is tried
 found_last : (chains : List Entry) (e : Entry) (a : ℕ) → chain_under chains a ≡ None
     → chain_under (chains ++ e ∷ []) a ≡ cond (is_at (int_cmp (pos a)) e.0) (Some e.1) None
 found_last [] e a h = refl
-found_last (x ∷ chains) e a h = go (is_at (int_cmp (pos a)) x.0) h (found_last chains e a)
-  where
-    go : (b : Bool) → cond b (Some x.1) (chain_under chains a) ≡ None
-        → (chain_under chains a ≡ None → chain_under (chains ++ e ∷ []) a ≡ cond (is_at (int_cmp (pos a)) e.0) (Some e.1) None)
-        → cond b (Some x.1) (chain_under (chains ++ e ∷ []) a) ≡ cond (is_at (int_cmp (pos a)) e.0) (Some e.1) None
-    go true h rest = cc
-    go false h rest = rest h
+found_last (x ∷ chains) e a h = grind (arith, found_last chains e a)
 
 pub last_same : (chains : List Entry) (a : ℕ) (chain : Chain) → chain_under chains a ≡ None
     → chain_under (chains ++ (pos a, chain) ∷ []) a ≡ Some chain
-last_same chains a chain none =
-    let same : is_at (int_cmp (pos a)) (pos a) ≡ true = grind (arith, nat_tests) in rw (found_last chains (pos a, chain) a none, same) refl
+last_same chains a chain none = grind (arith, found_last, nat_tests)
 
 pub last_other : (chains : List Entry) (a n : ℕ) (chain : Chain) → a ≢ n → chain_under chains a ≡ None
     → chain_under (chains ++ (pos n, chain) ∷ []) a ≡ None
-last_other chains a n chain differs none = let other : is_at (int_cmp (pos a)) (pos n) ≡ false = grind (arith, nat_tests) in
-    rw (found_last chains (pos n, chain) a none, other) refl
+last_other chains a n chain differs none = rw (found_last chains (pos n, chain) a none) (grind (arith, nat_tests))
 
 abbrev pub MapEntry : Type 0
 MapEntry = ℤ × Vec Rule Global

@@ -3,8 +3,7 @@ use Rattle.std.proofs.Common.{◌≡◌, ℕ, zero, suc, ◌+◌, ◌≤◌, Lis
 use Rattle.std.specs.Prelude.{slice_get}
 use Rattle.seccompiler.specs.declared.bpf.sock_filter.{sock_filter}
 use Rattle.seccompiler.specs.Pieces.{Leads}
-use Rattle.seccompiler.specs.Machine.{Does, loads, masks, jumps, is_equal, is_not_equal, is_greater, is_not_greater, is_at_least, is_less}
-use Rattle.seccompiler.specs.Machine.{Step, Goes, stays, then_step}
+use Rattle.seccompiler.specs.Machine.{Does, Step, Goes, stays, then_step}
 
 -- the piece stands in the program from this place on
 pub record Stands (p : List sock_filter) (base : ℕ) (piece : List sock_filter) : Type 0 where
@@ -24,25 +23,11 @@ get_before (x ∷ a) b (suc k) i e = get_before a b k i e
 -- an instruction does the same further on, and goes on
 does_shift : (i : sock_filter) (r : List ℕ) (base place a place' a' : ℕ) → Does i r place a place' a'
     → Does i r (base + place) a (base + place') a' × (place + 1 ≤ place')
-does_shift i r base place a place' a' (loads c h e f) = (loads c h (omega arith) f, omega arith)
-does_shift i r base place a place' a' (masks c e f) = (masks c (omega arith) f, omega arith)
-does_shift i r base place a place' a' (jumps c e f) = (jumps c (omega arith) f, omega arith)
-does_shift i r base place a place' a' (is_equal c t e f) = (is_equal c t (omega arith) f, omega arith)
-does_shift i r base place a place' a' (is_not_equal c t e f) = (is_not_equal c t (omega arith) f, omega arith)
-does_shift i r base place a place' a' (is_greater c t e f) = (is_greater c t (omega arith) f, omega arith)
-does_shift i r base place a place' a' (is_not_greater c t e f) = (is_not_greater c t (omega arith) f, omega arith)
-does_shift i r base place a place' a' (is_at_least c t e f) = (is_at_least c t (omega arith) f, omega arith)
-does_shift i r base place a place' a' (is_less c t e f) = (is_less c t (omega arith) f, omega arith)
+does_shift i r base place a place' a' h = grind arith
 
 step_shift : (p piece : List sock_filter) (r : List ℕ) (base : ℕ) {place a place' a' : ℕ}
     → Stands p base piece → Step piece r place a place' a' → Step p r (base + place) a (base + place') a'
-step_shift p piece r base {place} {a} {place'} {a'} s h = record {
-  instruction = h.instruction;
-  here = s.at place h.instruction h.here;
-  before = h.before;
-  after = h.after;
-  does = (does_shift h.instruction r base place a place' a' h.does).0;
-}
+step_shift p piece r base s h = grind (arith, does_shift)
 
 -- the lemma on pieces
 pub goes_shift : (p piece : List sock_filter) (r : List ℕ) (base : ℕ) {place a n place' a' : ℕ}

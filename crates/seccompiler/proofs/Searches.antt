@@ -1,5 +1,5 @@
 -- What holds of each item of a list, or of some, and what a loop over it has shown of the items so far.
-use Rattle.std.proofs.Common.{◌≡◌, ℕ, zero, suc, ◌+◌, ◌<◌, ◌≤◌, List, [], ◌∷◌, length, get_or, take, refl, subst, sym, ◌⊎◌, inl, inr, arith}
+use Rattle.std.proofs.Common.{◌≡◌, ℕ, suc, ◌+◌, ◌<◌, ◌≤◌, List, [], ◌∷◌, length, get_or, take, refl, subst, sym, ◌⊎◌, inl, inr, arith}
 use Rattle.std.specs.Prelude.{All, Any}
 use Rattle.std.proofs.lemmas.List.{take_all}
 use Rattle.std.specs.List.Sorted.{IsPermutation}
@@ -44,8 +44,7 @@ module _ {X : Type 0} (P : X → Type 0) where
   any_tail x xs (k, y, within, is, has) = (suc k, y, omega arith, is, has)
 
   pub any_cases : (x : X) (xs : List X) → Any P (x ∷ xs) → P x ⊎ Any P xs
-  any_cases x xs (zero, y, within, is, has) = inl (subst P (sym is) has)
-  any_cases x xs (suc k, y, within, is, has) = inr (k, y, omega arith, is, has)
+  any_cases x xs h = grind arith
 
   pub any_nil : Any P [] → ⊥
   any_nil (k, y, within, is, has) = omega arith

@@ -1,11 +1,10 @@
 -- What one step of each instruction does, where the instruction stands at a place of a program.
-use Rattle.std.proofs.Common.{◌≡◌, ℕ, ◌+◌, ◌<◌, ◌≤◌, ◌^◌, List, length, Some, refl, subst, arith, ◌⊎◌, inl, inr, ⊎_elim}
+use Rattle.std.proofs.Common.{◌≡◌, ℕ, ◌+◌, ◌<◌, ◌≤◌, ◌^◌, List, length, Some, refl, subst, arith, ◌⊎◌}
 use Rattle.std.specs.Prelude.{slice_get, bit_and}
 use Rattle.std.proofs.lemmas.Bool.{cases_lt, cases_eq}
 use Rattle.std.proofs.lemmas.Nat.{and_le_l}
 use Rattle.seccompiler.specs.declared.bpf.sock_filter.{sock_filter}
-use Rattle.seccompiler.specs.Machine.{word_at, Does, loads, masks, jumps, is_equal, is_not_equal, is_greater, is_not_greater, is_at_least}
-use Rattle.seccompiler.specs.Machine.{is_less, Step, Goes}
+use Rattle.seccompiler.specs.Machine.{word_at, Does, loads, masks, jumps, Step, Goes}
 use Rattle.seccompiler.specs.Code.{load, mask, jump, jump_equal, jump_greater, jump_at_least}
 use Rattle.seccompiler.specs.Pieces.{Leads}
 
@@ -23,20 +22,15 @@ module _ (p : List sock_filter) (r : List ℕ) where
 
   pub on_equal : (place a k jt jf : ℕ) → slice_get p place ≡ Some (jump_equal k jt jf)
       → a < 2 ^ 32 → ((a ≡ k) × Step p r place a (place + 1 + jt) a) ⊎ ((a ≡ k → ⊥) × Step p r place a (place + 1 + jf) a)
-  on_equal place a k jt jf here small = ⊎_elim (λ e. inl (e, step_of (jump_equal k jt jf) here small small (is_equal refl e refl refl)))
-      (λ n. inr (n, step_of (jump_equal k jt jf) here small small (is_not_equal refl n refl refl))) (cases_eq a k)
+  on_equal place a k jt jf here small = grind (arith, step_of, cases_eq)
 
   pub on_greater : (place a k jt jf : ℕ) → slice_get p place ≡ Some (jump_greater k jt jf)
       → a < 2 ^ 32 → ((k < a) × Step p r place a (place + 1 + jt) a) ⊎ ((a ≤ k) × Step p r place a (place + 1 + jf) a)
-  on_greater place a k jt jf here small =
-      ⊎_elim (λ e. inl (e, step_of (jump_greater k jt jf) here small small (is_greater refl e refl refl)))
-      (λ n. inr (n, step_of (jump_greater k jt jf) here small small (is_not_greater refl n refl refl))) (cases_lt k a)
+  on_greater place a k jt jf here small = grind (arith, step_of, cases_lt)
 
   pub on_at_least : (place a k jt jf : ℕ) → slice_get p place ≡ Some (jump_at_least k jt jf)
       → a < 2 ^ 32 → ((k ≤ a) × Step p r place a (place + 1 + jt) a) ⊎ ((a < k) × Step p r place a (place + 1 + jf) a)
-  on_at_least place a k jt jf here small =
-      ⊎_elim (λ n. inr (n, step_of (jump_at_least k jt jf) here small small (is_less refl n refl refl)))
-      (λ e. inl (e, step_of (jump_at_least k jt jf) here small small (is_at_least refl e refl refl))) (cases_lt a k)
+  on_at_least place a k jt jf here small = grind (arith, step_of, cases_lt)
 
   pub on_jump : (place a k : ℕ) → slice_get p place ≡ Some (jump k) → a < 2 ^ 32 → Step p r place a (place + 1 + k) a
   on_jump place a k here small = step_of (jump k) here small small (jumps refl refl refl)

@@ -1,5 +1,6 @@
 -- What `number_of` gives, in the words of the table.
 use Rattle.std.proofs.Common.{◌≡◌, ◌≢◌, ℕ, ℤ, List, [], ◌∷◌, true, false, Option, Some, None, IfSome, All, refl, sym, ap, subst, bytes_eq}
+use Rattle.std.proofs.Common.{arith}
 use Rattle.std.proofs.lemmas.Bool.Decides.{not_from_Decides}
 use Rattle.std.proofs.lemmas.List.Elements.{All-nil, All-cons, All-head, All-tail}
 use Rattle.std.specs.Option.{MatchOption}
@@ -38,11 +39,8 @@ number_of-tells (pair ∷ table) name =
 -- a fact on all numbers of a table holds of the one that is found
 pub number_of-all : (P : ℤ → Type 0) (table : List Pair) (name : List ℕ) → All (λ pair. P pair.1) table → IfSome (number_of table name) P
 number_of-all P [] name all = tt
-number_of-all P (pair ∷ table) name all =
-    elim (bytes_eq pair.0 name) as (λ same. bytes_eq pair.0 name ≡ same → IfSome (number_of (pair ∷ table) name) P) [
-      | true ↦ λ same. rw same (All-head (λ pair. P pair.1) pair table all)
-      | false ↦ λ apart. rw apart (number_of-all P table name (All-tail (λ pair. P pair.1) pair table all))
-    ] refl
+number_of-all P (pair ∷ table) name all = let here = All-head (λ pair. P pair.1) pair table all in
+    let rest = number_of-all P table name (All-tail (λ pair. P pair.1) pair table all) in grind arith
 
 -- the number that a look-up gives is that of the first pair with the name
 pub found_first : (table : List Pair) (name : List ℕ) (number : ℤ) → Some number ≡ number_of table name → IsFirstNumber table name number

@@ -1,6 +1,6 @@
 -- From what a text is read as to what is told of it, and what a value has under its names.
-use Rattle.std.proofs.Common.{◌≡◌, ℕ, ◌++◌, List, ◌∷◌, Option, String, Global, [], Some, None, IfSome, string_bytes}
-use Rattle.std.proofs.Common.{refl, sym, ap, ◌∙◌, subst}
+use Rattle.std.proofs.Common.{◌≡◌, ℕ, ◌++◌, List, ◌∷◌, Option, String, Global, [], Some, None, IfSome, string_bytes, refl, sym, ap, ◌∙◌}
+use Rattle.std.proofs.Common.{subst}
 use Rattle.serde_json.specs.Data.{Data}
 use Rattle.serde_json.specs.Find.{get}
 use Rattle.seccompiler.proofs.ByName.{ByName, AreInOrder, AreMade, found_there, found_in_front, made_under}

@@ -1,5 +1,5 @@
 -- The numbers in a call record: their ranges, their halves, and masks over halves.
-use Rattle.std.proofs.Common.{◌≡◌, ℕ, ◌+◌, ◌*◌, ◌/◌, ◌%◌, ◌<◌, ◌^◌, List, length, ap, ◌∙◌, arith, ⊎_elim}
+use Rattle.std.proofs.Common.{◌≡◌, ℕ, ◌+◌, ◌*◌, ◌/◌, ◌%◌, ◌<◌, ◌^◌, List, ap, ◌∙◌, arith}
 use Rattle.std.specs.Prelude.{slice_index, bit_and}
 use Rattle.std.proofs.lemmas.Bool.{cases_lt}
 use Rattle.std.proofs.lemmas.List.Elements.{All-get_or}
@@ -9,8 +9,7 @@ use Rattle.seccompiler.specs.Machine.{IsRecord, word_at, number_at}
 
 -- a byte of a record is below 256
 byte_fits : (r : List ℕ) (k : ℕ) → IsRecord r → slice_index r k < 256
-byte_fits r k rec = ⊎_elim (λ within. All-get_or (λ b. b < 256) r k 0 within rec.bytes)
-    (λ past. let e : slice_index r k ≡ 0 = get_or_past r k 0 past in omega arith) (cases_lt k (length r))
+byte_fits r k rec = grind (arith, All-get_or, get_or_past, cases_lt)
 
 -- a word of a record has 32 bits
 pub word_fits : (r : List ℕ) (k : ℕ) → IsRecord r → word_at r k < 2 ^ 32
@@ -18,9 +17,7 @@ word_fits r k rec = omega (arith, byte_fits r k rec, byte_fits r (k + 1) rec, by
 
 -- an eight-byte number is two words
 pub number_halves : (r : List ℕ) (k : ℕ) → number_at r k 8 ≡ word_at r k + 2 ^ 32 * word_at r (k + 4)
-number_halves r k = let e : k + 1 + 1 + 1 + 1 ≡ k + 4 = omega arith in
-    let same : word_at r (k + 1 + 1 + 1 + 1) ≡ word_at r (k + 4) = ap (λ n. word_at r n) e in
-    omega (arith, same)
+number_halves r k = grind arith
 
 -- a mask goes over the halves
 pub mask_halves : (x m : ℕ) → bit_and x m ≡ bit_and (x / 2 ^ 32) (m / 2 ^ 32) * 2 ^ 32 + bit_and (x % 2 ^ 32) (m % 2 ^ 32)

@@ -8,9 +8,8 @@ use Rattle.std.proofs.lemmas.List.Elements.{AllZip-get_or, length_all_zip}
 -- So they do the other way round, by the converse relation.
 pub all_zip_back : {X : Type 0} (R S : X → X → Type 0) (xs ys : List X) → ((x y : X) → R x y → S y x) → AllZip R xs ys → AllZip S ys xs
 all_zip_back R S [] [] turn pairs = pairs
-all_zip_back R S [] (y ∷ ys) turn pairs = absurd pairs
-all_zip_back R S (x ∷ xs) [] turn pairs = absurd pairs
 all_zip_back R S (x ∷ xs) (y ∷ ys) turn pairs = (turn x y pairs.0, all_zip_back R S xs ys turn pairs.1)
+all_zip_back R S _ _ turn pairs = absurd pairs
 
 -- what some item of the first has gives what some item of the second has
 pub Any-all_zip : {X : Type 0} (R : X → X → Type 0) (P Q : X → Type 0) (xs ys : List X) → ((x y : X) → R x y → P x → Q y)

@@ -1,10 +1,9 @@
 -- For `unfit_number`: which keys of a map are call numbers, and the least that is none.
-use Rattle.std.proofs.Common.{◌≡◌, ℤ, pos, negsuc, ◌≤ℤ◌, ◌<ℤ◌, None, Some, IsSome, false, Ordering, Less, Equal, Greater, refl, sym, subst}
-use Rattle.std.proofs.Common.{◌↔◌, ◌⊎◌, inl, inr, arith, get_or}
+use Rattle.std.proofs.Common.{◌≡◌, ℤ, pos, ◌≤ℤ◌, ◌<ℤ◌, None, Some, IsSome, Equal, refl, sym, ◌↔◌, ◌⊎◌, inl, inr, arith, get_or}
 use Rattle.std.specs.Prelude.{All, Contains}
 use Rattle.std.specs.BTreeMap.{BTreeMap, get, keys}
 use Rattle.std.specs.BTreeMap.Range.{IsLeBy}
-use Rattle.std.specs.Ordering.{int_cmp, is_gt, MatchOrdering}
+use Rattle.std.specs.Ordering.{int_cmp}
 use Rattle.std.specs.Cmp.{int_ranks}
 use Rattle.std.proofs.lemmas.Bool.{true≢false}
 use Rattle.std.proofs.lemmas.Cmp.{int_cmp_total}
@@ -15,29 +14,17 @@ use Rattle.seccompiler.specs.Policy.{IsCallNumber}
 use Rattle.seccompiler.specs.Compiled.{AreCallNumbers, IsLeastUnfit}
 
 call_number : (m : ℤ) → pos 0 ≤ℤ m → m <ℤ pos 4294967296 → IsCallNumber m
-call_number (pos n) low high = (n, refl, omega (arith, ints, high))
-call_number (negsuc n) low high = absurd (omega (arith, ints, low))
+call_number m low high = grind (arith, ints)
 
 at_most : (x y : ℤ) → IsLeBy int_cmp x y → x ≤ℤ y
-at_most x y le = by (int_cmp x y) (int_ranks x y) le
-  where
-    by : (o : Ordering) → MatchOrdering o (x <ℤ y) (x ≡ y) (y <ℤ x) → is_gt o ≡ false → x ≤ℤ y
-    by Less below le = omega (arith, ints, below)
-    by Equal same le = omega (arith, ints, same)
-    by Greater above le = absurd (true≢false le)
+at_most x y le = grind (arith, ints, int_ranks x y)
 
 exact : (x y : ℤ) → int_cmp x y ≡ Equal → x ≡ y
-exact x y same = subst (λ o. MatchOrdering o (x <ℤ y) (x ≡ y) (y <ℤ x)) same (int_ranks x y)
+exact x y same = grind (arith, ints, int_ranks x y)
 
 -- A number that fits 32 unsigned bits, or one behind them.
 fits_or_large : (m : ℤ) → IsLeBy int_cmp (pos 4294967296) m ⊎ (m <ℤ pos 4294967296)
-fits_or_large m = by (int_cmp (pos 4294967296) m) (int_ranks (pos 4294967296) m) refl
-  where
-    by : (o : Ordering) → MatchOrdering o (pos 4294967296 <ℤ m) (pos 4294967296 ≡ m) (m <ℤ pos 4294967296)
-        → int_cmp (pos 4294967296) m ≡ o → IsLeBy int_cmp (pos 4294967296) m ⊎ (m <ℤ pos 4294967296)
-    by Less r is = inl (rw is refl)
-    by Equal r is = inl (rw is refl)
-    by Greater r is = inr r
+fits_or_large m = grind (arith, ints, int_ranks (pos 4294967296) m)
 
 -- A map's least key, if it is below 0, is the least that is no call number.
 pub negative : {X : Type 0} (m : BTreeMap ℤ X) (n : ℤ) (x : X) → All (IsLeBy int_cmp n) (keys m) → get int_cmp m n ≡ Some x → n <ℤ pos 0
@@ -54,8 +41,7 @@ module _ {X : Type 0} (m : BTreeMap ℤ X) (least : ℤ) (from : All (IsLeBy int
   there = btree_map_contains_key_iff int_cmp_total exact m
 
   small : (q : ℤ) → Contains (keys m) q → q <ℤ pos 4294967296 → IsCallNumber q
-  small q among below = call_number q (let above = at_most least q (All-contains (IsLeBy int_cmp least) (keys m) q from among) in
-      omega (arith, ints, above, positive)) below
+  small q among below = grind (arith, call_number, at_most, All-contains, ints)
 
   -- All are call numbers if none is larger than they are.
   pub all_fit : ((q : ℤ) → IsLeBy int_cmp (pos 4294967296) q → get int_cmp m q ≡ None) → AreCallNumbers (keys m)

@@ -1,6 +1,6 @@
 -- For `write_rule` and `write_rules`: what the rules of a chain do, each with its return behind it, one after another.
-use Rattle.std.proofs.Common.{◌≡◌, ℕ, ◌+◌, ◌<◌, ◌≤◌, ◌^◌, List, [], ◌∷◌, ◌++◌, length, refl, sym, ap, ◌∙◌}
-use Rattle.std.proofs.Common.{subst, arith, length-append, ◌⊎◌, inl, inr, ⊎_elim, get_or, take, drop}
+use Rattle.std.proofs.Common.{◌≡◌, ℕ, ◌+◌, ◌<◌, ◌≤◌, ◌^◌, List, [], ◌∷◌, ◌++◌, length, refl, sym, ap, ◌∙◌, subst, arith, length-append, ◌⊎◌}
+use Rattle.std.proofs.Common.{inl, inr, ⊎_elim, get_or, take, drop}
 use Rattle.std.specs.Prelude.{Any}
 use Rattle.std.proofs.lemmas.List.Quantifiers.{Any-push}
 use Rattle.std.proofs.lemmas.List.Sums.{sum_by_push, sum_by-append, sum_by-cons}
@@ -13,9 +13,9 @@ use Rattle.seccompiler.specs.Policy.{Rule, Chain, RuleHolds}
 use Rattle.seccompiler.specs.Layout.{rule_length, rule_steps, rules_length}
 use Rattle.seccompiler.specs.Pieces.{IsRuleCode}
 use Rattle.seccompiler.specs.ChainCode.{IsRulesCode}
-use Rattle.seccompiler.proofs.Blocks.{returns_front, returns_back, gives, block_join, block_from_closed, block_give, give_in_range}
-use Rattle.seccompiler.proofs.Runs.{goes_shift, goes_on, goes_front, leads_front, leads_through, stands_second}
-use Rattle.seccompiler.proofs.Runs.{leads_as, goes_as, stays_small}
+use Rattle.seccompiler.proofs.Blocks.{returns_front, returns_back, gives, block_join, block_from_closed, block_give}
+use Rattle.seccompiler.proofs.Runs.{goes_shift, goes_on, goes_front, leads_front, leads_through, stands_second, leads_as, goes_as}
+use Rattle.seccompiler.proofs.Runs.{stays_small}
 use Rattle.seccompiler.proofs.Searches.{any_head, any_cases, any_nil}
 use Rattle.seccompiler.proofs.Parts.{around}
 use Rattle.seccompiler.proofs.Closed.{ranges_join, ranges_from}
@@ -39,16 +39,10 @@ any_only P q any = ⊎_elim (λ here. here) (λ later. absurd (any_nil P later))
 
 -- some rule of a chain with one rule more
 any_front : (P : Rule → Type 0) (chain : Chain) (q : Rule) → Any P chain → Any P (chain ++ q ∷ [])
-any_front P chain q h = let len = length-append chain (q ∷ []) in
-    (h.0, h.1, omega (arith, h.2, len), get_or_append_left chain (q ∷ []) h.1 h.0 h.2 ∙ h.3, h.4)
+any_front P chain q h = grind (arith, length-append, get_or_append_left)
 
 any_split : (P : Rule → Type 0) (chain : Chain) (q : Rule) → Any P (chain ++ q ∷ []) → (Any P chain) ⊎ (P q)
-any_split P chain q h = let len = length-append chain (q ∷ []) in
-    ⊎_elim (λ lt. inl (h.0, h.1, lt, sym (get_or_append_left chain (q ∷ []) h.1 h.0 lt) ∙ h.3, h.4))
-    (λ le.
-    let at : length chain ≡ h.0 = omega (arith, h.2, len) in let same : h.1 ≡ q = sym h.3 ∙ get_or_push chain q h.1 h.0 at in
-    inr (subst P same h.4))
-    (cases_lt h.0 (length chain))
+any_split P chain q h = grind (arith, length-append, get_or_append_left, get_or_push, cases_lt)
 
 -- the code of a rule and its return
 pub with_return : (q : Rule) (w : ℕ) (own : List sock_filter) → w < 2 ^ 32 → IsRuleCode q own → IsRulesCode (q ∷ []) w (own ++ give w ∷ [])
@@ -56,7 +50,7 @@ with_return q w own fits h = let p = own ++ give w ∷ [] in
     let len : length p ≡ length own + 1 = length-append own (give w ∷ []) in
     record {
       long = omega (arith, h.long);
-      ranges = ranges_join own (give w ∷ []) h.ranges (ranges_from (give w ∷ []) (give_in_range w fits, tt));
+      ranges = ranges_join own (give w ∷ []) h.ranges (ranges_from (give w ∷ []) (omega arith));
       block = block_join own (give w ∷ []) (length own + 2) 0 (length p + 1) (block_from_closed own (length own + 2) h.closed)
           (block_give w 0) (omega arith) (omega arith);
       enters = λ r rec a small.

@@ -1,6 +1,6 @@
 -- For `listed_programs` and `programs_of`: the programs of a value's policies, and the refusal of the least name's.
-use Rattle.std.proofs.Common.{◌≡◌, ℕ, ℤ, pos, negsuc, ◌++◌, List, ◌∷◌, Option, Some, None, String, Global, Vec, string_bytes, refl, IfSome}
-use Rattle.std.proofs.Common.{arith, ap, ◌∙◌, subst, All}
+use Rattle.std.proofs.Common.{◌≡◌, ℕ, ℤ, ◌++◌, List, ◌∷◌, Option, Some, None, String, Global, Vec, string_bytes, refl, IfSome, arith, ap}
+use Rattle.std.proofs.Common.{◌∙◌, subst, All}
 use Rattle.std.proofs.lemmas.Int.{ints}
 use Rattle.std.proofs.lemmas.List.Elements.{All-contains}
 use Rattle.serde_json.specs.Data.{Data}
@@ -18,14 +18,12 @@ use Rattle.seccompiler.specs.declared.backend.BackendError.TheVariants as b
 use Rattle.seccompiler.specs.declared.backend.TargetArch.{TargetArch}
 use Rattle.seccompiler.specs.declared.bpf.sock_filter.{sock_filter}
 use Rattle.seccompiler.specs.declared.json.error.JsonFrontendError.{JsonFrontendError}
-use Rattle.seccompiler.specs.declared.json.error.JsonFrontendError.TheVariants as f
 use Rattle.seccompiler.proofs.TextFilters.{value_under, all_made, least_wrong}
 use Rattle.seccompiler.proofs.json.compiler.TextPolicies.{have_table_numbers}
 
 -- A number of a table is a call number.
 table_number_fits : (z : ℤ) → IsTableNumber z → IsCallNumber z
-table_number_fits (pos n) h = (n, refl, grind (arith, ints, h.1))
-table_number_fits (negsuc n) h = absurd (grind (arith, ints, h.0))
+table_number_fits z h = grind (arith, ints)
 
 -- The policy may be compiled, and the program stands for it.
 pub record Compiles (policy : Filter) (program : Vec sock_filter Global) : Type 0 where
@@ -67,8 +65,7 @@ module _ (arch : TargetArch) (d : Data) (policies : ByName Filter) (are : ArePol
 -- A fault of the front end is the first.
 pub told_by_frontend : (arch : TargetArch) (text : List ℕ) (e : JsonFrontendError) → TellsFrontendFault arch text e
     → TellsFirstFault arch text (from_frontend e)
-told_by_frontend arch text f.OutOfMemory h = tt
-told_by_frontend arch text e h = h
+told_by_frontend arch text e h = grind arith
 
 -- Each of a value's programs may be run.
 pub all_checked : (arch : TargetArch) (find : List ℕ → Option (Vec sock_filter Global)) (d : Data)

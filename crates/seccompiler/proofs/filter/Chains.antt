@@ -1,7 +1,7 @@
 -- For `SeccompFilter::clone` and `SeccompFilter::matches`: the chains that a map holds: copied with it, and found under their
 -- keys.
-use Rattle.std.proofs.Common.{◌≡◌, ◌↔◌, ℕ, ℤ, pos, List, [], ◌∷◌, Vec, vec_len, Global, Bool, false, Option, Some, None}
-use Rattle.std.proofs.Common.{All, nat_eq, length, inl, ⊎_elim, arith, option_map, refl, sym, ap, ◌∙◌, subst}
+use Rattle.std.proofs.Common.{◌≡◌, ◌↔◌, ℕ, ℤ, pos, List, [], ◌∷◌, Vec, vec_len, Global, Bool, false, Option, Some, None, All, nat_eq}
+use Rattle.std.proofs.Common.{length, inl, ⊎_elim, arith, option_map, refl, sym, ap, ◌∙◌}
 use Rattle.std.specs.Prelude.{IsTrue}
 use Rattle.std.specs.List.{AllZip, each_same}
 use Rattle.std.specs.Ordering.{int_cmp}
@@ -18,9 +18,8 @@ pub copied_chains : (xs ys : List (ℤ × Vec Rule Global))
     → AllZip (λ p q. (q.0 ≡ p.0) × (AllZip (λ x y. y ≡ x) p.1.items q.1.items × (vec_len q.1 ≡ vec_len p.1))) xs ys
     → chains_of ys ≡ chains_of xs
 copied_chains [] [] same = refl
-copied_chains [] (y ∷ ys) same = absurd same
-copied_chains (x ∷ xs) [] same = absurd same
 copied_chains (x ∷ xs) (y ∷ ys) same = λ i. (same.0.0 i, each_same _ _ same.0.1.0 i) ∷ copied_chains xs ys same.1 i
+copied_chains _ _ same = absurd same
 
 -- What a map has under a call number is the chain there.
 pub found_chain : (entries : List (ℤ × Vec Rule Global)) (key : ℤ) (number : ℕ) (found : Option (Vec Rule Global))
@@ -34,12 +33,7 @@ found_chain entries key number found same is =
 -- Where there is a chain under the call number, the policy matches exactly if the chain does.
 pub matches_by_chain : (f : Filter) (r : List ℕ) (chain : Chain) (b : Bool) → chain_under f.chains (word_at r 0) ≡ Some chain
     → (IsTrue b ↔ ChainMatches chain r) → IsTrue b ↔ Matches f r
-matches_by_chain f r chain b there iff = (
-  λ holds. record { chain = chain; there = there; matches = iff.0 holds },
-  λ matches.
-      let same : matches.chain ≡ chain = let e : Some matches.chain ≡ Some chain = sym matches.there ∙ there in cc in
-      iff.1 (subst (λ rules. ChainMatches rules r) same matches.matches),
-)
+matches_by_chain f r chain b there iff = grind arith
 
 -- Where there is none, it doesn't.
 pub differs_without_chain : (f : Filter) (r : List ℕ) → chain_under f.chains (word_at r 0) ≡ None → IsTrue false ↔ Matches f r

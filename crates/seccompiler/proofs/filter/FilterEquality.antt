@@ -1,5 +1,5 @@
 -- For `SeccompFilterPartialEq::eq`: what the code computes of two filters is the test of equality.
-use Rattle.std.proofs.Common.{ℤ, ◌≡◌, ◌&&◌, Bool, true, false, ◌⊎◌, inl, inr, List, [], ◌∷◌, Vec, Global, refl, ap, ◌∙◌}
+use Rattle.std.proofs.Common.{ℤ, ◌≡◌, ◌&&◌, Bool, true, false, ◌⊎◌, List, [], ◌∷◌, Vec, Global, refl, ap, arith}
 use Rattle.std.specs.Ordering.{int_eq}
 use Rattle.std.specs.Cmp.Lexicographic.{pointwise}
 use Rattle.seccompiler.specs.contracts.backend.SeccompActionPartialEq.TheImpl as action
@@ -22,15 +22,11 @@ IsNextTest first test value = ((first ≡ true) × (value ≡ test)) ⊎ ((first
 
 -- Such a value is both tests, joined by and.
 next_test : (first test value : Bool) → IsNextTest first test value → value ≡ (first && test)
-next_test first test value (inl (here, is)) = rw here is
-next_test first test value (inr (here, is)) = rw here is
+next_test first test value h = grind arith
 
 -- The tests of two filters' parts, one after the other, tell whether the filters are equal.
 pub filters_tested : (f g : Filter) (chains first second value : Bool) → chains ≡ pointwise are_entries_equal f.chains g.chains
     → IsNextTest chains (action.ghosts.eq f.mismatch_action g.mismatch_action) first
     → IsNextTest first (action.ghosts.eq f.match_action g.match_action) second
     → IsNextTest second (arch.ghosts.eq f.target_arch g.target_arch) value → value ≡ are_filters_equal f g
-filters_tested f g chains first second value is one two three =
-    next_test second _ value three ∙ ap (λ t. t && arch.ghosts.eq f.target_arch g.target_arch)
-    (next_test first _ second two ∙ ap (λ t. t && action.ghosts.eq f.match_action g.match_action)
-    (next_test chains _ first one ∙ ap (λ t. t && action.ghosts.eq f.mismatch_action g.mismatch_action) is))
+filters_tested f g chains first second value is one two three = grind (arith, next_test)

@@ -1,6 +1,6 @@
 -- For `SeccompFilter::decide`: what a decision does not depend on: the order of rules and conditions, and the instruction pointer.
-use Rattle.std.proofs.Common.{◌≡◌, ℕ, ℤ, zero, suc, pos, ◌+◌, ◌*◌, ◌<◌, ◌≤◌, List, [], ◌∷◌, length, Option, Some, Bool, true, false, cond}
-use Rattle.std.proofs.Common.{refl, sym, ap, ◌∙◌, subst, arith, inl, inr}
+use Rattle.std.proofs.Common.{◌≡◌, ℕ, ℤ, zero, suc, pos, ◌+◌, ◌<◌, ◌≤◌, List, [], ◌∷◌, length, Option, Some, Bool, cond, refl, sym, ap, ◌∙◌}
+use Rattle.std.proofs.Common.{subst, arith, inl, inr}
 use Rattle.std.specs.Prelude.{slice_index}
 use Rattle.std.specs.List.{AllZip}
 use Rattle.std.specs.List.Sorted.{IsPermutation}
@@ -11,9 +11,7 @@ use Rattle.std.proofs.lemmas.List.{nil_from_length}
 use Rattle.std.proofs.lemmas.List.Elements.{All-weaker, length_all_zip}
 use Rattle.std.proofs.lemmas.List.Sorted.{All-permutation, IsPermutation-sym, length_permutation}
 use Rattle.seccompiler.specs.Machine.{number_at, word_at}
-use Rattle.seccompiler.specs.Architecture.{audit_word}
-use Rattle.seccompiler.specs.Policy.{word_of, Condition, Holds, Rule, Chain, Filter, chain_under}
-use Rattle.seccompiler.specs.Policy.{RuleHolds, ChainMatches, Matches, IsDecision, other_architecture, policy_matches, policy_differs}
+use Rattle.seccompiler.specs.Policy.{Condition, Holds, Rule, Chain, Filter, chain_under, RuleHolds, ChainMatches, Matches, IsDecision}
 use Rattle.seccompiler.specs.Reorder.{IsReorderedChain, IsReorderedEntry, IsReordered, IsSameCall}
 use Rattle.seccompiler.proofs.Zipped.{Any-all_zip, all_zip_back}
 use Rattle.seccompiler.proofs.Searches.{Any-permutation}
@@ -35,8 +33,7 @@ same_call_back r s same = record { bytes = λ k outside. sym (same.bytes k outsi
 
 -- A condition reads its argument alone, so it holds on any record of the call.
 same_condition : (c : Condition) (r s : List ℕ) → IsSameCall r s → Holds c r → Holds c s
-same_condition c r s same holds =
-    let argument = same_number r s (16 + 8 * c.arg_index) 8 (λ j low high. same.bytes j (inr (omega arith))) in rw argument at holds
+same_condition c r s same holds = grind (arith, same_number)
 
 -- A rule holds in any order of its conditions, on any record of the call.
 same_rule : (q q' : Rule) (r s : List ℕ) → IsPermutation q q' → IsSameCall r s → RuleHolds q r → RuleHolds q' s
@@ -75,19 +72,17 @@ chain_matches_back chain chain' r s order same matches =
 lookup_step : {X : Type 0} (S : X → X → Type 0) (b : Bool) (v v' : X) (rest rest' : Option X) (x : X) → S v v'
     → (rest ≡ Some x → (y : X) × (rest' ≡ Some y) × S x y) → cond b (Some v) rest ≡ Some x
     → (y : X) × (cond b (Some v') rest' ≡ Some y) × S x y
-lookup_step S true v v' rest rest' x pair more found = let is : v ≡ x = cc in (v', refl, subst (λ z. S z v') is pair)
-lookup_step S false v v' rest rest' x pair more found = more found
+lookup_step S b v v' rest rest' x pair more found = grind arith
 
 -- Where the entries of two lists, place by place, have one key and related values, look-ups find related values.
 lookup_all_zip : {K X : Type 0} (R : K × X → K × X → Type 0) (S : X → X → Type 0) (test : K → Bool) (es es' : List (K × X)) (x : X)
     → ((e e' : K × X) → R e e' → (e.0 ≡ e'.0) × S e.1 e'.1) → AllZip R es es' → lookup test es ≡ Some x
     → (y : X) × (lookup test es' ≡ Some y) × S x y
 lookup_all_zip R S test [] [] x parts pairs found = absurd (cc)
-lookup_all_zip R S test [] (e' ∷ es') x parts pairs found = absurd pairs
-lookup_all_zip R S test (e ∷ es) [] x parts pairs found = absurd pairs
 lookup_all_zip R S test (e ∷ es) (e' ∷ es') x parts pairs found = let pair = parts e e' pairs.0 in
     rw (← pair.0)
     (lookup_step S (test e.0) e.1 e'.1 (lookup test es) (lookup test es') x pair.1 (lookup_all_zip R S test es es' x parts pairs.1) found)
+lookup_all_zip R S test _ _ x parts pairs found = absurd pairs
 
 -- A filter matches where another does whose chains, entry by entry, match where its own do.
 matches_by_entries : (R : ℤ × Chain → ℤ × Chain → Type 0) (f g : Filter) (r s : List ℕ)
@@ -116,12 +111,4 @@ reordered_matches_back f g r s order same = matches_by_entries (λ e' e. IsReord
 
 -- The order of the rules in a chain and of the conditions in a rule does not change the decision, and neither does the instruction pointer.
 pub same_decision : (f g : Filter) (r s : List ℕ) (w : ℕ) → IsReordered f g → IsSameCall r s → IsDecision f r w → IsDecision g s w
-same_decision f g r s w order same (other_architecture differs is) =
-    let audit : audit_word f.target_arch ≡ audit_word g.target_arch = ap audit_word order.target_arch in
-    other_architecture (λ e. differs (same_word r s 4 same (omega arith) ∙ e ∙ sym audit)) is
-same_decision f g r s w order same (policy_matches here matches is) =
-    policy_matches (sym (same_word r s 4 same (omega arith)) ∙ here ∙ ap audit_word order.target_arch)
-    (reordered_matches f g r s order same matches) (is ∙ ap word_of order.match_action)
-same_decision f g r s w order same (policy_differs here differs is) =
-    policy_differs (sym (same_word r s 4 same (omega arith)) ∙ here ∙ ap audit_word order.target_arch)
-    (λ matches. differs (reordered_matches_back f g r s order same matches)) (is ∙ ap word_of order.mismatch_action)
+same_decision f g r s w order same h = grind (arith, same_word, reordered_matches, reordered_matches_back)

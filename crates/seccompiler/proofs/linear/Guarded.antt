@@ -1,17 +1,15 @@
 -- For `SeccompFilter::write`: the guard in front of a filter's program, and what the program is and does with code behind
 -- the guard that answers each call number.
-use Rattle.std.proofs.Common.{◌≡◌, ◌≢◌, ℕ, ◌+◌, ◌-◌, ◌<◌, ◌≤◌, ◌^◌, List, [], ◌∷◌, ◌++◌, length, refl, sym, ap, ◌∙◌, subst, arith}
-use Rattle.std.proofs.Common.{length-append, ◌⊎◌, inl, inr, ⊎_elim, ℤ, Vec, Global}
+use Rattle.std.proofs.Common.{◌≡◌, ◌≢◌, ℕ, ◌+◌, ◌-◌, ◌<◌, ◌≤◌, ◌^◌, List, [], ◌∷◌, ◌++◌, length, refl, sym, ap, ◌∙◌, arith, length-append}
+use Rattle.std.proofs.Common.{◌⊎◌, inl, inr, ⊎_elim, ℤ, Vec, Global}
 use Rattle.std.proofs.lemmas.Option.{slice_get_within}
 use Rattle.seccompiler.specs.declared.bpf.sock_filter.{sock_filter}
 use Rattle.seccompiler.specs.declared.backend.SeccompAction.{SeccompAction}
-use Rattle.seccompiler.specs.declared.backend.SeccompAction.TheVariants.{Allow}
 use Rattle.seccompiler.specs.declared.backend.TargetArch.{TargetArch}
-use Rattle.seccompiler.specs.declared.backend.TargetArch.TheVariants.{x86_64}
 use Rattle.seccompiler.specs.Machine.{IsRecord, word_at, Goes, stays, then_step, Ends, greatest_length, IsFine, fine_load, fine_mask}
-use Rattle.seccompiler.specs.Machine.{fine_jump, fine_equal, fine_greater, fine_at_least, fine_return, IsChecked, AreInRange, IsInRange}
-use Rattle.seccompiler.specs.Code.{load, give, jump_equal, guard_code}
-use Rattle.seccompiler.specs.Pieces.{IsInside, inside_load, inside_mask, inside_jump, inside_equal, inside_greater, inside_at_least}
+use Rattle.seccompiler.specs.Machine.{fine_jump, fine_equal, fine_greater, fine_at_least, fine_return, IsChecked, AreInRange}
+use Rattle.seccompiler.specs.Code.{load, give, guard_code}
+use Rattle.seccompiler.specs.Pieces.{IsInside, inside_load, inside_equal}
 use Rattle.seccompiler.specs.Architecture.{audit_word}
 use Rattle.seccompiler.specs.Policy.{word_of, Rule, Filter, chains_of, IsDecision, other_architecture}
 use Rattle.seccompiler.specs.ChainCode.{ReturnsAfter, IsBlock}
@@ -20,31 +18,19 @@ use Rattle.seccompiler.proofs.Runs.{goes_far, get_behind}
 use Rattle.seccompiler.proofs.Closed.{ranges_join, ranges_from}
 use Rattle.seccompiler.proofs.Words.{word_fits}
 use Rattle.seccompiler.proofs.Steps.{on_load, on_equal}
-use Rattle.seccompiler.proofs.Blocks.{block_join, block_give, block_one, give_in_range, test_in_range, back_returns}
+use Rattle.seccompiler.proofs.Blocks.{block_join, block_from, back_returns}
 
 -- the word of an action has 32 bits; the second clause stands for every other one
 pub action_word_fits : (a : SeccompAction) → word_of a < 2 ^ 32
-action_word_fits Allow = omega arith
-action_word_fits _ = omega arith
+action_word_fits a = grind arith
 
 -- so has the word of an architecture
 pub audit_word_fits : (arch : TargetArch) → audit_word arch < 2 ^ 32
-audit_word_fits x86_64 = omega arith
-audit_word_fits _ = omega arith
+audit_word_fits arch = grind arith
 
 -- a counted run from the start that returns ends
 pub ends_after : (p : List sock_filter) (r : List ℕ) (n w : ℕ) → ReturnsAfter p r 0 0 n w → Ends p r (n + 1) w
-ends_after p r n w h = let z : n + 1 - 1 ≡ n = omega arith in
-    record {
-      place = h.to;
-      accumulator = h.accumulator;
-      instruction = h.instruction;
-      some = omega arith;
-      goes = subst (λ k. Goes p r 0 0 k h.to h.accumulator) (sym z) h.goes;
-      here = h.here;
-      returns = h.returns;
-      value = h.value;
-    }
+ends_after p r n w h = grind arith
 
 -- it does so within as many steps as the program has instructions
 pub decided_at : (f : Filter) (p : List sock_filter) (r : List ℕ) (n w : ℕ) → ReturnsAfter p r 0 0 n w → IsDecision f r w
@@ -66,12 +52,7 @@ pub record Answered (f : Filter) (body : List sock_filter) (r : List ℕ) : Type
 
 -- an instruction that stays inside a piece may stand in a longer program
 fine_inside : (i : sock_filter) (place m n : ℕ) → m < n → IsInside i place m → IsFine i place n
-fine_inside i place m n le (inside_load c a b) = fine_load c a b
-fine_inside i place m n le (inside_mask c) = fine_mask c
-fine_inside i place m n le (inside_jump c a) = fine_jump c (omega arith)
-fine_inside i place m n le (inside_equal c a b) = fine_equal c (omega arith) (omega arith)
-fine_inside i place m n le (inside_greater c a b) = fine_greater c (omega arith) (omega arith)
-fine_inside i place m n le (inside_at_least c a b) = fine_at_least c (omega arith) (omega arith)
+fine_inside i place m n le h = grind (arith, fine_load, fine_mask, fine_jump, fine_equal, fine_greater, fine_at_least)
 
 -- a block whose jumps stay within it, with a return behind it, is a checked program
 pub checked_of : (front : List sock_filter) (w : ℕ) → AreInRange (front ++ give w ∷ [])
@@ -101,18 +82,11 @@ module _ (f : Filter) where
   abbrev pub head : List sock_filter
   head = guard ++ load 0 ∷ []
 
-  load_in_range : (k : ℕ) → k ≤ 60 → IsInRange (load k)
-  load_in_range k h = record { code = omega arith; jt = omega arith; jf = omega arith; k = omega arith }
-
   pub guard_ranges : AreInRange guard
-  guard_ranges = let test = test_in_range arch_word 1 0 (audit_word_fits f.target_arch) (omega arith) (omega arith) in
-      ranges_from guard (load_in_range 4 (omega arith), (test, (give_in_range 0x80000000 (omega arith), tt)))
+  guard_ranges = ranges_from guard (omega (arith, audit_word_fits f.target_arch))
 
   pub guard_block : IsBlock guard 3
-  guard_block = let test = block_one (jump_equal arch_word 1 0) 2 (inside_equal refl (omega arith) (omega arith)) in
-      block_join (load 4 ∷ []) (jump_equal arch_word 1 0 ∷ give 0x80000000 ∷ []) 3 2 3 (block_one _ 3 (inside_load refl refl (omega arith)))
-      (block_join (jump_equal arch_word 1 0 ∷ []) (give 0x80000000 ∷ []) 2 1 2 test (block_give 0x80000000 1) (omega arith) (omega arith))
-      (omega arith) (omega arith)
+  guard_block = block_from guard 3 (grind (arith, inside_load, inside_equal))
 
   -- a record of this architecture passes the guard, and another one comes to its return
   pub guarded : (back : List sock_filter) (r : List ℕ) → IsRecord r
@@ -151,14 +125,8 @@ module _ (f : Filter) where
   -- and may be run
   pub head_checked : (front : List sock_filter) (w : ℕ) → AreInRange (front ++ give w ∷ []) → IsBlock (front ++ give w ∷ []) (length front)
       → length front + 5 ≤ greatest_length → IsChecked (head ++ (front ++ give w ∷ []))
-  head_checked front w ranges block short = let body = front ++ give w ∷ [] in
-      let len : length (head ++ front) ≡ 4 + length front = length-append head front in
-      let head_block : IsBlock head 4 =
-      block_join guard (load 0 ∷ []) 3 1 4 guard_block (block_one _ 1 (inside_load refl refl (omega arith))) (omega arith) (omega arith) in
-      let head_ranges = ranges_join guard (load 0 ∷ []) guard_ranges (ranges_from (load 0 ∷ []) (load_in_range 0 (omega arith), tt)) in
-      checked_of (head ++ front) w (ranges_join head body head_ranges ranges)
-      (block_join head body 4 (length front) (length (head ++ front)) head_block block (omega (arith, len)) (omega (arith, len)))
-      (omega (arith, len))
+  head_checked front w ranges block short =
+      grind (arith, length-append, block_join, guard_block, block_from, ranges_join, guard_ranges, ranges_from, checked_of)
 
 -- What is known of a filter whose program is written: its words, and its chains as the map holds them.
 pub record Written (f : Filter) (entries : List (ℤ × Vec Rule Global)) (mismatch matched : ℕ) : Type 0 where
@@ -170,8 +138,4 @@ pub words_of : (f : Filter) (entries : List (ℤ × Vec Rule Global)) (mismatch_
     (arch : TargetArch) (mismatch matched : ℕ)
     → record { chains = chains_of entries; mismatch_action = mismatch_action; match_action = match_action; target_arch = arch } ≡ f
     → mismatch ≡ word_of mismatch_action → matched ≡ word_of match_action → Written f entries mismatch matched
-words_of f entries mismatch_action match_action arch mismatch matched is first second = record {
-  chains = ap (λ (g : Filter). g.chains) is;
-  mismatch_is = first ∙ ap (λ (g : Filter). word_of g.mismatch_action) is;
-  matched_is = second ∙ ap (λ (g : Filter). word_of g.match_action) is;
-}
+words_of f entries mismatch_action match_action arch mismatch matched is first second = grind arith

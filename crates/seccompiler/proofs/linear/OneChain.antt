@@ -1,6 +1,6 @@
 -- For `write_chain`: what the code of one chain does: a test of the call number, the rules, and a return.
-use Rattle.std.proofs.Common.{◌≡◌, ◌≢◌, ℕ, ◌+◌, ◌<◌, ◌^◌, List, [], ◌∷◌, ◌++◌, length, Some, refl, sym, ap, ◌∙◌, arith}
-use Rattle.std.proofs.Common.{length-append, inl, inr, ⊎_elim}
+use Rattle.std.proofs.Common.{◌≡◌, ◌≢◌, ℕ, ◌+◌, ◌<◌, ◌^◌, List, [], ◌∷◌, ◌++◌, length, Some, refl, sym, ap, ◌∙◌, arith, length-append, inl}
+use Rattle.std.proofs.Common.{inr, ⊎_elim}
 use Rattle.std.specs.Prelude.{slice_get}
 use Rattle.seccompiler.specs.declared.bpf.sock_filter.{sock_filter}
 use Rattle.seccompiler.specs.Code.{give, jump, jump_equal}
@@ -9,9 +9,9 @@ use Rattle.seccompiler.specs.Pieces.{inside_jump, inside_equal, Leads}
 use Rattle.seccompiler.specs.Policy.{Rule, Chain}
 use Rattle.seccompiler.specs.ChainCode.{IsRulesCode, IsChainCode}
 use Rattle.seccompiler.proofs.Runs.{goes_shift, goes_on, goes_front, leads_front, stands_second, goes_as}
-use Rattle.seccompiler.proofs.Closed.{ranges_join, ranges_from, jump_in_range}
+use Rattle.seccompiler.proofs.Closed.{ranges_join, ranges_from}
 use Rattle.seccompiler.proofs.Steps.{on_jump}
-use Rattle.seccompiler.proofs.Blocks.{returns_front, returns_back, gives, block_join, block_give, give_in_range, block_one, test_in_range}
+use Rattle.seccompiler.proofs.Blocks.{returns_front, returns_back, gives, block_join, block_give, block_from}
 
 -- the test of the call number goes on with this number, and skips one instruction with another
 on_number : (p : List sock_filter) (r : List ℕ) (n : ℕ) → slice_get p 0 ≡ Some (jump_equal n 0 1) → n < 2 ^ 32 → Step p r 0 n 1 n
@@ -28,20 +28,8 @@ module _ (n mismatch matched : ℕ) (fits : n < 2 ^ 32) (fits_mismatch : mismatc
   empty_chain = let p = jump_equal n 0 1 ∷ jump 1 ∷ jump 2 ∷ give matched ∷ give mismatch ∷ [] in
       record {
         long = refl;
-        ranges = ranges_from p (
-          test_in_range n 0 1 fits (omega arith) (omega arith),
-          (
-            jump_in_range 1 (omega arith),
-            (jump_in_range 2 (omega arith), (give_in_range matched fits_matched, (give_in_range mismatch fits_mismatch, tt))),
-          ),
-        );
-        block = block_join (jump_equal n 0 1 ∷ []) (jump 1 ∷ jump 2 ∷ give matched ∷ give mismatch ∷ []) 5 4 5
-            (block_one _ 5 (inside_equal refl (omega arith) (omega arith)))
-            (block_join (jump 1 ∷ []) (jump 2 ∷ give matched ∷ give mismatch ∷ []) 4 3 4 (block_one _ 4 (inside_jump refl (omega arith)))
-            (block_join (jump 2 ∷ []) (give matched ∷ give mismatch ∷ []) 3 2 3 (block_one _ 3 (inside_jump refl (omega arith)))
-            (block_join (give matched ∷ []) (give mismatch ∷ []) 2 1 2 (block_give matched 2)
-            (block_give mismatch 1) (omega arith) (omega arith)) (omega arith) (omega arith)) (omega arith) (omega arith))
-            (omega arith) (omega arith);
+        ranges = ranges_from p (omega arith);
+        block = block_from p 5 (grind (arith, inside_equal, inside_jump));
         enters = λ r rec. inl (
           inl refl,
           returns_back (jump_equal n 0 1 ∷ jump 1 ∷ jump 2 ∷ []) (give matched ∷ give mismatch ∷ []) r n matched
@@ -66,9 +54,8 @@ module _ (n mismatch matched : ℕ) (fits : n < 2 ^ 32) (fits_mismatch : mismatc
       let len : length p ≡ 1 + (length rules + 1) = length-append head both ∙ ap (λ x. 1 + x) len_both in
       record {
         long = omega (arith, h.long);
-        ranges = ranges_join head both (ranges_from head (test_in_range n 0 1 fits (omega arith) (omega arith), tt))
-            (ranges_join rules last h.ranges (ranges_from last (give_in_range mismatch fits_mismatch, tt)));
-        block = block_join head both 2 (length rules + 1) (length p) (block_one _ 2 (inside_equal refl (omega arith) (omega arith)))
+        ranges = ranges_join head both (ranges_from head (omega arith)) (ranges_join rules last h.ranges (ranges_from last (omega arith)));
+        block = block_join head both 2 (length rules + 1) (length p) (block_from head 2 (grind (arith, inside_equal)))
             (block_join rules last (length rules + 1) 1 (length rules + 1) h.block (block_give mismatch 1) (omega arith) (omega arith))
             (omega (arith, len)) (omega (arith, len));
         enters = λ r rec.

@@ -1,27 +1,26 @@
 -- For `SeccompFilter::write`: what the program of a filter is and does.
-use Rattle.std.proofs.Common.{◌≡◌, ℕ, ◌+◌, ◌<◌, ◌≤◌, List, [], ◌∷◌, ◌++◌, length, None, refl, sym, ap, ◌∙◌, subst, arith}
+use Rattle.std.proofs.Common.{◌≡◌, ℕ, ◌+◌, ◌<◌, ◌≤◌, List, [], ◌∷◌, ◌++◌, length, None, refl, sym, ap, ◌∙◌, subst, arith, length-append}
+use Rattle.std.proofs.Common.{inl, inr, ⊎_elim, ℤ, Vec, Global}
 use Rattle.std.proofs.lemmas.List.{length-map}
-use Rattle.std.proofs.Common.{length-append, inl, inr, ⊎_elim, ℤ, Vec, Global}
 use Rattle.seccompiler.specs.declared.bpf.sock_filter.{sock_filter}
 use Rattle.seccompiler.specs.Machine.{IsRecord, word_at, Goes, Ends, greatest_length}
 use Rattle.seccompiler.specs.Code.{load, give, jump_equal}
 use Rattle.seccompiler.specs.Architecture.{audit_word}
-use Rattle.seccompiler.specs.Policy.{word_of, Rule, Chain, Filter, chains_of, chain_under, IsDecision, ChainMatches}
-use Rattle.seccompiler.specs.Policy.{policy_matches, policy_differs}
+use Rattle.seccompiler.specs.Policy.{word_of, Rule, Chain, Filter, chains_of, chain_under, IsDecision, ChainMatches, policy_matches}
+use Rattle.seccompiler.specs.Policy.{policy_differs}
 use Rattle.seccompiler.specs.Layout.{chains_length, counted_length_of, counted_length, chains_steps, passing_steps}
 use Rattle.seccompiler.specs.ChainCode.{ReturnsAfter, Dispatches, in_chain, no_chain, IsChainsCode}
 use Rattle.seccompiler.specs.Compiled.{IsCompiled}
 use Rattle.seccompiler.proofs.Runs.{goes_front}
 use Rattle.seccompiler.proofs.Closed.{ranges_join, ranges_from}
 use Rattle.seccompiler.proofs.Words.{word_fits}
-use Rattle.seccompiler.proofs.Blocks.{block_join, block_give, give_in_range, front_returns, back_returns, gives}
+use Rattle.seccompiler.proofs.Blocks.{block_join, block_give, front_returns, back_returns, gives}
 use Rattle.seccompiler.proofs.linear.Guarded.{action_word_fits, ends_after, decided_at, checked_of, Answered, guard, head, guard_ranges}
 use Rattle.seccompiler.proofs.linear.Guarded.{guard_block, guarded, decides, returns_behind_head, head_decides, head_checked, Written}
 
 -- the counted length of chains that are there
 counted_some : (chains : List (ℤ × Chain)) → 0 < length chains → counted_length_of chains ≡ 5 + chains_length chains
-counted_some [] some = absurd (omega arith)
-counted_some (e ∷ chains) some = refl
+counted_some chains some = grind arith
 
 module _ (f : Filter) where
   abbrev mismatch_word : ℕ
@@ -43,8 +42,7 @@ module _ (f : Filter) where
       record {
         long = sym (ap counted_length_of none);
         checked = checked_of (guard f) mismatch_word
-            (ranges_join (guard f) last (guard_ranges f)
-            (ranges_from last (give_in_range mismatch_word (action_word_fits f.mismatch_action), tt)))
+            (ranges_join (guard f) last (guard_ranges f) (ranges_from last (omega (arith, action_word_fits f.mismatch_action))))
             (block_join (guard f) last 3 0 3 (guard_block f) (block_give mismatch_word 0) (omega arith) (omega arith)) (omega arith);
         decides = λ r rec. decides f last r rec
             (λ same g. decided_at f p r 2 mismatch_word
@@ -103,7 +101,7 @@ module _ (f : Filter) where
       record {
         long = omega (arith, length-append (head f) (chains ++ last), len, h.long);
         checked = head_checked f chains mismatch_word
-            (ranges_join chains last h.ranges (ranges_from last (give_in_range mismatch_word (action_word_fits f.mismatch_action), tt)))
+            (ranges_join chains last h.ranges (ranges_from last (omega (arith, action_word_fits f.mismatch_action))))
             (block_join chains last (length chains) 0 (length chains) h.block (block_give mismatch_word 0) (omega arith) (omega arith))
             (omega (arith, len, h.long));
         decides = λ r rec.

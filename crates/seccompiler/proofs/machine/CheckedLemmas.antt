@@ -1,6 +1,5 @@
 -- For `check` and `run`: what the checker shows of a program, instruction by instruction.
-use Rattle.std.proofs.Common.{◌≡◌, ℕ, ◌+◌, ◌-◌, ◌<◌, ◌≤◌, List, length, get_or, Some, subst, below_more, Bool, false, nat_eq, ap, sym}
-use Rattle.std.proofs.Common.{◌∙◌, arith, ⊎_elim}
+use Rattle.std.proofs.Common.{◌≡◌, ℕ, ◌+◌, ◌-◌, ◌<◌, ◌≤◌, List, length, get_or, Some, below_more, Bool, false, nat_eq, ap, sym, ◌∙◌, arith}
 use Rattle.std.proofs.lemmas.Bool.{eqb-false, cases_lt}
 use Rattle.std.specs.Prelude.{slice_get}
 use Rattle.std.proofs.lemmas.Option.{get_or_from_slice_get, slice_get-get_or, slice_get_within}
@@ -11,8 +10,7 @@ use Rattle.seccompiler.specs.Machine.{greatest_length, IsFine, IsInRange, IsChec
 pub one_more : (P : ℕ → sock_filter → Type 0) (p : List sock_filter) (j : ℕ) (default : sock_filter)
     → ((place : ℕ) → place < j → (i : sock_filter) → slice_get p place ≡ Some i → P place i)
     → P j (get_or p j default) → (place : ℕ) → place < j + 1 → (i : sock_filter) → slice_get p place ≡ Some i → P place i
-one_more P p j default below here = below_more (λ place. (i : sock_filter) → slice_get p place ≡ Some i → P place i) j below
-    (λ i found. subst (P j) (get_or_from_slice_get p j i default found) here)
+one_more P p j default below here place h i h4 = grind (arith, below_more, get_or_from_slice_get)
 
 -- A program that isn't empty has an instruction.
 pub not_empty : (p : List sock_filter) {empty : Bool} → empty ≡ nat_eq (length p) 0 → empty ≡ false → 1 ≤ length p
@@ -36,9 +34,4 @@ checked_if p j default some few all_passed passed = (
 -- An instruction of a checked program that does not return is not the last.
 pub not_last : (p : List sock_filter) (place : ℕ) (default : sock_filter) → IsChecked p
     → place < length p → ((get_or p place default).code ≡ 6 → ⊥) → place + 1 < length p
-not_last p place default checked within goes_on = ⊎_elim (λ before. before)
-    (λ behind. let at : length p - 1 ≡ place = omega arith in
-    absurd
-    (goes_on (checked.last _ (subst (λ n. slice_get p n ≡ Some (get_or p place default))
-    (sym at) (slice_get-get_or p place default within)))))
-    (cases_lt (place + 1) (length p))
+not_last p place default checked within goes_on = grind (arith, slice_get-get_or, cases_lt)

@@ -1,7 +1,6 @@
 -- For `SeccompRule::code_len` and `SeccompRule::write`: how the running offset of the code follows the groups of a rule's conditions.
 use Rattle.std.proofs.Common.{◌≡◌, ℕ, suc, ◌+◌, ◌<◌, ◌≤◌, List, [], ◌∷◌, ◌++◌, length, sym, ap, ◌∙◌, arith, length-append, append_assoc}
-use Rattle.std.proofs.Common.{append-nil, Bool, true, false, nat_le}
-use Rattle.std.specs.Prelude.{if◌then◌else◌}
+use Rattle.std.proofs.Common.{append-nil}
 use Rattle.std.proofs.lemmas.Bool.Decides.{nat_tests}
 use Rattle.seccompiler.specs.Policy.{Condition, size_of}
 use Rattle.seccompiler.specs.Layout.{greatest_offset, total_size, groups_from, groups_of, relays}
@@ -17,14 +16,12 @@ pub data Cutting (q : List Condition) (o k : ℕ) : Type 0 where
 -- a group goes on
 goes_into : (group rest : List Condition) (c : Condition) → total_size group < greatest_offset
     → groups_from group (c ∷ rest) ≡ groups_from (group ++ c ∷ []) rest
-goes_into group rest c few = let not_full : nat_le greatest_offset (total_size group) ≡ false = grind (arith, nat_tests) in
-    ap (λ b. if b then group ∷ groups_from (c ∷ []) rest else groups_from (group ++ c ∷ []) rest) not_full
+goes_into group rest c few = grind (arith, nat_tests)
 
 -- a group closes
 closes_at : (group rest : List Condition) (c : Condition) → greatest_offset ≤ total_size group
     → groups_from group (c ∷ rest) ≡ group ∷ groups_from (c ∷ []) rest
-closes_at group rest c many = let is_full : nat_le greatest_offset (total_size group) ≡ true = grind (arith, nat_tests) in
-    ap (λ b. if b then group ∷ groups_from (c ∷ []) rest else groups_from (group ++ c ∷ []) rest) is_full
+closes_at group rest c many = grind (arith, nat_tests)
 
 -- one condition more, in the group that is begun
 pub cutting_more : (q : List Condition) (o k : ℕ) (c : Condition) → o ≤ greatest_offset
@@ -54,24 +51,13 @@ relays_are q o k some (begun groups group f eo ek) =
 -- behind a group that is begun there is a group
 some_groups : (group rest : List Condition) → 1 ≤ length (groups_from group rest)
 some_groups group [] = omega arith
-some_groups group (c ∷ rest) = by (nat_le greatest_offset (total_size group)) (some_groups (c ∷ []) rest)
-    (some_groups (group ++ c ∷ []) rest)
-  where
-    by : (b : Bool) → 1 ≤ length (groups_from (c ∷ []) rest) → 1 ≤ length (groups_from (group ++ c ∷ []) rest)
-        → 1 ≤ length (if b then group ∷ groups_from (c ∷ []) rest else groups_from (group ++ c ∷ []) rest)
-    by true h k = omega arith
-    by false h k = k
+some_groups group (c ∷ rest) = grind (arith, some_groups (c ∷ []) rest, some_groups (group ++ c ∷ []) rest)
 
 -- no more relays stand so far than the whole rule has
 pub relays_so_far : (q rest : List Condition) (o k : ℕ) → Cutting q o k → k ≤ relays (q ++ rest)
-relays_so_far q rest o k (none e eo ek) = omega arith
-relays_so_far q rest o k (begun groups group f eo ek) =
-    omega (arith, ap length (f rest), length-append groups (groups_from group rest), some_groups group rest)
+relays_so_far q rest o k h = grind (arith, length-append, some_groups)
 
 -- nor with the one that comes in front of a further condition
 pub relays_so_far_full : (q rest : List Condition) (o k : ℕ) (c : Condition) → greatest_offset < o
     → Cutting q o k → suc k ≤ relays (q ++ c ∷ rest)
-relays_so_far_full q rest o k c full (none e eo ek) = absurd (omega arith)
-relays_so_far_full q rest o k c full (begun groups group f eo ek) = let closed = closes_at group rest c (omega arith) in
-    let all = ap length (f (c ∷ rest) ∙ ap (λ l. groups ++ l) closed) in
-    omega (arith, all, length-append groups (group ∷ groups_from (c ∷ []) rest), some_groups (c ∷ []) rest)
+relays_so_far_full q rest o k c full h = grind (arith, closes_at, length-append, some_groups)

@@ -1,34 +1,24 @@
 -- For `SeccompRule::code_len` and `SeccompRule::write`: what the code of a rule does, from its last condition to its entry.
-use Rattle.std.proofs.Common.{◌≡◌, ℕ, suc, ◌+◌, ◌*◌, ◌<◌, ◌≤◌, ◌^◌, List, [], ◌∷◌, ◌++◌, length, refl, sym, arith, length-append}
-use Rattle.std.proofs.Common.{⊎_elim, inl, inr}
+use Rattle.std.proofs.Common.{◌≡◌, ℕ, suc, ◌+◌, ◌*◌, ◌<◌, ◌≤◌, ◌^◌, List, [], ◌∷◌, ◌++◌, length, refl, sym, arith, length-append, ⊎_elim}
+use Rattle.std.proofs.Common.{inl, inr}
 use Rattle.std.proofs.lemmas.List.Elements.{All-nil, All-push, All-pop}
 use Rattle.std.proofs.lemmas.List.Sums.{sum_by_push}
 use Rattle.std.specs.Prelude.{Some}
 use Rattle.seccompiler.specs.declared.bpf.sock_filter.{sock_filter}
-use Rattle.seccompiler.specs.declared.backend.SeccompCmpOp.{SeccompCmpOp}
-use Rattle.seccompiler.specs.declared.backend.SeccompCmpOp.TheVariants.{Eq}
-use Rattle.seccompiler.specs.declared.backend.SeccompCmpArgLen.{SeccompCmpArgLen}
-use Rattle.seccompiler.specs.declared.backend.SeccompCmpArgLen.TheVariants.{Dword, Qword}
 use Rattle.seccompiler.specs.Code.{jump}
 use Rattle.seccompiler.specs.Machine.{IsRecord, Step, Goes, stays, then_step, AreInRange}
 use Rattle.seccompiler.specs.Pieces.{inside_jump, IsClosed, Leads, Exits, IsConditionCode, IsRuleCode}
-use Rattle.seccompiler.specs.Policy.{Condition, Holds, size_by, size_of, RuleHolds}
+use Rattle.seccompiler.specs.Policy.{Condition, Holds, size_of, RuleHolds}
 use Rattle.seccompiler.specs.Layout.{greatest_offset, total_size, relays}
 use Rattle.seccompiler.specs.ChainCode.{relay_code}
 use Rattle.seccompiler.proofs.Runs.{goes_shift, goes_on, stands_second, leads_as, goes_as, leads_second, stays_small, leads_through}
 use Rattle.seccompiler.proofs.Runs.{leads_both, via}
-use Rattle.seccompiler.proofs.Closed.{closed_join, closed_from, ranges_join, ranges_from, jump_in_range}
+use Rattle.seccompiler.proofs.Closed.{closed_join, closed_from, ranges_join, ranges_from}
 use Rattle.seccompiler.proofs.Steps.{on_jump}
-
--- The last clause stands for all other comparisons.
-size_by_small : (len : SeccompCmpArgLen) (op : SeccompCmpOp) → size_by len op ≤ 6
-size_by_small Dword Eq = omega arith
-size_by_small Qword Eq = omega arith
-size_by_small _ _ = omega arith
 
 -- a condition takes at most 6 instructions
 pub size_small : (c : Condition) → size_of c ≤ 6
-size_small c = size_by_small c.arg_len c.operator
+size_small c = grind arith
 
 pub total_more : (q : List Condition) (c : Condition) → total_size (q ++ c ∷ []) ≡ total_size q + size_of c
 total_more q c = sum_by_push size_of q c
@@ -107,20 +97,15 @@ exits_behind front code r a fact step exits = let len = length-append front code
 -- a relay in front
 pub body_relay : (q : List Condition) (code : List sock_filter) (o k : ℕ) → Body q code o k → Body q (relay_code o ++ code) 1 (suc k)
 body_relay q code o k body = let p = relay_code o ++ code in
-    let far = jump_in_range (o + 1) (omega (arith, body.high)) in
     let len : length p ≡ 3 + length code = length-append (relay_code o) code in
     record {
       low = omega arith;
       high = omega arith;
       near = omega arith;
       long = omega (arith, body.long);
-      ranges = ranges_join (relay_code o) code (ranges_from (relay_code o) (jump_in_range 2 (omega arith), (far, (far, tt)))) body.ranges;
+      ranges = ranges_join (relay_code o) code (ranges_from (relay_code o) (omega (arith, body.high))) body.ranges;
       closed = closed_join (relay_code o) code (length p + 2) (length code + 2) (length p + 2)
-          (closed_from (relay_code o) (length p + 2) (
-            inside_jump refl (omega arith),
-            (inside_jump refl (omega (arith, body.near)), (inside_jump refl (omega (arith, body.near)), tt)),
-          ))
-          body.closed (omega arith) (omega arith);
+          (closed_from (relay_code o) (length p + 2) (grind (arith, inside_jump, body.near))) body.closed (omega arith) (omega arith);
       enters = λ r rec a small.
           exits_behind (relay_code o) code r a (RuleHolds q r) (on_jump p r 0 a 2 refl small) (body.enters r rec a small);
       fails = λ r a small.
@@ -141,11 +126,9 @@ rule_of q code o k is_k body = let p = entry_code o ++ code in
     let len : length p ≡ 2 + length code = length-append (entry_code o) code in
     record {
       long = omega (arith, body.long);
-      ranges = ranges_join (entry_code o) code
-          (ranges_from (entry_code o) (jump_in_range 1 (omega arith), (jump_in_range (o + 1) (omega (arith, body.high)), tt))) body.ranges;
+      ranges = ranges_join (entry_code o) code (ranges_from (entry_code o) (omega (arith, body.high))) body.ranges;
       closed = closed_join (entry_code o) code (length p + 2) (length code + 2) (length p + 2)
-          (closed_from (entry_code o) (length p + 2) (inside_jump refl (omega arith), (inside_jump refl (omega (arith, body.near)), tt)))
-          body.closed (omega arith) (omega arith);
+          (closed_from (entry_code o) (length p + 2) (grind (arith, inside_jump, body.near))) body.closed (omega arith) (omega arith);
       enters = λ r rec a small.
           exits_behind (entry_code o) code r a (RuleHolds q r) (on_jump p r 0 a 1 refl small) (body.enters r rec a small);
       skips = λ r a small. goes_as p r (goes_on p r (then_step stays (on_jump p r 1 a (o + 1) refl small))

@@ -120,8 +120,7 @@ counted_relay q c n n' o o' far en eo h = record {
 
 pub counted_at : (items : List Condition) (i : ℕ) (c : Condition) (n o : ℕ) → i < length items
     → c ≡ get_or items i c → Counted (take i items ++ c ∷ []) n o → Counted (take (i + 1) items) n o
-counted_at items i c n o within is h =
-    subst (λ l. Counted l n o) (sym (take_more items i c within ∙ ap (λ x. take i items ++ x ∷ []) (sym is))) h
+counted_at items i c n o within is h = grind (arith, take_more)
 
 pub counted_rule : (items : List Condition) (i n o : ℕ) → 1 ≤ length items → length items ≤ i
     → Counted (take i items) n o → n ≡ min (rule_length items) (2 ^ 64 - 1)

@@ -1,7 +1,7 @@
 -- For `SyscallTable::lookup`: what one comparison with the middle of a part of a table tells of the look-up in it.
-use Rattle.std.proofs.Common.{◌≡◌, ◌≢◌, ℕ, zero, suc, ◌+◌, ◌-◌, ◌*◌, ◌/◌, ◌^◌, ◌<◌, ◌≤◌, ℤ, pos, List, [], ◌∷◌, false, Option, Some}
-use Rattle.std.proofs.Common.{None, Ordering, Less, Equal, Greater, nat_cmp, length, ◌++◌, take, drop, get_or, AllPairs, bytes_eq}
-use Rattle.std.proofs.Common.{if◌then◌else◌, inl, inr, refl, sym, ap, ◌∙◌, subst, arith, Bool, nat_eq, w64}
+use Rattle.std.proofs.Common.{◌≡◌, ◌≢◌, ℕ, zero, suc, ◌+◌, ◌-◌, ◌*◌, ◌/◌, ◌^◌, ◌<◌, ◌≤◌, ℤ, pos, List, [], ◌∷◌, false, Option, Some, None}
+use Rattle.std.proofs.Common.{Ordering, Less, Equal, Greater, nat_cmp, length, take, drop, get_or, AllPairs, bytes_eq, if◌then◌else◌, inl}
+use Rattle.std.proofs.Common.{inr, refl, sym, ap, ◌∙◌, subst, arith, Bool, nat_eq, w64}
 use mir.Val.{to_z, of_z}
 use Rattle.std.specs.Borrow.{Bor}
 use Rattle.std.specs.Cmp.Lexicographic.{slice_cmp}
@@ -48,19 +48,15 @@ number_of-take (pair ∷ table) name (suc i) none =
 -- pairs at the front with other names may be left out
 number_of-drop : (table : List Pair) (name : List ℕ) (i : ℕ) → HasNot table name (λ k. k < i)
     → number_of (drop i table) name ≡ number_of table name
-number_of-drop [] name zero none = refl
 number_of-drop [] name (suc i) none = refl
-number_of-drop (pair ∷ table) name zero none = refl
+number_of-drop table name zero none = refl
 number_of-drop (pair ∷ table) name (suc i) none =
     rw (apart pair name (none 0 pair (omega arith) (omega arith)))
     (number_of-drop table name i (λ k d at within. none (suc k) d (omega arith) (omega arith)))
 
 -- a name that comes before another isn't that
 pub differs : (first second : List ℕ) → ComesBefore first second → first ≢ second
-differs first second before same =
-    let itself : slice_cmp nat_cmp first first ≡ Less = ap (slice_cmp nat_cmp first) same ∙ before in
-    let tied = tied_itself nat_list_cmp_total first in
-    cc
+differs first second before = grind (arith, tied_itself, nat_list_cmp_total)
 
 -- what compares as greater comes after
 turned : (first second : List ℕ) → slice_cmp nat_cmp first second ≡ Greater → ComesBefore second first
@@ -73,22 +69,12 @@ tied first second equal = (bytes_eq-Decides first second).0 (sym (is_eq-slice_cm
 -- behind a name that the asked one comes before, and at it, no name is the asked one
 none_from : (table : List Pair) (name : List ℕ) (i : ℕ) → AllPairs StandsBefore table
     → ((d : Pair) → ComesBefore name (get_or table i d).0) → i < length table → HasNot table name (λ k. i ≤ k)
-none_from table name i ascends before inside k d at within same =
-    let later : ComesBefore name (get_or table k d).0 = elim (cases_lt i k) [
-      | inl behind ↦ nat_list_cmp_total.trans name (get_or table i d).0 (get_or table k d).0 (before d) (ascends i k d behind within)
-      | inr until ↦ let here : i ≡ k = omega arith in subst (λ j. ComesBefore name (get_or table j d).0) here (before d)
-    ] in
-    differs name (get_or table k d).0 later (sym same)
+none_from table name i ascends before inside = grind (arith, cases_lt, nat_list_cmp_total, differs)
 
 -- up to a name that comes before the asked one, and at it, no name is the asked one
 none_to : (table : List Pair) (name : List ℕ) (i : ℕ) → AllPairs StandsBefore table → ((d : Pair) → ComesBefore (get_or table i d).0 name)
     → i < length table → HasNot table name (λ k. k < suc i)
-none_to table name i ascends before inside k d at within same =
-    let earlier : ComesBefore (get_or table k d).0 name = elim (cases_lt k i) [
-      | inl ahead ↦ nat_list_cmp_total.trans (get_or table k d).0 (get_or table i d).0 name (ascends k i d ahead inside) (before d)
-      | inr from ↦ let here : i ≡ k = omega arith in subst (λ j. ComesBefore (get_or table j d).0 name) here (before d)
-    ] in
-    differs (get_or table k d).0 name earlier same
+none_to table name i ascends before inside = grind (arith, cases_lt, nat_list_cmp_total, differs)
 
 -- a part of a table in which so many comparisons left the asked name, if the table has it
 pub record IsHalf (table : List Pair) (name : List ℕ) (compared : ℕ) (part : List Pair) : Type 0 where
@@ -101,14 +87,7 @@ pub record IsHalf (table : List Pair) (name : List ℕ) (compared : ℕ) (part :
 
 -- the whole table before any comparison
 pub whole : (table : List Pair) (name : List ℕ) → IsCallTable table → IsHalf table name 0 table
-whole table name is = record {
-  same = refl;
-  ascending = is.ascending;
-  few = omega arith;
-  most = is.short;
-  least = omega (arith, is.long);
-  counted = λ n compares. let all : n ≡ 0 + n = omega arith in subst (HalvingCompares name table) all compares;
-}
+whole table name is = grind arith
 
 -- half of fewer than a power of two are fewer than the power below
 fewer : (k n half : ℕ) → 0 < n → n < 2 ^ k → half ≤ n / 2 → half < 2 ^ (k - 1)
@@ -128,10 +107,7 @@ enough (suc k) n half many halved =
 
 -- a part that isn't empty is left by fewer than nine comparisons
 pub below_nine : (compared n : ℕ) → compared ≤ 9 → 0 < n → n < 2 ^ (9 - compared) → compared < 9
-below_nine compared n few some most = elim (cases_lt compared 9) [
-  | inl below ↦ below
-  | inr from ↦ let none : 9 - compared ≡ 0 = omega arith in absurd (omega (arith, rw none at most))
-]
+below_nine compared n few some most = grind (arith, cases_lt)
 
 -- one more comparison leaves this half of the part
 pub halved : (table : List Pair) (name : List ℕ) (compared : ℕ) (part half : List Pair) → IsHalf table name compared part → 0 < length part
@@ -169,30 +145,12 @@ pub record IsCompared (part : Slice) (name : List ℕ) (middle : ℕ) (answer : 
 pub compared_with : (part : Slice) (name : List ℕ) {empty : Bool} {order answer : Ordering} → empty ≡ false → empty ≡ nat_eq (length part) 0
     → order ≡ answer → order ≡ slice_cmp nat_cmp name (get_or part (length part / 2) nothing).0.now
     → IsCompared part name (length part / 2) answer
-compared_with part name some tested is compared =
-    let same : length (pairs_of part) ≡ length part = length-map part _ in
-    let other = eqb-false (length part) 0 (sym tested ∙ some) in
-    let inside : length part / 2 < length part = omega arith in
-    record {
-      here = omega arith;
-      half = rw same refl;
-      order = λ d. rw (get_or-map (λ (pair : Bor (List ℕ) × ℤ). (pair.0.now, pair.1)) part (length part / 2) nothing d inside)
-          (sym compared ∙ is);
-    }
+compared_with part name some tested is compared = grind (arith, length-map, eqb-false, get_or-map)
 
 -- the pair at half the length is the middle one
 middle_of : (pairs : List Pair) (middle : ℕ) (d : Pair) → middle < length pairs → middle ≡ length pairs / 2
     → IsMiddle pairs (take middle pairs) (get_or pairs middle d) (drop (middle + 1) pairs)
-middle_of pairs middle d here half =
-    let front : length (take middle pairs) ≡ middle = length-take-le middle pairs (omega (arith, here)) in
-    let back = length-drop (middle + 1) pairs in
-    let next : suc middle ≡ middle + 1 = omega arith in
-    let cut = rw next at (drop-cons pairs middle d here) in
-    record {
-      whole = sym (take-append-drop middle pairs) ∙ ap (λ behind. take middle pairs ++ behind) cut;
-      halves = rw (front, back, half) (elim (cases_lt (length pairs - (length pairs / 2 + 1)) (length pairs / 2))
-          [ inl less ↦ inr (omega (arith, here)) | inr from ↦ inl (omega (arith, here)) ]);
-    }
+middle_of pairs middle d here half = grind (arith, length-take-le, length-drop, drop-cons, take-append-drop, cases_lt)
 
 -- what is left where the asked name comes before the middle one
 pub lower : (table : List Pair) (name : List ℕ) (compared middle : ℕ) (part : Slice)

@@ -1,5 +1,5 @@
 -- For `SyscallTable::lookup`: a look-up by halving compares a name with one number of names.
-use Rattle.std.proofs.Common.{◌≡◌, ℕ, suc, ◌+◌, List, ◌∷◌, ◌++◌, length, take, inl, inr, refl, sym, ap, ◌∙◌, subst, arith}
+use Rattle.std.proofs.Common.{◌≡◌, ℕ, suc, List, ◌∷◌, ◌++◌, length, take, inl, inr, refl, sym, ap, ◌∙◌, subst, arith}
 use Rattle.std.proofs.Math.Seq.{take-append_seam}
 use Rattle.std.proofs.lemmas.Cmp.{nat_list_cmp_total}
 use Rattle.std.proofs.lemmas.List.{append_cancel_left, length-append}
@@ -12,9 +12,7 @@ not_both first second before after = differs first first (nat_list_cmp_total.tra
 
 -- an empty part has no middle
 no_middle : {part front back : List Pair} {middle : Pair} → IsMiddle part front middle back → length part ≡ 0 → ⊥
-no_middle {part} {front} {back} {middle} is empty =
-    let long : length (front ++ middle ∷ back) ≡ length front + length (middle ∷ back) = length-append front (middle ∷ back) in
-    omega (arith, ap length is.whole)
+no_middle is empty = grind (arith, length-append)
 
 -- a part has one middle
 middle_only : {part other front front' back back' : List Pair} {middle middle' : Pair} → IsMiddle part front middle back

@@ -1,5 +1,5 @@
 -- For `read_policies` and `policies_of`: the policies of a value's filters, and the refusal of the least name's.
-use Rattle.std.proofs.Common.{◌≡◌, ℕ, ◌++◌, List, ◌∷◌, Option, Some, None, String, Global, IfSome, All, string_bytes, refl}
+use Rattle.std.proofs.Common.{◌≡◌, ℕ, ◌++◌, List, ◌∷◌, Option, Some, None, String, Global, IfSome, All, string_bytes, refl, arith}
 use Rattle.serde_json.specs.Data.{Data}
 use Rattle.seccompiler.proofs.ByName.{ByName, AreInOrder, AreMade}
 use Rattle.seccompiler.specs.Errors.{IsNoMemoryInFrontend}
@@ -57,7 +57,4 @@ module _ (arch : TargetArch) (d : Data) where
   -- So is the shape that the value has.
   pub shape_told : (text : List ℕ) → IsValueOf text d → (e : JsonFrontendError) → IsShapeRefusal d e
       → TellsFrontendFault arch text e × IsNoFailedRead e × IsNoMemoryInFrontend e
-  shape_told text is e.NotAnObject h = ((d, is, h), tt, tt)
-  shape_told text is (e.Shape name) h = ((d, is, h), tt, tt)
-  shape_told text is e.OutOfMemory h = (tt, tt, tt)
-  shape_told text is e h = absurd h
+  shape_told text is e h = grind arith

@@ -1,6 +1,5 @@
 -- For `lent_filters`: the filters that an object's members are, and its least name that is no filter's.
-use Rattle.std.proofs.Common.{◌≡◌, ℕ, List, ◌∷◌, ◌++◌, Option, Some, None, option_map, string_bytes}
-use Rattle.std.proofs.Common.{refl, sym, ap, ◌∙◌, subst}
+use Rattle.std.proofs.Common.{◌≡◌, ℕ, List, ◌∷◌, ◌++◌, Option, Some, None, option_map, string_bytes, refl, sym, ap, ◌∙◌, subst, arith}
 use Rattle.serde_json.specs.Data.{Data, object}
 use Rattle.serde_json.specs.Find.{get_member}
 use Rattle.serde_json.specs.View.{view, members_view}
@@ -20,12 +19,10 @@ has : (name : List ℕ) (entries : List Entry) → get_member name (members_view
 has name entries = sym (view-lookup name entries) ∙ ap (option_map view) (by_text name entries)
 
 viewed : (o : Option Value) (d : Data) → option_map view o ≡ Some d → (v : Value) × (o ≡ Some v) × (view v ≡ d)
-viewed None d h = cc
-viewed (Some v) d h = (v, refl, cc)
+viewed o d h = grind arith
 
 not_viewed : (o : Option Value) → option_map view o ≡ None → o ≡ None
-not_viewed None h = refl
-not_viewed (Some v) h = cc
+not_viewed o h = grind arith
 
 -- What the members are has the object's filters.
 pub are_filters : (entries : List Entry) (made : ByName JsonFilter) → AreMade IsRead entries made

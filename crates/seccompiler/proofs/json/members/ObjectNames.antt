@@ -1,9 +1,7 @@
 -- For `members_under`: what an object has under a name, and whether its names are all among some.
-use Rattle.std.proofs.Common.{◌≡◌, ℕ, zero, suc, ◌≤◌, ◌<◌, List, [], ◌∷◌, length, take, true, false, nat_lt, Option, Some, None, option_map}
-use Rattle.std.proofs.Common.{refl, sym, ap, ◌∙◌, subst, arith, bytes_eq, ◌↔◌, ◌⊎◌, inl, inr, Contains, string_bytes, string_cmp}
-use Rattle.std.proofs.Common.{map, get_or}
+use Rattle.std.proofs.Common.{◌≡◌, ℕ, zero, suc, ◌≤◌, ◌<◌, List, [], ◌∷◌, length, take, true, false, nat_lt, Option, Some, option_map, refl}
+use Rattle.std.proofs.Common.{sym, ap, ◌∙◌, subst, arith, bytes_eq, ◌↔◌, ◌⊎◌, inl, inr, Contains, string_bytes, string_cmp, map, get_or}
 use Rattle.std.proofs.Math.ListN.{set}
-use Rattle.std.proofs.lemmas.List.{drop_all, drop_more}
 use Rattle.std.specs.Bool.{⊤}
 use Rattle.std.specs.Borrow.{Bor}
 use Rattle.std.specs.List.{list_any, position_or_len, AllZip}
@@ -63,10 +61,7 @@ module _ (e : Entry) (left : List Entry) where
   first_or_later : (other : List ℕ)
       → ((bytes_eq other (string_bytes e.0) ≡ true) × (get_member other (members_view (e ∷ left)) ≡ Some (view e.1)))
       ⊎ ((bytes_eq other (string_bytes e.0) ≡ false) × (get_member other (members_view (e ∷ left)) ≡ get_member other (members_view left)))
-  first_or_later other = elim (cases_Bool (bytes_eq other (string_bytes e.0))) [
-    | inl own ↦ inl (own, member_here other e left ((bytes_eq-Decides other (string_bytes e.0)).0 own))
-    | inr not ↦ inr (not, member_later other e left (λ own. true≢false (sym ((bytes_eq-Decides other (string_bytes e.0)).1 own) ∙ not)))
-  ]
+  first_or_later other = grind (arith, cases_Bool, member_here, bytes_eq-Decides, member_later)
 
   -- The names of an object are among some where the first member's is, and the others' are.
   only_step : (names : List (List ℕ)) → HasOnly (object (members_view (e ∷ left))) names
@@ -106,9 +101,6 @@ module _ (e : Entry) (left : List Entry) where
   -- What has other names stays sought.
   others : (d : Data) (names : List (List ℕ)) (all : List (Option Data)) → list_any (bytes_eq (string_bytes e.0)) names ≡ false
       → AreSought d (e ∷ left) names all → AreSought d left names all
-  others d [] [] apart is = tt
-  others d [] (o ∷ all) apart is = is
-  others d (key ∷ names) [] apart is = is
   others d (key ∷ names) (o ∷ all) apart is = elim (first_or_later key) [
     | inl own ↦ let e = rw (nat_list_eq_equiv.symm (string_bytes e.0) key ∙ own.0) at apart in absurd (true≢false e)
     | inr later ↦ (
@@ -116,26 +108,21 @@ module _ (e : Entry) (left : List Entry) where
       others d names all (rw (nat_list_eq_equiv.symm (string_bytes e.0) key ∙ later.0) at apart) is.1,
     )
   ]
+  others d _ _ apart is = is
 
   -- A member less is left, which was found if nothing was found under its name.
   sought_more : (d : Data) (names : List (List ℕ)) (all : List (Option Data)) (place : ℕ) → place ≡ place_in names (string_bytes e.0)
       → AreApart names → AreSought d (e ∷ left) names all → AreSought d left names (or_at place (view e.1) all)
   sought_more d [] [] place placed apart is = tt
-  sought_more d [] (o ∷ all) place placed apart is = absurd is
-  sought_more d (key ∷ names) [] place placed apart is = absurd is
   sought_more d (key ∷ names) (o ∷ all) place placed apart is = elim (first_or_later key) [
     | inl own ↦ let here : place ≡ 0 = placed ∙ rw own.0 refl in rw here (
-      is.0 ∙ ap (option_or o) own.1 ∙ found o,
+      is.0 ∙ ap (option_or o) own.1 ∙ grind arith,
       others d names all (rw ((bytes_eq-Decides key (string_bytes e.0)).0 own.0) at apart.0) is.1,
     )
     | inr later ↦ let behind : place ≡ suc (place_in names (string_bytes e.0)) = placed ∙ rw later.0 (omega arith) in
         rw behind (is.0 ∙ ap (option_or o) later.1, sought_more d names all _ refl apart.1 is.1)
   ]
-    where
-      found : (o : Option Data) → option_or o (Some (view e.1)) ≡ option_or (option_or o (Some (view e.1)))
-          (get_member key (members_view left))
-      found None = refl
-      found (Some x) = refl
+  sought_more d _ _ place placed apart is = absurd is
 
 -- So far: the object has only some of the names if the members that are left do; and what it has under each of the names
 -- was found, or is sought.
@@ -163,24 +150,17 @@ module _ (e : Entry) (left : List Entry) (d : Data) (names : List (List ℕ)) (c
 found_all : (d : Data) (names : List (List ℕ)) (all : List (Option Data)) → AreSought d [] names all
     → AllZip (λ found key. found ≡ get key d) all names
 found_all d [] [] is = tt
-found_all d [] (o ∷ all) is = absurd is
-found_all d (key ∷ names) [] is = absurd is
-found_all d (key ∷ names) (o ∷ all) is =
-    (sym (is.0 ∙ elim o as (λ o. option_or o None ≡ o) [ None ↦ refl | Some x ↦ refl ]), found_all d names all is.1)
+found_all d (key ∷ names) (o ∷ all) is = (sym (is.0 ∙ grind arith), found_all d names all is.1)
+found_all d _ _ is = absurd is
 
 -- So it is at the end, where no other name is left either.
 pub at_end : (d : Data) (left : List Entry) (names : List (List ℕ)) (count : ℕ) (all : List (Option Data)) → left ≡ []
     → IsSoFar d left names count all → HasOnly d (take count names) × AllZip (λ found key. found ≡ get key d) all names
-at_end d left names count all none so_far =
-    let l = rw none at so_far in (
-      l.only.0 (record { is_object = (no_members, refl); no_other = λ name value there. cc }),
-      found_all d names all l.sought,
-    )
+at_end d left names count all none so_far = grind (arith, found_all)
 
 -- What is found, or else a member.
 found_or : (o : Option (Bor Value)) (v : Bor Value) → data_of (option_or o (Some v)) ≡ option_or (data_of o) (Some (view v.now))
-found_or None v = refl
-found_or (Some x) v = refl
+found_or o v = grind arith
 
 pub found_at : (found : List (Option (Bor Value))) (place : ℕ) (x : Option (Bor Value)) (v : Bor Value)
     → map data_of (set found place (option_or (get_or found place x) (Some v))) ≡ or_at place (view v.now) (map data_of found)
@@ -192,13 +172,8 @@ found_at (o ∷ found) (suc place) x v = ap (λ all. data_of o ∷ all) (found_a
 -- A list of five is that of what stands at its places.
 pub five : {X : Type 0} (all : List X) (a b c d e : X) → length all ≡ 5
     → all ≡ get_or all 0 a ∷ get_or all 1 b ∷ get_or all 2 c ∷ get_or all 3 d ∷ get_or all 4 e ∷ []
-five all a b c d e long =
-    let at_0 = drop_more all 0 a (omega (arith, long)) in
-    let at_1 = drop_more all 1 b (omega (arith, long)) in
-    let at_2 = drop_more all 2 c (omega (arith, long)) in
-    let at_3 = drop_more all 3 d (omega (arith, long)) in
-    let at_4 = drop_more all 4 e (omega (arith, long)) in
-    let end = drop_all 5 all (omega (arith, long)) in cc
+five (v ∷ w ∷ x ∷ y ∷ z ∷ []) a b c d e long = refl
+five _ a b c d e long = absurd (omega arith)
 
 -- An object of one member has its name alone.
 pub one_name : (name : List ℕ) (entries : List Entry) (x : Data) → length entries ≡ 1 → get name (object (members_view entries)) ≡ Some x

@@ -1,5 +1,5 @@
 -- For `read_conditions` and `read_rules`: how far a loop has read the values of an array, one by one.
-use Rattle.std.proofs.Common.{◌≡◌, ℕ, ◌+◌, ◌<◌, ◌≤◌, List, [], ◌∷◌, ◌++◌, length, get_or, drop, sym, subst, append_assoc}
+use Rattle.std.proofs.Common.{◌≡◌, ℕ, ◌+◌, ◌<◌, ◌≤◌, List, [], ◌∷◌, ◌++◌, length, get_or, drop, sym, subst, append_assoc, arith}
 use Rattle.std.proofs.lemmas.List.{append-nil, drop_all, drop_more}
 use Rattle.serde_json.specs.Data.{Data, Items, item}
 use Rattle.serde_json.specs.View.{view, items_view}
@@ -15,20 +15,14 @@ pub record IsRead {X : Type 0} (P : Data → X → Type 0) (all left : List Valu
 module _ {X : Type 0} (P : Data → X → Type 0) where
   behind_first : (d : Data) (others : Items) (xs : List X) → OneByOne P (item d others) xs
       → (x : X) × (ys : List X) × P d x × OneByOne P others ys
-  behind_first d others [] h = absurd h
-  behind_first d others (x ∷ xs) h = (x, xs, h.0, h.1)
+  behind_first d others xs h = grind arith
 
   module _ (all left more : List Value) (done : List X) (v : Value) (so_far : IsRead P all left done) (first : left ≡ v ∷ more) where
     rest : (xs : List X) → OneByOne P (items_view all) xs → (x : X) × (ys : List X) × P (view v) x × OneByOne P (items_view more) ys
-    rest xs h = let ys = so_far.others xs h in
-        behind_first (view v) _ ys.0 (subst (λ vs. OneByOne P (items_view vs) ys.0) first ys.1)
+    rest xs h = grind (arith, behind_first)
 
     goes_on : (x : X) → P (view v) x → IsRead P all more (done ++ x ∷ [])
-    goes_on x read = record {
-      joined = λ xs h. subst (OneByOne P (items_view all)) (sym (append_assoc done (x ∷ []) xs))
-          (so_far.joined (x ∷ xs) (subst (λ vs. OneByOne P (items_view vs) (x ∷ xs)) (sym first) (read, h)));
-      others = λ xs h. let parts = rest xs h in (parts.1, parts.3);
-    }
+    goes_on x read = grind (arith, append_assoc, rest)
 
     fails : ((x : X) → P (view v) x → ⊥) → (xs : List X) → OneByOne P (items_view all) xs → ⊥
     fails none xs h = let parts = rest xs h in none parts.0 parts.2

@@ -1,8 +1,8 @@
 -- For `add_rule`, `widened_numbers` and `chains_of_numbers`: the chains of a map, after one was written or some were put in.
-use Rattle.std.proofs.Common.{◌≡◌, ℤ, ◌++◌, List, [], ◌∷◌, Vec, Global, Bool, true, false, ◌||◌, cond, Option, Some, None, option_map, refl}
-use Rattle.std.proofs.Common.{sym, ap, ◌∙◌, unwrap_or}
+use Rattle.std.proofs.Common.{◌≡◌, ℤ, ◌++◌, List, [], ◌∷◌, Vec, Global, Bool, ◌||◌, cond, Option, Some, None, option_map, refl, sym, ap}
+use Rattle.std.proofs.Common.{◌∙◌, unwrap_or, arith}
 use Rattle.std.specs.BTreeMap.{BTreeMap, is_at, IsFromIterResult}
-use Rattle.std.specs.Map.{lookup, keys_of, update, update_all}
+use Rattle.std.specs.Map.{lookup, keys_of, update_all}
 use Rattle.std.specs.List.Sorted.{IsStrictlySortedBy}
 use Rattle.std.specs.Option.{is_some}
 use Rattle.std.specs.Ordering.{int_cmp, int_eq}
@@ -31,30 +31,12 @@ list_of found = option_map (λ v. v.items) found
 pub chain_held : (entries : Pairs) (number : ℤ) → chain_at (chains_of entries) number ≡ list_of (held entries number)
 chain_held entries number = lookup-map_values (λ (v : Vec Rule Global). v.items) (is_at (int_cmp number)) entries
 
--- What a chain was, or the empty one.
-or_empty : (found : Option (Vec Rule Global)) (start : Vec Rule Global) → start.items ≡ []
-    → (unwrap_or found start).items ≡ unwrap_or (list_of found) []
-or_empty None start empty = empty
-or_empty (Some v) start empty = refl
-
 -- A rule was put at the end of a number's chain, which began empty.
 pub chain_with_rule : (old new : Pairs) (number : ℤ) (before after start : Vec Rule Global) (rule : Rule) (q : ℤ)
     → held new q ≡ cond (int_eq number q) (Some after) (held old q) → before ≡ unwrap_or (held old number) start
     → start.items ≡ [] → after.items ≡ before.items ++ rule ∷ []
     → chain_at (chains_of new) q ≡ added (cond (int_eq q number) (rule ∷ []) []) (chain_at (chains_of old) q)
-chain_with_rule old new number before after start rule q written found empty longer =
-    chain_held new q ∙ ap list_of written ∙ by_case (int_eq number q) refl
-    ∙ ap (λ b. added (cond b (rule ∷ []) []) (list_of (held old q))) (int_eq_equiv.symm number q)
-    ∙ ap (added (cond (int_eq q number) (rule ∷ []) [])) (sym (chain_held old q))
-  where
-    by_case : (b : Bool) → int_eq number q ≡ b
-        → list_of (cond b (Some after) (held old q)) ≡ added (cond b (rule ∷ []) []) (list_of (held old q))
-    by_case false is = refl
-    by_case true is =
-        let same : number ≡ q = (Decides-int_eq number q).0 is in
-        let was : before.items ≡ unwrap_or (list_of (held old number)) [] =
-        ap (λ v. v.items) found ∙ or_empty (held old number) start empty in
-        ap Some (longer ∙ ap (λ front. front ++ rule ∷ []) was) ∙ ap (λ n. added (rule ∷ []) (list_of (held old n))) same
+chain_with_rule old new number before after start rule q written found empty longer = grind (arith, chain_held, Decides-int_eq)
 
 -- The chain of a number in the map that is made of some pairs.
 abbrev pub made_at : Pairs → ℤ → Option Chain
@@ -69,16 +51,7 @@ made_of_rules rules order q = ap list_of (update_all_none int_eq_equiv int_eq (�
 -- A number more has the empty chain.
 pub made_more : (pairs : Pairs) (number : ℤ) (empty : Vec Rule Global) (q : ℤ) (so_far : Bool) (chain : Option Chain) → empty.items ≡ []
     → made_at pairs q ≡ chain_of so_far chain → made_at (pairs ++ (number, empty) ∷ []) q ≡ chain_of (so_far || int_eq q number) chain
-made_more pairs number empty q so_far chain is_empty made =
-    ap (λ g. list_of (g q)) (fold_push (λ g p. update int_eq g p.0 (Some p.1)) (λ _. None) pairs (number, empty))
-    ∙ by_case (int_eq number q) so_far made ∙ ap (λ b. chain_of (so_far || b) chain) (int_eq_equiv.symm number q)
-  where
-    by_case : (here before : Bool) → made_at pairs q ≡ chain_of before chain
-        → list_of (cond here (Some empty) (update_all int_eq (λ _. None) pairs q)) ≡ chain_of (before || here) chain
-    by_case false true is = is
-    by_case false false is = is
-    by_case true true is = ap Some is_empty
-    by_case true false is = ap Some is_empty
+made_more pairs number empty q so_far chain is_empty made = grind (arith, fold_push, int_eq_equiv)
 
 -- The map finds what it is made of.
 pub made_found : (pairs : Pairs) (all : BTreeMap ℤ (Vec Rule Global)) → IsFromIterResult int_cmp pairs all → (q : ℤ)
@@ -87,5 +60,4 @@ made_found pairs all made q = chain_held all.entries q ∙ ap list_of (made.0 q)
 
 -- A number has rules where the map holds some.
 pub some_held : (entries : Pairs) (number : ℤ) → is_some (chain_at (chains_of entries) number) ≡ is_some (held entries number)
-some_held entries number = ap is_some (chain_held entries number)
-    ∙ elim (held entries number) as (λ found. is_some (list_of found) ≡ is_some found) [ None ↦ refl | Some v ↦ refl ]
+some_held entries number = grind (arith, chain_held entries number)

@@ -4,7 +4,6 @@ use Rattle.std.proofs.Common.{◌≡◌, ℕ, ℤ, List, [], ◌∷◌, ◌++◌
 use Rattle.std.proofs.lemmas.List.Elements.{All-nil, All-cons, All-head, All-tail, All-contains, Contains-append_right}
 use Rattle.seccompiler.specs.declared.backend.TargetArch.{TargetArch}
 use Rattle.seccompiler.specs.declared.json.error.JsonFrontendError.{JsonFrontendError}
-use Rattle.seccompiler.specs.declared.json.error.JsonFrontendError.TheVariants as e
 use Rattle.seccompiler.specs.declared.json.types.JsonCondition.{JsonCondition}
 use Rattle.seccompiler.specs.JsonTypes.{JsonRule}
 use Rattle.seccompiler.specs.Architecture.{table_of}
@@ -17,10 +16,7 @@ use Rattle.seccompiler.proofs.json.policy.EntryRules.{fine_or_fault_in, not_both
 -- An error that tells a fault tells one of which more is known.
 pub tells_more : (P Q : Fault → Type 0) → ((fault : Fault) → P fault → Q fault) → (error : JsonFrontendError)
     → Tells P error → Tells Q error
-tells_more P Q more (e.Backend cause) told = (more _ told.0, told.1)
-tells_more P Q more (e.SyscallName name arch) told = more _ told
-tells_more P Q more e.OutOfMemory told = told
-tells_more P Q more error told = absurd told
+tells_more P Q more error told = grind arith
 
 module _ (arch : TargetArch) where
   -- What is wrong with the conditions of a known call is wrong with the entry.
@@ -50,17 +46,11 @@ module _ (arch : TargetArch) where
 
   -- An entry with which nothing is wrong has no fault.
   not_both : (entry : JsonRule) (fault : Fault) → IsFineEntry arch entry → IsFaultOf arch entry fault → ⊥
-  not_both entry fault fine (unknown_name unknown is) = let e = sym unknown ∙ fine.is_for in cc
-  not_both entry fault fine (wrong_args number conditions known are wrong) = not_both_in conditions fault (rw are at fine.conditions) wrong
+  not_both entry fault fine h = grind (arith, not_both_in)
 
   -- An entry has one first fault.
   one_fault : (entry : JsonRule) (a b : Fault) → IsFaultOf arch entry a → IsFaultOf arch entry b → a ≡ b
-  one_fault entry a b (unknown_name unknown is) (unknown_name other told) = is ∙ sym told
-  one_fault entry a b (unknown_name unknown is) (wrong_args number conditions known are wrong) = let e = sym unknown ∙ known in cc
-  one_fault entry a b (wrong_args number conditions known are wrong) (unknown_name unknown told) = let e = sym unknown ∙ known in cc
-  one_fault entry a b (wrong_args number conditions known are wrong) (wrong_args another others known_too are_others wrong_too) =
-      let same : conditions ≡ others = let e = sym are ∙ are_others in cc in
-      one_fault_in others a b (subst (λ cs. IsFaultIn cs a) same wrong) wrong_too
+  one_fault entry a b h h2 = grind (arith, one_fault_in)
 
   -- Nothing is wrong with any of the entries, or some fault is the first.
   pub all_fine_or_fault : (entries : List JsonRule) → All (IsFineEntry arch) entries ⊎ ((fault : Fault) × IsFirstOf arch entries fault)
@@ -109,11 +99,9 @@ module _ (arch : TargetArch) where
       let here : entry ≡ y = cc in
       absurd (not_both y a (All-head (IsFineEntry arch) y ys others) (subst (λ (x : JsonRule). IsFaultOf arch x a) here wrong))
   same_first (x ∷ xs) [] entry other back other_back a b same fine others wrong wrong_too =
-      let here : x ≡ other = cc in
-      absurd (not_both other b (subst (IsFineEntry arch) here (All-head (IsFineEntry arch) x xs fine)) wrong_too)
+      absurd (not_both other b (grind (arith, All-head (IsFineEntry arch) x xs fine)) wrong_too)
   same_first (x ∷ xs) (y ∷ ys) entry other back other_back a b same fine others wrong wrong_too =
-      let rest : xs ++ entry ∷ back ≡ ys ++ other ∷ other_back = cc in
-      same_first xs ys entry other back other_back a b rest (All-tail (IsFineEntry arch) x xs fine)
+      same_first xs ys entry other back other_back a b (cc) (All-tail (IsFineEntry arch) x xs fine)
       (All-tail (IsFineEntry arch) y ys others) wrong wrong_too
 
   -- Entries have one first fault.

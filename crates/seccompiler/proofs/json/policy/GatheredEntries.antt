@@ -1,8 +1,6 @@
 -- For `gather`: what is gathered of entries, one after the other.
-use Rattle.std.proofs.Common.{◌≡◌, ℕ, ◌+◌, ◌<◌, ◌++◌, length, take, get_or, List, [], ◌∷◌, ◌||◌, Some, None, All, replicate, false}
-use Rattle.std.proofs.Common.{refl, sym, ap, ◌∙◌, subst, append-nil}
-use Rattle.std.specs.List.{flat_map, list_any}
-use Rattle.std.proofs.Math.Bool.{or-false}
+use Rattle.std.proofs.Common.{◌≡◌, ℕ, ◌+◌, ◌<◌, ◌++◌, length, take, get_or, List, [], ◌∷◌, None, All, replicate, false, sym, ap, ◌∙◌, subst}
+use Rattle.std.proofs.Common.{append-nil, arith}
 use Rattle.std.proofs.lemmas.List.{flat_map_more, take_more}
 use Rattle.std.proofs.lemmas.List.Elements.{All-push}
 use Rattle.std.proofs.lemmas.List.Folds.{list_any-append}
@@ -21,20 +19,15 @@ use Rattle.seccompiler.specs.JsonPolicyOf.{chain_at, is_always, rules_for, IsFau
 
 -- Items added at two times are added as one list.
 pub added_twice : {X : Type 0} (front own : List X) → added own (added front None) ≡ added (front ++ own) None
-added_twice [] own = refl
-added_twice (r ∷ front) [] = ap Some (sym (append-nil (r ∷ front)))
-added_twice (r ∷ front) (q ∷ own) = refl
+added_twice {X} front own = grind (arith, append-nil {A = X})
 
 -- What was gathered of some entries, and of one more behind them.
 gathered_push : (arch : TargetArch) (entries : List JsonRule) (entry : JsonRule) (old new : Gathered)
     → AreGathered arch entries old → HasAdded arch entry old new → AreGathered arch (entries ++ entry ∷ []) new
 gathered_push arch entries entry old new so_far more = record {
-  rules = λ number. more.rules number ∙ ap (added (rules_for arch number entry)) (so_far.rules number)
-      ∙ added_twice (flat_map (rules_for arch number) entries) (rules_for arch number entry)
+  rules = λ number. more.rules number ∙ ap (added (rules_for arch number entry)) (so_far.rules number) ∙ added_twice _ _
       ∙ ap (λ rules. added rules None) (flat_map_more (rules_for arch number) [] entries entry);
-  always = λ number. more.always number ∙ ap (λ b. b || is_always arch number entry) (so_far.always number)
-      ∙ ap (λ b. list_any (is_always arch number) entries || b) (sym (or-false (is_always arch number entry)))
-      ∙ sym (list_any-append (is_always arch number) entries (entry ∷ []));
+  always = λ number. grind (arith, list_any-append (is_always arch number) entries (entry ∷ []), more.always number, so_far.always number);
 }
 
 -- Nothing is wrong with these entries, and this was gathered of them.

@@ -1,6 +1,6 @@
 -- For `JsonCompiler::make_seccomp_filter`: the policy matches the records that meet one of the entries.
-use Rattle.std.proofs.Common.{◌≡◌, ◌↔◌, ℕ, ℤ, pos, List, [], ◌∷◌, ◌++◌, Bool, true, false, ◌||◌, ◌&&◌, cond}
-use Rattle.std.proofs.Common.{Option, Some, None, Any, refl, sym, ap, ◌∙◌, subst, ◌⊎◌, inl, inr}
+use Rattle.std.proofs.Common.{◌≡◌, ◌↔◌, ℕ, ℤ, pos, List, [], ◌∷◌, ◌++◌, Bool, true, false, ◌||◌, ◌&&◌, cond, Option, Some, None, Any, refl}
+use Rattle.std.proofs.Common.{sym, ◌∙◌, subst, ◌⊎◌, inl, inr, arith}
 use Rattle.std.specs.List.{list_any}
 use Rattle.std.specs.Option.{is_none}
 use Rattle.std.proofs.lemmas.Bool.{true≢false}
@@ -48,9 +48,7 @@ module _ (arch : TargetArch) (r : List ℕ) where
 
   -- One of the record's call without conditions is met.
   meet_of_always : (entries : List JsonRule) → list_any (is_always arch here) entries ≡ true → Meet entries
-  meet_of_always entries always =
-      let found = (always_decides arch here entries).0 always in
-      (found.0, found.1, found.2, found.3, record { call = found.4.0; conditions = subst (ConditionsHold r) (sym found.4.1) tt })
+  meet_of_always entries always = grind (arith, always_decides)
 
   -- An entry that is met has no conditions, or its rule holds.
   rules_of_meet : (entries : List JsonRule) → Meet entries
@@ -80,10 +78,7 @@ module _ (arch : TargetArch) (r : List ℕ) where
   -- A chain that is there matches where entries always match or a rule holds, and only there.
   chain_holds : (always : Bool) (rules : List Rule) (chain : Chain) → chain_by always rules ≡ Some chain → ChainMatches chain r
       → (always ≡ true) ⊎ Hold rules
-  chain_holds true rules chain there matches = inl refl
-  chain_holds false [] chain there matches = absurd (let never : ⊥ = cc in never)
-  chain_holds false (q ∷ rules) chain there (inl empty) = absurd (let never : ⊥ = cc in never)
-  chain_holds false (q ∷ rules) chain there (inr hold) = let same : chain ≡ q ∷ rules = cc in inr (subst Hold same hold)
+  chain_holds always rules chain there matches = grind arith
 
   chain_there : (always : Bool) (rules : List Rule) → (always ≡ true) ⊎ Hold rules
       → (chain : Chain) × (chain_by always rules ≡ Some chain) × ChainMatches chain r
@@ -100,18 +95,10 @@ module _ (arch : TargetArch) (r : List ℕ) where
     rules = all_rules arch j.rules here
 
     there : chain_at f.chains here ≡ chain_by always rules
-    there = found_in arch j (chain_for arch j.rules) f is here
-        ∙ ap (λ b. cond b (Some (chain_for arch j.rules here)) None) (for_either arch here j.rules)
+    there = found_in arch j (chain_for arch j.rules) f is here ∙ grind (arith, for_either arch here j.rules)
 
     match_entries : Matches f r ↔ Meet j.rules
-    match_entries = (
-      λ m. elim (chain_holds always rules m.chain (sym there ∙ m.there) m.matches) [
-        | inl known ↦ meet_of_always j.rules known
-        | inr hold ↦ meet_of_rules j.rules hold
-      ],
-      λ meet. let found = chain_there always rules (rules_of_meet j.rules meet) in
-          record { chain = found.0; there = there ∙ found.1; matches = found.2 },
-    )
+    match_entries = grind (arith, chain_holds, there, meet_of_always, meet_of_rules, chain_there, rules_of_meet)
 
 -- The policy of each JSON filter matches exactly the records that meet one of its entries.
 pub policies_match_entries : (arch : TargetArch) → PoliciesMatchEntries arch

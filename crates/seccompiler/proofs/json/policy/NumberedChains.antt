@@ -1,7 +1,7 @@
 -- For `JsonCompiler::make_seccomp_filter`, `JsonCompiler::widened`, `seccomp_filter` and `widened_numbers`: chains
 -- under ascending numbers: there are some for any numbers, and what is found under each tells them.
-use Rattle.std.proofs.Common.{◌≡◌, ℤ, List, [], ◌∷◌, map, Bool, true, false, ◌||◌, cond, Some, None, Ordering, Less, Equal, Greater, is_lt}
-use Rattle.std.proofs.Common.{◌&&◌, ◌↔◌, refl, sym, ap, ◌∙◌}
+use Rattle.std.proofs.Common.{◌≡◌, ℤ, List, [], ◌∷◌, map, Bool, ◌||◌, cond, Some, None, Ordering, Less, is_lt, ◌&&◌, ◌↔◌, refl, sym, ap}
+use Rattle.std.proofs.Common.{◌∙◌, arith}
 use Rattle.std.specs.Prelude.{T}
 use Rattle.std.specs.FinMap.{FinMap, entries, from_entries, entries_sorted, get-entries, get-from_entries}
 use Rattle.std.specs.FinMap.Entries.{below_all, find, is_sorted, same_entries}
@@ -22,13 +22,10 @@ as_found q (e ∷ chains) = ap (cond (int_eq q e.0) (Some e.1)) (as_found q chai
 
 -- So is the order of the numbers.
 is_less : (o : Ordering) → T (is_lt o) ↔ (o ≡ Less)
-is_less Less = (λ h. refl, λ e. tt)
-is_less Equal = (λ h. absurd h, λ e. cc)
-is_less Greater = (λ h. absurd h, λ e. cc)
+is_less o = grind arith
 
 both : (a b : Bool) → T (a && b) ↔ (T a × T b)
-both true b = (λ h. (tt, h), λ h. h.1)
-both false b = (λ h. absurd h, λ h. absurd h.0)
+both a b = grind arith
 
 above : (k : ℤ) (chains : List (ℤ × Chain)) → T (below_all int_cmp k chains) ↔ AllByRecursion (λ y. int_cmp k y ≡ Less) (keys_of chains)
 above k [] = (λ h. tt, λ h. tt)
@@ -58,8 +55,7 @@ found_meant chain_for q (k ∷ numbers) = ap (cond (int_eq q k) (Some (chain_for
   where
     either : (b : Bool) → int_eq q k ≡ b → cond b (Some (chain_for k)) (cond (list_any (int_eq q) numbers) (Some (chain_for q)) None)
         ≡ cond (b || list_any (int_eq q) numbers) (Some (chain_for q)) None
-    either true is = ap (λ n. Some (chain_for n)) (sym ((Decides-int_eq q k).0 is))
-    either false is = refl
+    either b is = grind (arith, Decides-int_eq q k)
 
 -- Chains in which each of some numbers, and no other, has the chain that is meant for it.
 pub record AreNumbered (chain_for : ℤ → Chain) (numbers : List ℤ) : Type 0 where

@@ -1,15 +1,14 @@
 -- For `JsonCompiler::make_seccomp_filter`, `JsonCompiler::widened`, `seccomp_filter` and `widened_numbers`: a JSON
 -- filter has one policy or one first fault.
-use Rattle.std.proofs.Common.{◌≡◌, ◌≢◌, ℤ, List, [], ◌∷◌, ◌++◌, Bool, true, false, ◌||◌, ◌&&◌, cond, Option, Some, None, IsSome, All, Any}
-use Rattle.std.proofs.Common.{refl, sym, ap, ◌∙◌, subst, ◌⊎◌, inl, inr, rules, Decides}
+use Rattle.std.proofs.Common.{◌≡◌, ◌≢◌, ℤ, List, [], ◌∷◌, Bool, true, false, ◌||◌, cond, Option, Some, None, All, Any, refl, sym, ap, ◌∙◌}
+use Rattle.std.proofs.Common.{subst, ◌⊎◌, inl, inr, rules, Decides, arith}
 use Rattle.std.specs.BTreeMap.{BTreeMap}
 use Rattle.std.specs.List.{flat_map, list_any}
 use Rattle.std.specs.List.Sorted.{IsStrictlySortedBy}
-use Rattle.std.specs.Option.{is_none, option_eq, option_to_list}
+use Rattle.std.specs.Option.{option_to_list}
 use Rattle.std.specs.Ordering.{int_cmp, int_eq}
 use Rattle.std.specs.Prelude.{Vec}
 use Rattle.std.specs.declared.alloc.Global.{Global}
-use Rattle.std.proofs.Math.Bool.{or-true}
 use Rattle.std.proofs.lemmas.Bool.{true≢false, false_from_ne_true, cases_Bool}
 use Rattle.std.proofs.lemmas.Bool.Decides.{Decides-int_eq}
 use Rattle.std.proofs.lemmas.Cmp.{int_eq_equiv}
@@ -21,9 +20,8 @@ use Rattle.seccompiler.specs.contracts.backend.SeccompActionPartialEq.TheImpl as
 use Rattle.seccompiler.specs.declared.backend.TargetArch.{TargetArch}
 use Rattle.seccompiler.specs.declared.backend.BackendError.TheVariants.{IdenticalActions}
 use Rattle.seccompiler.specs.declared.json.policy.Gathered.{Gathered}
-use Rattle.seccompiler.specs.declared.json.types.JsonCondition.{JsonCondition}
-use Rattle.seccompiler.specs.JsonPolicyOf.{Fault, refused, all_rules, chain_for, rules_of, chain_at, is_for, is_always, IsFor}
-use Rattle.seccompiler.specs.JsonPolicyOf.{IsFineEntry, IsMadeOf, IsPolicyOf, IsFirstFault, in_entries, in_actions}
+use Rattle.seccompiler.specs.JsonPolicyOf.{Fault, refused, all_rules, chain_for, chain_at, is_for, is_always, IsFor, IsFineEntry, IsMadeOf}
+use Rattle.seccompiler.specs.JsonPolicyOf.{IsPolicyOf, IsFirstFault, in_entries, in_actions}
 use Rattle.seccompiler.specs.JsonGathered.{added, chain_of, rules_at, AreGathered, HasChains}
 use Rattle.seccompiler.specs.JsonWidened.{IsPolicyBefore}
 use Rattle.seccompiler.specs.JsonTypes.{JsonRule, JsonFilter}
@@ -39,22 +37,12 @@ use Rattle.seccompiler.proofs.TableNames.{number_of-all}
 -- A test that decides for each item decides for any.
 pub any_decides : {X : Type 0} (test : X → Bool) (P : X → Type 0) → ((x : X) → Decides (test x) (P x))
     → (xs : List X) → Decides (list_any test xs) (Any P xs)
-any_decides test P each xs = (
-  λ h. let some = Any-from_list_any test xs h in (some.0, some.1, some.2, some.3, (each some.1).0 some.4),
-  λ some. list_any-from_Any test xs (some.0, some.1, some.2, some.3, (each some.1).1 some.4),
-)
+any_decides test P each xs = grind (arith, Any-from_list_any, list_any-from_Any)
 
 module _ (arch : TargetArch) where
   -- Whether an entry is for a number.
-  is_decides : (number : ℤ) (o : Option ℤ) → Decides (option_eq int_eq (Some number) o) (o ≡ Some number)
-  is_decides number None = (λ h. absurd (true≢false (sym h)), λ e. cc)
-  is_decides number (Some other) = (
-    λ h. ap Some (sym ((Decides-int_eq number other).0 h)),
-    λ e. (Decides-int_eq number other).1 (let same : other ≡ number = cc in sym same),
-  )
-
   pub for_decides : (number : ℤ) (entry : JsonRule) → Decides (is_for arch number entry) (IsFor arch number entry)
-  for_decides number entry = is_decides number (number_of (table_of arch) entry.syscall)
+  for_decides number entry = grind (arith, Decides-int_eq)
 
   any_for : (number : ℤ) (entries : List JsonRule) → Decides (list_any (is_for arch number) entries) (Any (IsFor arch number) entries)
   any_for number = any_decides (is_for arch number) (IsFor arch number) (for_decides number)
@@ -66,12 +54,7 @@ module _ (arch : TargetArch) where
   any_number : (number : ℤ) (entries : List JsonRule) → list_any (int_eq number) (numbers_of_entries entries)
       ≡ list_any (is_for arch number) entries
   any_number number [] = refl
-  any_number number (entry ∷ entries) =
-      elim (number_of (table_of arch) entry.syscall) as (λ o. list_any (int_eq number) (option_to_list o ++ numbers_of_entries entries)
-      ≡ (option_eq int_eq (Some number) o || list_any (is_for arch number) entries)) [
-        | None ↦ any_number number entries
-        | Some other ↦ ap (λ b. int_eq number other || b) (any_number number entries)
-      ]
+  any_number number (entry ∷ entries) = grind (arith, any_number number entries)
 
   -- Whether there are rules.
   abbrev pub some_rules : List Rule → Bool
@@ -82,15 +65,7 @@ module _ (arch : TargetArch) where
   pub for_either : (number : ℤ) (entries : List JsonRule) → list_any (is_for arch number) entries
       ≡ (list_any (is_always arch number) entries || some_rules (all_rules arch entries number))
   for_either number [] = refl
-  for_either number (entry ∷ entries) = both (is_for arch number entry) entry.conditions (list_any (is_always arch number) entries)
-      (all_rules arch entries number) (for_either number entries)
-    where
-      both : (b : Bool) (conditions : Option (List JsonCondition)) (always : Bool) (rules : List Rule)
-          → list_any (is_for arch number) entries ≡ (always || some_rules rules) → (b || list_any (is_for arch number) entries)
-          ≡ (((b && is_none conditions) || always) || some_rules (cond b (rules_of conditions) [] ++ rules))
-      both false conditions always rules rest = rest
-      both true None always rules rest = refl
-      both true (Some conditions) always rules rest = sym (or-true always)
+  for_either number (entry ∷ entries) = grind (arith, for_either number entries)
 
   -- The number of an entry's call is one of the table.
   in_range : (number : ℤ) (entry : JsonRule) → IsFor arch number entry → IsTableNumber number
@@ -109,30 +84,13 @@ module _ (arch : TargetArch) where
     -- What was gathered of the entries gives the policy's chains.
     gathered_chain : (number : ℤ) → chain_of (list_any (is_always arch number) j.rules) (added (all_rules arch j.rules number) None)
         ≡ at_number (chain_for arch j.rules) number
-    gathered_chain number = by_case (list_any (is_always arch number) j.rules) (all_rules arch j.rules number)
-        ∙ ap (λ b. cond b (Some (chain_for arch j.rules number)) None) (sym (for_either number j.rules))
-      where
-        by_case : (always : Bool) (rules : List Rule) → chain_of always (added rules None)
-            ≡ cond (always || some_rules rules) (Some (cond always [] rules)) None
-        by_case true rules = refl
-        by_case false [] = refl
-        by_case false (rule ∷ rules) = refl
+    gathered_chain number = grind (arith, for_either number j.rules)
 
     -- Chains that have under each number what is meant for it, in ascending order, make the filter.
     made : (meant : ℤ → Chain) (chains : List (ℤ × Chain)) → ((number : ℤ) → chain_at chains number ≡ at_number meant number)
         → IsStrictlySortedBy int_cmp (numbers_of chains)
         → All (IsFineEntry arch) j.rules → j.mismatch_action ≢ j.match_action → IsMadeOf meant arch j (filter_of chains)
-    made meant chains each ascending fine apart = record {
-      mismatch_action = refl;
-      match_action = refl;
-      target_arch = refl;
-      different = apart;
-      entries = fine;
-      chain = λ number some. each number ∙ ap (λ b. cond b (Some (meant number)) None) ((any_for number j.rules).1 some);
-      no_other = λ number none. each number ∙ ap (λ b. cond b (Some (meant number)) None)
-          (false_from_ne_true (list_any (is_for arch number) j.rules) (λ t. none ((any_for number j.rules).0 t)));
-      ascending = ascending;
-    }
+    made meant chains each ascending fine apart = grind (arith, any_for, false_from_ne_true)
 
     -- There is such a filter, whatever is meant.
     pub some_made : (meant : ℤ → Chain) → All (IsFineEntry arch) j.rules → j.mismatch_action ≢ j.match_action
@@ -167,10 +125,7 @@ module _ (arch : TargetArch) where
     -- What each number has in such a filter.
     pub found_in : (meant : ℤ → Chain) (f : Filter) → IsMadeOf meant arch j f → (number : ℤ)
         → chain_at f.chains number ≡ at_number meant number
-    found_in meant f is number = elim (cases_Bool (list_any (is_for arch number) j.rules)) [
-      | inl some ↦ rw some (is.chain number ((any_for number j.rules).0 some))
-      | inr none ↦ rw none (is.no_other number (λ some. true≢false (sym ((any_for number j.rules).1 some) ∙ none)))
-    ]
+    found_in meant f is number = grind (arith, any_for number j.rules, is.chain number, is.no_other number)
 
     -- There is one policy.
     pub one_policy : (f g : Filter) → IsPolicyOf arch j f → IsPolicyOf arch j g → f ≡ g
@@ -178,22 +133,20 @@ module _ (arch : TargetArch) where
         let chains : f.chains ≡ g.chains =
         same_chains f.chains g.chains first.ascending second.ascending
         (λ q. found_in (chain_for arch j.rules) f first q ∙ sym (found_in (chain_for arch j.rules) g second q)) in
-        let mismatches : f.mismatch_action ≡ g.mismatch_action = first.mismatch_action ∙ sym second.mismatch_action in
-        let matches : f.match_action ≡ g.match_action = first.match_action ∙ sym second.match_action in
-        let archs : f.target_arch ≡ g.target_arch = first.target_arch ∙ sym second.target_arch in
-        λ i. record { chains = chains i; mismatch_action = mismatches i; match_action = matches i; target_arch = archs i }
+        λ i. record {
+          chains = chains i;
+          mismatch_action = (first.mismatch_action ∙ sym second.mismatch_action) i;
+          match_action = (first.match_action ∙ sym second.match_action) i;
+          target_arch = (first.target_arch ∙ sym second.target_arch) i;
+        }
 
     -- What has a policy has no fault.
     pub not_both : (f : Filter) (fault : Fault) → IsPolicyOf arch j f → IsFirstFault arch j fault → ⊥
-    not_both f fault is (in_entries wrong) = none_wrong arch j.rules fault is.entries wrong
-    not_both f fault is (in_actions fine same told) = is.different same
+    not_both f fault is first = grind (arith, none_wrong arch j.rules fault)
 
     -- There is one first fault.
     pub one_fault : (a b : Fault) → IsFirstFault arch j a → IsFirstFault arch j b → a ≡ b
-    one_fault a b (in_entries wrong) (in_entries wrong_too) = one_first arch j.rules a b wrong wrong_too
-    one_fault a b (in_entries wrong) (in_actions fine same told) = absurd (none_wrong arch j.rules a fine wrong)
-    one_fault a b (in_actions fine same told) (in_entries wrong) = absurd (none_wrong arch j.rules b fine wrong)
-    one_fault a b (in_actions fine same told) (in_actions fine_too same_too told_too) = told ∙ sym told_too
+    one_fault a b first second = grind (arith, one_first arch j.rules a b, none_wrong arch j.rules a, none_wrong arch j.rules b)
 
     -- There is a policy or a first fault.
     pub policy_or_fault : ((f : Filter) × IsPolicyOf arch j f) ⊎ ((fault : Fault) × IsFirstFault arch j fault)
@@ -209,9 +162,4 @@ module _ (arch : TargetArch) where
     -- A policy's numbers are those of a table.
     pub numbers_in_range : (f : Filter) → IsPolicyOf arch j f → All IsTableNumber (numbers_of f.chains)
     numbers_in_range f is = All-keys_from_lookup int_eq_equiv IsTableNumber f.chains (λ number there.
-        by_case number (list_any (is_for arch number) j.rules) refl (subst IsSome (found_in (chain_for arch j.rules) f is number) there))
-      where
-        by_case : (number : ℤ) (b : Bool) → list_any (is_for arch number) j.rules ≡ b
-            → IsSome (cond b (Some (chain_for arch j.rules number)) None) → IsTableNumber number
-        by_case number true some there = let any = (any_for number j.rules).0 some in in_range number any.1 any.4
-        by_case number false none there = absurd (true≢false (sym there))
+        grind (arith, found_in (chain_for arch j.rules) f is number, any_for number j.rules, in_range number))

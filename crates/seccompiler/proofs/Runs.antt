@@ -69,8 +69,7 @@ leads_second a b r x s y h = record {
 
 -- the accumulator stays in its range
 pub stays_small : (p : List sock_filter) (r : List ℕ) {x a n y b : ℕ} → a < 2 ^ 32 → Goes p r x a n y b → b < 2 ^ 32
-stays_small p r h stays = h
-stays_small p r h (then_step g s) = s.after
+stays_small p r small goes = grind arith
 
 -- a run of the first piece is one of both
 pub goes_front : (a b : List sock_filter) (r : List ℕ) {x s n y t : ℕ} → Goes a r x s n y t → Goes (a ++ b) r x s n y t

@@ -1,7 +1,7 @@
 -- For `SeccompFilter::write`: the guard in front of a filter's program, and what the program is and does with code behind
 -- the guard that answers each call number.
-use Rattle.std.proofs.Common.{◌≡◌, ◌≢◌, ℕ, ◌+◌, ◌-◌, ◌<◌, ◌≤◌, ◌^◌, List, [], ◌∷◌, ◌++◌, length, refl, sym, ap, ◌∙◌, arith, length-append}
-use Rattle.std.proofs.Common.{◌⊎◌, inl, inr, ⊎_elim, ℤ, Vec, Global}
+use Rattle.std.proofs.Common.{◌≡◌, ◌≢◌, ℕ, ◌+◌, ◌<◌, ◌≤◌, ◌^◌, List, [], ◌∷◌, ◌++◌, length, refl, arith, length-append, ◌⊎◌, inl, inr}
+use Rattle.std.proofs.Common.{⊎_elim, ℤ, Vec, Global}
 use Rattle.std.proofs.lemmas.Option.{slice_get_within}
 use Rattle.seccompiler.specs.declared.bpf.sock_filter.{sock_filter}
 use Rattle.seccompiler.specs.declared.backend.SeccompAction.{SeccompAction}
@@ -65,10 +65,7 @@ checked_of front w ranges block short = let p = front ++ give w ∷ [] in
       ranges = ranges;
       each = λ place i here. ⊎_elim (λ inside. fine_inside i place (length front) (length p) (omega arith) inside)
           (λ back. fine_return back) (block.each place i here);
-      last = λ i here.
-          let at : length p - 1 ≡ length front + 0 = omega arith in
-          let same = sym (get_behind front (give w ∷ []) 0 (give w) refl) ∙ rw at at here in
-          let found : give w ≡ i = cc in ap (λ (x : sock_filter). x.code) (sym found);
+      last = λ i here. grind (arith, get_behind front (give w ∷ []) 0 (give w) refl);
     }
 
 module _ (f : Filter) where

@@ -15,12 +15,10 @@ use Rattle.seccompiler.proofs.Blocks.{returns_front, returns_back, gives, block_
 
 -- the test of the call number goes on with this number, and skips one instruction with another
 on_number : (p : List sock_filter) (r : List ℕ) (n : ℕ) → slice_get p 0 ≡ Some (jump_equal n 0 1) → n < 2 ^ 32 → Step p r 0 n 1 n
-on_number p r n here small =
-    record { instruction = jump_equal n 0 1; here = here; before = small; after = small; does = is_equal refl refl refl refl }
+on_number p r n here small = grind (arith, is_equal)
 
 on_others : (p : List sock_filter) (r : List ℕ) (n a : ℕ) → slice_get p 0 ≡ Some (jump_equal n 0 1) → a < 2 ^ 32 → a ≢ n → Step p r 0 a 2 a
-on_others p r n a here small differs =
-    record { instruction = jump_equal n 0 1; here = here; before = small; after = small; does = is_not_equal refl differs refl refl }
+on_others p r n a here small differs = grind (arith, is_not_equal)
 
 module _ (n mismatch matched : ℕ) (fits : n < 2 ^ 32) (fits_mismatch : mismatch < 2 ^ 32) (fits_matched : matched < 2 ^ 32) where
   -- a chain without rules

@@ -118,13 +118,9 @@ halved table name compared part half is some same ascends most least counts = re
   same = same ∙ is.same;
   ascending = ascends;
   few = omega (arith, below_nine compared (length part) is.few some is.most);
-  most = let next : 9 - (compared + 1) ≡ 9 - compared - 1 = omega arith in
-      rw next (fewer (9 - compared) (length part) (length half) some is.most most);
-  least = let next : 8 - (compared + 1) ≡ 8 - compared - 1 = omega arith in
-      rw next (enough (8 - compared) (length part) (length half) is.least least);
-  counted = λ n compares.
-      let one_more : compared + suc n ≡ compared + 1 + n = omega arith in
-      subst (HalvingCompares name table) one_more (is.counted (suc n) (counts n compares));
+  most = grind (arith, fewer (9 - compared) (length part) (length half) some is.most most);
+  least = grind (arith, enough (8 - compared) (length part) (length half) is.least least);
+  counted = λ n compares. grind (arith, is.counted (suc n) (counts n compares));
 }
 
 -- A part as the program holds it, its names behind references.

@@ -1,5 +1,5 @@
 -- For `SyscallTable::lookup`: a look-up by halving compares a name with one number of names.
-use Rattle.std.proofs.Common.{◌≡◌, ℕ, suc, List, ◌∷◌, ◌++◌, length, take, inl, inr, refl, sym, ap, ◌∙◌, subst, arith}
+use Rattle.std.proofs.Common.{◌≡◌, ℕ, suc, List, ◌∷◌, ◌++◌, length, take, refl, sym, ap, ◌∙◌, subst, arith}
 use Rattle.std.proofs.Math.Seq.{take-append_seam}
 use Rattle.std.proofs.lemmas.Cmp.{nat_list_cmp_total}
 use Rattle.std.proofs.lemmas.List.{append_cancel_left, length-append}
@@ -21,10 +21,7 @@ middle_only {part} {other} {front} {front'} {back} {back'} {middle} {middle'} is
     let joined : front ++ middle ∷ back ≡ front' ++ middle' ∷ back' = sym is.whole ∙ same ∙ also.whole in
     let long = length-append front (middle ∷ back) in
     let also_long = length-append front' (middle' ∷ back') in
-    let as_long : length front ≡ length front' = elim is.halves [
-      | inl even ↦ elim also.halves [ inl also_even ↦ omega (arith, ap length joined) | inr also_odd ↦ omega (arith, ap length joined) ]
-      | inr odd ↦ elim also.halves [ inl also_even ↦ omega (arith, ap length joined) | inr also_odd ↦ omega (arith, ap length joined) ]
-    ] in
+    let as_long : length front ≡ length front' = grind (arith, ap length joined) in
     let as_many : take (length front) (front ++ middle ∷ back) ≡ take (length front') (front' ++ middle' ∷ back') = cc (joined, as_long) in
     let fronts : front ≡ front' = sym (take-append_seam front (middle ∷ back)) ∙ as_many ∙ take-append_seam front' (middle' ∷ back') in
     let with_same : front' ++ middle ∷ back ≡ front' ++ middle' ∷ back' = ap (λ pairs. pairs ++ middle ∷ back) (sym fronts) ∙ joined in

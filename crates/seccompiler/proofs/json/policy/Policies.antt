@@ -1,6 +1,6 @@
 -- For `JsonCompiler::make_seccomp_filter`, `JsonCompiler::widened`, `seccomp_filter` and `widened_numbers`: a JSON
 -- filter has one policy or one first fault.
-use Rattle.std.proofs.Common.{◌≡◌, ◌≢◌, ℤ, List, [], ◌∷◌, Bool, true, false, ◌||◌, cond, Option, Some, None, All, Any, refl, sym, ap, ◌∙◌}
+use Rattle.std.proofs.Common.{◌≡◌, ◌≢◌, ℤ, List, [], ◌∷◌, Bool, true, false, ◌||◌, cond, Option, Some, None, All, Any, refl, sym, ◌∙◌}
 use Rattle.std.proofs.Common.{subst, ◌⊎◌, inl, inr, rules, Decides, arith}
 use Rattle.std.specs.BTreeMap.{BTreeMap}
 use Rattle.std.specs.List.{flat_map, list_any}
@@ -22,7 +22,7 @@ use Rattle.seccompiler.specs.declared.backend.BackendError.TheVariants.{Identica
 use Rattle.seccompiler.specs.declared.json.policy.Gathered.{Gathered}
 use Rattle.seccompiler.specs.JsonPolicyOf.{Fault, refused, all_rules, chain_for, chain_at, is_for, is_always, IsFor, IsFineEntry, IsMadeOf}
 use Rattle.seccompiler.specs.JsonPolicyOf.{IsPolicyOf, IsFirstFault, in_entries, in_actions}
-use Rattle.seccompiler.specs.JsonGathered.{added, chain_of, rules_at, AreGathered, HasChains}
+use Rattle.seccompiler.specs.JsonGathered.{added, chain_of, AreGathered, HasChains}
 use Rattle.seccompiler.specs.JsonWidened.{IsPolicyBefore}
 use Rattle.seccompiler.specs.JsonTypes.{JsonRule, JsonFilter}
 use Rattle.seccompiler.specs.Policy.{Rule, Chain, Filter, chains_of}
@@ -98,8 +98,7 @@ module _ (arch : TargetArch) where
     some_made meant fine apart =
         let all = numbered meant (numbers_of_entries j.rules) in (
           filter_of all.chains,
-          made meant all.chains (λ number. all.each number
-              ∙ ap (λ b. cond b (Some (meant number)) None) (any_number number j.rules)) all.ascending fine apart,
+          made meant all.chains (λ number. grind (arith, all.each number, any_number number j.rules)) all.ascending fine apart,
         )
 
     -- There are both policies.
@@ -117,8 +116,7 @@ module _ (arch : TargetArch) where
     policy_made entries gathered chains these fine is has apart =
         let all = subst (λ (es : List JsonRule). AreGathered arch es gathered) these is in
         made (chain_for arch j.rules) (chains_of chains.entries)
-        (λ number. has.each number ∙ ap (λ b. chain_of b (rules_at gathered number)) (all.always number)
-        ∙ ap (chain_of (list_any (is_always arch number) j.rules)) (all.rules number) ∙ gathered_chain number)
+        (λ number. grind (arith, has.each number, all.always number, all.rules number, gathered_chain number))
         (subst (IsStrictlySortedBy int_cmp) (sym (keys_of-map_values (λ (v : Vec Rule Global). v.items) chains.entries))
         has.ordered) (subst (All (IsFineEntry arch)) these fine) apart
 

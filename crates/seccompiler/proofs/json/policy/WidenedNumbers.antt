@@ -1,6 +1,6 @@
 -- For `JsonCompiler::widened` and `widened_numbers`: the numbers that have entries of both kinds, and what two policies
 -- decide on and off them.
-use Rattle.std.proofs.Common.{inl, ◌≡◌, ◌≢◌, ◌↔◌, ℕ, ℤ, pos, List, [], ◌∷◌, Bool, true, ◌&&◌, None, Any, refl, sym, ◌∙◌, Decides, arith, ap}
+use Rattle.std.proofs.Common.{inl, ◌≡◌, ◌≢◌, ◌↔◌, ℕ, ℤ, pos, List, [], ◌∷◌, Bool, true, ◌&&◌, None, Any, refl, sym, ◌∙◌, Decides, arith}
 use Rattle.std.proofs.Common.{subst}
 use Rattle.std.specs.List.{list_any, Contains}
 use Rattle.std.specs.Option.{is_none, is_some}
@@ -54,9 +54,8 @@ module _ (arch : TargetArch) where
     both_gathered entries gathered numbers these is listed number =
         let all = subst (λ (es : List JsonRule). AreGathered arch es gathered) these is in
         let there = is_member-Decides Decides-int_eq numbers number in
-        let same = listed number ∙ ap (λ b. b && is_some (rules_at gathered number)) (all.always number)
-        ∙ ap (λ b. list_any (is_always arch number) j.rules && b) (ap is_some (all.rules number)
-        ∙ grind arith) in
+        let same : list_any (int_eq number) numbers ≡ of_both j.rules number =
+        grind (arith, listed number, all.always number, all.rules number) in
         let widened = widened_decides number in
         (λ among. widened.0 (sym same ∙ there.1 among), λ both. there.0 (same ∙ widened.1 both))
 

@@ -1,11 +1,12 @@
 -- For `SeccompRule::code_len`: a rule's conditions have one cut into groups, the one that `groups_of` gives, and few relays.
-use Rattle.std.proofs.Common.{◌≡◌, ◌+◌, ◌-◌, ◌*◌, ◌<◌, ◌≤◌, List, [], ◌∷◌, ◌++◌, length, Bool, true, false, refl, sym, ap, ap₂, ◌∙◌, subst}
-use Rattle.std.proofs.Common.{append_assoc, length-append, nat_le, if◌then◌else◌, flat_map, arith}
-use Rattle.std.proofs.lemmas.Bool.Decides.{nat_tests}
+use Rattle.std.proofs.Common.{◌≡◌, ◌+◌, ◌-◌, ◌*◌, ◌<◌, ◌≤◌, List, [], ◌∷◌, ◌++◌, length, refl, sym, ap, ap₂, ◌∙◌, subst, append_assoc}
+use Rattle.std.proofs.Common.{length-append, flat_map, arith, inl, inr}
+use Rattle.std.proofs.lemmas.Bool.{cases_lt}
 use Rattle.std.proofs.lemmas.List.{append_cancel_left}
 use Rattle.std.proofs.lemmas.List.Elements.{All-nil, All-cons, All-head, All-tail}
 use Rattle.std.proofs.lemmas.List.Sums.{sum_by-append}
 use Rattle.seccompiler.specs.Policy.{Condition, size_of}
+use Rattle.seccompiler.proofs.rule.RelayCount.{goes_into, closes_at}
 use Rattle.seccompiler.specs.Layout.{greatest_offset, total_size, ClosesLate, IsCutIntoGroups, groups_from, groups_of, IsOnlyCut, relays}
 
 -- How two fronts of one list lie: they are equal, or one is a proper front of the other.
@@ -70,16 +71,12 @@ full_cut group q groups some late many cut = record {
 -- The groups of a group that is begun and the conditions behind it are a cut of both.
 begun_cut : (group q : List Condition) → 1 ≤ length group → ClosesLate group → IsCutIntoGroups (group ++ q) (groups_from group q)
 begun_cut group [] some late = last_cut group some late
-begun_cut group (c ∷ q) some late = by (nat_le greatest_offset (total_size group)) refl
-    (begun_cut (c ∷ []) q (omega arith) (one_closes_late c))
-    (λ few. begun_cut (group ++ c ∷ []) q (omega (arith, length-append group (c ∷ []))) (more_closes_late group c late few))
-  where
-    by : (b : Bool) → nat_le greatest_offset (total_size group) ≡ b → IsCutIntoGroups (c ∷ q) (groups_from (c ∷ []) q)
-        → (total_size group < greatest_offset → IsCutIntoGroups ((group ++ c ∷ []) ++ q) (groups_from (group ++ c ∷ []) q))
-        → IsCutIntoGroups (group ++ c ∷ q) (if b then group ∷ groups_from (c ∷ []) q else groups_from (group ++ c ∷ []) q)
-    by true e anew on = full_cut group (c ∷ q) (groups_from (c ∷ []) q) some late (grind (arith, nat_tests)) anew
-    by false e anew on = subst (λ l. IsCutIntoGroups l (groups_from (group ++ c ∷ []) q))
-        (append_assoc group (c ∷ []) q) (on (grind (arith, nat_tests)))
+begun_cut group (c ∷ q) some late = elim (cases_lt (total_size group) greatest_offset) [
+  | inl few ↦ rw (goes_into group q c few, ← append_assoc group (c ∷ []) q)
+      (begun_cut (group ++ c ∷ []) q (omega (arith, length-append group (c ∷ []))) (more_closes_late group c late few))
+  | inr many ↦ rw (closes_at group q c many)
+      (full_cut group (c ∷ q) (groups_from (c ∷ []) q) some late many (begun_cut (c ∷ []) q (omega arith) (one_closes_late c)))
+]
 
 -- The groups of a rule's conditions are a cut of them.
 groups_of-cut : (q : List Condition) → IsCutIntoGroups q (groups_of q)

@@ -14,12 +14,12 @@ pub data Cutting (q : List Condition) (o k : ℕ) : Type 0 where
       → o ≡ 1 + total_size group → k ≡ length groups → Cutting q o k
 
 -- a group goes on
-goes_into : (group rest : List Condition) (c : Condition) → total_size group < greatest_offset
+pub goes_into : (group rest : List Condition) (c : Condition) → total_size group < greatest_offset
     → groups_from group (c ∷ rest) ≡ groups_from (group ++ c ∷ []) rest
 goes_into group rest c few = grind (arith, nat_tests)
 
 -- a group closes
-closes_at : (group rest : List Condition) (c : Condition) → greatest_offset ≤ total_size group
+pub closes_at : (group rest : List Condition) (c : Condition) → greatest_offset ≤ total_size group
     → groups_from group (c ∷ rest) ≡ group ∷ groups_from (c ∷ []) rest
 closes_at group rest c many = grind (arith, nat_tests)
 

@@ -1,7 +1,6 @@
 -- For `JsonCompiler::make_seccomp_filter`, `JsonCompiler::widened`, `seccomp_filter` and `widened_numbers`: chains
 -- under ascending numbers: there are some for any numbers, and what is found under each tells them.
-use Rattle.std.proofs.Common.{◌≡◌, ℤ, List, [], ◌∷◌, map, Bool, ◌||◌, cond, Some, None, Ordering, Less, is_lt, ◌&&◌, ◌↔◌, refl, sym, ap}
-use Rattle.std.proofs.Common.{◌∙◌, arith}
+use Rattle.std.proofs.Common.{◌≡◌, ℤ, List, [], ◌∷◌, map, Bool, ◌||◌, cond, Some, None, Less, ◌↔◌, refl, sym, ap, ◌∙◌, arith}
 use Rattle.std.specs.Prelude.{T}
 use Rattle.std.specs.FinMap.{FinMap, entries, from_entries, entries_sorted, get-entries, get-from_entries}
 use Rattle.std.specs.FinMap.Entries.{below_all, find, is_sorted, same_entries}
@@ -21,27 +20,14 @@ as_found q [] = refl
 as_found q (e ∷ chains) = ap (cond (int_eq q e.0) (Some e.1)) (as_found q chains)
 
 -- So is the order of the numbers.
-is_less : (o : Ordering) → T (is_lt o) ↔ (o ≡ Less)
-is_less o = grind arith
-
-both : (a b : Bool) → T (a && b) ↔ (T a × T b)
-both a b = grind arith
-
 above : (k : ℤ) (chains : List (ℤ × Chain)) → T (below_all int_cmp k chains) ↔ AllByRecursion (λ y. int_cmp k y ≡ Less) (keys_of chains)
 above k [] = (λ h. tt, λ h. tt)
-above k (e ∷ chains) =
-    let first = is_less (int_cmp k e.0) in
-    let parts = both (is_lt (int_cmp k e.0)) (below_all int_cmp k chains) in
-    (λ h. (first.0 (parts.0 h).0, (above k chains).0 (parts.0 h).1), λ h. parts.1 (first.1 h.0, (above k chains).1 h.1))
+above k (e ∷ chains) = let rest = above k chains in grind arith
 
 ascends : (chains : List (ℤ × Chain)) → T (is_sorted int_cmp chains) ↔ IsStrictlySortedBy int_cmp (keys_of chains)
 unfolding IsStrictlySortedBy
 ascends [] = (λ h. tt, λ h. tt)
-ascends (e ∷ chains) =
-    let parts = both (below_all int_cmp e.0 chains) (is_sorted int_cmp chains) in (
-      λ h. ((above e.0 chains).0 (parts.0 h).0, (ascends chains).0 (parts.0 h).1),
-      λ h. parts.1 ((above e.0 chains).1 h.0, (ascends chains).1 h.1),
-    )
+ascends (e ∷ chains) = let first = above e.0 chains in let rest = ascends chains in grind arith
 
 -- What is meant for some numbers, as a list and as a finite map.
 abbrev meant : (ℤ → Chain) → List ℤ → List (ℤ × Chain)

@@ -10,7 +10,7 @@ use Rattle.seccompiler.specs.Machine.{greatest_length, IsFine, IsInRange, IsChec
 pub one_more : (P : ℕ → sock_filter → Type 0) (p : List sock_filter) (j : ℕ) (default : sock_filter)
     → ((place : ℕ) → place < j → (i : sock_filter) → slice_get p place ≡ Some i → P place i)
     → P j (get_or p j default) → (place : ℕ) → place < j + 1 → (i : sock_filter) → slice_get p place ≡ Some i → P place i
-one_more P p j default below here place h i h4 = grind (arith, below_more, get_or_from_slice_get)
+one_more P p j default below here place within i found = grind (arith, below_more, get_or_from_slice_get)
 
 -- A program that isn't empty has an instruction.
 pub not_empty : (p : List sock_filter) {empty : Bool} → empty ≡ nat_eq (length p) 0 → empty ≡ false → 1 ≤ length p

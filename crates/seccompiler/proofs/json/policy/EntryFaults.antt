@@ -46,11 +46,11 @@ module _ (arch : TargetArch) where
 
   -- An entry with which nothing is wrong has no fault.
   not_both : (entry : JsonRule) (fault : Fault) → IsFineEntry arch entry → IsFaultOf arch entry fault → ⊥
-  not_both entry fault fine h = grind (arith, not_both_in)
+  not_both entry fault fine wrong = grind (arith, not_both_in)
 
   -- An entry has one first fault.
   one_fault : (entry : JsonRule) (a b : Fault) → IsFaultOf arch entry a → IsFaultOf arch entry b → a ≡ b
-  one_fault entry a b h h2 = grind (arith, one_fault_in)
+  one_fault entry a b first second = grind (arith, one_fault_in)
 
   -- Nothing is wrong with any of the entries, or some fault is the first.
   pub all_fine_or_fault : (entries : List JsonRule) → All (IsFineEntry arch) entries ⊎ ((fault : Fault) × IsFirstOf arch entries fault)

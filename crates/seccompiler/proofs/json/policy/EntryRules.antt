@@ -19,8 +19,8 @@ fine_or_fault_in (c ∷ cs) = elim (all_or_any (λ (c : JsonCondition). c.arg_in
 
 -- No fault is in conditions with which nothing is wrong.
 pub not_both_in : (cs : List JsonCondition) (fault : Fault) → AreFineArgs cs → IsFaultIn cs fault → ⊥
-not_both_in cs fault fine h = grind (arith, none_is_any, All-weaker)
+not_both_in cs fault fine wrong = grind (arith, none_is_any, All-weaker)
 
 -- Conditions have one first fault.
 pub one_fault_in : (cs : List JsonCondition) (a b : Fault) → IsFaultIn cs a → IsFaultIn cs b → a ≡ b
-one_fault_in cs a b h h2 = grind arith
+one_fault_in cs a b first second = grind arith

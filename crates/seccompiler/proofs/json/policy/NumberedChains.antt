@@ -1,6 +1,6 @@
 -- For `JsonCompiler::make_seccomp_filter`, `JsonCompiler::widened`, `seccomp_filter` and `widened_numbers`: chains
 -- under ascending numbers: there are some for any numbers, and what is found under each tells them.
-use Rattle.std.proofs.Common.{◌≡◌, ℤ, List, [], ◌∷◌, map, Bool, ◌||◌, cond, Some, None, Less, ◌↔◌, refl, sym, ap, ◌∙◌, arith}
+use Rattle.std.proofs.Common.{◌≡◌, ℤ, List, [], ◌∷◌, map, cond, Some, None, Less, ◌↔◌, refl, sym, ap, ◌∙◌, arith}
 use Rattle.std.specs.Prelude.{T}
 use Rattle.std.specs.FinMap.{FinMap, entries, from_entries, entries_sorted, get-entries, get-from_entries}
 use Rattle.std.specs.FinMap.Entries.{below_all, find, is_sorted, same_entries}
@@ -36,12 +36,7 @@ meant chain_for numbers = map (λ number. (number, chain_for number)) numbers
 found_meant : (chain_for : ℤ → Chain) (q : ℤ) (numbers : List ℤ)
     → find int_cmp q (meant chain_for numbers) ≡ cond (list_any (int_eq q) numbers) (Some (chain_for q)) None
 found_meant chain_for q [] = refl
-found_meant chain_for q (k ∷ numbers) = ap (cond (int_eq q k) (Some (chain_for k))) (found_meant chain_for q numbers)
-    ∙ either (int_eq q k) refl
-  where
-    either : (b : Bool) → int_eq q k ≡ b → cond b (Some (chain_for k)) (cond (list_any (int_eq q) numbers) (Some (chain_for q)) None)
-        ≡ cond (b || list_any (int_eq q) numbers) (Some (chain_for q)) None
-    either b is = grind (arith, Decides-int_eq q k)
+found_meant chain_for q (k ∷ numbers) = grind (arith, found_meant chain_for q numbers, Decides-int_eq q k)
 
 -- Chains in which each of some numbers, and no other, has the chain that is meant for it.
 pub record AreNumbered (chain_for : ℤ → Chain) (numbers : List ℤ) : Type 0 where

@@ -6,7 +6,7 @@ use Rattle.std.proofs.lemmas.List.Elements.{All-contains}
 use Rattle.serde_json.specs.Data.{Data}
 use Rattle.seccompiler.proofs.ByName.{ByName, AreInOrder, AreMade, found_there}
 use Rattle.seccompiler.specs.Machine.{IsChecked}
-use Rattle.seccompiler.specs.Errors.{from_backend, from_frontend}
+use Rattle.seccompiler.specs.Errors.{from_backend, from_frontend, IsNoMemoryInFrontend, IsNoMemoryInside}
 use Rattle.seccompiler.specs.JsonAnswers.{IsValueOf, HasPolicy, ArePoliciesOf, TellsFrontendFault}
 use Rattle.seccompiler.specs.JsonFilters.{under}
 use Rattle.seccompiler.specs.JsonPrograms.{AreProgramsOf, IsLeastTooLarge, TellsFirstFault}
@@ -18,6 +18,7 @@ use Rattle.seccompiler.specs.declared.backend.BackendError.TheVariants as b
 use Rattle.seccompiler.specs.declared.backend.TargetArch.{TargetArch}
 use Rattle.seccompiler.specs.declared.bpf.sock_filter.{sock_filter}
 use Rattle.seccompiler.specs.declared.json.error.JsonFrontendError.{JsonFrontendError}
+use Rattle.seccompiler.specs.declared.json.error.JsonFrontendError.TheVariants as f
 use Rattle.seccompiler.proofs.TextFilters.{value_under, all_made, least_wrong}
 use Rattle.seccompiler.proofs.json.compiler.TextPolicies.{have_table_numbers}
 
@@ -66,6 +67,16 @@ module _ (arch : TargetArch) (d : Data) (policies : ByName Filter) (are : ArePol
 pub told_by_frontend : (arch : TargetArch) (text : List ℕ) (e : JsonFrontendError) → TellsFrontendFault arch text e
     → TellsFirstFault arch text (from_frontend e)
 told_by_frontend arch text e h = grind arith
+
+-- If no lack of memory is inside the front end's error, none is inside the crate's.
+pub none_inside : (e : JsonFrontendError) → IsNoMemoryInFrontend e → IsNoMemoryInside (from_frontend e)
+none_inside f.OutOfMemory h = tt
+none_inside e h = (λ same. cc, h)
+
+-- None is inside a refusal of the backend.
+pub none_in_refusal : (e : BackendError) → IsNoMemoryInside (from_backend e)
+none_in_refusal b.OutOfMemory = tt
+none_in_refusal e = λ same. cc
 
 -- Each of a value's programs may be run.
 pub all_checked : (arch : TargetArch) (find : List ℕ → Option (Vec sock_filter Global)) (d : Data)

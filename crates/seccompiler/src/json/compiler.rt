@@ -22,7 +22,8 @@ use crate::backend::TargetArch;
 use crate::filter::SeccompFilter;
 use crate::json::error::JsonFrontendError;
 use crate::json::filter_map::lent_filters;
-use crate::json::policy::{lent_seccomp_filter, seccomp_filter, widened_numbers};
+use crate::json::lent::lent;
+use crate::json::policy::{lent_seccomp_filter, widened_numbers};
 use crate::json::texts::{text_of, value_of};
 use crate::json::types::JsonFilter;
 use serde_json::Value;
@@ -95,7 +96,10 @@ impl JsonCompiler {
         // The policy of each JSON filter matches exactly the records that meet one of its entries.
         ensures entries { PoliciesMatchEntries self.now }
     {
-        seccomp_filter(alloc, self.arch, filter)
+        match lent(alloc, filter) {
+            Ok(lent) => lent_seccomp_filter(alloc, self.arch, &lent),
+            Err(_) => Err(JsonFrontendError::OutOfMemory),
+        }
     }
 
     /// The numbers of the calls that have both an entry without conditions and one with conditions,

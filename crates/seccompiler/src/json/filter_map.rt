@@ -35,7 +35,6 @@ use std::alloc::Global;
 /// let filters = read_filters(alloc, &value)?;
 /// let main_thread = filters.0.get("main_thread");
 /// ```
-#[tactic(auto, using(crate::proofs::json::parts::OneFilter::one_filter))]
 pub fn read_filters(alloc: Global, value: &Value) -> Result<JsonFilterMap, JsonFrontendError>
     ensures filters { IfOk result (AreFilters (view value.now)) }
     ensures refusal { IfErr result (IsShapeRefusal (view value.now)) }

@@ -64,7 +64,10 @@ pub fn members_under<'v>(
 pub fn is_comment(found: Option<&Value>) -> bool
     ensures { IsTrue result ↔ IsComment (option_map (λ v. view v.now) found.entry) }
 {
-    matches!(found, None | Some(Value::Null | Value::String(_)))
+    match found {
+        None => true,
+        Some(value) => value.is_null() || value.is_string(),
+    }
 }
 
 /// The number that the value is, if serde_json holds it as a whole one, at most `most`.

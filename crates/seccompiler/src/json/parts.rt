@@ -190,10 +190,7 @@ fn read_entry(alloc: Global, value: &Value) -> Result<Option<LentRule<'_>>, Allo
     let Some((syscall, args, comment, _, _)) = members_under(value, names, 3) else {
         return Ok(None);
     };
-    if !is_comment(comment) {
-        return Ok(None);
-    }
-    let Some(Value::String(syscall)) = syscall else {
+    let (Some(Value::String(syscall)), true) = (syscall, is_comment(comment)) else {
         return Ok(None);
     };
     let Some(conditions) = read_args(alloc, args)? else {

@@ -140,21 +140,6 @@ fn chains_of_numbers(
 }
 
 /// The filter of a JSON filter on an architecture.
-pub fn seccomp_filter(
-    alloc: Global,
-    arch: TargetArch,
-    filter: &JsonFilter,
-) -> Result<SeccompFilter, JsonFrontendError>
-    ensures policy { IfOk result (IsPolicyOf arch filter.now) }
-    ensures refused { IfErr result (IsPolicyRefusal arch filter.now) }
-{
-    let Ok(lent) = lent(alloc, filter) else {
-        return Err(JsonFrontendError::OutOfMemory);
-    };
-    lent_seccomp_filter(alloc, arch, &lent)
-}
-
-/// The same of a filter whose names are lent.
 pub fn lent_seccomp_filter(
     alloc: Global,
     arch: TargetArch,

@@ -68,7 +68,6 @@ pub fn text_of<R: Read + Drop>(alloc: Global, mut reader: R) -> Result<Vec<u8>, 
 /// let filters = filters_of(alloc, text)?;
 /// assert!(rt; filters.0.contains_key("main"));
 /// ```
-#[tactic(auto, using(crate::proofs::json::parts::OneFilter::one_filter))]
 pub fn filters_of(alloc: Global, text: &[u8]) -> Result<JsonFilterMap, JsonFrontendError>
     ensures filters { IfOk result (λ filters. OfValue text.now (λ d. AreFilters d filters)) }
     // On whichever architecture.

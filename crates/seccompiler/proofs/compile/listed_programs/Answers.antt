@@ -3,12 +3,14 @@ use Rattle.std.proofs.lemmas.Result.{err_from_is_err_and}
 use Rattle.seccompiler.specs.Policy.{Filter}
 use Rattle.seccompiler.specs.declared.bpf.sock_filter.{sock_filter}
 use Rattle.seccompiler.proofs.ByName.{at_next, making_none, making_more, making_done}
-use Rattle.seccompiler.proofs.compile.TextPrograms.{Compiles, are_programs, refusal_of, told_by_frontend}
+use Rattle.seccompiler.proofs.compile.TextPrograms.{Compiles, are_programs, refusal_of, told_by_frontend, none_inside, none_in_refusal}
 use Rattle.seccompiler.proofs.compile.listed_programs.Goals as goal
 
-pub returns-in_err-value-clause-programs : goal.returns-in_err-value-clause-programs
-returns-in_err-value-clause-programs c = let p = err_from_is_err_and c.from_residual.result c.from_residual.ensures.1 in
-    rw (p.1, p.2) (told_by_frontend c.args.arch c.args.text.now c.in_err-value.field-0.0 c.in_err-value.ensures.0)
+pub returns-in_err-value : goal.returns-in_err-value
+returns-in_err-value c = let p = err_from_is_err_and c.from_residual.result c.from_residual.ensures.1 in
+    let e = c.in_err-value.field-0.0 in
+    let told = told_by_frontend c.args.arch c.args.text.now e c.in_err-value.ensures.0 in
+    rw (p.1, p.2) (record { programs = told; memory = none_inside e c.in_err-value.ensures.2 })
 
 pub loop-name-init : goal.loop-name-init
 loop-name-init c = making_none _ _ _ _ refl (search rules) (search (rules, arith))
@@ -21,15 +23,15 @@ loop-name-preserved c =
     making_more Compiles c.loop-name.invariant e entry _ _ c.in-Some.ensures.steps.0 c.push_reserved.ensures.items
     c.push_reserved.ensures.len c.push_reserved.ensures.capacity refl (record { compilable = of.compilable; compiled = of.compiled })
 
-pub returns-in_err-program-clause-programs : goal.returns-in_err-program-clause-programs
-returns-in_err-program-clause-programs c =
-    let p = err_from_is_err_and c.from_residual-in_err-program.result c.from_residual-in_err-program.ensures.1 in
+pub returns-in_err-program : goal.returns-in_err-program
+returns-in_err-program c = let p = err_from_is_err_and c.from_residual-in_err-program.result c.from_residual-in_err-program.ensures.1 in
     let so_far = c.loop-name.invariant in
     let read = c.in_ok-value.ensures.1 in
     let e : String Global × Filter = (c.in-Some.name, c.in-Some.policy) in
     let all = sym c.into_iter-name-iterator.ensures.into_iter_gives.0 ∙ at_next Compiles so_far e _ c.in-Some.ensures.steps.0 in
-    rw (p.1, p.2) (refusal_of c.args.arch read.0 c.in_ok-value.policies.items read.2 so_far.done e _ all c.in_ok-value.ensures.0
-    c.loop-name.programs.items so_far.made c.args.text.now read.1 c.in_err-program.field-0.0 c.in_err-program.ensures.refused)
+    let first = refusal_of c.args.arch read.0 c.in_ok-value.policies.items read.2 so_far.done e _ all c.in_ok-value.ensures.0
+    c.loop-name.programs.items so_far.made c.args.text.now read.1 c.in_err-program.field-0.0 c.in_err-program.ensures.refused in
+    rw (p.1, p.2) (record { programs = first; memory = none_in_refusal c.in_err-program.field-0.0 })
 
 pub returns : goal.returns
 returns c =

@@ -1,4 +1,4 @@
--- For `JsonCompiler::make_seccomp_filter`, `JsonCompiler::widened`, `seccomp_filter` and
+-- For `JsonCompiler::make_seccomp_filter`, `JsonCompiler::widened` and
 -- `widened_numbers`: the entries of a JSON filter: nothing is wrong with any, or one fault is the first.
 use Rattle.std.proofs.Common.{◌≡◌, ℕ, ℤ, List, [], ◌∷◌, ◌++◌, Option, Some, None, All, refl, sym, ap, ◌∙◌, subst, ◌⊎◌, inl, inr, arith}
 use Rattle.std.proofs.lemmas.List.Elements.{All-nil, All-cons, All-head, All-tail, All-contains, Contains-append_right}

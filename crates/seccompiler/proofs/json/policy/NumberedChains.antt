@@ -1,4 +1,4 @@
--- For `JsonCompiler::make_seccomp_filter`, `JsonCompiler::widened`, `seccomp_filter` and `widened_numbers`: chains
+-- For `JsonCompiler::make_seccomp_filter`, `JsonCompiler::widened` and `widened_numbers`: chains
 -- under ascending numbers: there are some for any numbers, and what is found under each tells them.
 use Rattle.std.proofs.Common.{◌≡◌, ℤ, List, [], ◌∷◌, map, cond, Some, None, Less, ◌↔◌, refl, sym, ap, ◌∙◌, arith}
 use Rattle.std.specs.Prelude.{T}

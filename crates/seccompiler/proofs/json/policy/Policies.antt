@@ -1,4 +1,4 @@
--- For `JsonCompiler::make_seccomp_filter`, `JsonCompiler::widened`, `seccomp_filter` and `widened_numbers`: a JSON
+-- For `JsonCompiler::make_seccomp_filter`, `JsonCompiler::widened` and `widened_numbers`: a JSON
 -- filter has one policy or one first fault.
 use Rattle.std.proofs.Common.{◌≡◌, ◌≢◌, ℤ, List, [], ◌∷◌, Bool, true, false, ◌||◌, cond, Option, Some, None, All, Any, refl, sym, ◌∙◌}
 use Rattle.std.proofs.Common.{subst, ◌⊎◌, inl, inr, rules, Decides, arith}

@@ -1,6 +1,10 @@
-use Rattle.std.proofs.Common.{◌≡◌, ◌&&◌, Bool, pos, ap, ◌∙◌, sym, rules, refl, arith, length}
+use Rattle.std.proofs.Common.{◌≡◌, ◌≢◌, ◌&&◌, Bool, pos, ap, ◌∙◌, sym, subst, rules, refl, arith, length, All, List}
 use Rattle.std.specs.Option.{is_some}
+use Rattle.std.proofs.lemmas.Bool.{true≢false}
+use Rattle.seccompiler.specs.contracts.backend.SeccompActionEqualByParts.TheImpl.Laws as laws
 use Rattle.seccompiler.specs.JsonGathered.{rules_at}
+use Rattle.seccompiler.specs.JsonPolicyOf.{IsFineEntry}
+use Rattle.seccompiler.specs.JsonTypes.{JsonRule}
 use Rattle.seccompiler.proofs.json.policy.EntryChains.{some_held}
 use Rattle.seccompiler.proofs.json.policy.ToldNumbers.{signed, told_all, none_listed, next_listed, next_not_listed}
 use Rattle.seccompiler.proofs.json.policy.WidenedNumbers.{both_gathered}
@@ -37,3 +41,9 @@ returns-clause-numbers c =
     both_gathered c.args.arch c.args.filter.now c.as_slice.result.now gathered _ (search rules) c.in_ok-gathered.ensures.1
     (λ q. c.loop-number.invariant.listed q ∙ ap (λ (b : Bool). b && is_some (rules_at gathered q))
     (told_all told _ q (omega (arith, long, c.loop-number-test.false))))
+
+pub returns-clause-faultless : goal.returns-clause-faultless
+returns-clause-faultless c = let these : c.as_slice.result.now ≡ c.args.filter.now.rules = search rules in
+    let apart : c.args.filter.now.mismatch_action ≢ c.args.filter.now.match_action =
+    rw (← c.filter.view_is) (λ same. true≢false (sym ((laws.decides-law _ _).1 same) ∙ sym c.eq.ensures ∙ c.if-eq.false)) in
+    (subst (λ (entries : List JsonRule). All (IsFineEntry c.args.arch) entries) these c.in_ok-gathered.ensures.0, apart)

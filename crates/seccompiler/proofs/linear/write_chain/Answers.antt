@@ -1,4 +1,4 @@
-use Rattle.std.proofs.Common.{◌≡◌, ◌+◌, ◌<◌, ◌∷◌, [], ◌++◌, length, take, drop, set, refl, ap, ◌∙◌, arith}
+use Rattle.std.proofs.Common.{◌≡◌, ◌+◌, ◌<◌, ◌∷◌, [], ◌++◌, length, take, drop, set, refl, ap, ◌∙◌, arith, rules}
 use Rattle.std.proofs.lemmas.Bool.Decides.{nat_tests}
 use Rattle.std.proofs.Math.ListN.{length-set}
 use lib.Seq.{take_at}
@@ -62,3 +62,36 @@ returns-clause-code c = let some : 0 < length c.args.chain.now = grind (arith, n
     (omega arith) c.args.chain.now rules _ some c.write_rules-end.ensures.code
     (written ∙ ap (λ x. x ∷ (rules ++ c.return_word-2.result ∷ [])) c.jump_if_equal-2.ensures.instruction
     ∙ ap (λ x. jump_equal c.args.number 0 1 ∷ (rules ++ x ∷ [])) c.return_word-2.ensures.instruction)
+
+pub slice_bounds-copy_from_slice-end-then-is_empty : goal.slice_bounds-copy_from_slice-end-then-is_empty
+slice_bounds-copy_from_slice-end-then-is_empty c = search rules
+
+pub slice_bounds-copy_from_slice-end-then-is_empty-2 : goal.slice_bounds-copy_from_slice-end-then-is_empty-2
+slice_bounds-copy_from_slice-end-then-is_empty-2 c = search rules
+
+pub copy_from_slice-requires : goal.copy_from_slice-requires
+copy_from_slice-requires c = search rules
+
+pub slice_bounds-write_rules-count : goal.slice_bounds-write_rules-count
+slice_bounds-write_rules-count c = search rules
+
+pub slice_bounds-write_rules-start : goal.slice_bounds-write_rules-start
+slice_bounds-write_rules-start c = search rules
+
+pub slice_bounds-write_rules-end : goal.slice_bounds-write_rules-end
+slice_bounds-write_rules-end c = search rules
+
+pub write_rules-end-requires-clause-short : goal.write_rules-end-requires-clause-short
+write_rules-end-requires-clause-short c = search rules
+
+pub overflow_add-end : goal.overflow_add-end
+overflow_add-end c = search rules
+
+pub offset_bounds-part-end : goal.offset_bounds-part-end
+offset_bounds-part-end c = search rules
+
+pub bounds-part-end : goal.bounds-part-end
+bounds-part-end c = search rules
+
+pub overflow_add-result : goal.overflow_add-result
+overflow_add-result c = search rules

@@ -1,11 +1,11 @@
 -- Steps over call numbers: the numbers up to the next that is answered otherwise, and that the steps are as few as can be.
 use Rattle.seccomp_tree.proofs.Common.{IsAnswered, ◌≡◌, ℕ, ◌+◌, ◌<◌, ◌≤◌, ◌^◌, List, [], ◌∷◌, length, Option, Vec, sym, ◌∙◌, arith, refl}
-use Rattle.seccomp_tree.proofs.Common.{IsAnswer, AreAnswers, AreCallSteps, IsNextStart, if◌then◌else◌, suc, get_or, ◌⊎◌, inl, inr, nat_lt}
+use Rattle.seccomp_tree.proofs.Common.{IsAnswer, below_length, AreCallSteps, IsNextStart, if◌then◌else◌, suc, get_or, ◌⊎◌, inl, inr}
 use Rattle.seccomp_tree.proofs.Common.{IsSome, nat_tests, cases_lt, is_at, lookup, Step, nat_cmp, Global, sock_filter, Target, IsPushed}
 use Rattle.seccomp_tree.proofs.Common.{Grows, Ruling, rules_length, DecisionSet, calls_of, default_for, rulings_for, default_from}
 use Rattle.seccomp_tree.proofs.Common.{calls_length, DefaultValue, ap, ◌-◌, Bool, true, false, nat_eq, nat_le, is_member, found_from}
 use Rattle.seccomp_tree.proofs.Common.{AscendFrom, AreTight, AreRanges}
-use Rattle.seccomp_tree.proofs.Runs.{grows_not, grows_on, is_in_grown, leads_grown}
+use Rattle.seccomp_tree.proofs.Runs.{grows_on, is_in_grown, leads_grown}
 use Rattle.seccomp_tree.proofs.Begun.{steps_more, found_before}
 use Rattle.seccomp_tree.proofs.Decided.{items_of, rulings_under}
 
@@ -53,16 +53,11 @@ none_before entries n next least lt = sym (rulings_under entries n) ∙ go (look
     go : (o : Option (Vec Ruling Global)) → (IsSome o → next ≤ n) → items_of o ≡ []
     go o least = grind (arith, least)
 
--- How many instructions the rulings of the numbers below one take.
-abbrev pub below_length : List (ℕ × List Ruling) → ℕ → ℕ
-below_length [] n = 0
-below_length (e ∷ calls) n = (if nat_lt e.0 n then rules_length e.1 else 0) + below_length calls n
-
 below_more : (calls : List (ℕ × List Ruling)) (a b : ℕ) → a ≤ b → below_length calls a ≤ below_length calls b
 below_more [] a b le = omega arith
 below_more (e ∷ calls) a b le = grind (arith, nat_tests, below_more calls a b le)
 
-below_all : (calls : List (ℕ × List Ruling)) (n : ℕ) → below_length calls n ≤ calls_length calls
+pub below_all : (calls : List (ℕ × List Ruling)) (n : ℕ) → below_length calls n ≤ calls_length calls
 below_all [] n = omega arith
 below_all (e ∷ calls) n = grind (arith, nat_tests, below_all calls n)
 
@@ -78,31 +73,17 @@ below_one (e ∷ calls) n m lt = grind (arith, nat_tests, below_one calls n m lt
 
 -- ---- the loop of `call_steps`
 
-pub record CallsOn (d : DecisionSet) (old : List sock_filter) (next : ℕ) (steps : List Step) (code : List sock_filter) : Type 0 where
-  pub within : next ≤ 2 ^ 32
-  pub grows : Grows old (below_length d.calls next) code
-  pub answers : AreAnswers d next code steps
-
 pub calls_on : {d : DecisionSet} {old mid new : List sock_filter} {steps more : List Step} {number next : ℕ} {t : Target}
-    → CallsOn d old number steps mid → IsAnswered mid (default_for d.defaults number) (rulings_for d.calls number) t new
-    → IsPushed steps number t more → IsNextStart d.defaults d.calls number next → CallsOn d old next more new
+    → AreCallSteps old d number steps mid → IsAnswered mid (default_for d.defaults number) (rulings_for d.calls number) t new
+    → IsPushed steps number t more → IsNextStart d.defaults d.calls number next → AreCallSteps old d next more new
 calls_on {d} {number = number} {next} h answered pushed on = record {
-  within = on.within;
   grows = grows_on _ h.grows answered.grows (below_one d.calls number next on.above);
-  answers = record {
-    are = steps_more (number + 1) next _ (omega arith) (omega (arith, on.above)) pushed.are;
-    each = λ n lt. elim (cases_lt n number) [
-      | inl less ↦ rw (pushed.below n less) (answer_grown answered.grows (h.answers.each n less))
-      | inr le ↦ rw (pushed.from n le, on.default n le lt, on.rulings n le lt) answered.answer
-    ];
-  };
+  are = steps_more (number + 1) next _ (omega arith) (omega (arith, on.above)) pushed.are;
+  each = λ n lt. elim (cases_lt n number) [
+    | inl less ↦ rw (pushed.below n less) (answer_grown answered.grows (h.each n less))
+    | inr le ↦ rw (pushed.from n le, on.default n le lt, on.rulings n le lt) answered.answer
+  ];
 }
-
-pub calls_end : (d : DecisionSet) (old : List sock_filter) (next : ℕ) (steps : List Step) (code : List sock_filter) → 2 ^ 32 ≤ next
-    → CallsOn d old next steps code → AreCallSteps old d steps code
-calls_end d old next steps code all h =
-    let end : next ≡ 2 ^ 32 = omega (arith, h.within) in
-    record { grows = grows_on _ h.grows (grows_not code 0) (omega (arith, below_all d.calls next)); answers = rw end at h.answers }
 
 -- ---- steps without alike neighbours are at most as many as any ranges of the decisions
 
@@ -151,10 +132,10 @@ few_from d code starts y (x ∷ steps) ranges ascend tight each =
         let high = (each (x.start - 1 + 1) (omega (arith, ascend.0)) (omega (arith, ascend.0, ascend.1.0))).one alike.0 alike.2 in
         absurd (tight.0 (sym below ∙ low ∙ sym high ∙ at))
 
-pub fewest : (d : DecisionSet) (code : List sock_filter) (steps : List Step) (starts : List ℕ) → AreAnswers d (2 ^ 32) code steps
-    → AreRanges d starts → length steps ≤ length starts
-fewest d code [] starts h ranges = omega arith
-fewest d code (x ∷ steps) starts h ranges =
+pub fewest : {d : DecisionSet} {old code : List sock_filter} (steps : List Step) (starts : List ℕ)
+    → AreCallSteps old d (2 ^ 32) steps code → AreRanges d starts → length steps ≤ length starts
+fewest [] starts h ranges = omega arith
+fewest {d} {code = code} (x ∷ steps) starts h ranges =
     let zero : x.start ≡ 0 = h.are.first in
     let rest = few_from d code starts x steps ranges h.are.ascend.1.1 h.are.tight (λ n le lt. h.each n lt) in
     let first = above_one 0 1 starts (omega arith) ranges.zero in

@@ -76,7 +76,7 @@ met_by_steps {old} {new} {c} {fit} {unfit} {t} {steps} h part = record {
   where
     cost : (condition_steps c.arg_len c.operator ≡ part_steps c.arg_len 2)
         × (condition_length c.arg_len c.operator ≡ part_length c.arg_len 3)
-    cost = rw h.plain (refl, refl)
+    cost = grind (arith, h.plain)
 
     number : List ℕ → ℕ
     number r = part_of c.arg_len (argument_at r c.arg_index)

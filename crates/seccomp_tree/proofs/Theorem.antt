@@ -12,7 +12,7 @@ use Rattle.seccomp_tree.proofs.Runs.{returns_more, grown_long}
 use Rattle.seccomp_tree.proofs.Decided.{decided_some, one_first}
 use Rattle.seccomp_tree.proofs.Begun.{not_none}
 use Rattle.seccomp_tree.proofs.Trees.{load_run}
-use Rattle.seccomp_tree.proofs.CallsPushed.{fewest}
+use Rattle.seccomp_tree.proofs.CallsPushed.{below_all, fewest}
 use Rattle.seccomp_tree.proofs.Meeting.{rule_or_not}
 
 get_at : (p : List sock_filter) (place : ℕ) (i : sock_filter) (rest : List sock_filter) → drop place p ≡ i ∷ rest
@@ -133,7 +133,7 @@ takes_some r (d ∷ rest) zero =
 pub record IsWritten (d : DecisionSet) (p : List sock_filter) : Type 0 where
   pub mid : List sock_filter
   pub steps : List Step
-  pub answers : AreCallSteps (give 0x80000000 ∷ []) d steps mid
+  pub answers : AreCallSteps (give 0x80000000 ∷ []) d (2 ^ 32) steps mid
   pub calls : Target
   pub behind : List sock_filter
   pub word : IsPart mid Dword (λ r. word_at r 0) steps calls behind
@@ -160,7 +160,7 @@ module _ (d : DecisionSet) (p : List sock_filter) (h : IsWritten d p) where
   written_returns r w n k rec few (decided arch first) takes = returns_more (4 + 2 * k + n) (omega arith)
       (chosen_runs r h.calls w (n + 1 + (1 + 2 * k)) rec (grind (arith, nat_tests, arch))
       (h.word.leads r rec w (n + 1) k few
-      (answer_leads d h.mid _ r w n rec (h.answers.answers.each (word_at r 0) (word_fits r 0 rec)) arch first takes)))
+      (answer_leads d h.mid _ r w n rec (h.answers.each (word_at r 0) (word_fits r 0 rec)) arch first takes)))
 
   written_decides : (r : List ℕ) → IsRecord r → EndsAsDecided d p r
   written_decides r rec =
@@ -172,16 +172,18 @@ module _ (d : DecisionSet) (p : List sock_filter) (h : IsWritten d p) where
 
   pub written_short : (starts : List ℕ) → AreRanges d starts → length p ≤ length_by d (length starts)
   written_short starts ranges =
-      let some = not_none (2 ^ 32) h.steps h.answers.answers.are (omega arith) in
-      let few = fewest d h.mid h.steps starts h.answers.answers ranges in
-      omega (arith, some, few, (grown_long h.answers.grows).1, (grown_long h.word.grows).1, (grown_long h.tests.grows).1, ap length h.whole)
+      let some = not_none (2 ^ 32) h.steps h.answers.are (omega arith) in
+      let few = fewest h.steps starts h.answers ranges in
+      let grown = (grown_long h.answers.grows).1 in
+      let calls = below_all d.calls (2 ^ 32) in
+      omega (arith, some, few, grown, calls, (grown_long h.word.grows).1, (grown_long h.tests.grows).1, ap length h.whole)
 
   pub written_program : IsSound p → length p ≤ greatest_length → IsTreeProgram d p
   written_program sound fits = record {
     checked = sound_checked p sound fits;
     decides = written_decides;
     soon = λ r rec w n k decision takes starts ranges few.
-        let less = fewest d h.mid h.steps starts h.answers.answers ranges in
+        let less = fewest h.steps starts h.answers ranges in
         program_ends p r w (4 + 2 * k + n) (written_returns r w n k rec (omega (arith, less)) decision takes);
     short = written_short;
   }

@@ -1,6 +1,6 @@
 -- What private functions promise each other: of steps that are looked up by a number, of code that is written from its end to its
 -- front, conditions, rulings and call numbers.
-use Rattle.std.specs.Prelude.{◌≡◌, ℕ, suc, ◌+◌, ◌-◌, ◌*◌, ◌<◌, ◌≤◌, ◌^◌, List, [], ◌∷◌, ◌++◌, length, drop, ⊤, nat_eq, nat_le}
+use Rattle.std.specs.Prelude.{◌≡◌, ℕ, suc, ◌+◌, ◌-◌, ◌*◌, ◌<◌, ◌≤◌, ◌^◌, List, [], ◌∷◌, ◌++◌, length, drop, ⊤, nat_eq, nat_le, nat_lt}
 use Rattle.std.specs.Prelude.{slice_index_or, if◌then◌else◌, bit_and, Some, Bool, true, ◌≢◌, false, ◌&&◌}
 use Rattle.seccompiler.specs.declared.bpf.sock_filter.{sock_filter}
 use Rattle.seccompiler.specs.Machine.{IsRecord, Does, IsFine, IsInRange, word_at, greatest_length}
@@ -19,7 +19,7 @@ use Rattle.seccomp_tree.specs.declared.code.Test.TheVariants.{Equal, AtLeast}
 use Rattle.seccomp_tree.specs.Decisions.{Ruling, First, Takes, condition_length, condition_steps, conditions_length, conditions_steps}
 use Rattle.seccomp_tree.specs.Decisions.{is_plain, part_length, part_steps, rules_length}
 use Rattle.seccomp_tree.specs.Decided.{DecisionSet, default_for, rulings_for}
-use Rattle.seccomp_tree.specs.TreeProgram.{one_value, calls_length}
+use Rattle.seccomp_tree.specs.TreeProgram.{one_value}
 
 -- The target for a number: that of the last step that starts at or below it, or this one if none does.
 abbrev pub found_from : Target → List Step → ℕ → Target
@@ -266,12 +266,13 @@ pub record IsNextStart (defaults : List DefaultValue) (calls : List (ℕ × List
   pub default : (n : ℕ) → number ≤ n → n < next → default_for defaults n ≡ default_for defaults number
   pub rulings : (n : ℕ) → number ≤ n → n < next → rulings_for calls n ≡ rulings_for calls number
 
--- The steps over the numbers below one answer each of them.
-pub record AreAnswers (d : DecisionSet) (next : ℕ) (code : List sock_filter) (steps : List Step) : Type 0 where
-  pub are : AreSteps next steps
-  pub each : (n : ℕ) → n < next → IsAnswer code (default_for d.defaults n) (rulings_for d.calls n) (found_in steps n)
+-- How many instructions the rulings of the numbers below one take.
+abbrev pub below_length : List (ℕ × List Ruling) → ℕ → ℕ
+below_length [] n = 0
+below_length (e ∷ calls) n = (if nat_lt e.0 n then rules_length e.1 else 0) + below_length calls n
 
--- Code was put in front, and the steps answer all numbers.
-pub record AreCallSteps (old : List sock_filter) (d : DecisionSet) (steps : List Step) (new : List sock_filter) : Type 0 where
-  pub grows : Grows old (calls_length d.calls) new
-  pub answers : AreAnswers d (2 ^ 32) new steps
+-- Code was put in front, and the steps over the numbers below one answer each of them.
+pub record AreCallSteps (old : List sock_filter) (d : DecisionSet) (next : ℕ) (steps : List Step) (new : List sock_filter) : Type 0 where
+  pub grows : Grows old (below_length d.calls next) new
+  pub are : AreSteps next steps
+  pub each : (n : ℕ) → n < next → IsAnswer new (default_for d.defaults n) (rulings_for d.calls n) (found_in steps n)

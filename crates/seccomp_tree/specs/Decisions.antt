@@ -61,20 +61,16 @@ part_steps Dword k = 1 + 2 * k
 part_steps Qword k = 5 + 4 * k
 
 -- How many instructions a condition takes at most. It has three steps, or it has masks.
-abbrev pub mask_length : SeccompCmpArgLen → ℕ
-mask_length Dword = 5
-mask_length Qword = 10
-
 abbrev pub condition_length : SeccompCmpArgLen → SeccompCmpOp → ℕ
-condition_length l o = if is_plain o then part_length l 3 else mask_length l
+condition_length Dword (MaskedEq m) = 5
+condition_length Qword (MaskedEq m) = 10
+condition_length l _ = part_length l 3
 
 -- How many steps of the machine a condition takes at most.
-abbrev pub mask_steps : SeccompCmpArgLen → ℕ
-mask_steps Dword = 3
-mask_steps Qword = 7
-
 abbrev pub condition_steps : SeccompCmpArgLen → SeccompCmpOp → ℕ
-condition_steps l o = if is_plain o then part_steps l 2 else mask_steps l
+condition_steps Dword (MaskedEq m) = 3
+condition_steps Qword (MaskedEq m) = 7
+condition_steps l _ = part_steps l 2
 
 -- The lengths of conditions by themselves.
 abbrev pub conditions_length : List Condition → ℕ

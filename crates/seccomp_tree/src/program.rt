@@ -1,6 +1,6 @@
 // The program of decisions.
 
-ghost use Rattle.std.specs.Prelude.{IfOk, IfErr};
+ghost use Rattle.std.specs.Prelude.{◌^◌, IfOk, IfErr};
 ghost use Rattle.seccomp_tree.specs.Decided.{calls_of};
 ghost use Rattle.seccomp_tree.specs.Code.{IsNextStart, IsTooMany};
 
@@ -44,9 +44,9 @@ impl Decisions {
     }
 
     // The steps over call numbers.
-    #[tactic(auto, using(crate::proofs::CallsPushed::calls_end, crate::proofs::CallsPushed::calls_less))]
+    #[tactic(auto, using(crate::proofs::CallsPushed::calls_less))]
     fn call_steps(&self, alloc: Global, code: &mut Code) -> Result<Vec<Step>, TreeError>
-        ensures ok { IfOk result (λ steps. AreCallSteps code.old self.now steps.items code.new) }
+        ensures ok { IfOk result (λ steps. AreCallSteps code.old self.now (2 ^ 32) steps.items code.new) }
         ensures err { IfErr result (IsTooMany (calls_length self.now.calls)) }
     {
         let mut steps = Vec::new(alloc);

@@ -5,7 +5,7 @@ use Rattle.seccomp_tree.proofs.decisions.Decisions.to_bpf.Goals as goal
 
 pub word-requires : goal.word-requires
 word-requires c =
-    let answers = c.in_ok-steps.ensures.ok.answers in
+    let answers = c.in_ok-steps.ensures.ok in
     rw c.deref.ensures.value record {
       aligned = refl;
       inside_record = omega arith;

@@ -88,14 +88,15 @@ rising n e (f ∷ entries) calls h le =
     above : (z y : ℤ) → IsCallNumber z → IsCallNumber y → int_cmp z y ≡ Less → unsigned_abs z + 1 ≤ unsigned_abs y
     above z y (n, is, small) (m, is', small') h = rw (is, is') (grind (arith, nat_tests, ints, rw (is, is') at h))
 
-pub record CallsSoFar (w : ℕ) (entries left : List (ℤ × Vec Rule Global)) (calls : List (ℕ × Vec Ruling Global)) : Type 0 where
-  pub made : calls_of calls ++ map (call_of w) (chains_of left) ≡ map (call_of w) (chains_of entries)
+pub record CallsSoFar (w : ℕ) (chains : List (ℤ × Chain)) (left : List (ℤ × Vec Rule Global)) (calls : List (ℕ × Vec Ruling Global)) :
+    Type 0 where
+  pub made : calls_of calls ++ map (call_of w) (chains_of left) ≡ map (call_of w) chains
   pub next : ℕ
   pub below : All (λ x. x.0 < next) calls
   pub rise : RiseFrom next left
 
 pub calls_begin : (w : ℕ) (entries : List (ℤ × Vec Rule Global)) → AreCallNumbers (numbers_of (chains_of entries))
-    → IsStrictlySortedBy int_cmp (keys_of entries) → CallsSoFar w entries entries []
+    → IsStrictlySortedBy int_cmp (keys_of entries) → CallsSoFar w (chains_of entries) entries []
 calls_begin w entries calls ascends =
     record { made = refl; next = 0; below = λ k d lt. absurd (omega arith); rise = rise entries calls ascends }
   where
@@ -114,10 +115,10 @@ insert_last (x ∷ calls) next n q below le =
     let higher : nat_cmp n x.0 ≡ Greater = grind (arith, nat_tests) in
     rw higher (ap (λ l. x ∷ l) (insert_last calls next n q (All-tail P x calls below) le))
 
-pub calls_next : (w n : ℕ) (z : ℤ) (chain : Vec Rule Global) (q : Vec Ruling Global) (entries back : List (ℤ × Vec Rule Global))
-    (calls : List (ℕ × Vec Ruling Global)) → CallsSoFar w entries ((z, chain) ∷ back) calls → z ≡ pos n → q.items ≡ rulings_of w chain.items
-    → CallsSoFar w entries back (insert_entry nat_cmp calls n q)
-calls_next w n z chain q entries back calls h is same =
+pub calls_next : (w n : ℕ) (z : ℤ) (chain : Vec Rule Global) (q : Vec Ruling Global) (chains : List (ℤ × Chain))
+    (back : List (ℤ × Vec Rule Global)) (calls : List (ℕ × Vec Ruling Global)) → CallsSoFar w chains ((z, chain) ∷ back) calls → z ≡ pos n
+    → q.items ≡ rulings_of w chain.items → CallsSoFar w chains back (insert_entry nat_cmp calls n q)
+calls_next w n z chain q chains back calls h is same =
     let rise = rw is at h.rise in
     rw (insert_last calls h.next n q h.below rise.1.0) record {
       made = rw (map-append, append_assoc, same) (rw is at h.made);

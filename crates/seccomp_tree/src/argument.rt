@@ -6,7 +6,7 @@ ghost use Rattle.seccompiler.specs.Policy.{part_of};
 ghost use Rattle.seccomp_tree.specs.Code.{AllIn, AreSteps, IsPart, numbers_of};
 
 use crate::code::Code;
-use crate::intervals::{first_start, turn};
+use crate::intervals::turn;
 use crate::steps::{Step, Target, push_step};
 use seccompiler::SeccompCmpArgLen;
 use std::alloc::{AllocError, Global};
@@ -40,7 +40,7 @@ impl Code {
         let mut rest = steps;
         while number < NUMBERS {
             push_step(&mut lows, (number % HALF) as u64, rest[0].target)?;
-            let end = first_start(&rest[1..], NUMBERS);
+            let end = rest.get(1).map_or(NUMBERS, |step| u128::from(step.start));
             let (high, last) = (number / HALF, end / HALF);
             if high < last {
                 let target = self.word(16 + 8 * index, &lows)?;

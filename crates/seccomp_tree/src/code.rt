@@ -21,9 +21,9 @@ const REACH: usize = 254;
 #[derive(Clone, Copy, Debug)]
 pub(crate) enum Test {
     /// Whether they are equal.
-    Equal,
+    Equal = JUMP_EQUAL as isize,
     /// Whether the accumulator is at least the operand, unsigned.
-    AtLeast,
+    AtLeast = JUMP_AT_LEAST as isize,
 }
 
 /// The code of a program, from some place to its end. Each instruction is written in front of the others, and jumps lead
@@ -152,11 +152,7 @@ impl Code {
     {
         let yes = self.reach(yes)?;
         let no = self.reach(no)?;
-        let code = match test {
-            Test::Equal => JUMP_EQUAL,
-            Test::AtLeast => JUMP_AT_LEAST,
-        };
-        self.push(bpf_jump(code, k, self.over(yes) as u8, self.over(no) as u8))?;
+        self.push(bpf_jump(test as u16, k, self.over(yes) as u8, self.over(no) as u8))?;
         Ok(Target::At(self.len() - 1))
     }
 

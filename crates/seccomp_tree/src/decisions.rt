@@ -1,8 +1,6 @@
 // Decisions on calls: what each call is answered with.
 
-ghost use Rattle.std.specs.Prelude.{◌≡◌, ℕ, ◌≤◌, ◌↔◌, IsTrue};
-ghost use Rattle.seccompiler.specs.Machine.{word_at};
-ghost use Rattle.seccompiler.specs.Policy.{RuleHolds};
+ghost use Rattle.std.specs.Prelude.{◌≡◌, ℕ, ◌↔◌, IsTrue};
 ghost use Rattle.seccomp_tree.specs.Decisions.{First};
 ghost use Rattle.seccomp_tree.specs.Decided.{AscendFromZero, calls_of, default_for, rulings_for};
 
@@ -91,25 +89,20 @@ impl Decisions {
         ensures decision { IsDecided self.now call.now result }
         ensures only { (w : ℕ) → IsDecided self.now call.now w → w ≡ result }
     {
-        if word_at(call, 4) != self.target_arch.get_audit_value() {
+        let number = u32::from_le_bytes([call[0], call[1], call[2], call[3]]);
+        let arch = u32::from_le_bytes([call[4], call[5], call[6], call[7]]);
+        if arch != self.target_arch.get_audit_value() {
             return KILL_PROCESS;
         }
-        let number = word_at(call, 0);
-        first_value(
-            self.rulings_for(number),
-            default_for(&self.defaults, number),
-            call,
-        )
+        let default = default_for(&self.defaults, number);
+        first_value(self.rulings_for(number), default, call)
     }
 
     /// The rulings of a number, or none.
     pub(crate) fn rulings_for(&self, number: u32) -> &[Decision]
         ensures { result.now ≡ rulings_for self.now.calls number }
     {
-        match self.calls.get(&number) {
-            Some(rulings) => rulings,
-            None => &[],
-        }
+        self.calls.get(&number).map_or(&[], |all| all.as_slice())
     }
 }
 
@@ -148,24 +141,10 @@ fn first_value(rulings: &[Decision], default: u32, call: &[u8; 64]) -> u32
     ensures { (w : ℕ) → First default call.now rulings.now w ↔ (w ≡ result) }
 {
     for ruling in rulings {
-        if all_hold(&ruling.conditions, call) {
+        let mut conditions = ruling.conditions.iter();
+        if conditions.all(|condition| condition.holds(call)) {
             return ruling.value;
         }
     }
     default
-}
-
-// Whether all the conditions hold for the call of this record.
-fn all_hold(conditions: &[SeccompCondition], call: &[u8; 64]) -> bool
-    ensures { IsTrue result ↔ RuleHolds conditions.now call.now }
-{
-    conditions.iter().all(|condition| condition.holds(call))
-}
-
-// The 32 bits of bytes `k` to `k + 3`, which are little-endian.
-fn word_at(call: &[u8; 64], k: usize) -> u32
-    requires { k ≤ 60 }
-    ensures { result ≡ word_at call.now k }
-{
-    u32::from_le_bytes([call[k], call[k + 1], call[k + 2], call[k + 3]])
 }

@@ -1,11 +1,9 @@
 // A filter as decisions.
 
-ghost use Rattle.std.specs.Prelude.{◌≡◌, map, IfOk, IfErr, OnOk, IsOkUnless};
-ghost use Rattle.seccompiler.specs.Policy.{chains_of};
+ghost use Rattle.std.specs.Prelude.{◌≡◌, IfOk, IfErr, OnOk, IsOkUnless};
 ghost use Rattle.seccompiler.specs.Compiled.{AreCallNumbers, numbers_of};
 ghost use Rattle.seccomp_tree.specs.declared.error.FilterError.TheVariants.{OutOfMemory};
-ghost use Rattle.seccomp_tree.specs.Decided.{calls_of};
-ghost use Rattle.seccomp_tree.specs.FilterDecisions.{call_of, rulings_of};
+ghost use Rattle.seccomp_tree.specs.FilterDecisions.{rulings_of};
 
 use crate::decisions::{Decision, Decisions, DefaultValue};
 use crate::error::FilterError;
@@ -32,7 +30,11 @@ impl Decisions {
         if let Err(BackendError::InvalidSyscallNumber(number)) = filter.compiled_len() {
             return Err(FilterError::InvalidSyscallNumber(number));
         }
-        let calls = calls_of(alloc, filter.rules(), filter.match_action().into())?;
+        let value = filter.match_action().into();
+        let mut calls = BTreeMap::new(alloc);
+        for (number, chain) in filter.rules() {
+            drop(calls.insert(*number as u32, rulings_of(alloc, chain, value)?)?);
+        }
         let value = filter.mismatch_action().into();
         let defaults = vec![in alloc; DefaultValue { start: 0, value }]?;
         let target_arch = filter.target_arch();
@@ -42,24 +44,6 @@ impl Decisions {
             calls,
         })
     }
-}
-
-// The rulings of each chain, with its number.
-fn calls_of(
-    alloc: Global,
-    chains: &BTreeMap<i64, Vec<SeccompRule>>,
-    value: u32,
-) -> Result<BTreeMap<u32, Vec<Decision>>, FilterError>
-    requires numbers { AreCallNumbers (numbers_of (chains_of chains.now.entries)) }
-    ensures made { IfOk result (λ calls. calls_of calls.entries ≡ map (call_of value) (chains_of chains.now.entries)) }
-    ensures memory { IsOkUnless result OutOfMemory }
-{
-    let mut calls = BTreeMap::new(alloc);
-    for (number, chain) in chains {
-        let rulings = rulings_of(alloc, chain, value)?;
-        drop(calls.insert(*number as u32, rulings)?);
-    }
-    Ok(calls)
 }
 
 // The rulings of a chain.

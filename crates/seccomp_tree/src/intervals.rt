@@ -1,8 +1,8 @@
 // Comparisons as steps: for each number what is so where a condition holds on it, and what is so elsewhere.
 
-ghost use Rattle.std.specs.Prelude.{◌≡◌, ◌≤◌, ◌<◌, ◌^◌, ◌↔◌, IsTrue, IfOk, true};
+ghost use Rattle.std.specs.Prelude.{◌≡◌, ◌<◌, ◌↔◌, IsTrue, IfOk, true};
 ghost use Rattle.seccompiler.specs.Policy.{Compares};
-ghost use Rattle.seccomp_tree.specs.Code.{AreSteps, first_start, AreLaid, IsTurn, numbers_of};
+ghost use Rattle.seccomp_tree.specs.Code.{AreSteps, AreLaid, IsTurn, numbers_of};
 ghost use Rattle.seccomp_tree.specs.Decisions.{is_plain};
 
 use crate::steps::{Step, Target, push_step};
@@ -20,7 +20,10 @@ pub(crate) fn laid(
     requires others { AreSteps (numbers_of condition.now.arg_len) others.now }
     ensures { IfOk result (λ steps. AreLaid condition.now target others.now steps.items) }
 {
-    let size = numbers(condition.arg_len());
+    let size = match condition.arg_len() {
+        SeccompCmpArgLen::Dword => 0x1_0000_0000,
+        SeccompCmpArgLen::Qword => 0x1_0000_0000_0000_0000,
+    };
     let value = u128::from(condition.value()) % size;
     let mut steps = Vec::new(alloc);
     let mut number = 0;
@@ -29,7 +32,7 @@ pub(crate) fn laid(
         let is_met = compares(condition.operator(), number, value);
         let chosen = if is_met { target } else { rest[0].target };
         push_step(&mut steps, number as u64, chosen)?;
-        let end = first_start(&rest[1..], size);
+        let end = rest.get(1).map_or(size, |step| u128::from(step.start));
         number = turn(number, value + u128::from(value <= number), end);
         rest = &rest[usize::from(number == end)..];
     }
@@ -44,13 +47,6 @@ pub(crate) fn turn(number: u128, cut: u128, end: u128) -> u128
     if number < cut { cut.min(end) } else { end }
 }
 
-/// Where the first of the steps starts, or the size.
-pub(crate) fn first_start(steps: &[Step], size: u128) -> u128
-    ensures { result ≡ first_start size steps.now }
-{
-    steps.first().map_or(size, |step| u128::from(step.start))
-}
-
 // Whether the comparison holds.
 fn compares(operator: SeccompCmpOp, number: u128, value: u128) -> bool
     ensures { IsTrue result ↔ Compares operator number value }
@@ -63,17 +59,5 @@ fn compares(operator: SeccompCmpOp, number: u128, value: u128) -> bool
         SeccompCmpOp::Le => number <= value,
         SeccompCmpOp::Lt => number < value,
         SeccompCmpOp::MaskedEq(mask) => number & u128::from(mask) == value & u128::from(mask),
-    }
-}
-
-// How many numbers a length has.
-fn numbers(length: SeccompCmpArgLen) -> u128
-    ensures numbers { result ≡ numbers_of length }
-    ensures some { 1 ≤ result }
-    ensures few { result ≤ 2 ^ 64 }
-{
-    match length {
-        SeccompCmpArgLen::Dword => 0x1_0000_0000,
-        SeccompCmpArgLen::Qword => 0x1_0000_0000_0000_0000,
     }
 }

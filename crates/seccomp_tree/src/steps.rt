@@ -37,9 +37,8 @@ pub(crate) fn push_step(steps: &mut Vec<Step>, start: u64, target: Target) -> Re
     ensures { IfOk result (λ _. IsPushed steps.old.items start target steps.new.items) }
 {
     // Neighbours with one target are one step.
-    if !steps.is_empty() && steps[steps.len() - 1].target == target {
-        return Ok(());
+    if steps.is_empty() || steps[steps.len() - 1].target != target {
+        steps.push(Step { start, target })?;
     }
-    steps.push(Step { start, target })?;
     Ok(())
 }

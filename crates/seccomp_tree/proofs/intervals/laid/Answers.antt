@@ -1,6 +1,6 @@
-use Rattle.seccomp_tree.proofs.Common.{arith, ◌≡◌, ◌%◌, ◌∙◌, drop, refl, get_or, Give, Compares, part_of, first_start, IsChosen}
+use Rattle.seccomp_tree.proofs.Common.{rules, arith, ◌≡◌, ◌%◌, ◌∙◌, drop, get_or, Give, Compares, part_of, first_start, IsChosen}
 use Rattle.seccomp_tree.specs.Code.{numbers_of}
-use Rattle.seccomp_tree.proofs.Begun.{all_behind, byte_is, moves, laying_begins, laying_on, laying_ends, part_left}
+use Rattle.seccomp_tree.proofs.Begun.{byte_is, moves, laying_begins, laying_on, laying_ends, part_left}
 use Rattle.seccomp_tree.proofs.intervals.laid.Goals.{After-turn-number}
 use Rattle.seccomp_tree.proofs.intervals.laid.Goals as goal
 
@@ -8,16 +8,18 @@ pub loop-number-init : goal.loop-number-init
 loop-number-init c =
     rw c.new-steps.ensures.items (laying_begins c.args.condition.now c.args.target c.args.others.now c.requires.others)
 
+size_is : (c : After-turn-number) → c.match-arg_len.size ≡ numbers_of c.args.condition.now.arg_len
+size_is c = search rules
+
 -- where the next of the others starts
-end_is : (c : After-turn-number) → c.first_start-end.result
+end_is : (c : After-turn-number) → c.map_or-end.result
     ≡ first_start (numbers_of c.args.condition.now.arg_len) (drop 1 c.loop-number.rest.now)
-end_is c =
-    rw (c.first_start-end.ensures, c.numbers-size.ensures.numbers, c.arg_len.ensures, all_behind c.loop-number.rest.now 1) refl
+end_is c = rw (← size_is c) (search rules)
 
 -- what counts of the value
-value_is : (c : After-turn-number) → c.from.result % c.numbers-size.result ≡ part_of c.args.condition.now.arg_len c.args.condition.now.value
+value_is : (c : After-turn-number) → c.from.result % c.match-arg_len.size ≡ part_of c.args.condition.now.arg_len c.args.condition.now.value
 value_is c =
-    rw (c.from.ensures, c.value.ensures, c.numbers-size.ensures.numbers, c.arg_len.ensures)
+    rw (c.from.ensures, c.value.ensures, size_is c)
     (part_left c.args.condition.now.arg_len c.args.condition.now.value (rw c.value.ensures at c.value.type_inv))
 
 -- what is chosen for the number
@@ -32,10 +34,11 @@ pub loop-number-preserved : goal.loop-number-preserved
 loop-number-preserved c =
     let b = (goal.at.loop-number-preserved c).After-turn-number in
     laying_on c.loop-number.rest.now _ _ c.requires.plain c.loop-number.invariant
-    (rw (c.numbers-size.ensures.numbers, c.arg_len.ensures) at c.loop-number-test.true) (end_is b)
+    (rw (size_is b) at c.loop-number-test.true) (end_is b)
     (rw (c.from-in-loop-number.ensures ∙ byte_is _, value_is b) at c.turn-number.ensures) (chosen b) c.in_ok-push_step.ensures
-    (moves _ c.turn-number.result c.first_start-end.result c.loop-number.rest.now (c.from-in-loop-number-2.ensures ∙ byte_is _))
+    (moves _ c.turn-number.result c.map_or-end.result c.loop-number.rest.now (c.from-in-loop-number-2.ensures ∙ byte_is _))
 
 pub returns : goal.returns
-returns c = laying_ends c.requires.plain c.loop-number.invariant
-    (rw (c.numbers-size.ensures.numbers, c.arg_len.ensures) at c.loop-number-test.false)
+returns c =
+    let size : c.match-arg_len.size ≡ numbers_of c.args.condition.now.arg_len = search rules in
+    laying_ends c.requires.plain c.loop-number.invariant (rw size at c.loop-number-test.false)

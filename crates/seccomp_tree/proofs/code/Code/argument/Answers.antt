@@ -1,9 +1,8 @@
-use Rattle.seccomp_tree.proofs.Common.{◌≡◌, ◌^◌, Step, Give, IfOk-weaker, ap, ◌∙◌, arith, drop, first_start}
-use Rattle.seccomp_tree.proofs.Begun.{all_behind, byte_is, moves}
+use Rattle.seccomp_tree.proofs.Common.{rules, ◌≡◌, ◌^◌, Step, Give, IfOk-weaker, ◌∙◌, arith, drop, first_start}
+use Rattle.seccomp_tree.proofs.Begun.{byte_is, moves}
 use Rattle.seccomp_tree.proofs.Meeting.{part_of_word}
 use Rattle.seccomp_tree.proofs.Halves.{IsPast, halving_begins, halving_on, halving_done, highs_in, is_argument, lows_in}
-use Rattle.seccomp_tree.proofs.code.Code.argument.Goals.{After-first_start-end, then-high-last+in_ok-target+in_ok-push_step-2}
-use Rattle.seccomp_tree.proofs.code.Code.argument.Goals.{else-high-last}
+use Rattle.seccomp_tree.proofs.code.Code.argument.Goals.{After-map_or-end, then-high-last+in_ok-target+in_ok-push_step-2, else-high-last}
 use Rattle.seccomp_tree.proofs.code.Code.argument.Goals as goal
 
 pub returns-in-Dword : goal.returns-in-Dword
@@ -18,22 +17,22 @@ abbrev none : Step
 none = record { start = 0; target = Give 0 }
 
 -- where the next step starts
-end_is : (c : After-first_start-end) → c.first_start-end.result ≡ first_start (2 ^ 64) (drop 1 c.loop-number.rest.now)
-end_is c = c.first_start-end.ensures ∙ ap (first_start (2 ^ 64)) (all_behind c.loop-number.rest.now 1)
+end_is : (c : After-map_or-end) → c.map_or-end.result ≡ first_start (2 ^ 64) (drop 1 c.loop-number.rest.now)
+end_is c = search rules
 
 pub word-requires-then-high-last : goal.word-requires-then-high-last
 word-requires-then-high-last c =
     let h = lows_in c.loop-number.rest.now none c.loop-number.invariant c.loop-number-test.true
-    (end_is ((goal.at.word-requires-then-high-last c).After-first_start-end)) c.in_ok-push_step.ensures
+    (end_is ((goal.at.word-requires-then-high-last c).After-map_or-end)) c.in_ok-push_step.ensures
     (rw c.in_default.is at c.requires.inside) in
     rw c.deref.ensures.value record { aligned = omega arith; inside_record = omega arith; are = h.0; inside = h.1 }
 
 pub loop-number-preserved : goal.loop-number-preserved
 loop-number-preserved c =
-    let ends = end_is ((goal.at.loop-number-preserved c).After-first_start-end) in
-    let moved = moves c.from.result c.turn-number.result c.first_start-end.result c.loop-number.rest.now
+    let ends = end_is ((goal.at.loop-number-preserved c).After-map_or-end) in
+    let moved = moves c.from.result c.turn-number.result c.map_or-end.result c.loop-number.rest.now
     (c.from.ensures ∙ byte_is _) in
-    let which : IsPast c.loop-number.number c.first_start-end.result c.if-number-eq0.past = grind arith in
+    let which : IsPast c.loop-number.number c.map_or-end.result c.if-number-eq0.past = grind arith in
     elim c.if-high-last.branch [
       | then-high-last+in_ok-target+in_ok-push_step-2 w ↦
           rw (w.self-is, w.highs-is, w.lows-is, w.new-lows-then-high-last.ensures.items) (halving_done c.loop-number.rest.now none

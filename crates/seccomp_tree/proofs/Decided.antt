@@ -3,12 +3,13 @@
 use Rattle.seccomp_tree.proofs.Common.{other_architecture, Less, IsCallNumber, ChainMatches, policy_matches, policy_differs, AreCallNumbers}
 use Rattle.seccomp_tree.proofs.Common.{DecisionSet, default_for, append_assoc, unsigned_abs, insert_entry, Chain, chain_under, decisions_of}
 use Rattle.seccomp_tree.proofs.Common.{First, audit_word, rulings_for, IsDecided, map-append, numbers_of, Condition, IsDecision, rulings_of}
-use Rattle.seccomp_tree.proofs.Common.{one_value, drop_more, nat_tests, RuleHolds, All-push, All-cons, All-head, All-tail, chains_of, Holds}
+use Rattle.seccomp_tree.proofs.Common.{one_value, drop_more, nat_tests, RuleHolds, All-push, All-head, All-tail, chains_of, Holds}
 use Rattle.seccomp_tree.proofs.Common.{nat_cmp, nothing, cases_eq, calls_of, decided, All-nil, Greater, call_of, DecideAs, int_cmp, keys_of}
 use Rattle.seccomp_tree.proofs.Common.{length, get_or, Option, arith, lookup, Global, Ruling, behind, word_at, Filter, word_of, nat_eq, All}
-use Rattle.seccomp_tree.proofs.Common.{List, [], drop, refl, Some, None, Vec, inl, inr, is_at, here, ◌++◌, subst, Any, ints, Rule, pos, map}
-use Rattle.seccomp_tree.proofs.Common.{◌≡◌, ◌≤◌, ◌-◌, ℕ, ◌+◌, ◌<◌, ◌∷◌, sym, ap, ◌∙◌, ℤ, ⊤, suc, ◌⊎◌}
+use Rattle.seccomp_tree.proofs.Common.{List, [], drop, refl, Some, None, Vec, inl, inr, is_at, here, ◌++◌, Any, ints, Rule, pos, map}
+use Rattle.seccomp_tree.proofs.Common.{◌≡◌, ◌≤◌, ◌-◌, ℕ, ◌+◌, ◌<◌, ◌∷◌, sym, ap, ◌∙◌, ℤ, ⊤, ◌⊎◌}
 use Rattle.seccomp_tree.proofs.Meeting.{rule_or_not}
+use Rattle.seccompiler.proofs.Searches.{any_cases, any_head, any_nil, any_tail}
 use Rattle.std.specs.List.Sorted.{IsStrictlySortedBy}
 use Rattle.seccompiler.specs.Policy.{other_architecture as other}
 
@@ -39,6 +40,16 @@ first_nothing nothing = refl
 pub one_first : (default v w : ℕ) (rulings : List Ruling) (r : List ℕ) → one_value default rulings ≡ Some v → First default r rulings w
     → w ≡ v
 one_first default v w rulings r is h = grind (arith, nat_tests, is, h)
+
+-- no two words are decided
+first_one : (default : ℕ) (r : List ℕ) (rulings : List Ruling) (v w : ℕ) → First default r rulings v → First default r rulings w → v ≡ w
+first_one default r [] v w nothing k = sym (first_nothing k)
+first_one default r (d ∷ rest) v w (here _ _ holds) k = sym (first_here d rest holds k)
+first_one default r (d ∷ rest) v w (behind _ _ _ not h) k = first_one default r rest v w h (first_behind d rest not k)
+
+pub one_decided : (d : DecisionSet) (r : List ℕ) (v w : ℕ) → IsDecided d r v → IsDecided d r w → v ≡ w
+one_decided d r v w h k = 
+    grind (arith, first_one (default_for d.defaults (word_at r 0)) r (rulings_for d.calls (word_at r 0)) v w)
 
 -- ---- the rulings of a number
 
@@ -139,29 +150,18 @@ module _ (r : List ℕ) (default w : ℕ) where
 
   -- the word if a rule holds, or else the default
   first_is : (chain : Chain) (v : ℕ) → First default r (rulings chain) v
-      → (Hold chain × (v ≡ w)) ⊎ (All (λ q. RuleHolds q r → ⊥) chain × (v ≡ default))
-  first_is [] v nothing = inr (All-nil (λ (q : Rule). RuleHolds q r → ⊥), refl)
-  first_is (q ∷ chain) v (here d rest holds) = inl ((0, q, omega arith, refl, holds), refl)
-  first_is (q ∷ chain) v (behind d rest u not first) = elim (first_is chain v first) [
-    | inl h ↦ inl ((suc h.0.0, h.0.1, omega (arith, h.0.2), h.0.3, h.0.4), h.1)
-    | inr h ↦ inr (All-cons (λ (x : Rule). RuleHolds x r → ⊥) q chain not h.0, h.1)
-  ]
+      → (Hold chain × (v ≡ w)) ⊎ ((Hold chain → ⊥) × (v ≡ default))
+  first_is [] v nothing = inr (any_nil (λ (x : Rule). RuleHolds x r), refl)
+  first_is (q ∷ chain) v (here d rest holds) = inl (any_head (λ (x : Rule). RuleHolds x r) q chain holds, refl)
+  first_is (q ∷ chain) v (behind d rest u not first) =
+      let P = λ (x : Rule). RuleHolds x r in grind (arith, any_tail P q chain, any_cases P q chain, first_is chain v first, not)
 
   -- so for a chain, which matches if it has no rules
   chain_is : (chain : Chain) (v : ℕ) → First default r (rulings_of w chain) v
       → (ChainMatches chain r × (v ≡ w)) ⊎ ((ChainMatches chain r → ⊥) × (v ≡ default))
   chain_is [] v (here d rest holds) = inl (inl refl, refl)
   chain_is [] v (behind d rest u not first) = absurd (not (All-nil (λ (c : Condition). Holds c r)))
-  chain_is (q ∷ chain) v first = elim (first_is (q ∷ chain) v first) [
-    | inl h ↦ inl (inr h.0, h.1)
-    | inr h ↦ inr (
-      λ matches. elim matches [
-        | inl none ↦ cc
-        | inr some ↦ h.0 some.0 some.1 some.2 (subst (λ (x : Rule). RuleHolds x r) (sym some.3) some.4)
-      ],
-      h.1,
-    )
-  ]
+  chain_is (q ∷ chain) v first = grind (arith, first_is (q ∷ chain) v first)
 
 -- ---- the chain of a number
 

@@ -1,12 +1,12 @@
 -- Conditions as targets: what choices and masks make of them.
-use Rattle.seccomp_tree.proofs.Common.{◌≡◌, ℕ, suc, ◌+◌, ◌-◌, ◌*◌, ◌/◌, ◌%◌, ◌<◌, ◌≤◌, ◌^◌, List, [], ◌∷◌, length, true, refl, ap, inl, inr}
-use Rattle.seccomp_tree.proofs.Common.{Equal, goes_on, arith, bit_and, ◌⊎◌, ◌↔◌, if◌then◌else◌, and_lt, cases_eq, eq-eqb, ne_eqb}
-use Rattle.seccomp_tree.proofs.Common.{sock_filter, SeccompCmpArgLen, Dword, Qword, SeccompCmpOp, MaskedEq, IsRecord, word_at, argument_at}
-use Rattle.seccomp_tree.proofs.Common.{masks, All-nil, All-cons, All-head, All-tail, Condition, Compares, Holds, RuleHolds, part_of}
-use Rattle.seccomp_tree.proofs.Common.{operator_part, load, mask, word_fits, number_halves, mask_halves, Target, At, Step, found_in, single}
-use Rattle.seccomp_tree.proofs.Common.{is_plain, IsChosen, AreLaid, condition_length, condition_steps, IsMet, IsConditionMet, HasBits}
-use Rattle.seccomp_tree.proofs.Common.{Leads, IsIn, chosen, IsTested, part_length, part_steps, IsPart}
+use Rattle.seccomp_tree.proofs.Common.{SeccompCmpArgLen, condition_length, condition_steps, IsConditionMet, if◌then◌else◌, operator_part, ℕ}
+use Rattle.seccomp_tree.proofs.Common.{number_halves, SeccompCmpOp, sock_filter, argument_at, mask_halves, part_length, part_steps, goes_on}
+use Rattle.seccomp_tree.proofs.Common.{Condition, RuleHolds, word_fits, cases_eq, MaskedEq, IsRecord, Compares, found_in, is_plain, bit_and}
+use Rattle.seccomp_tree.proofs.Common.{IsChosen, IsTested, word_at, part_of, AreLaid, HasBits, length, and_lt, eq-eqb, ne_eqb, Target, List}
+use Rattle.seccomp_tree.proofs.Common.{single, chosen, IsPart, Equal, arith, Dword, Qword, masks, Holds, IsMet, Leads, true, refl, load, ap}
+use Rattle.seccomp_tree.proofs.Common.{mask, Step, IsIn, ◌≡◌, suc, ◌+◌, ◌-◌, ◌*◌, ◌/◌, ◌%◌, ◌<◌, ◌≤◌, ◌^◌, ◌∷◌, inl, inr, ◌⊎◌, ◌↔◌, At}
 use Rattle.seccomp_tree.specs.Code.{numbers_of}
+use Rattle.seccompiler.proofs.Searches.{all_or_any, none_is_any}
 use Rattle.seccomp_tree.proofs.Runs.{grows_not, grows_one, grows_on, starts_more, leads_by, leads_grown, starts_last}
 use Rattle.seccomp_tree.proofs.Trees.{load_run}
 use Rattle.seccomp_tree.proofs.Begun.{compares_or_not}
@@ -31,14 +31,11 @@ holds_or_not c r =
     compares_or_not (operator_part c.arg_len c.operator) (part_of c.arg_len (argument_at r c.arg_index)) (part_of c.arg_len c.value)
 
 pub rule_or_not : (q : List Condition) (r : List ℕ) → RuleHolds q r ⊎ (RuleHolds q r → ⊥)
-rule_or_not [] r = inl (All-nil (λ (c : Condition). Holds c r))
-rule_or_not (c ∷ q) r = elim (holds_or_not c r) [
-  | inl h ↦ elim (rule_or_not q r) [
-    | inl g ↦ inl (All-cons (λ (x : Condition). Holds x r) c q h g)
-    | inr not ↦ inr (λ all. not (All-tail (λ (x : Condition). Holds x r) c q all))
-  ]
-  | inr not ↦ inr (λ all. not (All-head (λ (x : Condition). Holds x r) c q all))
-]
+rule_or_not q r =
+    elim (all_or_any (λ (c : Condition). Holds c r) (λ (c : Condition). Holds c r → ⊥) (λ c. holds_or_not c r) q) [
+      | inl all ↦ inl all
+      | inr some ↦ inr (λ all. none_is_any (λ (c : Condition). Holds c r → ⊥) q (λ k d lt not. not (all k d lt)) some)
+    ]
 
 -- ---- parts
 

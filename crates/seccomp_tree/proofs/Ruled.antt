@@ -8,7 +8,7 @@ use Rattle.seccomp_tree.proofs.Common.{Some, None, arith, Holds, Step, Leads, Gr
 use Rattle.seccomp_tree.proofs.Common.{◌*◌, ◌<◌, ◌≤◌, ◌^◌, ◌∷◌, true, refl, ap, ◌∙◌, sym, ◌-◌, only}
 use Rattle.seccomp_tree.specs.Code.{numbers_of}
 use Rattle.seccomp_tree.proofs.Runs.{grows_not, grows_on, leads_by, starts_more}
-use Rattle.seccomp_tree.proofs.Begun.{not_none, numbers_many, laid_in}
+use Rattle.seccomp_tree.proofs.Begun.{numbers_many, laid_in}
 use Rattle.seccomp_tree.proofs.Decided.{first_here, first_behind, first_nothing, one_first}
 use Rattle.seccomp_tree.proofs.Meeting.{holds_or_not, chosen_plain, part_fits, met_both}
 
@@ -63,7 +63,6 @@ pub record IsBehind (old : List sock_filter) (default : ℕ) (like : SeccompCmpA
   pub before : ℕ
   pub grows : Grows old before code
   pub room : before + entered * part_length like.0 3 ≤ rules_length rulings
-  pub some : 1 ≤ length steps
   pub few : length steps ≤ 2 * entered + 1
   pub are : AreSteps (numbers_of like.0) steps
   pub inside : AllIn code (numbers_of like.0) steps
@@ -98,7 +97,6 @@ module _ {old code : List sock_filter} {default : ℕ} where
     before = rules_length rulings;
     grows = h.grows;
     room = omega arith;
-    some = omega arith;
     few = omega arith;
     are = record { first = refl; ascend = (omega arith, (omega (arith, numbers_many like.0), tt)); tight = tt };
     inside = λ a lt. h.inside;
@@ -108,7 +106,7 @@ module _ {old code : List sock_filter} {default : ℕ} where
   -- and the other way round
   pub behind_none : {like : SeccompCmpArgLen × ℕ} {rulings : List Ruling} (steps : List Step) (y : Step)
       → IsBehind old default like 0 rulings steps code → y ≡ get_or steps 0 y → AreRules old rulings default y.target code
-  behind_none [] y h is = absurd (omega (arith, h.some))
+  behind_none {like} [] y h is = absurd (omega (arith, h.are.first, numbers_many like.0))
   behind_none {like} {rulings} (x ∷ []) y h is = rw is record {
     grows = grows_on _ h.grows (grows_not code 0) (omega (arith, h.room));
     inside = h.inside 0 (omega (arith, numbers_many like.0));
@@ -171,7 +169,6 @@ module _ {old code : List sock_filter} {default : ℕ} (d : Ruling) (rest : List
       before = x.before;
       grows = x.grows;
       room = omega (arith, run_more c.arg_len j, only_length d.conditions c own, x.room);
-      some = not_none _ laid h.are (omega (arith, numbers_many c.arg_len));
       few = omega (arith, h.few, x.few);
       are = h.are;
       inside = laid_in code c (Give d.value) steps laid h fits x.inside;
@@ -208,11 +205,11 @@ module _ {old code : List sock_filter} {default : ℕ} (d : Ruling) (rest : List
             (leads_by (part.leads r rec w (m + 1) k (omega (arith, x.few, le)) (x.leads r rec w m first takes) a small)))
 
     -- its steps behind a ruling that compares the same
-    pub behind_along : {steps : List Step} (p : List Condition) (o : Option Condition) → only p ≡ o → alike o (only d.conditions) ≡ true
+    pub behind_along : {steps : List Step} (p : List Condition) (o : Option Condition) → only p ≡ o → alike o (Some c) ≡ true
         → IsBehind old default (c.arg_len, c.arg_index) (suc (joined d.conditions rest)) (d ∷ rest) steps code
         → IsBehind old default (compared p) (joined p (d ∷ rest)) (d ∷ rest) steps code
     behind_along p None front is h = absurd (false≢true is)
-    behind_along p (Some x) front is h = let e = alike_is x c (rw own at is) in rw (front, is, e.0, e.1) h
+    behind_along p (Some x) front is h = let e = alike_is x c is in rw (front, own, is, e.0, e.1) h
 
 -- more steps than a program has instructions need more of them
 pub behind_many : {old code : List sock_filter} {default : ℕ} {like : SeccompCmpArgLen × ℕ} {j : ℕ} {rulings : List Ruling}

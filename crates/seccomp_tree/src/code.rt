@@ -1,6 +1,6 @@
 // Code that is written from its end to its front.
 
-ghost use Rattle.std.specs.Prelude.{◌≡◌, ◌≤◌, ◌<◌, ◌+◌, ◌^◌, ◌∷◌, [], IsTrue, IfSome, IfOk, OnOk, length};
+ghost use Rattle.std.specs.Prelude.{◌≡◌, ◌≤◌, ◌<◌, ◌+◌, ◌^◌, ◌∷◌, [], IsTrue, IfOk, OnOk, length};
 ghost use Rattle.seccompiler.specs.Code.{give};
 ghost use Rattle.seccompiler.specs.Machine.{IsFine, IsInRange};
 ghost use Rattle.seccomp_tree.specs.Code.{IsSound, IsIn, DoesAs, IsReached, IsTested};
@@ -100,21 +100,6 @@ impl Code {
         }
     }
 
-    // The last place of an instruction that does what the target says, if one is near.
-    fn twin(&self, target: Target) -> Option<usize>
-        requires { IsIn self.now target }
-        ensures does { IfSome result (λ place. DoesAs self.now target place) }
-        ensures near { IfSome result (λ place. length self.now ≤ place + 255) }
-    {
-        let first = self.len().saturating_sub(REACH + 1);
-        for place in (first..self.len()).rev() {
-            if self.does(place, target) {
-                return Some(place);
-            }
-        }
-        None
-    }
-
     /// A near place that does what the target says: its own, or that of a return or a jump, which is written if none
     /// is near.
     pub(crate) fn reach(&mut self, target: Target) -> Result<usize, AllocError>
@@ -131,8 +116,11 @@ impl Code {
                 bpf_stmt(JUMP, over as u32)
             }
         };
-        if let Some(place) = self.twin(target) {
-            return Ok(place);
+        let nearest = self.len().saturating_sub(REACH + 1);
+        for place in (nearest..self.len()).rev() {
+            if self.does(place, target) {
+                return Ok(place);
+            }
         }
         self.push(instruction)?;
         Ok(self.len() - 1)

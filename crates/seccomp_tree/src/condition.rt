@@ -31,12 +31,10 @@ impl Code {
             let index = condition.arg_index();
             let (high_value, low_value) = condition.split_value();
             let yes = self.masked(16 + 8 * index, (mask % WORDS) as u32, low_value, yes, no)?;
-            return match condition.arg_len() {
-                SeccompCmpArgLen::Dword => Ok(yes),
-                SeccompCmpArgLen::Qword => {
-                    self.masked(20 + 8 * index, (mask / WORDS) as u32, high_value, yes, no)
-                }
-            };
+            if let SeccompCmpArgLen::Dword = condition.arg_len() {
+                return Ok(yes);
+            }
+            return self.masked(20 + 8 * index, (mask / WORDS) as u32, high_value, yes, no);
         }
         let no = one(alloc, no)?;
         let steps = laid(alloc, condition, yes, &no)?;

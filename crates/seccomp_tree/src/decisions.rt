@@ -85,6 +85,7 @@ impl Decisions {
     }
 
     /// The return value that is decided for the call of this record (`struct seccomp_data` of `linux/seccomp.h`). No other value is.
+    #[tactic(auto, using(crate::proofs::Decided::one_decided))]
     pub fn decide(&self, call: &[u8; 64]) -> u32
         ensures decision { IsDecided self.now call.now result }
         ensures only { (w : ℕ) → IsDecided self.now call.now w → w ≡ result }
@@ -138,7 +139,7 @@ pub(crate) fn default_for(defaults: &[DefaultValue], number: u32) -> u32
 
 // The word of the first of the decisions that holds, or the default.
 fn first_value(rulings: &[Decision], default: u32, call: &[u8; 64]) -> u32
-    ensures { (w : ℕ) → First default call.now rulings.now w ↔ (w ≡ result) }
+    ensures { First default call.now rulings.now result }
 {
     for ruling in rulings {
         let mut conditions = ruling.conditions.iter();

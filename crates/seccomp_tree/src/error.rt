@@ -1,5 +1,7 @@
 // Why there is no program.
 
+ghost use Rattle.std.specs.Prelude.{◌≡◌, Some};
+
 use std::alloc::{AllocError, AllocFailed};
 use std::{error, fmt};
 
@@ -13,7 +15,6 @@ pub enum TreeError {
 }
 
 impl From<AllocError> for TreeError {
-    ghost use Rattle.std.specs.Prelude.{◌≡◌};
     ghost use Rattle.seccomp_tree.specs.declared.error.TreeError.TheVariants.{OutOfMemory};
 
     ghost from_gives = { λ _ e. e ≡ OutOfMemory };
@@ -38,7 +39,6 @@ pub enum FilterError {
 
 /// The error's text.
 impl fmt::Display for FilterError {
-    ghost use Rattle.std.specs.Prelude.{Some};
     ghost use Rattle.seccomp_tree.specs.Layouts.{filter_text};
 
     ghost output = { λ error. Some (filter_text error) };
@@ -63,7 +63,6 @@ impl fmt::Display for FilterError {
 impl error::Error for FilterError {}
 
 impl From<AllocError> for FilterError {
-    ghost use Rattle.std.specs.Prelude.{◌≡◌};
     ghost use Rattle.seccomp_tree.specs.declared.error.FilterError.TheVariants.{OutOfMemory};
 
     ghost from_gives = { λ _ e. e ≡ OutOfMemory };
@@ -74,7 +73,6 @@ impl From<AllocError> for FilterError {
 }
 
 impl<T: Drop> From<AllocFailed<T>> for FilterError {
-    ghost use Rattle.std.specs.Prelude.{◌≡◌};
     ghost use Rattle.seccomp_tree.specs.declared.error.FilterError.TheVariants.{OutOfMemory};
 
     ghost from_gives = { λ _ e. e ≡ OutOfMemory };

@@ -56,13 +56,12 @@ fn rulings_of(
     ensures memory { IsOkUnless result OutOfMemory }
 {
     let mut rulings = Vec::new(alloc);
-    if chain.is_empty() {
-        let conditions = Vec::new(alloc);
-        rulings.push(Decision { conditions, value })?;
-        return Ok(rulings);
-    }
     for rule in chain {
         let conditions = rule.conditions().to_vec(alloc)?;
+        rulings.push(Decision { conditions, value })?;
+    }
+    if chain.is_empty() {
+        let conditions = Vec::new(alloc);
         rulings.push(Decision { conditions, value })?;
     }
     Ok(rulings)

@@ -25,9 +25,7 @@ pub enum Layout {
 }
 
 /// The filter's program in a layout: that of [`to_bpf`](seccompiler::SeccompFilter::to_bpf), or that of
-/// [`to_tree_bpf`].
-///
-/// The programs of the two layouts return the same value for every call record.
+/// [`to_tree_bpf`]. Both return the same value for every call record.
 ///
 /// # Errors
 ///
@@ -76,13 +74,6 @@ pub fn to_bpf_in(
 /// `InvalidSyscallNumber` with the least key that lies outside 0 to 4294967295, if there is one, which takes no
 /// memory; `TreeTooLarge` if the program would have more than 4096 instructions, and only if the bound on its
 /// length is more than that too; `OutOfMemory` if memory runs out.
-///
-/// # Examples
-///
-/// ```
-/// let program = to_tree_bpf(alloc, &filter)?;
-/// assert!(rt; check(&program));
-/// ```
 pub fn to_tree_bpf(alloc: Global, filter: &SeccompFilter) -> Result<BpfProgram, FilterError>
     ensures compiled { IfOk result (λ program. IsCompiledIn Tree filter.now program.items) }
     ensures numbers { OnOk result (AreCallNumbers (numbers_of filter.now.chains)) }

@@ -1,6 +1,6 @@
 // Rulings as a target: what the first that holds says.
 
-ghost use Rattle.std.specs.Prelude.{◌≡◌, IfOk, IfErr};
+ghost use Rattle.std.specs.Prelude.{◌≡◌, Some, IfOk, IfErr};
 ghost use Rattle.seccomp_tree.specs.Code.{IsAnswered, IsIn, IsRulingMet, IsTooMany};
 ghost use Rattle.seccomp_tree.specs.Decisions.{alike, only, rules_length};
 
@@ -45,7 +45,7 @@ impl Code {
             if steps.len() > BPF_MAX_LEN {
                 return Err(TreeError::TooLarge);
             }
-            if left == 0 || !joins(&rulings[left - 1], ruling) {
+            if left == 0 || !joins(&rulings[left - 1], &condition) {
                 let (size, index) = (condition.arg_len(), condition.arg_index());
                 steps = one(alloc, self.argument(alloc, size, index, &steps)?)?;
             }
@@ -73,16 +73,13 @@ impl Code {
     }
 }
 
-// Whether both have one condition, without a mask, and compare the same.
-fn joins(first: &Decision, second: &Decision) -> bool
-    ensures { result ≡ alike (only first.now.conditions) (only second.now.conditions) }
+// Whether a ruling has one condition, without a mask, that compares the same as the other.
+fn joins(ruling: &Decision, other: &SeccompCondition) -> bool
+    ensures { result ≡ alike (only ruling.now.conditions) (Some other.now) }
 {
-    match (only(&first.conditions), only(&second.conditions)) {
-        (Some(one), Some(other)) => {
-            one.arg_index() == other.arg_index() && one.arg_len() == other.arg_len()
-        }
-        _ => false,
-    }
+    only(&ruling.conditions).is_some_and(|one| {
+        one.arg_index() == other.arg_index() && one.arg_len() == other.arg_len()
+    })
 }
 
 // The condition, if there is one without a mask.

@@ -45,17 +45,14 @@ impl Code {
             let half = steps.len() / 2;
             let upper = self.tree(&steps[half..])?;
             let lower = self.tree(&steps[..half])?;
-            let k = steps[half].start as u32;
-            return self.test(Test::AtLeast, k, upper, lower);
+            return self.test(Test::AtLeast, steps[half].start as u32, upper, lower);
         }
         if stands_out(steps) {
             let rest = self.tree(&steps[2..])?;
-            let k = steps[1].start as u32;
-            return self.test(Test::Equal, k, steps[1].target, rest);
+            return self.test(Test::Equal, steps[1].start as u32, steps[1].target, rest);
         }
         let rest = self.tree(&steps[1..])?;
-        let k = steps[1].start as u32;
-        self.test(Test::AtLeast, k, rest, steps[0].target)
+        self.test(Test::AtLeast, steps[1].start as u32, rest, steps[0].target)
     }
 
     /// Goes on as the steps say for the 32 bits of the record from this byte on, whatever is in the accumulator.

@@ -27,8 +27,8 @@ tree-requires-then-not-is_row t c =
       ),
     )
 
-pub overflow_cast-k : goal.overflow_cast-k
-overflow_cast-k t c = omega (
+pub overflow_cast-steps : goal.overflow_cast-steps
+overflow_cast-steps t c = omega (
   arith,
   (over_halves c.args.steps.now (length c.args.steps.now / 2) none (omega (arith, c.requires.some)) (omega (arith, c.requires.some))
       c.requires.over).1.1.1,

@@ -11,12 +11,13 @@ returns-in-Dword c = masked_dword c.args.condition.now c.in-MaskedEq.mask (sym c
     (sym c.operator.ensures ∙ c.in-MaskedEq.is)
     (rw (c.arg_index-index.ensures.index, c.split_value-high_value.ensures) at c.in_ok-yes.ensures)
 
-pub returns-in-Qword : goal.returns-in-Qword
-returns-in-Qword c =
-    IfOk-weaker c.masked-in-Qword.result _ _
-    (λ t k. masked_qword c.args.condition.now c.in-MaskedEq.mask (sym c.in-Qword.ensures) (sym c.operator.ensures ∙ c.in-MaskedEq.is)
+pub returns-in-MaskedEq : goal.returns-in-MaskedEq
+returns-in-MaskedEq c =
+    IfOk-weaker c.masked-in-MaskedEq.result _ _
+    (λ t k. masked_qword c.args.condition.now c.in-MaskedEq.mask (sym c.arg_len.ensures ∙ c.in_default-arg_len.is)
+    (sym c.operator.ensures ∙ c.in-MaskedEq.is)
     (rw (c.arg_index-index.ensures.index, c.split_value-high_value.ensures) at c.in_ok-yes.ensures)
-    (rw (c.arg_index-index.ensures.index, c.split_value-high_value.ensures) at k)) c.masked-in-Qword.ensures
+    (rw (c.arg_index-index.ensures.index, c.split_value-high_value.ensures) at k)) c.masked-in-MaskedEq.ensures
 
 pub argument-requires : goal.argument-requires
 argument-requires c =

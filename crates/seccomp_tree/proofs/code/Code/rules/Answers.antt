@@ -101,7 +101,7 @@ loop-left-preserved-in-loop-left c =
       | then-left-eq0-via-else-left-eq0+then-not-joins w ↦
           let at = front_is c.args.rulings.now (c.loop-left.left - 1) _ (omega (arith, w.if-left-eq0.false)) (omega arith)
           w.index-rulings-left-else-left-eq0.is in
-          joined_apart front d _ (rw at (sym w.joins.ensures ∙ w.if-not-joins.true))
+          joined_apart front d _ (rw (own_is b ∙ c.in-Some-only.is, at) (sym w.joins.ensures ∙ w.if-not-joins.true))
     ] in
     rw (from_here b, c.in_ok-steps-4.ensures, apart) (behind_fresh _ _ _
     (rules_settled d (rest b) (own_is b ∙ c.in-Some-only.is) c.argument.new.self (laid_is l)

@@ -61,15 +61,14 @@ pub below_all : (calls : List (ℕ × List Ruling)) (n : ℕ) → below_length c
 below_all [] n = omega arith
 below_all (e ∷ calls) n = grind (arith, nat_tests, below_all calls n)
 
--- a call's rulings are among all
-pub calls_less : (calls : List (ℕ × List Ruling)) (n : ℕ) → rules_length (rulings_for calls n) ≤ calls_length calls
-calls_less [] n = omega arith
-calls_less (e ∷ calls) n = grind (arith, nat_tests, calls_less calls n)
-
 below_one : (calls : List (ℕ × List Ruling)) (n m : ℕ) → n < m
     → below_length calls n + rules_length (rulings_for calls n) ≤ below_length calls m
 below_one [] n m lt = omega arith
 below_one (e ∷ calls) n m lt = grind (arith, nat_tests, below_one calls n m lt, below_more calls n m (omega arith))
+
+-- a call's rulings are among all
+pub calls_less : (calls : List (ℕ × List Ruling)) (n : ℕ) → rules_length (rulings_for calls n) ≤ calls_length calls
+calls_less calls n = omega (arith, below_one calls n (n + 1) (omega arith), below_all calls (n + 1))
 
 -- ---- the loop of `call_steps`
 

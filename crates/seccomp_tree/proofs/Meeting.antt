@@ -1,6 +1,6 @@
 -- Conditions as targets: what choices and masks make of them.
 use Rattle.seccomp_tree.proofs.Common.{SeccompCmpArgLen, condition_length, condition_steps, IsConditionMet, if◌then◌else◌, operator_part, ℕ}
-use Rattle.seccomp_tree.proofs.Common.{number_halves, SeccompCmpOp, sock_filter, argument_at, mask_halves, part_length, part_steps, goes_on}
+use Rattle.seccomp_tree.proofs.Common.{number_halves, sock_filter, argument_at, mask_halves, part_length, part_steps, goes_on}
 use Rattle.seccomp_tree.proofs.Common.{Condition, RuleHolds, word_fits, cases_eq, MaskedEq, IsRecord, Compares, found_in, is_plain, bit_and}
 use Rattle.seccomp_tree.proofs.Common.{IsChosen, IsTested, word_at, part_of, AreLaid, HasBits, length, and_lt, eq-eqb, ne_eqb, Target, List}
 use Rattle.seccomp_tree.proofs.Common.{single, chosen, IsPart, Equal, arith, Dword, Qword, masks, Holds, IsMet, Leads, true, refl, load, ap}
@@ -50,14 +50,12 @@ part_of_word index word = record {
 
 -- ---- conditions without a mask
 
-plain_operator : (l : SeccompCmpArgLen) (o : SeccompCmpOp) → is_plain o ≡ true → operator_part l o ≡ o
-plain_operator l o plain = grind (arith, plain)
-
 -- whether a condition without a mask holds is what its comparison says of the argument's part
 pub chosen_plain : (c : Condition) (r : List ℕ) (fit unfit t : Target) → is_plain c.operator ≡ true
     → IsChosen (Compares c.operator (part_of c.arg_len (argument_at r c.arg_index)) (part_of c.arg_len c.value)) fit unfit t
     → IsChosen (Holds c r) fit unfit t
-chosen_plain c r fit unfit t plain h = rw (plain_operator c.arg_len c.operator plain) h
+chosen_plain c r fit unfit t plain h =
+    let same : operator_part c.arg_len c.operator ≡ c.operator = grind (arith, plain) in rw same h
 
 pub met_by_steps : {old new : List sock_filter} {c : Condition} {fit unfit t : Target} {steps : List Step}
     → AreLaid c fit (single unfit) steps

@@ -131,9 +131,6 @@ pub joined_apart : (q : List Condition) (d : Ruling) (rest : List Ruling) → al
     → joined q (d ∷ rest) ≡ 0
 joined_apart q d rest apart = rw apart refl
 
-pub alike_none : (o : Option Condition) → alike o None ≡ false
-alike_none o = grind arith
-
 run_more : (l : SeccompCmpArgLen) (j : ℕ) → suc j * part_length l 3 ≡ part_length l 3 + j * part_length l 3
 run_more l j = grind arith
 

@@ -1,26 +1,26 @@
 -- The theorem: what is written answers every record as is decided. Sound code is a checked program, and a run that returns a word ends
 -- with it there.
-use Rattle.seccomp_tree.proofs.Common.{◌≡◌, ℕ, zero, suc, ◌+◌, ◌-◌, ◌<◌, ◌≤◌, ◌^◌, List, [], ◌∷◌, ◌++◌, length, drop, Some, length-append}
-use Rattle.seccomp_tree.proofs.Common.{goes_on, EndsWithin, length-drop, subst, refl, sym, ap, ◌∙◌, arith, add-one, zero-add, slice_get}
-use Rattle.seccomp_tree.proofs.Common.{drop-drop, sock_filter, give, Goes, stays, then_step, IsFine, IsInRange, IsChecked, greatest_length}
-use Rattle.seccomp_tree.proofs.Common.{AreFine, IsSound, Returns, gives, ◌*◌, inl, inr, IsAnswer, AreCallSteps, length_by, Equal, nat_tests}
-use Rattle.seccomp_tree.proofs.Common.{IsRecord, word_at, audit_word, Target, Give, Step, one, Leads, to_return, IsPart, chosen, Dword}
-use Rattle.seccomp_tree.proofs.Common.{Ruling, First, Takes, stops, passes, ends, begins, run_steps, joined, DecisionSet, default_for}
-use Rattle.seccomp_tree.proofs.Common.{IsDecided, rulings_for, other_architecture, decided, TakesOwn, other, own, EndsAsDecided}
-use Rattle.seccomp_tree.proofs.Common.{IsTreeProgram, AreRanges, IsTested, load, word_fits, pow-succ', one-le-pow}
+use Rattle.seccomp_tree.proofs.Common.{drop_all, ◌≡◌, ℕ, zero, suc, ◌+◌, ◌-◌, ◌<◌, ◌≤◌, ◌^◌, List, [], ◌∷◌, length, drop, Some}
+use Rattle.seccomp_tree.proofs.Common.{length-append, goes_on, EndsWithin, length-drop, subst, refl, sym, ap, ◌∙◌, arith, add-one, zero-add}
+use Rattle.seccomp_tree.proofs.Common.{slice_get, drop-drop, sock_filter, give, Goes, stays, then_step, IsFine, IsInRange, IsChecked}
+use Rattle.seccomp_tree.proofs.Common.{greatest_length, AreFine, IsSound, Returns, gives, ◌*◌, inl, inr, IsAnswer, AreCallSteps, length_by}
+use Rattle.seccomp_tree.proofs.Common.{Equal, nat_tests, IsRecord, word_at, audit_word, Target, Give, Step, one, Leads, to_return, IsPart}
+use Rattle.seccomp_tree.proofs.Common.{chosen, Dword, Ruling, First, Takes, stops, passes, ends, begins, run_steps, joined, DecisionSet}
+use Rattle.seccomp_tree.proofs.Common.{default_for, IsDecided, rulings_for, other_architecture, decided, TakesOwn, other, own}
+use Rattle.seccomp_tree.proofs.Common.{EndsAsDecided, IsTreeProgram, AreRanges, IsTested, load, word_fits, pow-succ', one-le-pow}
 use Rattle.seccomp_tree.proofs.Runs.{returns_more, grown_long}
 use Rattle.seccomp_tree.proofs.Decided.{decided_some, one_first}
 use Rattle.seccomp_tree.proofs.Begun.{not_none}
 use Rattle.seccomp_tree.proofs.Trees.{load_run}
 use Rattle.seccomp_tree.proofs.CallsPushed.{below_all, fewest}
 use Rattle.seccomp_tree.proofs.Meeting.{rule_or_not}
+use Rattle.seccompiler.proofs.Runs.{get_behind}
 
 get_at : (p : List sock_filter) (place : ℕ) (i : sock_filter) (rest : List sock_filter) → drop place p ≡ i ∷ rest
     → slice_get p place ≡ Some i
-get_at [] zero i rest e = cc
-get_at [] (suc place) i rest e = cc
 get_at (x ∷ p) zero i rest e = cc
 get_at (x ∷ p) (suc place) i rest e = get_at p place i rest e
+get_at [] place i rest e = cc (drop_all {X = sock_filter} place [] (omega arith))
 
 -- a run takes no more steps than there are instructions
 pub returns_short : {r : List ℕ} {a w n : ℕ} (code : List sock_filter) → Returns r code a w n → Returns r code a w (length code)
@@ -64,10 +64,6 @@ ends_from p r tail place m a w n at goes small (goes_on i rest b a' v n' d does 
 pub program_ends : (p : List sock_filter) (r : List ℕ) (w n : ℕ) → Returns r p 0 w n → EndsWithin p r w n
 program_ends p r w n h = rw zero-add at (ends_from p r p 0 0 0 w n refl stays (omega arith) h)
 
--- an instruction is as fine if one more comes in front
-fine_behind : (i : sock_filter) (place n : ℕ) → IsFine i place n → IsFine i (suc place) (suc n)
-fine_behind i place n h = grind arith
-
 each_fine : (p : List sock_filter) (place : ℕ) (i : sock_filter) → AreFine p → slice_get p place ≡ Some i
     → IsFine i place (length p) × IsInRange i
 each_fine [] place i h here = absurd (cc)
@@ -76,11 +72,7 @@ each_fine (x ∷ p) zero i h here =
     rw (same, ← add-one) (h.0, h.1.0)
 each_fine (x ∷ p) (suc place) i h here =
     let both = each_fine p place i h.1.1 here in
-    (fine_behind i place (length p) both.0, both.1)
-
-last_get : (front : List sock_filter) (x : sock_filter) → slice_get (front ++ x ∷ []) (length front) ≡ Some x
-last_get [] x = refl
-last_get (y ∷ front) x = last_get front x
+    (grind (arith, both.0), both.1)
 
 -- Sound code is a checked program, if it is no longer than that may be.
 pub sound_checked : (p : List sock_filter) → IsSound p → length p ≤ greatest_length → IsChecked p
@@ -93,9 +85,9 @@ sound_checked p h few =
       ranges = record { each = λ place i here. (each_fine p place i h.fine here).1 };
       each = λ place i here. (each_fine p place i h.fine here).0;
       last = λ i here.
-          let at : length p - 1 ≡ length h.front = omega (arith, long) in
+          let at : length p - 1 ≡ length h.front + 0 = omega (arith, long) in
           let end = rw (at, h.ends) at here in
-          let same : i ≡ kill = cc (last_get h.front kill) in ap (λ (j : sock_filter). j.code) same;
+          let same : i ≡ kill = cc (get_behind h.front (kill ∷ []) 0 kill refl) in ap (λ (j : sock_filter). j.code) same;
     }
 
 -- what answers a number leads to what is decided, within its own steps and one

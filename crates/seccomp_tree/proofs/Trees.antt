@@ -73,9 +73,6 @@ pub halvings : (n m k : ℕ) → 2 ≤ n → n ≤ 2 ^ k → m ≤ n - n / 2 →
 halvings n m zero some le half = absurd (omega arith)
 halvings n m (suc k) some le half = (k, refl, omega (arith, pow-succ' 2 k))
 
-pub same_one : (t u : Target) → same t u ≡ true → t ≡ u
-same_one t u e = grind (arith, nat_tests)
-
 pub out_long : (steps : List Step) → second_stands_out steps ≡ true → 3 ≤ length steps
 out_long steps out = grind (arith, out)
 
@@ -95,7 +92,7 @@ stands_beside : (i : ℕ) (x y z : Step) (steps : List Step) → AreOver (x ∷ 
     → found_in (x ∷ y ∷ z ∷ steps) i ≡ chosen Equal (y.start) y.target (found_in (z ∷ steps) i) i
 stands_beside i x y z steps h out =
     let both = and_parts (same x.target z.target) (nat_eq (z.start - y.start) 1) out in
-    grind (arith, nat_tests, same_one x.target z.target both.0, both.1, h.0, found_before (2 ^ 32) (z.start + 1) z.target steps i h.1.1.1.1)
+    grind (arith, nat_tests, both.0, both.1, h.0, found_before (2 ^ 32) (z.start + 1) z.target steps i h.1.1.1.1)
 
 -- ---- the code
 

@@ -1,7 +1,7 @@
 use Rattle.seccomp_tree.proofs.Common.{rules, one_value, None, ◌≡◌, ◌-◌, ◌∷◌, [], List, Ruling, only, rules_length, length, drop, drop_all}
 use Rattle.seccomp_tree.proofs.Common.{ap, sym, ◌∙◌, arith, refl, Give, joined, suc}
 use Rattle.seccomp_tree.proofs.Decided.{drop_back}
-use Rattle.seccomp_tree.proofs.Ruled.{AreRules, answered_one, IsBehind, answered_more, alike_none, behind_along, behind_fresh, behind_laid}
+use Rattle.seccomp_tree.proofs.Ruled.{AreRules, answered_one, IsBehind, answered_more, behind_along, behind_fresh, behind_laid}
 use Rattle.seccomp_tree.proofs.Ruled.{behind_many, behind_none, compared, front_is, in_front, joined_apart, joined_none, rules_alone}
 use Rattle.seccomp_tree.proofs.Ruled.{rules_less, rules_none, rules_settled}
 use Rattle.seccomp_tree.proofs.code.Code.rules.Goals.{After-only, After-len, After-index, then-left-eq0-via-then-left-eq0}
@@ -60,7 +60,7 @@ loop-left-preserved-in_default-only c =
     let own = own_is b ∙ c.in_default-only.is in
     let q = c.deref-in_default-only.ensures.value ∙ ap (λ (d : Ruling). d.conditions) c.ruling.view_is in
     let front = in_front c.args.rulings.now (c.loop-left.left - 1) in
-    let apart : joined front (d ∷ rest b) ≡ 0 = joined_apart front d _ (rw own (alike_none (only front))) in
+    let apart : joined front (d ∷ rest b) ≡ 0 = joined_apart front d _ (rw own (grind arith)) in
     rw (from_here b, c.in_ok-steps-2.ensures, apart)
     (behind_fresh _ _ _ (rules_alone d (rest b) c.conditions.new.self own (after i) (rw (value_is b, q) at c.in_ok-met.ensures)))
 

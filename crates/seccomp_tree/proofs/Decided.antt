@@ -48,7 +48,7 @@ first_one default r (d ∷ rest) v w (here _ _ holds) k = sym (first_here d rest
 first_one default r (d ∷ rest) v w (behind _ _ _ not h) k = first_one default r rest v w h (first_behind d rest not k)
 
 pub one_decided : (d : DecisionSet) (r : List ℕ) (v w : ℕ) → IsDecided d r v → IsDecided d r w → v ≡ w
-one_decided d r v w h k = 
+one_decided d r v w h k =
     grind (arith, first_one (default_for d.defaults (word_at r 0)) r (rulings_for d.calls (word_at r 0)) v w)
 
 -- ---- the rulings of a number

@@ -74,8 +74,15 @@ impl Decisions {
         ensures made { IfSome result (λ d. d ≡ record { target_arch = target_arch; defaults = defaults.items; calls = calls_of calls.entries }) }
         ensures some { IsSome result ↔ AscendFromZero defaults.items }
     {
-        if !ascend_from_zero(&defaults) {
+        if defaults.is_empty() || defaults[0].start != 0 {
             return None;
+        }
+        let mut last = 0;
+        for next in &defaults[1..] {
+            if next.start <= last {
+                return None;
+            }
+            last = next.start;
         }
         Some(Decisions {
             target_arch,
@@ -105,23 +112,6 @@ impl Decisions {
     {
         self.calls.get(&number).map_or(&[], |all| all.as_slice())
     }
-}
-
-// Whether there is a default from 0 on, and each starts above the one before it.
-fn ascend_from_zero(defaults: &[DefaultValue]) -> bool
-    ensures { IsTrue result ↔ AscendFromZero defaults.now }
-{
-    if defaults.is_empty() || defaults[0].start != 0 {
-        return false;
-    }
-    let mut last = 0;
-    for next in &defaults[1..] {
-        if next.start <= last {
-            return false;
-        }
-        last = next.start;
-    }
-    true
 }
 
 /// The value of the last default that starts at or below the number.

@@ -2,6 +2,7 @@
 
 ghost use Rattle.std.specs.Prelude.{◌≡◌, Some};
 
+use seccompiler::BackendError;
 use std::alloc::{AllocError, AllocFailed};
 use std::{error, fmt};
 
@@ -46,16 +47,13 @@ impl fmt::Display for FilterError {
     fn fmt<W: fmt::Write>(&self, f: &mut fmt::Formatter<W>) -> fmt::Result {
         match self {
             FilterError::InvalidSyscallNumber(number) => {
-                write!(f, "Invalid syscall number: {number}.")
+                BackendError::InvalidSyscallNumber(*number).fmt(f)
             }
-            FilterError::FilterTooLarge(length) => write!(
-                f,
-                "The seccomp filter contains too many BPF instructions: {length}. Max length is 4096."
-            ),
+            FilterError::FilterTooLarge(length) => BackendError::FilterTooLarge(*length).fmt(f),
             FilterError::TreeTooLarge => f.write_str(
                 "The seccomp filter contains too many BPF instructions as a tree. Max length is 4096.",
             ),
-            FilterError::OutOfMemory => f.write_str("Out of memory."),
+            FilterError::OutOfMemory => BackendError::OutOfMemory.fmt(f),
         }
     }
 }

@@ -72,9 +72,8 @@ fn next_start(defaults: &[DefaultValue], calls: &BTreeMap<u32, Vec<Decision>>, n
         None => WORDS,
     };
     for default in defaults {
-        let start = u64::from(default.start);
-        if u64::from(number) < start && start < next {
-            next = start;
+        if number < default.start {
+            next = next.min(u64::from(default.start));
         }
     }
     next

@@ -44,7 +44,7 @@ pub use Rattle.std.proofs.lemmas.Bool.Decides.{nat_tests}
 pub use Rattle.std.proofs.lemmas.Int.{ints}
 pub use Rattle.std.proofs.lemmas.List.{drop-drop, drop_all, drop_more, get_or-drop, get_or-reverse, get_or-take, get_or_read_under}
 pub use Rattle.std.proofs.lemmas.List.{length-reverse, length-take, length-take-le, map-append, reverse-append, take-append-drop, take_all}
-pub use Rattle.std.proofs.lemmas.List.Elements.{All-cons, All-head, All-nil, All-push, All-tail}
+pub use Rattle.std.proofs.lemmas.List.Elements.{All-cons, All-drop, All-take, All-head, All-nil, All-push, All-tail}
 pub use Rattle.std.proofs.lemmas.Result.{IfOk-weaker}
 pub use Rattle.std.specs.BTreeMap.{insert_entry, is_at}
 pub use Rattle.std.specs.Int.Bits.{and_lt, and_zero_r}

@@ -1,21 +1,14 @@
 -- For `tree` and `word`: parts of steps, rows of tests, and the code of steps, put together of the code of fewer and a test.
-use Rattle.seccomp_tree.proofs.Common.{take-append-drop, if◌then◌else◌, get_or-drop, get_or-take, length-take-le, second_stands_out, GoesOn}
-use Rattle.seccomp_tree.proofs.Common.{cases_Bool, length-drop, length-take, nat_tests, pow-succ', sock_filter, AreIn, and_parts, drop_more}
-use Rattle.seccomp_tree.proofs.Common.{goes_on, AtLeast, found_in, AreOver, IsTested, Returns, Give, IsRecord, word_at, word_fits, length}
-use Rattle.seccomp_tree.proofs.Common.{get_or, passed, Equal, nat_le, nat_eq, Target, single, Grows, chosen, IsTree, IsPart, Dword, ℕ, zero}
-use Rattle.seccomp_tree.proofs.Common.{List, take, drop, true, false, refl, subst, arith, inl, Step, same, ◌++◌, Test, loads, load, ◌≡◌}
-use Rattle.seccomp_tree.proofs.Common.{suc, ◌+◌, ◌-◌, ◌*◌, ◌/◌, ◌^◌, ◌<◌, ◌≤◌, [], ◌∷◌, sym, ap, ◌∙◌, inr, row, At}
+use Rattle.seccomp_tree.proofs.Common.{second_stands_out, take-append-drop, length-take-le, if◌then◌else◌, GoesOn}
+use Rattle.seccomp_tree.proofs.Common.{length-drop, sock_filter, cases_Bool, nat_tests, pow-succ', and_parts, drop_more, AreIn}
+use Rattle.seccomp_tree.proofs.Common.{word_fits, All-drop, found_in, IsTested, IsRecord, goes_on, AtLeast, AreOver, Returns, word_at, IsIn}
+use Rattle.seccomp_tree.proofs.Common.{length, get_or, passed, nat_le, nat_eq, Target, single, chosen, IsTree, IsPart, Equal, Grows, Dword}
+use Rattle.seccomp_tree.proofs.Common.{false, subst, arith, loads, Give, zero, List, take, drop, true, refl, Step, same, ◌++◌, Test, load}
+use Rattle.seccomp_tree.proofs.Common.{inl, ◌≡◌, suc, ◌+◌, ◌-◌, ◌*◌, ◌/◌, ◌^◌, ◌<◌, ◌≤◌, ◌∷◌, sym, ◌∙◌, inr, row, [], ap, At, ℕ}
 use Rattle.seccomp_tree.proofs.Begun.{all_behind, ascend_more, ascend_parts, found_back, found_before, found_front}
 use Rattle.seccomp_tree.proofs.Runs.{grows_not, grows_on, last_in, starts_more, starts_last, leads_by, leads_grown, grows_one, runs_last}
 
 -- ---- parts of steps
-
-pub in_take : (code : List sock_filter) (n : ℕ) (steps : List Step) → AreIn code steps → AreIn code (take n steps)
-in_take code n steps h k d lt =
-    let long = length-take n steps in rw (get_or-take n steps k d (omega (arith, long))) (h k d (omega (arith, long)))
-
-in_drop : (code : List sock_filter) (n : ℕ) (steps : List Step) → AreIn code steps → AreIn code (drop n steps)
-in_drop code n steps h k d lt = rw (get_or-drop n steps k d) (h (n + k) d (omega (arith, length-drop n steps)))
 
 over_parts : (front : List Step) (x : Step) (back : List Step) → 1 ≤ length front → AreOver (front ++ x ∷ back)
     → AreOver front × (AreOver (x ∷ back) × ((0 < x.start) × (x.start < 2 ^ 32)))
@@ -66,7 +59,8 @@ pub rest_of : (code : List sock_filter) (n t : ℕ) (steps : List Step) → 1 �
 rest_of code n t steps some lt all_in over inside =
     let long = length-drop n steps in
     let others = (over_halves steps n none some lt over).1.0 in
-    rw (all_behind steps n) (omega (arith, long), (omega (arith, long), (others, in_drop code n steps inside)))
+    let are_in = All-drop (λ (x : Step). IsIn code x.target) n steps inside in
+    rw (all_behind steps n) (omega (arith, long), (omega (arith, long), (others, are_in)))
 
 -- the number of halvings of a half is one less
 pub halvings : (n m k : ℕ) → 2 ≤ n → n ≤ 2 ^ k → m ≤ n - n / 2 → (j : ℕ) × (k ≡ suc j) × (m ≤ 2 ^ j)

@@ -1,7 +1,8 @@
-use Rattle.seccomp_tree.proofs.Common.{◌/◌, length, refl, sym, ◌∙◌, arith, inl, inr, cases_lt, false≢true, row, IfOk-weaker, length-take-le}
+use Rattle.seccomp_tree.proofs.Common.{All-take, IsIn, Step, ◌/◌, length, refl, sym, ◌∙◌, arith, inl, inr, cases_lt, false≢true, row}
+use Rattle.seccomp_tree.proofs.Common.{IfOk-weaker, length-take-le}
 use Rattle.seccomp_tree.proofs.Runs.{is_in_grown}
 use Rattle.seccomp_tree.proofs.Begun.{all_behind}
-use Rattle.seccomp_tree.proofs.Trees.{none, over_halves, in_take, rest_of, out_long, tree_single, tree_out, tree_first, tree_halves}
+use Rattle.seccomp_tree.proofs.Trees.{none, over_halves, rest_of, out_long, tree_single, tree_out, tree_first, tree_halves}
 use Rattle.seccomp_tree.proofs.code.Code.+tree.Goals as goal
 
 pub returns-then-steps-eq1 : goal.returns-then-steps-eq1
@@ -16,15 +17,11 @@ pub tree-requires-then-not-is_row : goal.tree-requires-then-not-is_row
 tree-requires-then-not-is_row t c =
     let steps = c.args.steps.now in
     let n = length steps / 2 in
-    let long = length-take-le n steps (omega arith) in (
+    let long = length-take-le n steps (omega arith) in
+    let halves = over_halves steps n none (omega (arith, c.requires.some)) (omega (arith, c.requires.some)) c.requires.over in
+    let first = All-take (λ (x : Step). IsIn c.args.self.now x.target) n steps c.requires.inside in (
       omega (arith, long, c.requires.some, c.decreases),
-      (
-        omega (arith, long, c.requires.some),
-        (
-          (over_halves steps n none (omega (arith, c.requires.some)) (omega (arith, c.requires.some)) c.requires.over).0,
-          λ k d lt. is_in_grown _ c.in_ok-upper.ensures.grows (in_take c.args.self.now n steps c.requires.inside k d lt),
-        ),
-      ),
+      (omega (arith, long, c.requires.some), (halves.0, λ k d lt. is_in_grown _ c.in_ok-upper.ensures.grows (first k d lt))),
     )
 
 pub overflow_cast-steps : goal.overflow_cast-steps

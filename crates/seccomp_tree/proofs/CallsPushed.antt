@@ -48,10 +48,8 @@ answer_grown {t = t} g h = record {
 -- a number that the map has only if it is another's or above it
 pub none_before : (entries : List (ℕ × Vec Ruling Global)) (n next : ℕ)
     → (IsSome (lookup (is_at (nat_cmp n)) entries) → next ≤ n) → n < next → rulings_for (calls_of entries) n ≡ []
-none_before entries n next least lt = sym (rulings_under entries n) ∙ go (lookup (is_at (nat_cmp n)) entries) least
-  where
-    go : (o : Option (Vec Ruling Global)) → (IsSome o → next ≤ n) → items_of o ≡ []
-    go o least = grind (arith, least)
+none_before entries n next least lt =
+    let none : items_of (lookup (is_at (nat_cmp n)) entries) ≡ [] = grind (arith, least) in sym (rulings_under entries n) ∙ none
 
 below_more : (calls : List (ℕ × List Ruling)) (a b : ℕ) → a ≤ b → below_length calls a ≤ below_length calls b
 below_more [] a b le = omega arith

@@ -212,10 +212,8 @@ module _ {old code : List sock_filter} {default : ℕ} (d : Ruling) (rest : List
 pub behind_many : {old code : List sock_filter} {default : ℕ} {like : SeccompCmpArgLen × ℕ} {j : ℕ} {rulings : List Ruling}
     {steps : List Step} → IsBehind old default like j rulings steps code → greatest_length < length steps
     → greatest_length < rules_length rulings
-behind_many {like = like} {j} h many = omega (arith, many, h.few, h.room, more like.0 j)
-  where
-    more : (l : SeccompCmpArgLen) (j : ℕ) → 7 * j ≤ j * part_length l 3
-    more l j = grind arith
+behind_many {like = like} {j} h many =
+    let more : 7 * j ≤ j * part_length like.0 3 = grind arith in omega (arith, many, h.few, h.room, more)
 
 pub rules_less : (n : ℕ) (rulings : List Ruling) → rules_length (drop n rulings) ≤ rules_length rulings
 rules_less (suc n) (d ∷ rulings) = omega (arith, rules_less n rulings)

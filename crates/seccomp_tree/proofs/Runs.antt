@@ -153,13 +153,9 @@ written_does back place i view inside here says =
       leads = λ r a w n small h. does_run place i at.0 inside (ap (λ l. tail_at l place) (sym view) ∙ at.1) says small h;
     }
 
--- a place by itself
-run_itself : {d : ℕ} {r : List ℕ} {code : List sock_filter} {m a w n : ℕ} → Starts d code r (At m) a w n → Returns r (tail_at code m) a w n
-run_itself h = grind (arith, returns_more, h)
-
 pub reached_itself : (code : List sock_filter) (m : ℕ) → m < length code → length code ≤ m + 255 → IsReached code (At m) m code
 reached_itself code m inside close =
-    record { grows = grows_not code 1; inside = inside; near = close; leads = λ r a w n small h. run_itself h }
+    record { grows = grows_not code 1; inside = inside; near = close; leads = λ r a w n small h. grind (arith, returns_more, h) }
 
 -- an instruction that does what the target says, which is far itself
 pub reached_by : {code new : List sock_filter} {t : Target} {place : ℕ} → Grows code 1 new → IsFar code t → DoesAs new t place

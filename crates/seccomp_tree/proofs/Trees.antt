@@ -67,9 +67,6 @@ pub halvings : (n m k : ℕ) → 2 ≤ n → n ≤ 2 ^ k → m ≤ n - n / 2 →
 halvings n m zero some le half = absurd (omega arith)
 halvings n m (suc k) some le half = (k, refl, omega (arith, pow-succ' 2 k))
 
-pub out_long : (steps : List Step) → second_stands_out steps ≡ true → 3 ≤ length steps
-out_long steps out = grind (arith, out)
-
 -- a row has fewer tests than steps
 pub row_few : (steps : List Step) → 1 ≤ length steps → row steps + 1 ≤ length steps
 row_few (x ∷ y ∷ z ∷ steps) some =

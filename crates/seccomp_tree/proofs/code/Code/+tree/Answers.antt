@@ -1,8 +1,8 @@
-use Rattle.seccomp_tree.proofs.Common.{All-take, IsIn, Step, ◌/◌, length, refl, sym, ◌∙◌, arith, inl, inr, cases_lt, false≢true, row}
+use Rattle.seccomp_tree.proofs.Common.{◌≤◌, All-take, IsIn, Step, ◌/◌, length, refl, sym, ◌∙◌, arith, inl, inr, cases_lt, false≢true, row}
 use Rattle.seccomp_tree.proofs.Common.{IfOk-weaker, length-take-le}
 use Rattle.seccomp_tree.proofs.Runs.{is_in_grown}
 use Rattle.seccomp_tree.proofs.Begun.{all_behind}
-use Rattle.seccomp_tree.proofs.Trees.{none, over_halves, rest_of, out_long, tree_single, tree_out, tree_first, tree_halves}
+use Rattle.seccomp_tree.proofs.Trees.{none, over_halves, rest_of, tree_single, tree_out, tree_first, tree_halves}
 use Rattle.seccomp_tree.proofs.code.Code.+tree.Goals as goal
 
 pub returns-then-steps-eq1 : goal.returns-then-steps-eq1
@@ -44,7 +44,7 @@ returns-then-not-is_row t c =
 pub tree-requires-then-stands_out : goal.tree-requires-then-stands_out
 tree-requires-then-stands_out t c =
     let steps = c.args.steps.now in
-    let long = out_long steps (sym c.stands_out.ensures ∙ c.if-stands_out.true) in
+    let long : 3 ≤ length steps = grind (arith, sym c.stands_out.ensures ∙ c.if-stands_out.true) in
     rest_of c.args.self.now 2 t steps (omega arith) (omega (arith, long)) (omega (arith, c.decreases)) c.requires.over
     c.requires.inside
 

@@ -1,10 +1,9 @@
 -- Steps that ascend: what they have for a number, what is left of them there, one step more, and comparisons laid over them.
-use Rattle.seccomp_tree.proofs.Common.{AllIn, nat_le, take, take_all, length-drop, IsTurn, ◌≡◌, ℕ, zero, suc, ◌+◌, ◌-◌, ◌^◌, ◌<◌, ◌≤◌, ◌≢◌}
-use Rattle.seccomp_tree.proofs.Common.{List, [], ◌∷◌, ◌++◌, length, drop, get_or, true, ap, first_start, refl, ◌∙◌, ◌⊎◌, inl, inr}
-use Rattle.seccomp_tree.proofs.Common.{if◌then◌else◌, arith, length-append, nat_tests, Bool, Step, sock_filter, Target, found_from}
-use Rattle.seccomp_tree.proofs.Common.{found_in, AreOver, AscendFrom, AreSteps, AreTight, IsPushed, IsIn, AreIn, nat_eq, nat_lt, cases_lt}
-use Rattle.seccomp_tree.proofs.Common.{cases_eq, bit_and, SeccompCmpArgLen, SeccompCmpOp, ◌%◌, MaskedEq, Condition, Compares, part_of}
-use Rattle.seccomp_tree.proofs.Common.{is_plain, IsChosen, AreLaid}
+use Rattle.seccomp_tree.proofs.Common.{SeccompCmpArgLen, if◌then◌else◌, length-append, SeccompCmpOp, length-drop, first_start, sock_filter}
+use Rattle.seccomp_tree.proofs.Common.{found_from, AscendFrom, nat_tests, Condition, take_all, found_in, AreSteps, AreTight, IsPushed, take}
+use Rattle.seccomp_tree.proofs.Common.{cases_lt, cases_eq, MaskedEq, Compares, is_plain, IsChosen, AreOver, bit_and, part_of, AreLaid, zero}
+use Rattle.seccomp_tree.proofs.Common.{nat_le, IsTurn, length, get_or, Target, nat_eq, nat_lt, AllIn, arith, AreIn, List, ◌++◌, drop, true}
+use Rattle.seccomp_tree.proofs.Common.{refl, Bool, Step, IsIn, ◌≡◌, suc, ◌+◌, ◌-◌, ◌^◌, ◌<◌, ◌≤◌, ◌≢◌, ◌∷◌, ◌∙◌, ◌⊎◌, inl, inr, [], ap, ℕ}
 use Rattle.seccomp_tree.specs.Code.{numbers_of}
 use mir.Val.{bool_byte}
 
@@ -194,10 +193,6 @@ compares_or_not _ a v = grind arith
 alike_on : (o : SeccompCmpOp) (a b v : ℕ) → is_plain o ≡ true
     → ((a < v) × (b < v)) ⊎ (((a ≡ v) × (b ≡ v)) ⊎ ((v < a) × (v < b))) → Compares o a v → Compares o b v
 alike_on o a b v plain side h = grind (arith, plain, side, h)
-
--- what counts of a value is what is left of it
-pub part_left : (l : SeccompCmpArgLen) (v : ℕ) → v < 2 ^ 64 → v % numbers_of l ≡ part_of l v
-part_left l v fits = grind (arith, fits)
 
 pub numbers_many : (l : SeccompCmpArgLen) → 2 ^ 32 ≤ numbers_of l
 numbers_many l = grind arith

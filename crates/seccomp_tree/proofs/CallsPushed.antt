@@ -1,10 +1,9 @@
 -- Steps over call numbers: the numbers up to the next that is answered otherwise, and that the steps are as few as can be.
-use Rattle.seccomp_tree.proofs.Common.{IsAnswered, ◌≡◌, ℕ, ◌+◌, ◌<◌, ◌≤◌, ◌^◌, List, [], ◌∷◌, length, Option, Vec, sym, ◌∙◌, arith, refl}
-use Rattle.seccomp_tree.proofs.Common.{IsAnswer, below_length, AreCallSteps, IsNextStart, if◌then◌else◌, suc, get_or, ◌⊎◌, inl, inr}
-use Rattle.seccomp_tree.proofs.Common.{IsSome, nat_tests, cases_lt, is_at, lookup, Step, nat_cmp, Global, sock_filter, Target, IsPushed}
-use Rattle.seccomp_tree.proofs.Common.{Grows, Ruling, rules_length, DecisionSet, calls_of, default_for, rulings_for, default_from}
-use Rattle.seccomp_tree.proofs.Common.{calls_length, DefaultValue, ap, ◌-◌, Bool, true, false, nat_eq, nat_le, is_member, found_from}
-use Rattle.seccomp_tree.proofs.Common.{AscendFrom, AreTight, AreRanges}
+use Rattle.seccomp_tree.proofs.Common.{if◌then◌else◌, below_length, AreCallSteps, rules_length, default_from, calls_length, DefaultValue, ℕ}
+use Rattle.seccomp_tree.proofs.Common.{IsNextStart, sock_filter, DecisionSet, default_for, rulings_for, IsAnswered, found_from, AscendFrom}
+use Rattle.seccomp_tree.proofs.Common.{nat_tests, is_member, AreRanges, IsAnswer, cases_lt, IsPushed, calls_of, AreTight, nat_cmp, length}
+use Rattle.seccomp_tree.proofs.Common.{get_or, IsSome, lookup, Global, Target, Ruling, nat_eq, nat_le, arith, is_at, false, List, refl, ◌≡◌}
+use Rattle.seccomp_tree.proofs.Common.{Step, Bool, true, ◌+◌, ◌<◌, ◌≤◌, ◌^◌, ◌∷◌, Vec, sym, ◌∙◌, suc, ◌⊎◌, inl, inr, ◌-◌, [], ap}
 use Rattle.seccomp_tree.proofs.Runs.{grows_on, is_in_grown, leads_grown}
 use Rattle.seccomp_tree.proofs.Begun.{steps_more, found_before}
 use Rattle.seccomp_tree.proofs.Decided.{items_of, rulings_under}
@@ -35,14 +34,6 @@ next_is {defaults} {number = number} all h = record {
   within = h.within;
   default = λ n le less. same_from 0 defaults n number (λ k d inside. grind (arith, h.none k d (omega arith) inside, h.above));
   rulings = h.rulings;
-}
-
-answer_grown : {old new : List sock_filter} {most default : ℕ} {rulings : List Ruling} {t : Target} → Grows old most new
-    → IsAnswer old default rulings t → IsAnswer new default rulings t
-answer_grown {t = t} g h = record {
-  inside = is_in_grown t g h.inside;
-  one = h.one;
-  leads = λ r rec w n first takes a small. leads_grown g (h.leads r rec w n first takes a small);
 }
 
 -- a number that the map has only if it is another's or above it
@@ -77,7 +68,13 @@ calls_on {d} {number = number} {next} h answered pushed on = record {
   grows = grows_on _ h.grows answered.grows (below_one d.calls number next on.above);
   are = steps_more (number + 1) next _ (omega arith) (omega (arith, on.above)) pushed.are;
   each = λ n lt. elim (cases_lt n number) [
-    | inl less ↦ rw (pushed.below n less) (answer_grown answered.grows (h.each n less))
+    | inl less ↦
+        let old = h.each n less in
+        rw (pushed.below n less) record {
+          inside = is_in_grown _ answered.grows old.inside;
+          one = old.one;
+          leads = λ r rec w n first takes a small. leads_grown answered.grows (old.leads r rec w n first takes a small);
+        }
     | inr le ↦ rw (pushed.from n le, on.default n le lt, on.rulings n le lt) answered.answer
   ];
 }

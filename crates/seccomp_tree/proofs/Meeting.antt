@@ -137,11 +137,6 @@ masked_some {old} {mid} {fit = fit} {unfit = unfit} byte m value low small teste
         (leads_by (starts_last refl (omega arith) (load_run r (mask m ∷ mid) byte a w (suc (suc n)) rec low
         (goes_on (mask m) mid (word_at r byte) x w (suc n) 0 (λ p. masks refl (omega arith) refl) x_small run))))
 
--- a condition with a mask holds if the halves of the argument have the value's bits
-pub mask_dword : (c : Condition) (m : ℕ) → c.arg_len ≡ Dword → c.operator ≡ MaskedEq m → (r : List ℕ) → IsRecord r
-    → Holds c r ↔ HasBits (16 + 8 * c.arg_index) (m % 2 ^ 32) (c.value % 2 ^ 32) r
-mask_dword c m short is r rec = rw (short, is, ← low_word r c.arg_index rec) (λ h. h, λ h. h)
-
 -- numbers agree under a mask if their halves do
 mask_parts : (x v m : ℕ) → (bit_and x m ≡ bit_and v m)
     ↔ ((bit_and (x / 2 ^ 32) (m / 2 ^ 32) ≡ bit_and (v / 2 ^ 32) (m / 2 ^ 32))
@@ -159,8 +154,8 @@ masked_dword c m short is h =
     rw (cost.0, cost.1) record {
       grows = h.grows;
       inside = h.inside;
-      met = λ r rec holds. h.met r rec ((mask_dword c m short is r rec).0 holds);
-      unmet = λ r rec not. h.unmet r rec (λ has. not ((mask_dword c m short is r rec).1 has));
+      met = λ r rec holds. h.met r rec (rw (← low_word r c.arg_index rec) (rw (short, is) at holds));
+      unmet = λ r rec not. h.unmet r rec (λ has. not (rw (short, is, low_word r c.arg_index rec) has));
     }
 
 pub masked_qword : {old mid new : List sock_filter} {fit unfit one t : Target} (c : Condition) (m : ℕ) → c.arg_len ≡ Qword

@@ -4,7 +4,7 @@ use Rattle.seccomp_tree.proofs.Common.{AllIn, sock_filter, argument_at, IsCondit
 use Rattle.seccomp_tree.proofs.Common.{one_value, nat_tests, All-cons, RuleHolds, to_return, false≢true, option_map, unwrap_or, [], All-nil}
 use Rattle.seccomp_tree.proofs.Common.{All-head, All-tail, IsRecord, found_in, is_plain, AreLaid, AreSteps, IsChosen, length, Option, Dword}
 use Rattle.seccomp_tree.proofs.Common.{part_of, Target, Give, single, Ruling, joined, IsPart, begins, passes, get_or, IsIn, ℕ, List, drop}
-use Rattle.seccomp_tree.proofs.Common.{Some, None, arith, Holds, Step, Leads, Grows, First, alike, Takes, stops, false, ◌≡◌, zero, suc, ◌+◌}
+use Rattle.seccomp_tree.proofs.Common.{Some, None, arith, Holds, Step, Leads, Grows, First, alike, Takes, stops, ◌≡◌, zero, suc, ◌+◌}
 use Rattle.seccomp_tree.proofs.Common.{◌*◌, ◌<◌, ◌≤◌, ◌^◌, ◌∷◌, true, refl, ap, ◌∙◌, sym, ◌-◌, only}
 use Rattle.seccomp_tree.specs.Code.{numbers_of}
 use Rattle.seccomp_tree.proofs.Runs.{grows_not, grows_on, leads_by, starts_more}
@@ -25,9 +25,6 @@ ruling_one c rest h one = met_both _ _ (holds_or_not c) (λ r rec. (
 
 pub only_is : (q : List Condition) (c : Condition) → only q ≡ Some c → (q ≡ c ∷ []) × (is_plain c.operator ≡ true)
 only_is q c e = grind (arith, e)
-
-pub alike_is : (c d : Condition) → alike (Some c) (Some d) ≡ true → (c.arg_index ≡ d.arg_index) × (c.arg_len ≡ d.arg_len)
-alike_is c d e = grind (arith, nat_tests, e)
 
 only_length : (q : List Condition) (c : Condition) → only q ≡ Some c → conditions_length q ≡ part_length c.arg_len 3
 only_length q c is =
@@ -127,16 +124,6 @@ pub joined_none : (q : List Condition) (rulings : List Ruling) → only q ≡ No
 joined_none q [] own = refl
 joined_none q (d ∷ rest) own = rw own refl
 
-pub joined_apart : (q : List Condition) (d : Ruling) (rest : List Ruling) → alike (only q) (only d.conditions) ≡ false
-    → joined q (d ∷ rest) ≡ 0
-joined_apart q d rest apart = rw apart refl
-
-run_more : (l : SeccompCmpArgLen) (j : ℕ) → suc j * part_length l 3 ≡ part_length l 3 + j * part_length l 3
-run_more l j = grind arith
-
-run_room : (l : SeccompCmpArgLen) (n j : ℕ) → n ≤ 2 * suc j + 1 → part_length l n ≤ suc j * part_length l 3
-run_room l n j le = grind (arith, le)
-
 module _ {old code : List sock_filter} {default : ℕ} (d : Ruling) (rest : List Ruling) where
   -- one by its conditions
   pub rules_alone : {t u : Target} (new : List sock_filter) → only d.conditions ≡ None → AreRules old rest default t code
@@ -165,7 +152,9 @@ module _ {old code : List sock_filter} {default : ℕ} (d : Ruling) (rest : List
     behind_laid {j} {steps} {laid} fits x h = record {
       before = x.before;
       grows = x.grows;
-      room = omega (arith, run_more c.arg_len j, only_length d.conditions c own, x.room);
+      room =
+          let more : suc j * part_length c.arg_len 3 ≡ part_length c.arg_len 3 + j * part_length c.arg_len 3 = grind arith in
+          omega (arith, more, only_length d.conditions c own, x.room);
       few = omega (arith, h.few, x.few);
       are = h.are;
       inside = laid_in code c (Give d.value) steps laid h fits x.inside;
@@ -191,8 +180,10 @@ module _ {old code : List sock_filter} {default : ℕ} (d : Ruling) (rest : List
         → IsBehind old default (c.arg_len, c.arg_index) (suc (joined d.conditions rest)) (d ∷ rest) steps code
         → IsPart code c.arg_len (λ r. part_of c.arg_len (argument_at r c.arg_index)) steps t new → AreRules old (d ∷ rest) default t new
     rules_settled {steps} {t} new x part = record {
-      grows = grows_on (rules_length (d ∷ rest)) x.grows part.grows
-          (omega (arith, x.room, run_room c.arg_len (length steps) (joined d.conditions rest) x.few));
+      grows =
+          let most = suc (joined d.conditions rest) * part_length c.arg_len 3 in
+          let few : part_length c.arg_len (length steps) ≤ most = grind (arith, x.few) in
+          grows_on (rules_length (d ∷ rest)) x.grows part.grows (omega (arith, x.room, few));
       inside = part.inside;
       leads = leads;
     }
@@ -206,7 +197,9 @@ module _ {old code : List sock_filter} {default : ℕ} (d : Ruling) (rest : List
         → IsBehind old default (c.arg_len, c.arg_index) (suc (joined d.conditions rest)) (d ∷ rest) steps code
         → IsBehind old default (compared p) (joined p (d ∷ rest)) (d ∷ rest) steps code
     behind_along p None front is h = absurd (false≢true is)
-    behind_along p (Some x) front is h = let e = alike_is x c is in rw (front, own, is, e.0, e.1) h
+    behind_along p (Some x) front is h =
+        let same : (x.arg_index ≡ c.arg_index) × (x.arg_len ≡ c.arg_len) = grind (arith, nat_tests, is) in
+        rw (front, own, is, same.0, same.1) h
 
 -- more steps than a program has instructions need more of them
 pub behind_many : {old code : List sock_filter} {default : ℕ} {like : SeccompCmpArgLen × ℕ} {j : ℕ} {rulings : List Ruling}

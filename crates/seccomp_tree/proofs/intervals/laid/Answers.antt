@@ -1,6 +1,6 @@
 use Rattle.seccomp_tree.proofs.Common.{rules, arith, ◌≡◌, ◌%◌, ◌∙◌, drop, get_or, Give, Compares, part_of, first_start, IsChosen}
 use Rattle.seccomp_tree.specs.Code.{numbers_of}
-use Rattle.seccomp_tree.proofs.Begun.{byte_is, moves, laying_begins, laying_on, laying_ends, part_left}
+use Rattle.seccomp_tree.proofs.Begun.{byte_is, moves, laying_begins, laying_on, laying_ends}
 use Rattle.seccomp_tree.proofs.intervals.laid.Goals.{After-turn-number}
 use Rattle.seccomp_tree.proofs.intervals.laid.Goals as goal
 
@@ -20,7 +20,7 @@ end_is c = rw (← size_is c) (search rules)
 value_is : (c : After-turn-number) → c.from.result % c.match-arg_len.size ≡ part_of c.args.condition.now.arg_len c.args.condition.now.value
 value_is c =
     rw (c.from.ensures, c.value.ensures, size_is c)
-    (part_left c.args.condition.now.arg_len c.args.condition.now.value (rw c.value.ensures at c.value.type_inv))
+    (grind (arith, rw c.value.ensures at c.value.type_inv))
 
 -- what is chosen for the number
 chosen : (c : After-turn-number) → IsChosen (Compares c.args.condition.now.operator c.loop-number.number

@@ -2,7 +2,7 @@ use Rattle.seccomp_tree.proofs.Common.{rules, one_value, None, ◌≡◌, ◌-�
 use Rattle.seccomp_tree.proofs.Common.{ap, sym, ◌∙◌, arith, refl, Give, joined, suc}
 use Rattle.seccomp_tree.proofs.Decided.{drop_back}
 use Rattle.seccomp_tree.proofs.Ruled.{AreRules, answered_one, IsBehind, answered_more, behind_along, behind_fresh, behind_laid}
-use Rattle.seccomp_tree.proofs.Ruled.{behind_many, behind_none, compared, front_is, in_front, joined_apart, joined_none, rules_alone}
+use Rattle.seccomp_tree.proofs.Ruled.{behind_many, behind_none, compared, front_is, in_front, joined_none, rules_alone}
 use Rattle.seccomp_tree.proofs.Ruled.{rules_less, rules_none, rules_settled}
 use Rattle.seccomp_tree.proofs.code.Code.rules.Goals.{After-only, After-len, After-index, then-left-eq0-via-then-left-eq0}
 use Rattle.seccomp_tree.proofs.code.Code.rules.Goals.{then-left-eq0-via-else-left-eq0+then-not-joins}
@@ -60,7 +60,7 @@ loop-left-preserved-in_default-only c =
     let own = own_is b ∙ c.in_default-only.is in
     let q = c.deref-in_default-only.ensures.value ∙ ap (λ (d : Ruling). d.conditions) c.ruling.view_is in
     let front = in_front c.args.rulings.now (c.loop-left.left - 1) in
-    let apart : joined front (d ∷ rest b) ≡ 0 = joined_apart front d _ (rw own (grind arith)) in
+    let apart : joined front (d ∷ rest b) ≡ 0 = rw own (grind arith) in
     rw (from_here b, c.in_ok-steps-2.ensures, apart)
     (behind_fresh _ _ _ (rules_alone d (rest b) c.conditions.new.self own (after i) (rw (value_is b, q) at c.in_ok-met.ensures)))
 
@@ -101,7 +101,7 @@ loop-left-preserved-in-loop-left c =
       | then-left-eq0-via-else-left-eq0+then-not-joins w ↦
           let at = front_is c.args.rulings.now (c.loop-left.left - 1) _ (omega (arith, w.if-left-eq0.false)) (omega arith)
           w.index-rulings-left-else-left-eq0.is in
-          joined_apart front d _ (rw (own_is b ∙ c.in-Some-only.is, at) (sym w.joins.ensures ∙ w.if-not-joins.true))
+          rw (own_is b ∙ c.in-Some-only.is, at, sym w.joins.ensures ∙ w.if-not-joins.true) refl
     ] in
     rw (from_here b, c.in_ok-steps-4.ensures, apart) (behind_fresh _ _ _
     (rules_settled d (rest b) (own_is b ∙ c.in-Some-only.is) c.argument.new.self (laid_is l)

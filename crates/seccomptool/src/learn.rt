@@ -10,7 +10,7 @@ ghost use Rattle.seccomptool.specs.declared.findings.Verdict.TheVariants.{Same};
 use crate::chosen::chosen_name;
 use crate::error::ToolError;
 use crate::findings::Verdict;
-use crate::learn::notes::{learned_json, notes_of, refuse_strange};
+use crate::learn::notes::{learned_json, notes_of, strange_text};
 use crate::made::Made;
 use crate::record::call_number;
 use crate::words::Inputs;
@@ -82,8 +82,9 @@ pub(crate) fn learn_made(
         let observed = start_and_exit(alloc, arch)?;
         trace.observed.extend_from_slice(&observed)?;
     }
-    if learning.strict {
-        refuse_strange(alloc, &trace)?;
+    if learning.strict && trace.strange > 0 {
+        let told = strange_text(alloc, trace.strange, trace.first_strange, true)?;
+        return Err(ToolError::Fault(told));
     }
     let wanted = wanted_in(alloc, learning, &trace.observed)?;
     let learned = learned_of(alloc, learning, &trace.observed, &wanted, policy);

@@ -38,13 +38,16 @@ fn failure_line(
     readable(alloc, line.as_bytes(), TextKind::Line)
 }
 
-// The line of a note on what stands at this path.
-pub(crate) fn note(alloc: Global, path: &str, text: &[u8]) -> Result<Vec<u8>, AllocError> {
+// Adds the line of a note on what stands at this path.
+pub(crate) fn push_note(
+    notes: &mut Vec<u8>,
+    alloc: Global,
+    path: &str,
+    told: &str,
+) -> Result<(), AllocError> {
     let front = front_of(alloc, path)?;
-    let mut line = format!(in alloc; "seccomptool: {front}")?.into_bytes();
-    line.extend_from_slice(text)?;
-    line.push(b'\n')?;
-    Ok(line)
+    let line = format!(in alloc; "seccomptool: {front}{told}\n")?;
+    notes.extend_from_slice(line.as_bytes())
 }
 
 // What stands in front of each line about the policy of this path.
@@ -72,23 +75,24 @@ pub(crate) fn counted(
     path: &str,
     text: &[u8],
 ) -> Result<Vec<u8>, AllocError> {
+    let mut notes = Vec::new(alloc);
     if quiet {
-        return Ok(Vec::new(alloc));
+        return Ok(notes);
     }
     let checked = match filters_of(alloc, text) {
         Ok(filters) => warnings_in(alloc, arch, &[], &filters),
         Err(error) => Err(error),
     };
-    match checked {
-        Err(JsonFrontendError::OutOfMemory) => Err(AllocError),
-        Err(_) => Ok(Vec::new(alloc)),
-        Ok(checked) => match checked.count {
-            0 => Ok(Vec::new(alloc)),
-            1 => note(alloc, path, b"1 warning; seccomptool check prints it"),
-            count => {
-                let told = format!(in alloc; "{count} warnings; seccomptool check prints them")?;
-                note(alloc, path, told.as_bytes())
-            }
-        },
-    }
+    let count = match &checked {
+        Ok(checked) => checked.count,
+        Err(JsonFrontendError::OutOfMemory) => return Err(AllocError),
+        Err(_) => 0,
+    };
+    let told = match count {
+        0 => return Ok(notes),
+        1 => String::from_str(alloc, "1 warning; seccomptool check prints it"),
+        _ => format!(in alloc; "{count} warnings; seccomptool check prints them"),
+    }?;
+    push_note(&mut notes, alloc, path, told.as_str())?;
+    Ok(notes)
 }

@@ -5,7 +5,7 @@ ghost use Rattle.seccomp_oci.specs.CompiledProfile.{IsCompiledProfile};
 ghost use Rattle.seccomptool.specs.CheckProfile.{IsRefusedProfile};
 
 use crate::error::ToolError;
-use crate::notes::note;
+use crate::notes::push_note;
 use seccomp_command_line::readable::{TextKind, readable};
 use seccomp_oci::{CompileError, CompiledProfile, Container, Flag, compile_profile};
 use seccompiler::TargetArch;
@@ -42,19 +42,18 @@ pub(crate) fn profile_notes(
 ) -> Result<Vec<u8>, AllocError> {
     let mut notes = Vec::new(alloc);
     let names = each_once(alloc, left_out)?;
-    let listing = match listed {
-        true => format!(in alloc; ": {}", names.join(alloc, ", ")?)?,
-        false => String::new(alloc),
-    };
-    let told = match names.len() {
-        0 => String::new(alloc),
-        1 => format!(in alloc; "1 name that {arch} has no call for is left out{listing}")?,
-        count => format!(in alloc;
-            "{count} names that {arch} has no call for are left out{listing}"
-        )?,
-    };
-    if !told.is_empty() {
-        notes.extend_from_slice(&note(alloc, path, told.as_bytes())?)?;
+    if !names.is_empty() {
+        let listing = match listed {
+            true => format!(in alloc; ": {}", names.join(alloc, ", ")?),
+            false => Ok(String::new(alloc)),
+        }?;
+        let told = match names.len() {
+            1 => format!(in alloc; "1 name that {arch} has no call for is left out{listing}"),
+            count => format!(in alloc;
+                "{count} names that {arch} has no call for are left out{listing}"
+            ),
+        }?;
+        push_note(&mut notes, alloc, path, told.as_str())?;
     }
     if !flags.is_empty() {
         let mut names = Vec::new(alloc);
@@ -69,7 +68,7 @@ pub(crate) fn profile_notes(
         let told = format!(in alloc;
             "flags to set when the program is installed ({count}): {names}"
         )?;
-        notes.extend_from_slice(&note(alloc, path, told.as_bytes())?)?;
+        push_note(&mut notes, alloc, path, told.as_str())?;
     }
     Ok(notes)
 }

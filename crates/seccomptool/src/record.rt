@@ -11,6 +11,7 @@ use seccomp_command_line::numbers::read_digits;
 use seccompiler::{SyscallTable, TargetArch};
 use serde_json::json;
 use std::alloc::{AllocError, Global};
+use std::fmt;
 
 /// The record of a call as the kernel hands it to a program: the 64 bytes of a `struct seccomp_data`, as `seccomp(2)` has it.
 ///
@@ -43,6 +44,16 @@ pub fn called_record(
 pub struct KnownCall {
     pub target: TargetArch,
     pub number: u32,
+}
+
+/// By its name, or by its number if it has none.
+impl fmt::Display for KnownCall {
+    fn fmt<W: fmt::Write>(&self, f: &mut fmt::Formatter<W>) -> fmt::Result {
+        match name_of(self.target, self.number) {
+            Some(name) => f.write_str(name),
+            None => self.number.fmt(f),
+        }
+    }
 }
 
 /// The calls of this name or number on these architectures; of a number those alone that have a name. That there is none is an error.

@@ -59,9 +59,21 @@ impl Diagnostic {
     }
 }
 
-/// The step to what is under a key.
-pub(crate) fn key(alloc: Global, name: &str) -> Result<Step, AllocError> {
-    Ok(Step::Key(String::from_str(alloc, name)?))
+/// The way that goes to what is under each of these keys, and to an item of that, as far as there are such.
+pub(crate) fn path_by(
+    alloc: Global,
+    turns: &[(Option<&str>, Option<usize>)],
+) -> Result<Vec<Step>, AllocError> {
+    let mut path = Vec::new(alloc);
+    for (key, item) in turns {
+        if let Some(key) = *key {
+            path.push(Step::Key(String::from_str(alloc, key)?))?;
+        }
+        if let Some(item) = *item {
+            path.push(Step::Item(item))?;
+        }
+    }
+    Ok(path)
 }
 
 /// The text of a path.
@@ -98,40 +110,30 @@ fn diagnostic_of(
     own: &FilterWarnings,
     warning: Warning,
 ) -> Result<Diagnostic, AllocError> {
-    let mut path = vec![in alloc; key(alloc, own.name.as_str())?]?;
-    let mut call = None;
-    match warning.subject {
-        Subject::MismatchAction(_) => path.push(key(alloc, "mismatch_action")?)?,
-        Subject::MismatchCall(unlisted) => {
-            path.push(key(alloc, "mismatch_action")?)?;
-            call = Some(String::from_str(alloc, unlisted.name())?);
-        }
-        Subject::MatchAction(_) => path.push(key(alloc, "match_action")?)?,
-        Subject::Entry(entry) => {
-            path.push(key(alloc, "filter")?)?;
-            path.push(Step::Item(entry))?;
-            if let (Code::SiblingAllowed, Some(judgement)) = (
-                warning.code,
-                own.judgements.get(entry),
-            ) {
-                if let Some(sibling) = judgement.sibling {
-                    call = Some(String::from_str(alloc, sibling)?);
-                }
+    let none = (None, None);
+    let (member, place, call) = match warning.subject {
+        Subject::MismatchAction(_) => ((Some("mismatch_action"), None), none, None),
+        Subject::MismatchCall(call) => ((Some("mismatch_action"), None), none, Some(call.name())),
+        Subject::MatchAction(_) => ((Some("match_action"), None), none, None),
+        Subject::Entry(entry) => match (warning.code, own.judgements.get(entry)) {
+            (Code::SiblingAllowed, Some(judgement)) => {
+                ((Some("filter"), Some(entry)), none, judgement.sibling)
             }
-        }
+            _ => ((Some("filter"), Some(entry)), none, None),
+        },
         Subject::Condition(comparison) => {
-            path.push(key(alloc, "filter")?)?;
-            path.push(Step::Item(comparison.entry))?;
-            path.push(key(alloc, "args")?)?;
-            path.push(Step::Item(comparison.place))?;
+            let place = (Some("args"), Some(comparison.place));
+            ((Some("filter"), Some(comparison.entry)), place, None)
         }
-    }
-    if let Some(part) = part_of(warning.code) {
-        path.push(key(alloc, part)?)?;
-    }
+    };
+    let (name, part) = (own.name.as_str(), part_of(warning.code));
+    let turns = [(Some(name), None), member, place, (part, None)];
+    let path = path_by(alloc, &turns)?;
     let message = String::from_str(alloc, said_text(warning.code))?;
     let code = warning.code.name();
     let mut diagnostic = Diagnostic::new("warning", code, path, message, Place::Value);
-    diagnostic.call = call;
+    if let Some(call) = call {
+        diagnostic.call = Some(String::from_str(alloc, call)?);
+    }
     Ok(diagnostic)
 }

@@ -1,6 +1,6 @@
 // What is said of the error for which a text is rejected.
 
-use crate::check::diagnostic::{Diagnostic, Place, key};
+use crate::check::diagnostic::{Diagnostic, Place};
 use crate::check::outline::{Outline, Position};
 use crate::error::ToolError;
 use seccomp_check::{Expected, Fault, Problem, Step, push_problem};
@@ -59,7 +59,7 @@ fn of_fault(alloc: Global, text: &[u8], fault: Fault) -> Result<Diagnostic, Allo
         }
         Problem::Stands(_, _, _) => "wrong-value",
         Problem::Strange(strange, _) => {
-            path.push(key(alloc, strange.as_str())?)?;
+            path.push(Step::Key(strange.clone()?))?;
             if let Some((_, key)) = Outline::of(alloc, text)?.places_at(alloc, &path)? {
                 place = Place::At(key);
             }
@@ -86,7 +86,7 @@ fn of_profile(alloc: Global, told: &str) -> Result<Diagnostic, AllocError> {
             match piece.parse::<usize>() {
                 Ok(place) => path.push(Step::Item(place))?,
                 Err(_) if piece.is_empty() => {}
-                Err(_) => path.push(key(alloc, piece)?)?,
+                Err(_) => path.push(Step::Key(String::from_str(alloc, piece)?))?,
             }
         }
     }

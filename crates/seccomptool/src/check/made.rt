@@ -14,7 +14,7 @@ use crate::error::ToolError;
 use crate::findings::Verdict;
 use crate::kind::{Subject, subject_of};
 use crate::made::Made;
-use crate::notes::{note, readable};
+use crate::notes::{push_note, readable};
 use crate::profile::profile_notes;
 use crate::run::program::program_of;
 use crate::words::Checking;
@@ -87,7 +87,7 @@ fn rejected(
     if let CheckFormat::Text = format {
         let told = format!(in alloc; "{error}")?;
         let told = readable(alloc, told.as_bytes(), TextKind::Line)?;
-        made.notes = note(alloc, path, told.as_bytes())?;
+        push_note(&mut made.notes, alloc, path, told.as_str())?;
         return Ok(made);
     }
     let diagnostics = vec![in alloc; fault_diagnostic(alloc, given, error)?]?;

@@ -3,9 +3,10 @@
 use crate::explain::log::Caller;
 use crate::explain::search::{Miss, Reason};
 use crate::explain::{Explained, Explanation, Why};
-use crate::findings::lines::{CallName, Word, action_value};
+use crate::findings::lines::{Word, action_value};
 use crate::findings::parts::name_of;
 use crate::json::{call_or_null, push_item, said_or_null, written};
+use crate::record::KnownCall;
 use seccomp_command_line::readable::{TextKind, readable};
 use seccompiler::TargetArch;
 use serde_json::{Value, json};
@@ -130,32 +131,34 @@ fn reason_text(
         return String::from_str(alloc, "another architecture");
     };
     let call = match name_of(target, number) {
-        Some(name) if !in_numbers => format!(in alloc; "{name} ({number})")?,
-        _ => format!(in alloc; "call {number}")?,
-    };
-    let path = path_of(alloc, name, why)?;
-    match why {
-        Why::Program { .. } => Ok(call),
-        Why::Profile { entry: None, .. } if in_numbers => String::from_str(alloc, "defaultAction"),
-        Why::Profile { entry: None, .. } => format!(in alloc; "defaultAction of {call}"),
-        Why::Profile { .. } if in_numbers => {
-            let name = CallName { target, number };
-            format!(in alloc; "{path} ({name})")
-        }
+        Some(name) if !in_numbers => format!(in alloc; "{name} ({number})"),
+        _ => format!(in alloc; "call {number}"),
+    }?;
+    let subject = match why {
+        Why::Program { .. } => return Ok(call),
+        Why::Profile { entry: None, .. } => String::from_str(alloc, "defaultAction"),
+        Why::Filter(Reason::NoEntry { .. }) => String::from_str(alloc, "no entry"),
         Why::Filter(Reason::Entry { place, rule, .. }) if in_numbers => {
-            format!(in alloc; "entry {place}, rule {rule} of {call}")
+            format!(in alloc; "entry {place}, rule {rule}")
         }
         Why::Filter(Reason::NoMatch { entries, .. }) if in_numbers => {
-            format!(in alloc; "no match among {entries} entries of {call}")
+            format!(in alloc; "no match among {entries} entries")
         }
-        Why::Filter(Reason::NoMatch { entries: 1, .. }) => {
-            format!(in alloc; "no match: {path} of {call} does not hold")
+        _ => path_of(alloc, name, why),
+    }?;
+    match why {
+        Why::Profile { entry: None, .. } if in_numbers => Ok(subject),
+        Why::Profile { .. } if in_numbers => {
+            let name = KnownCall { target, number };
+            format!(in alloc; "{subject} ({name})")
         }
-        Why::Filter(Reason::NoMatch { entries, .. }) => format!(in alloc;
-            "no match: {path} of {call} does not hold, the nearest of {entries} entries"
+        Why::Filter(Reason::NoMatch { entries: 1, .. }) if !in_numbers => {
+            format!(in alloc; "no match: {subject} of {call} does not hold")
+        }
+        Why::Filter(Reason::NoMatch { entries, .. }) if !in_numbers => format!(in alloc;
+            "no match: {subject} of {call} does not hold, the nearest of {entries} entries"
         ),
-        _ if path.is_empty() => format!(in alloc; "no entry of {call}"),
-        _ => format!(in alloc; "{path} of {call}"),
+        _ => format!(in alloc; "{subject} of {call}"),
     }
 }
 

@@ -3,9 +3,10 @@
 ghost use Rattle.std.specs.Prelude.{◌≤◌};
 
 use crate::explain::search::word_at;
-use crate::findings::parts::{X32, name_of};
+use crate::findings::parts::X32;
 use crate::findings::{Answer, Finding, Part, Verdict};
 use crate::json::{call_or_null, text_or_null};
+use crate::record::KnownCall;
 use seccomp_command_line::readable::{TextKind, push_readable};
 use seccomp_compare::rank;
 use seccomp_names::error_name;
@@ -48,7 +49,7 @@ pub(crate) fn push_finding(
     };
     let line = match finding.part {
         Part::Named { number } => {
-            let name = CallName { target, number };
+            let name = KnownCall { target, number };
             format!(in alloc; "  {name}: {told}\n")?
         }
         Part::Unnamed { least, greatest } => {
@@ -112,25 +113,6 @@ impl fmt::Display for Word {
     }
 }
 
-/// A call of an architecture, by its name, or by its number if it has none.
-#[derive(Clone, Copy)]
-pub(crate) struct CallName {
-    pub(crate) target: TargetArch,
-    pub(crate) number: u32,
-}
-
-impl fmt::Display for CallName {
-    fn fmt<W: fmt::Write>(&self, f: &mut fmt::Formatter<W>) -> fmt::Result {
-        match name_of(self.target, self.number) {
-            Some(name) => f.write_str(name),
-            None => {
-                let number = self.number;
-                write!(f, "{number}")
-            }
-        }
-    }
-}
-
 /// A call on which two sides differ: its name or number, after the `AUDIT_ARCH_*` value if that is another, its arguments,
 /// and the instruction pointer if that is to be printed.
 #[derive(Clone, Copy)]
@@ -145,7 +127,7 @@ impl fmt::Display for Example {
         let Shown { target, pointer } = shown;
         let (number, arch) = (word_at(&call, 0), word_at(&call, 4));
         if arch == target.get_audit_value() {
-            let name = CallName { target, number };
+            let name = KnownCall { target, number };
             write!(f, "{name}(")?;
         } else {
             write!(f, "0x{arch:x} {number}(")?;

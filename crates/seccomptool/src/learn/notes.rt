@@ -1,24 +1,13 @@
 // What is noted of a trace, and what is learned as JSON.
 
 use super::Learning;
-use crate::error::ToolError;
 use crate::findings::parts::name_of;
 use crate::json::{call_or_null, push_json};
-use crate::notes::note;
+use crate::notes::push_note;
 use seccomp_learn::{Kept, Observation, Trace};
 use seccompiler::{SeccompCmpArgLen, TargetArch};
 use serde_json::{Value, json};
 use std::alloc::{AllocError, Global};
-
-// That a trace has lines that aren't understood, if it has some, as an error.
-pub(super) fn refuse_strange(alloc: Global, trace: &Trace) -> Result<(), ToolError> {
-    let told = match trace.first_strange {
-        _ if trace.strange == 0 => return Ok(()),
-        Some(line) => format!(in alloc; "line {line} isn't understood")?,
-        None => behind_records(alloc, trace.strange)?,
-    };
-    Err(ToolError::Fault(told))
-}
 
 // The notes on a trace of this path, and on what is learned from it.
 pub(super) fn notes_of(
@@ -33,15 +22,15 @@ pub(super) fn notes_of(
     let mut notes = strange_note(alloc, path, trace.strange, trace.first_strange)?;
     if trace.foreign > 0 {
         let told = match trace.foreign {
-            1 => String::from_str(alloc, "1 call is of another architecture")?,
-            count => format!(in alloc; "{count} calls are of other architectures")?,
-        };
-        notes.extend_from_slice(&note(alloc, path, told.as_bytes())?)?;
+            1 => String::from_str(alloc, "1 call is of another architecture"),
+            count => format!(in alloc; "{count} calls are of other architectures"),
+        }?;
+        push_note(&mut notes, alloc, path, told.as_str())?;
     }
     if !trace.unnamed.is_empty() {
         let names = trace.unnamed.join(alloc, ", ")?;
         let told = format!(in alloc; "{arch} has no call of these names or numbers: {names}")?;
-        notes.extend_from_slice(&note(alloc, path, told.as_bytes())?)?;
+        push_note(&mut notes, alloc, path, told.as_str())?;
     }
     // The calls that are allowed with any arguments, since more values of them were seen than are kept.
     let mut before = None;
@@ -53,7 +42,7 @@ pub(super) fn notes_of(
             let told = format!(in alloc;
                 "{name} is allowed with any arguments, since more than {most} different values were seen"
             )?;
-            notes.extend_from_slice(&note(alloc, path, told.as_bytes())?)?;
+            push_note(&mut notes, alloc, path, told.as_str())?;
         }
     }
     Ok(notes)
@@ -66,23 +55,30 @@ pub(crate) fn strange_note(
     strange: usize,
     first: Option<usize>,
 ) -> Result<Vec<u8>, AllocError> {
-    let told = match first {
-        _ if strange == 0 => return Ok(Vec::new(alloc)),
-        Some(line) if strange == 1 => format!(in alloc; "1 line isn't understood: line {line}")?,
-        Some(line) => format!(in alloc;
-            "{strange} lines aren't understood, the first is line {line}"
-        )?,
-        None => behind_records(alloc, strange)?,
-    };
-    note(alloc, path, told.as_bytes())
+    let mut notes = Vec::new(alloc);
+    if strange > 0 {
+        let told = strange_text(alloc, strange, first, false)?;
+        push_note(&mut notes, alloc, path, told.as_str())?;
+    }
+    Ok(notes)
 }
 
-// That bytes follow the last record.
-fn behind_records(alloc: Global, bytes: usize) -> Result<String, AllocError> {
-    if bytes == 1 {
-        return String::from_str(alloc, "1 byte follows the last record");
+// That so many lines aren't understood: how many, and the first, or the first alone; or that so many bytes follow the last record.
+pub(super) fn strange_text(
+    alloc: Global,
+    strange: usize,
+    first: Option<usize>,
+    alone: bool,
+) -> Result<String, AllocError> {
+    match (first, strange) {
+        (Some(line), _) if alone => format!(in alloc; "line {line} isn't understood"),
+        (Some(line), 1) => format!(in alloc; "1 line isn't understood: line {line}"),
+        (Some(line), _) => format!(in alloc;
+            "{strange} lines aren't understood, the first is line {line}"
+        ),
+        (None, 1) => String::from_str(alloc, "1 byte follows the last record"),
+        (None, _) => format!(in alloc; "{strange} bytes follow the last record"),
     }
-    Ok(format!(in alloc; "{bytes} bytes follow the last record")?)
 }
 
 /// The object of what is learned: the arguments of observed calls whose values are kept, the lines of notes, and the policy or the

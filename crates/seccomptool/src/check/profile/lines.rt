@@ -1,12 +1,11 @@
 // What is said of the warnings of a profile.
 
-use crate::check::diagnostic::{Diagnostic, Place, key};
+use crate::check::diagnostic::{Diagnostic, Place, path_by};
 use crate::check::profile::{CheckedProfile, ProfilePart, ProfileWarning, code_of};
 use crate::explain::search::word_at;
-use crate::findings::lines::{CallName, Example, Shown};
+use crate::findings::lines::{Example, Shown};
 use crate::findings::parts::name_of;
-use crate::record::call_number;
-use seccomp_check::Step;
+use crate::record::{KnownCall, call_number};
 use seccomp_oci::{Container, Profile, applies};
 use seccomp_profile_checks::Doubt;
 use seccomp_warnings::{Code, Subject, said_text};
@@ -143,38 +142,37 @@ fn diagnostic_of(
 ) -> Result<Diagnostic, AllocError> {
     let code = code_of(warning);
     let said = match warning {
-        ProfileWarning::Doubtful(doubt) => said_of_doubt(alloc, told, *doubt)?,
+        ProfileWarning::Doubtful(doubt) => said_of_doubt(alloc, told, *doubt),
         ProfileWarning::Flags => String::from_str(
             alloc,
             "crun sets them, and runc 1.1 starts no container with them; leave them out for runc",
-        )?,
+        ),
         ProfileWarning::UnknownKey(_) => String::from_str(
             alloc,
             "the key is passed over; leave it out, or correct it, also its letter case",
-        )?,
-        ProfileWarning::OfEntries(_, _) => String::from_str(alloc, said_of_entries(code))?,
+        ),
+        ProfileWarning::OfEntries(_, _) => String::from_str(alloc, said_of_entries(code)),
+    }?;
+    let Spot {
+        entry,
+        key,
+        condition,
+        ..
+    } = spot;
+    let list = entry.and(Some("syscalls"));
+    let part = match (condition, code) {
+        (Some(_), Code::ValueOutsideMask) => Some("valueTwo"),
+        _ => None,
     };
-    let mut path = Vec::new(alloc);
-    if let Some(entry) = spot.entry {
-        path.push(key(alloc, "syscalls")?)?;
-        path.push(Step::Item(entry))?;
-    }
-    if let Some(name) = spot.key {
-        path.push(key(alloc, name)?)?;
-    }
-    if let Some(condition) = spot.condition {
-        path.push(Step::Item(condition))?;
-        if let Code::ValueOutsideMask = code {
-            path.push(key(alloc, "valueTwo")?)?;
-        }
-    }
+    let turns = [(list, entry), (key, condition), (part, None)];
+    let path = path_by(alloc, &turns)?;
     let place = match warning {
         ProfileWarning::UnknownKey(_) => Place::Key,
         _ => Place::Value,
     };
     let mut diagnostic = Diagnostic::new("warning", code.name(), path, said, place);
     if let Some(number) = spot.number {
-        let name = CallName {
+        let name = KnownCall {
             target: told.target,
             number,
         };

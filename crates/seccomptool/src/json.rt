@@ -1,8 +1,10 @@
 // JSON that the program writes.
 
+ghost use Rattle.std.specs.Prelude.{⊤};
+
 use crate::findings::parts::name_of;
 use seccompiler::TargetArch;
-use serde_json::Value;
+use serde_json::{ToValue, Value};
 use std::alloc::{AllocError, Global};
 
 // Adds the text of a value, in ASCII. What isn't stands in strings alone, and is written there by its number, so that no
@@ -25,31 +27,34 @@ pub(crate) fn push_json(
     Ok(())
 }
 
-// A text, or null if there is none.
-pub(crate) fn text_or_null(alloc: Global, text: Option<&str>) -> Result<Value, AllocError> {
-    match text {
-        Some(text) => Value::try_from_str(alloc, text),
-        None => Ok(Value::Null),
+/// A text, or null if there is none.
+#[derive(Clone, Copy)]
+pub(crate) struct Text<'a>(pub Option<&'a str>);
+
+impl ToValue for Text<'_> {
+    ghost gives = { λ text value. ⊤ };
+
+    fn to_value(self, alloc: Global) -> Result<Value, AllocError> {
+        match self.0 {
+            Some(text) => Value::try_from_str(alloc, text),
+            None => Ok(Value::Null),
+        }
     }
 }
 
 // A text, or null if it says nothing.
-pub(crate) fn said_or_null(alloc: Global, text: &str) -> Result<Value, AllocError> {
+pub(crate) fn said(text: &str) -> Text<'_> {
     if text.is_empty() {
-        return Ok(Value::Null);
+        return Text(None);
     }
-    Value::try_from_str(alloc, text)
+    Text(Some(text))
 }
 
 // The name of the call of a number, or null if it has none, or there is no number.
-pub(crate) fn call_or_null(
-    alloc: Global,
-    target: TargetArch,
-    number: Option<u32>,
-) -> Result<Value, AllocError> {
+pub(crate) fn call_said(target: TargetArch, number: Option<u32>) -> Text<'static> {
     match number {
-        Some(number) => text_or_null(alloc, name_of(target, number)),
-        None => Ok(Value::Null),
+        Some(number) => Text(name_of(target, number)),
+        None => Text(None),
     }
 }
 

@@ -2,7 +2,7 @@
 
 use crate::check::diagnostic::{Diagnostic, Place, path_text};
 use crate::check::outline::{Outline, Position};
-use crate::json::{push_item, text_or_null};
+use crate::json::{Text, push_item};
 use crate::notes::front_of;
 use seccomp_command_line::readable::{TextKind, readable};
 use serde_json::{Value, json};
@@ -117,10 +117,10 @@ fn value_of(
         "line": line,
         "column": column,
         "path": path.as_str(),
-        "call": text_or_null(alloc, diagnostic.call.as_deref())?,
+        "call": Text(diagnostic.call.as_deref()),
         "code": diagnostic.code,
         "severity": diagnostic.severity,
         "message": &diagnostic.message,
-        "suggestion": text_or_null(alloc, diagnostic.suggestion)?
+        "suggestion": Text(diagnostic.suggestion)
     })
 }

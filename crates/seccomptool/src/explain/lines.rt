@@ -3,9 +3,9 @@
 use crate::explain::log::Caller;
 use crate::explain::search::{Miss, Reason};
 use crate::explain::{Explained, Explanation, Why};
-use crate::findings::lines::{Word, action_value};
+use crate::findings::lines::Word;
 use crate::findings::parts::name_of;
-use crate::json::{call_or_null, push_item, said_or_null, written};
+use crate::json::{call_said, push_item, said, written};
 use crate::record::KnownCall;
 use seccomp_command_line::readable::{TextKind, readable};
 use seccompiler::TargetArch;
@@ -174,15 +174,15 @@ fn value_of(
     let (reason, number, entry, condition, steps) = told_of(why);
     let path = path_of(alloc, name, why)?;
     json!(in alloc; {
-        "action": action_value(alloc, word)?,
-        "call": call_or_null(alloc, target, number)?,
+        "action": Word(word),
+        "call": call_said(target, number),
         "number": number,
         "reason": reason,
-        "path": said_or_null(alloc, path.as_str())?,
+        "path": said(path.as_str()),
         "entry": entry,
         "condition": condition,
         "steps": steps,
-        "program": said_or_null(alloc, caller.program)?,
-        "process": said_or_null(alloc, caller.process)?
+        "program": said(caller.program),
+        "process": said(caller.process)
     })
 }

@@ -1,17 +1,17 @@
 // What is printed of findings: lines, or JSON.
 
-ghost use Rattle.std.specs.Prelude.{◌≤◌};
+ghost use Rattle.std.specs.Prelude.{◌≤◌, ⊤};
 
 use crate::explain::search::word_at;
 use crate::findings::parts::X32;
 use crate::findings::{Answer, Finding, Part, Verdict};
-use crate::json::{call_or_null, text_or_null};
+use crate::json::{Text, call_said};
 use crate::record::KnownCall;
 use seccomp_command_line::readable::{TextKind, push_readable};
 use seccomp_compare::rank;
 use seccomp_names::error_name;
 use seccompiler::TargetArch;
-use serde_json::{Value, json};
+use serde_json::{ToValue, Value, json};
 use std::alloc::{AllocError, Global};
 use std::fmt;
 
@@ -154,10 +154,13 @@ fn number_at(call: &[u8; 64], k: usize) -> u64
 }
 
 /// The action that a program's value stands for, as an object.
-pub(crate) fn action_value(alloc: Global, word: u32) -> Result<Value, AllocError> {
-    let (name, number) = Word(word).action();
-    let name = text_or_null(alloc, name)?;
-    json!(in alloc; { "name": name, "number": number, "value": word })
+impl ToValue for Word {
+    ghost gives = { λ word value. ⊤ };
+
+    fn to_value(self, alloc: Global) -> Result<Value, AllocError> {
+        let (name, number) = self.action();
+        json!(in alloc; { "name": Text(name), "number": number, "value": self.0 })
+    }
 }
 
 /// The name of a verdict.
@@ -184,8 +187,8 @@ pub(crate) fn part_value(
     let (verdict, old, new, change, example) = match finding.answer {
         Answer::Fails { call, old, new } => (
             Verdict::Different,
-            action_value(alloc, old)?,
-            action_value(alloc, new)?,
+            Word(old).to_value(alloc)?,
+            Word(new).to_value(alloc)?,
             Some(kind_of(old, new)),
             record_value(alloc, &call)?,
         ),
@@ -198,14 +201,14 @@ pub(crate) fn part_value(
         ),
     };
     json!(in alloc; {
-        "call": call_or_null(alloc, target, number)?,
+        "call": call_said(target, number),
         "number": number,
         "least": least,
         "greatest": greatest,
         "verdict": verdict_name(verdict),
         "old": old,
         "new": new,
-        "change": text_or_null(alloc, change)?,
+        "change": Text(change),
         "example": example
     })
 }

@@ -193,8 +193,13 @@ fn diff_pair<G: Progress>(
 
 // Whether a program loads a word of the instruction pointer.
 fn loads_pointer(program: BpfProgramRef<'_>) -> bool {
-    let is_load = |each: &sock_filter| each.code == LOAD && (each.k == 8 || each.k == 12);
-    program.iter().any(is_load)
+    for instruction in program {
+        let sock_filter { code, k, .. } = *instruction;
+        if code == LOAD && (k == 8 || k == 12) {
+            return true;
+        }
+    }
+    false
 }
 
 fn diff_policies<G: Progress>(

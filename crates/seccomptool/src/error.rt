@@ -75,28 +75,26 @@ impl ToolError {
 /// The error's text.
 impl fmt::Display for ToolError {
     fn fmt<W: fmt::Write>(&self, f: &mut fmt::Formatter<W>) -> fmt::Result {
-        match self {
-            ToolError::Library(error) => write!(f, "{error}"),
-            ToolError::NoFilter(name) => write!(f, "No filter has this name: {name}."),
-            ToolError::Unchosen(names) if names.is_empty() => {
-                f.write_str("The policy has no filters.")
-            }
-            ToolError::Unchosen(names) => write!(f, "Name one of its filters: {names}."),
+        f.write_str(match self {
+            ToolError::Library(error) => return error.fmt(f),
+            ToolError::Program(fault) => return fault.fmt(f),
+            ToolError::Profile(fault) => return fault.fmt(f),
+            ToolError::NoFilter(name) => return write!(f, "No filter has this name: {name}."),
             ToolError::UnknownCall(call, arch) => {
-                write!(f, "No call of {arch} has this name or number: {call}.")
+                return write!(f, "No call of {arch} has this name or number: {call}.");
             }
-            ToolError::Misused(told) => f.write_str(told),
-            ToolError::Fault(told) | ToolError::Second(told) | ToolError::Told(told) => {
-                f.write_str(told.as_str())
-            }
-            ToolError::Placed(told, _) => f.write_str(told.as_str()),
+            ToolError::Unchosen(names) if names.is_empty() => "The policy has no filters.",
+            ToolError::Unchosen(names) => return write!(f, "Name one of its filters: {names}."),
+            ToolError::Misused(told) => *told,
+            ToolError::Fault(told)
+            | ToolError::Second(told)
+            | ToolError::Told(told)
+            | ToolError::Placed(told, _) => told.as_str(),
             ToolError::TreeTooLarge => {
-                f.write_str("A filter needs more than 4096 instructions in the tree layout.")
+                "A filter needs more than 4096 instructions in the tree layout."
             }
-            ToolError::Program(fault) => write!(f, "{fault}"),
-            ToolError::Profile(fault) => write!(f, "{fault}"),
-            ToolError::OutOfMemory => f.write_str("Out of memory."),
-        }
+            ToolError::OutOfMemory => "Out of memory.",
+        })
     }
 }
 

@@ -51,11 +51,11 @@ impl fmt::Display for ProgramFault {
 /// What is amiss, in English.
 impl fmt::Display for Amiss {
     fn fmt<W: fmt::Write>(&self, f: &mut fmt::Formatter<W>) -> fmt::Result {
-        match self {
-            Amiss::Operation(code) => write!(f, "unknown operation 0x{code:x}"),
-            Amiss::Load => f.write_str("load from an invalid offset"),
-            Amiss::Jump => f.write_str("jump past the end"),
-            Amiss::End => f.write_str("no return at the end"),
-        }
+        f.write_str(match self {
+            Amiss::Operation(code) => return write!(f, "unknown operation 0x{code:x}"),
+            Amiss::Load => "load from an invalid offset",
+            Amiss::Jump => "jump past the end",
+            Amiss::End => "no return at the end",
+        })
     }
 }

@@ -107,17 +107,23 @@ fn note(alloc: Global, here: Known, instruction: &sock_filter) -> Result<String,
         (_, Some(word)) => word,
     };
     match (code, byte, mask) {
-        (JUMP_EQUAL, 0, WHOLE) => match name_on(here.arch, k) {
-            Some(name) => String::from_str(alloc, name),
-            None => format!(in alloc; "call {k}"),
-        },
+        (JUMP_EQUAL, 0, WHOLE) => {
+            let name = match arch_of(here.arch) {
+                Some(target) => name_of(target, k),
+                None => None,
+            };
+            match name {
+                Some(name) => String::from_str(alloc, name),
+                None => format!(in alloc; "call {k}"),
+            }
+        }
         (JUMP_AT_LEAST, 0, WHOLE) => format!(in alloc; "calls from {k} on"),
         (JUMP_GREATER, 0, WHOLE) => format!(in alloc; "calls above {k}"),
         (JUMP_IF_SET, 0, WHOLE) if k == X32 && here.arch == Some(AUDIT_ARCH_X86_64) => {
             String::from_str(alloc, "calls of x32")
         }
         (JUMP_IF_SET, _, _) => part(alloc, byte, mask & k),
-        (JUMP_EQUAL, 4, WHOLE) => match arch_of(k) {
+        (JUMP_EQUAL, 4, WHOLE) => match arch_of(Some(k)) {
             Some(target) => target.to_string(alloc),
             None => part(alloc, byte, mask),
         },
@@ -126,19 +132,14 @@ fn note(alloc: Global, here: Known, instruction: &sock_filter) -> Result<String,
     }
 }
 
-// The architecture of an `AUDIT_ARCH_*` value.
-fn arch_of(value: u32) -> Option<TargetArch> {
+// The architecture of an `AUDIT_ARCH_*` value, if it is known.
+fn arch_of(value: Option<u32>) -> Option<TargetArch> {
     for target in TargetArch::all() {
-        if target.get_audit_value() == value {
+        if value == Some(target.get_audit_value()) {
             return Some(*target);
         }
     }
     None
-}
-
-// The name of a call on the architecture of this value.
-fn name_on(arch: Option<u32>, number: u32) -> Option<&'static str> {
-    name_of(arch_of(arch?)?, number)
 }
 
 // What a load gets that begins at this byte of a record.

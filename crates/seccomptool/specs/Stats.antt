@@ -1,6 +1,5 @@
 -- What `stats` gives: how long programs are, and how many steps they take.
-use Rattle.std.specs.Prelude.{◌≡◌, ◌≢◌, ℕ, ◌-◌, ◌^◌, List, [], ◌∷◌, length, None, false, String, string_bytes}
-use Rattle.std.specs.declared.alloc.Global.{Global}
+use Rattle.std.specs.Prelude.{◌≡◌, ◌≢◌, ℕ, ◌-◌, ◌^◌, List, [], ◌∷◌, length, None, false, string_bytes}
 use Rattle.serde_json.specs.Data.{Data}
 use Rattle.seccompiler.specs.declared.backend.TargetArch.{TargetArch}
 use Rattle.seccompiler.specs.declared.bpf.sock_filter.{sock_filter}
@@ -59,9 +58,3 @@ pub record IsProfileMeasure (target : TargetArch) (container : Container) (text 
   pub compiled : CompiledProfile
   pub is_compiled : IsCompiledProfile target container false text compiled
   pub measure : IsMeasureOf target compiled.program.items m
-
--- Between layers: the numbers are those of the programs of a filter of this name.
-pub record IsMeasured (target : TargetArch) (e : String Global × Filter) (s : FilterStats) : Type 0 where
-  pub name : string_bytes s.name ≡ string_bytes e.0
-  pub linear : IsMeasureIn Linear target e.1 s.linear
-  pub tree : IsMeasureIn Tree target e.1 s.tree

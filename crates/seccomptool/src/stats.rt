@@ -55,10 +55,9 @@ pub fn stats_of(
         filter.compiled_len()?;
     }
     let mut all = Vec::new(alloc);
-    for (name, filter) in &filters {
-        let linear = measure_in(alloc, target, filter, Layout::Linear)?;
-        let tree = measure_in(alloc, target, filter, Layout::Tree)?;
-        let name = name.clone()?;
+    for (name, filter) in filters {
+        let linear = measure_in(alloc, target, &filter, Layout::Linear)?;
+        let tree = measure_in(alloc, target, &filter, Layout::Tree)?;
         all.push(FilterStats { name, linear, tree })?;
     }
     Ok(all)

@@ -9,10 +9,17 @@ use Rattle.seccomp_compare.specs.Machine.{Ends}
 use Rattle.seccomp_compare.proofs.OfSeven.{ends_of_seven}
 use Rattle.seccompiler.specs.Policy.{word_of, Filter, chain_under}
 use Rattle.seccompiler.specs.SyscallTable.{IsCallTable}
-use Rattle.seccomptool.specs.Stats.{passing_record, HasStats, IsMeasured}
+use Rattle.seccomptool.specs.Stats.{passing_record, HasStats, IsMeasureIn}
 use Rattle.seccomptool.specs.declared.stats.FilterStats.{FilterStats}
+use Rattle.seccomp_tree.specs.declared.layout.Layout.TheVariants.{Linear, Tree}
 use Rattle.seccomptool.proofs.stats.PassingRecord.{is_record, its_number, its_word}
 use Rattle.seccomptool.proofs.stats.TableNumbers.{greatest_passes}
+
+-- The numbers are those of the programs of a filter of this name.
+pub record IsMeasured (target : TargetArch) (e : String Global × Filter) (s : FilterStats) : Type 0 where
+  pub name : s.name ≡ e.0
+  pub linear : IsMeasureIn Linear target e.1 s.linear
+  pub tree : IsMeasureIn Tree target e.1 s.tree
 
 -- The steps on the passing record are those of each record that no chain is for.
 pub has_stats : (target : TargetArch) → IsCallTable (table_of target) → (e : String Global × Filter) (s : FilterStats) (value : Data)

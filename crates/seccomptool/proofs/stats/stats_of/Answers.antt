@@ -1,4 +1,4 @@
-use Rattle.std.proofs.Common.{◌≡◌, ◌∷◌, [], ◌++◌, List, String, Global, refl, rules, sym, ap, ◌∙◌, subst, append_assoc, append-nil}
+use Rattle.std.proofs.Common.{◌≡◌, ◌∷◌, [], ◌++◌, String, Global, refl, rules, sym, ap, ◌∙◌, subst, append_assoc, append-nil}
 use Rattle.std.proofs.Common.{string_bytes, string_cmp}
 use Rattle.std.specs.BTreeMap.{get_by_text}
 use Rattle.std.specs.List.{AllZip}
@@ -10,29 +10,26 @@ use Rattle.seccompiler.specs.JsonAnswers.{ArePoliciesOf, HasPolicy}
 use Rattle.seccompiler.specs.Policy.{Filter}
 use Rattle.seccompiler.specs.SyscallTable.{IsCallTable}
 use Rattle.seccomp_command_line.proofs.ByName.{by_text}
-use Rattle.seccomptool.specs.Stats.{HasStats, IsMeasured}
+use Rattle.seccomptool.specs.Stats.{HasStats}
 use Rattle.seccomptool.specs.declared.stats.FilterStats.{FilterStats}
 use Rattle.seccomptool.proofs.Named.{are_named}
-use Rattle.seccomptool.proofs.stats.FilterNumbers.{has_stats}
+use Rattle.seccomptool.proofs.stats.FilterNumbers.{IsMeasured, has_stats}
 use Rattle.seccomptool.proofs.stats.stats_of.Goals as goal
 
 pub loop-name-init : goal.loop-name-init
-loop-name-init c =
-    record { done = []; whole = refl; measured = subst (AllZip (IsMeasured c.args.target) []) (sym c.new-all.ensures.items) tt }
+loop-name-init c = record { whole = refl; measured = subst (AllZip (IsMeasured c.args.target) []) (sym c.new-all.ensures.items) tt }
 
 pub loop-name-preserved : goal.loop-name-preserved
 loop-name-preserved c =
     let l = c.loop-name in
-    let done : List (String Global × Filter) = l.invariant.done in
-    let e : String Global × Filter = (c.in-Some-2.name.now, c.in-Some-2.filter.now) in
-    let s : FilterStats = record { name = c.in_ok-name.name; linear = c.in_ok-linear.linear; tree = c.in_ok-tree.tree } in
+    let e : String Global × Filter = (c.in-Some-2.name, c.in-Some-2.filter) in
+    let s : FilterStats = record { name = c.in-Some-2.name; linear = c.in_ok-linear.linear; tree = c.in_ok-tree.tree } in
     record {
-      done = done ++ e ∷ [];
-      whole = l.invariant.whole ∙ ap (λ (es : List (String Global × Filter)). done ++ es) c.in-Some-2.ensures.steps
-          ∙ sym (append_assoc done (e ∷ []) c.next-in-loop-name.new.self);
-      measured = subst (AllZip (IsMeasured c.args.target) (done ++ e ∷ [])) (sym c.in_ok-push.ensures.items)
-          (all_zipped_more (IsMeasured c.args.target) done l.all.items e s l.invariant.measured
-          (record { name = c.in_ok-name.ensures.cases; linear = c.in_ok-linear.ensures; tree = c.in_ok-tree.ensures }));
+      whole = l.invariant.whole ∙ ap (λ es. l.yielded ++ es) c.in-Some-2.ensures.steps
+          ∙ sym (append_assoc l.yielded (e ∷ []) c.next-in-loop-name.new.self);
+      measured = subst (AllZip (IsMeasured c.args.target) (l.yielded ++ e ∷ [])) (sym c.in_ok-push.ensures.items)
+          (all_zipped_more (IsMeasured c.args.target) l.yielded l.all.items e s l.invariant.measured
+          (record { name = refl; linear = c.in_ok-linear.ensures; tree = c.in_ok-tree.ensures }));
     }
 
 pub returns : goal.returns
@@ -44,14 +41,12 @@ returns c =
     let of = c.in_ok-filters.ensures.policies in
     let are = subst (λ t. ArePoliciesOf t (get_by_text filters) of.0) c.new.ensures of.2 in
     let order : IsStrictlySortedBy string_cmp (keys_of filters.entries) = search rules in
-    let done : List (String Global × Filter) = l.invariant.done in
-    let began : filters.entries ≡ c.into_iter-name-iterator.result = search rules in
-    let all : filters.entries ≡ done = began ∙ l.invariant.whole
-    ∙ ap (λ (es : List (String Global × Filter)). done ++ es) c.in-None-2.ensures.steps.0 ∙ append-nil done in (
+    let all : filters.entries ≡ l.yielded = sym c.into_iter-name-iterator.ensures.into_iter_gives.0 ∙ l.invariant.whole
+    ∙ ap (λ es. l.yielded ++ es) c.in-None-2.ensures.steps.0 ∙ append-nil l.yielded in (
       of.0,
       of.1,
       are_named (HasPolicy target) (get_by_text filters) of.0 are filters.entries order
           (λ name. by_text name filters.entries) (λ (s : FilterStats). string_bytes s.name) (IsMeasured target) (HasStats target)
-          (λ e s is. is.name) (has_stats target table) l.all.items
-          (subst (λ (es : List (String Global × Filter)). AllZip (IsMeasured target) es l.all.items) (sym all) l.invariant.measured),
+          (λ e s is. ap string_bytes is.name) (has_stats target table) l.all.items
+          (subst (λ es. AllZip (IsMeasured target) es l.all.items) (sym all) l.invariant.measured),
     )

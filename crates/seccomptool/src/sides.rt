@@ -1,6 +1,7 @@
 // A side of a comparison: what it rules, and a program that stands for it.
 
 ghost use Rattle.std.specs.Prelude.{IfOk};
+ghost use Rattle.seccomp_compare.specs.Machine.{IsChecked};
 ghost use Rattle.seccomptool.specs.Chosen.{text_of};
 ghost use Rattle.seccomptool.specs.Sides.{IsProgramFor};
 
@@ -39,7 +40,8 @@ pub(crate) fn ruled_by(
     target: TargetArch,
     side: Side<'_>,
 ) -> Result<NamedProgram, ToolError>
-    ensures { IfOk result (λ ruled. IsProgramFor target side.entry.kind (text_of side.entry.filter) side.entry.given.now ruled.program.items) }
+    ensures ruled { IfOk result (λ ruled. IsProgramFor target side.entry.kind (text_of side.entry.filter) side.entry.given.now ruled.program.items) }
+    ensures checked { IfOk result (λ ruled. IsChecked ruled.program.items) }
 {
     match side.kind {
         Subject::Policy => {

@@ -1,5 +1,4 @@
 use Rattle.std.proofs.Common.{[], ◌∷◌, ◌+◌, ◌-◌, ◌^◌, subst, sym}
-use Rattle.seccomp_compare.specs.Machine.{IsChecked}
 use Rattle.seccomptool.specs.declared.findings.Part.TheVariants.{Elsewhere}
 use Rattle.seccomptool.specs.Findings.{AreFoundOn, AreReturned}
 use Rattle.seccomptool.specs.Rulings.{AreDecided, StandsFor}
@@ -9,32 +8,12 @@ use Rattle.seccomptool.proofs.diff.Others.{others_covered}
 use Rattle.seccomptool.proofs.sides.Profiles.{side_stands}
 use Rattle.seccomptool.proofs.diff.diff_pair.Goals as goal
 
-pub findings_of-requires-clause-new_checked : goal.findings_of-requires-clause-new_checked
-findings_of-requires-clause-new_checked g c =
-    subst IsChecked (sym c.deref-new.ensures.value)
-    (side_stands c.args.terms.target c.args.new c.in-Ok.by_new.program.items c.in-Ok.ensures).2.checked
-
-pub findings_of-requires-clause-old_checked : goal.findings_of-requires-clause-old_checked
-findings_of-requires-clause-old_checked g c =
-    subst IsChecked (sym c.deref-old.ensures.value)
-    (side_stands c.args.terms.target c.args.old c.in_ok-by_old.by_old.program.items c.in_ok-by_old.ensures).2.checked
-
-pub findings_on-requires-clause-new_checked : goal.findings_on-requires-clause-new_checked
-findings_on-requires-clause-new_checked g c =
-    subst IsChecked (sym c.deref-new.ensures.value)
-    (side_stands c.args.terms.target c.args.new c.in-Ok.by_new.program.items c.in-Ok.ensures).2.checked
-
-pub findings_on-requires-clause-old_checked : goal.findings_on-requires-clause-old_checked
-findings_on-requires-clause-old_checked g c =
-    subst IsChecked (sym c.deref-old.ensures.value)
-    (side_stands c.args.terms.target c.args.old c.in_ok-by_old.by_old.program.items c.in_ok-by_old.ensures).2.checked
-
 pub returns : goal.returns
 returns g c =
     let target = c.args.terms.target in
     let relation = c.args.terms.relation in
-    let old = side_stands target c.args.old c.in_ok-by_old.by_old.program.items c.in_ok-by_old.ensures in
-    let new = side_stands target c.args.new c.in-Ok.by_new.program.items c.in-Ok.ensures in
+    let old = side_stands target c.args.old c.in_ok-by_old.by_old.program.items c.in_ok-by_old.ensures.ruled in
+    let new = side_stands target c.args.new c.in-Ok.by_new.program.items c.in-Ok.ensures.ruled in
     let of_old = subst (StandsFor target old.0) (sym c.deref-old.ensures.value) old.2 in
     let of_new = subst (StandsFor target new.0) (sym c.deref-new.ensures.value) new.2 in
     let others = c.in_ok-others.others.items in

@@ -12,11 +12,11 @@ returns-then-asked-2 c =
     c.in_ok-measure.ensures in
     subst (λ measured. IsShownOrMeasured measured asked.arch c.args.subject asked.layout c.args.given.now) (sym c.if-asked-2.true)
     (is_measured asked.arch (text_of asked.filter) c.args.given.now c.in_ok-one.one.program.items c.args.subject c.in_ok-measure.measure
-    c.in_default.not-Policy c.in_ok-one.ensures measure)
+    c.in_default.not-Policy c.in_ok-one.ensures.ruled measure)
 
 pub returns : goal.returns
 returns c =
     let asked = c.args.asked.now in
     subst (λ measured. IsShownOrMeasured measured asked.arch c.args.subject asked.layout c.args.given.now) (sym c.if-asked-2.false)
     (is_shown asked.arch (text_of asked.filter) c.args.given.now c.in_ok-one.one.program.items c.args.subject asked.layout
-    c.in_default.not-Policy c.in_ok-one.ensures)
+    c.in_default.not-Policy c.in_ok-one.ensures.ruled)

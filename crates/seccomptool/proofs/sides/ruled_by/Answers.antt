@@ -1,13 +1,14 @@
 use Rattle.std.proofs.Common.{ap, string_bytes, refl, subst, sym}
 use Rattle.std.specs.BTreeMap.{get_by_text}
 use Rattle.seccompiler.specs.JsonAnswers.{ArePoliciesOf}
+use Rattle.seccomp_compare.proofs.OfSeven.{checked_of_seven}
 use Rattle.seccomptool.specs.Chosen.{text_of}
 use Rattle.seccomptool.specs.Sides.{IsProgramFor}
 use Rattle.seccomptool.proofs.sides.Filters.{fitting_stands}
 use Rattle.seccomptool.proofs.sides.ruled_by.Goals as goal
 
-pub returns-in_ok-program-in-Policy : goal.returns-in_ok-program-in-Policy
-returns-in_ok-program-in-Policy c =
+pub returns-in_ok-program-in-Policy-clause-ruled : goal.returns-in_ok-program-in-Policy-clause-ruled
+returns-in_ok-program-in-Policy-clause-ruled c =
     let target = c.args.target in
     let side = c.args.side in
     let filters = get_by_text c.in_ok-filters-in-Policy.filters in
@@ -24,17 +25,24 @@ returns-in_ok-program-in-Policy c =
           c.in_ok-program-in-Policy.ensures.fitting,
     )
 
-pub returns-in_ok-from_str-in-Profile : goal.returns-in_ok-from_str-in-Profile
-returns-in_ok-from_str-in-Profile c =
+pub returns-in_ok-from_str-in-Profile-clause-ruled : goal.returns-in_ok-from_str-in-Profile-clause-ruled
+returns-in_ok-from_str-in-Profile-clause-ruled c =
     let side = c.args.side in
     let compiled = c.in_ok-compiled-in-Profile.compiled in
     subst (λ k. IsProgramFor c.args.target k (text_of side.filter) side.given.now compiled.program.items) (sym c.in-Profile.is)
     (ap text_of c.in_ok-refuse_name-in-Profile.ensures, compiled, c.in_ok-compiled-in-Profile.ensures.compiled, refl)
 
-pub returns-in_ok-program_of-in-Program : goal.returns-in_ok-program_of-in-Program
-returns-in_ok-program_of-in-Program c =
+pub returns-in_ok-program_of-in-Program-clause-ruled : goal.returns-in_ok-program_of-in-Program-clause-ruled
+returns-in_ok-program_of-in-Program-clause-ruled c =
     let side = c.args.side in
     let program = c.in_ok-program_of-in-Program.field-0.items in
     let is = c.in_ok-program_of-in-Program.ensures in
     subst (λ k. IsProgramFor c.args.target k (text_of side.filter) side.given.now program) (sym c.in-Program.is)
     (ap text_of c.in_ok-refuse_name-in-Program.ensures, is.program, is.checked)
+
+pub returns-in_ok-program-in-Policy-clause-checked : goal.returns-in_ok-program-in-Policy-clause-checked
+returns-in_ok-program-in-Policy-clause-checked c =
+    (fitting_stands c.args.target c.in_ok-name-in-Policy.chosen.now _ c.in_ok-program-in-Policy.ensures.fitting).checked
+
+pub returns-in_ok-from_str-in-Profile-clause-checked : goal.returns-in_ok-from_str-in-Profile-clause-checked
+returns-in_ok-from_str-in-Profile-clause-checked c = checked_of_seven _ c.in_ok-compiled-in-Profile.ensures.compiled.program.checked

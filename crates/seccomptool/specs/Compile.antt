@@ -1,8 +1,7 @@
 -- What `compile` and `show` give: the programs of a policy's filters, and the bytes of a program.
-use Rattle.std.specs.Prelude.{◌≡◌, ℕ, List, [], ◌∷◌, ◌++◌, map, String, string_bytes}
+use Rattle.std.specs.Prelude.{ℕ, List, [], ◌∷◌, ◌++◌, map, string_bytes}
 use Rattle.std.specs.Int.{w16, w32, to_le_bytes}
 use Rattle.std.specs.List.{concat}
-use Rattle.std.specs.declared.alloc.Global.{Global}
 use Rattle.serde_json.specs.Data.{Data}
 use Rattle.seccompiler.specs.declared.backend.TargetArch.{TargetArch}
 use Rattle.seccompiler.specs.declared.bpf.sock_filter.{sock_filter}
@@ -34,8 +33,3 @@ name_of made = string_bytes made.name
 -- Each program is compiled for the filter under its name, and each filter of the policy's value has one.
 abbrev pub ArePrograms : Layout → TargetArch → Data → List NamedProgram → Type 0
 ArePrograms layout target = AreNamed name_of (λ made value. HasProgram layout target value made.program.items)
-
--- Between layers: the program has the filter's name, and is compiled for it in this layout.
-pub record IsCompiledAs (layout : Layout) (filter : String Global × Filter) (made : NamedProgram) : Type 0 where
-  pub name : made.name ≡ filter.0
-  pub compiled : IsCompiledIn layout filter.1 made.program.items

@@ -8,9 +8,10 @@ use Rattle.std.proofs.lemmas.Slice.Zip.{all_zipped_more}
 use Rattle.seccompiler.specs.JsonAnswers.{ArePoliciesOf, HasPolicy}
 use Rattle.seccompiler.specs.Policy.{Filter}
 use Rattle.seccomp_command_line.proofs.ByName.{by_text}
-use Rattle.seccomptool.specs.Compile.{HasProgram, IsCompiledAs, name_of}
+use Rattle.seccomptool.specs.Compile.{HasProgram, name_of}
 use Rattle.seccomptool.specs.declared.compile.NamedProgram.{NamedProgram}
 use Rattle.seccomptool.proofs.Named.{are_named}
+use Rattle.seccomptool.proofs.show.programs_in.Invariants.{IsCompiledAs}
 use Rattle.seccomptool.proofs.show.programs_in.Goals as goal
 
 pub loop-name-init : goal.loop-name-init

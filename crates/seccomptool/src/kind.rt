@@ -1,9 +1,8 @@
 // What is given: a policy, a profile or a program.
 
-ghost use Rattle.std.specs.Prelude.{◌↔◌, IfOk, IsTrue, codes};
-ghost use Rattle.serde_json.specs.View.{view};
+ghost use Rattle.std.specs.Prelude.{◌↔◌, IfOk, IsTrue};
 ghost use Rattle.seccompiler.specs.declared.backend.TargetArch.{TargetArch};
-ghost use Rattle.seccomptool.specs.Kinds.{IsOfProfile, IsPolicyText, IsTakenAs, NamesDefault, StandsIn};
+ghost use Rattle.seccomptool.specs.Kinds.{IsOfProfile, IsPolicyText, IsTakenAs};
 
 use crate::run::initializers::begins_as_initializers;
 use memchr::memmem::find;
@@ -59,29 +58,15 @@ fn is_of_profile(alloc: Global, text: &[u8]) -> Result<bool, AllocError>
     // No text of a policy is, on whichever architecture.
     ensures no_policy { IfOk result (λ is. IsTrue is → (arch : TargetArch) → IsPolicyText arch text.now → ⊥) }
 {
-    if !has_key(text) {
+    if find(text, b"\"defaultAction\"").is_none() {
         return Ok(false);
     }
     match Value::from_slice(alloc, text) {
-        Ok(value) => Ok(names_default(&value)),
+        Ok(value) => match value.get("defaultAction") {
+            Some(action) => Ok(action.is_string()),
+            None => Ok(false),
+        },
         Err(error) if error.is_memory() => Err(AllocError),
         Err(_) => Ok(false),
-    }
-}
-
-// Whether the bytes of the key stand somewhere in a text.
-fn has_key(text: &[u8]) -> bool
-    ensures { IsTrue result ↔ StandsIn (codes "\"defaultAction\"") text.now }
-{
-    find(text, b"\"defaultAction\"").is_some()
-}
-
-// Whether a value is an object that names its default action.
-fn names_default(value: &Value) -> bool
-    ensures { IsTrue result ↔ NamesDefault (view value.now) }
-{
-    match value.get("defaultAction") {
-        Some(action) => action.is_string(),
-        None => false,
     }
 }

@@ -1,29 +1,25 @@
--- For `has_key` and `names_default`: whether bytes stand in a text, and whether a value is an object that names its default action.
-use Rattle.std.proofs.Common.{◌≡◌, ◌∙◌, ℕ, Bool, true, List, Option, None, Some, arith, codes, refl, subst, sym}
-use Rattle.std.proofs.lemmas.Bool.{false≢true}
+-- For `is_of_profile`: whether bytes stand in a text, and whether a value is an object that names its default action.
+use Rattle.std.proofs.Common.{◌≡◌, ◌∙◌, ℕ, Bool, false, true, List, Option, None, Some, arith, codes, refl, subst, sym}
 use Rattle.std.specs.Option.{is_some}
 use Rattle.memchr.specs.Find.{FindsNeedle}
-use Rattle.serde_json.specs.Data.{Data, null, boolean, number, string, array, object}
+use Rattle.serde_json.specs.Data.{Data, string}
 use Rattle.serde_json.specs.Find.{as_str, get}
-use Rattle.seccomptool.specs.Kinds.{IsText, NamesDefault, StandsIn}
+use Rattle.seccompiler.specs.JsonAnswers.{IsReadAs}
+use Rattle.seccomptool.specs.Kinds.{IsOfProfile, IsText, NamesDefault, StandsIn}
+use Rattle.seccomptool.proofs.Readings.{one_value}
 
--- They do if they are found.
-pub stands_if : (text part : List ℕ) (found : Option ℕ) (is : Bool) → is ≡ is_some found → FindsNeedle text part 0 found
-    → (is ≡ true → StandsIn part text) × (StandsIn part text → is ≡ true)
-stands_if text part None is none nowhere = (
-  λ yes. absurd (false≢true (sym none ∙ yes)),
-  λ there. let fits = there.1.fits in absurd (nowhere there.0 (omega arith) (omega (arith, fits)) there.1),
-)
-stands_if text part (Some place) is some found = (λ yes. (place, found.1), λ there. some)
+-- They don't if they aren't found, and do if they are.
+pub stand_if : (text part : List ℕ) (found : Option ℕ) → FindsNeedle text part 0 found
+    → (is_some found ≡ false → StandsIn part text → ⊥) × (is_some found ≡ true → StandsIn part text)
+stand_if text part None nowhere =
+    let no = λ (there : StandsIn part text). let fits = there.1.fits in nowhere there.0 (omega arith) (omega (arith, fits)) there.1 in
+    (λ none. no, λ some. absurd cc)
+stand_if text part (Some place) found = (λ none there. absurd cc, λ some. (place, found.1))
 
 -- A value is a text where serde_json's test says so.
 string_tests : (value : Data) → (is_some (as_str value) ≡ true → IsText value) × (IsText value → is_some (as_str value) ≡ true)
-string_tests null = (λ yes. absurd cc, λ is. let apart : null ≡ string is.0 = is.1 in absurd cc)
-string_tests (boolean b) = (λ yes. absurd cc, λ is. let apart : boolean b ≡ string is.0 = is.1 in absurd cc)
-string_tests (number n) = (λ yes. absurd cc, λ is. let apart : number n ≡ string is.0 = is.1 in absurd cc)
 string_tests (string s) = (λ yes. (s, refl), λ is. refl)
-string_tests (array items) = (λ yes. absurd cc, λ is. let apart : array items ≡ string is.0 = is.1 in absurd cc)
-string_tests (object members) = (λ yes. absurd cc, λ is. let apart : object members ≡ string is.0 = is.1 in absurd cc)
+string_tests value = (λ yes. absurd cc, λ is. let apart = is.1 in absurd cc)
 
 -- What stands under the name is a text where the test says so.
 pub is_default : (d value : Data) (test : Bool) → Some value ≡ get (codes "defaultAction") d → test ≡ is_some (as_str value)
@@ -34,4 +30,13 @@ is_default d value test found is = (
       let same : Some names.0 ≡ Some value = sym names.1 ∙ sym found in
       let one : names.0 ≡ value = cc in
       is ∙ (string_tests value).1 (subst IsText one names.2),
+)
+
+-- So a text that has the key is taken for a profile's where the test of its value says so.
+pub is_taken : (text : List ℕ) (value : Data) (test : Bool) → StandsIn (codes "\"defaultAction\"") text → IsReadAs text value
+    → (test ≡ true → NamesDefault value) × (NamesDefault value → test ≡ true)
+    → (test ≡ true → IsOfProfile text) × (IsOfProfile text → test ≡ true)
+is_taken text value test stands read tests = (
+  λ yes. record { key = stands; value = value; is_read = read; names = tests.0 yes },
+  λ is. tests.1 (subst NamesDefault (one_value text is.value value is.is_read read) is.names),
 )

@@ -1,5 +1,5 @@
 -- The sets of calls that a comparison of two programs goes through, what it finds on each, and its verdict.
-use Rattle.std.specs.Prelude.{◌≡◌, ◌≢◌, ℕ, pos, ◌+◌, ◌-◌, ◌^◌, ◌<◌, ◌≤◌, ◌⊎◌, List, [], ◌∷◌, ◌++◌, map, All, Option, Some, None, nat_eq}
+use Rattle.std.specs.Prelude.{◌≡◌, ◌≢◌, ℕ, pos, ◌+◌, ◌-◌, ◌^◌, ◌<◌, ◌≤◌, ◌⊎◌, List, [], ◌∷◌, ◌++◌, map, All, Option, Some, None}
 use Rattle.std.specs.Prelude.{if◌then◌else◌, ⊤}
 use Rattle.std.specs.Ordering.{int_eq}
 use Rattle.seccompiler.specs.declared.backend.TargetArch.{TargetArch}
@@ -55,10 +55,6 @@ pub data ArePartsBelow (table : List Pair) : List Part → ℕ → Type 0 where
       → parts ≡ front ++ Named number ∷ [] → end ≡ number + 1 → ArePartsBelow table parts end
   then_gap : {parts front : List Part} {end least greatest : ℕ} → ArePartsBelow table front least → IsGap table least greatest
       → parts ≡ front ++ Unnamed least greatest ∷ [] → end ≡ greatest + 1 → ArePartsBelow table parts end
-
--- The part of the numbers from one on and below another, if there are any.
-abbrev pub between : ℕ → ℕ → List Part
-between least next = if nat_eq least next then [] else Unnamed least (next - 1) ∷ []
 
 -- ---- what is found
 

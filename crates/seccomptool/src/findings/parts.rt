@@ -1,11 +1,10 @@
 // The parts of an architecture's calls: one for each number that has a name, and one for each range of numbers
 // between these. x32's numbers are a range of their own.
 
-ghost use Rattle.std.specs.Prelude.{◌≡◌, ◌++◌, ◌^◌, ◌≤◌, IfOk, OnOk, option_map};
+ghost use Rattle.std.specs.Prelude.{◌≡◌, ◌^◌, IfOk, option_map};
 ghost use Rattle.seccompiler.specs.Architecture.{table_of};
 ghost use Rattle.seccomptool.specs.Findings as spec;
 ghost use Rattle.seccomptool.specs.Findings.{ArePartsBelow};
-ghost use Rattle.seccomptool.specs.Findings.{between};
 
 use crate::findings::Part;
 use seccompiler::{SyscallTable, TargetArch};
@@ -26,7 +25,12 @@ pub(crate) fn parts(alloc: Global, target: TargetArch) -> Result<Vec<Part>, Allo
     let (mut parts, mut least) = (Vec::new(alloc), 0);
     for number in 0..END {
         if name_of(target, number).is_some() {
-            push_unnamed(&mut parts, least, number)?;
+            if least < number {
+                parts.push(Part::Unnamed {
+                    least,
+                    greatest: number - 1,
+                })?;
+            }
             parts.push(Part::Named { number })?;
             least = number + 1;
         }
@@ -40,21 +44,6 @@ pub(crate) fn parts(alloc: Global, target: TargetArch) -> Result<Vec<Part>, Allo
         greatest: u32::MAX,
     })?;
     Ok(parts)
-}
-
-// Adds the part of the numbers in front of one, if there are any.
-fn push_unnamed(parts: &mut Vec<Part>, least: u32, next: u32) -> Result<(), AllocError>
-    requires { least ≤ next }
-    ensures { OnOk result (parts.new.items ≡ parts.old.items ++ between least next) }
-{
-    if least == next {
-        return Ok(());
-    }
-    parts.push(Part::Unnamed {
-        least,
-        greatest: next - 1,
-    })?;
-    Ok(())
 }
 
 // The first name of a number, in byte order.

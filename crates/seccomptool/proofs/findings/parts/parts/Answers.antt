@@ -2,10 +2,11 @@ use Rattle.std.proofs.Common.{◌≡◌, ◌+◌, ◌-◌, ◌≤◌, ℕ, inl, 
 use Rattle.std.proofs.lemmas.Bool.{cases_eq, cases_lt}
 use Rattle.seccompiler.specs.Architecture.{table_of}
 use Rattle.seccompiler.specs.SyscallTable.{IsCallTable}
-use Rattle.seccomptool.specs.Findings.{HasName, LacksName, no_part, then_gap}
-use Rattle.seccomptool.proofs.findings.Names.{has_name, none_above, parts_more}
+use Rattle.seccomptool.specs.Findings.{ArePartsBelow, HasName, LacksName, no_part, then_gap, then_named}
+use Rattle.seccomptool.proofs.findings.Names.{gap_more, has_name, none_above}
 use Rattle.seccomptool.proofs.findings.parts.parts.Goals as goal
-use Rattle.seccomptool.proofs.findings.parts.parts.Goals.{then-is_some+in_ok-push_unnamed+in_ok-push, else-is_some}
+use Rattle.seccomptool.proofs.findings.parts.parts.Goals.{then-is_some+in_ok-push-2, then-least-number+in_ok-push}
+use Rattle.seccomptool.proofs.findings.parts.parts.Goals.{else-is_some, else-least-number}
 
 pub loop-number-init : goal.loop-number-init
 loop-number-init c = record {
@@ -21,14 +22,20 @@ loop-number-preserved c =
     let table = table_of c.args.target in
     let own = has_name table l.number c.name_of.result c.name_of.ensures in
     elim c.if-is_some.branch [
-      | then-is_some+in_ok-push_unnamed+in_ok-push w ↦
+      | then-is_some+in_ok-push-2 w ↦
           let named = own.0 (sym c.is_some.ensures ∙ w.if-is_some.true) in
           let same : l.number ≡ l.number + 1 - 1 = omega arith in
+          let front : ArePartsBelow table w.if-least-number.parts.items l.number = elim w.if-least-number.branch [
+            | then-least-number+in_ok-push v ↦
+                rw v.parts-is (gap_more table l.least l.number l.parts.items v.push.new.self.items l.invariant.below l.invariant.begins
+                v.if-least-number.true c.loop-number-test.true l.invariant.unnamed named v.in_ok-push.ensures.items)
+            | else-least-number v ↦
+                let met : l.least ≡ l.number = omega (arith, l.invariant.few, v.if-least-number.false) in
+                rw v.parts-is (subst (ArePartsBelow table l.parts.items) met l.invariant.below)
+          ] in
           rw (w.least-is, w.parts-is) (record {
             few = omega arith;
-            below = parts_more table l.least l.number l.parts.items w.push_unnamed.new.parts.items w.push.new.self.items l.invariant.below
-                l.invariant.begins l.invariant.few c.loop-number-test.true l.invariant.unnamed named w.in_ok-push_unnamed.ensures
-                w.in_ok-push.ensures.items;
+            below = then_named front named w.in_ok-push-2.ensures.items refl;
             begins = inr (inl (subst (HasName table) same named));
             unnamed = λ n from to. absurd (omega (arith, from, to));
           })
@@ -63,7 +70,7 @@ returns c =
       ends = inr (inr refl);
       apart = inl (omega arith);
     })
-    c.in_ok-push-2.ensures.items refl)
+    c.in_ok-push-3.ensures.items refl)
     (record {
       some = omega arith;
       unnamed = λ n from to. none n (omega (arith, few, from));
@@ -71,4 +78,4 @@ returns c =
       ends = inl refl;
       apart = inr (omega arith);
     })
-    c.in_ok-push-3.ensures.items refl
+    c.in_ok-push-4.ensures.items refl

@@ -139,7 +139,7 @@ fn chains_of_numbers(
     Ok(found.into_iter().collect(alloc)?)
 }
 
-/// The filter of a JSON filter on an architecture.
+/// The filter on an architecture of a JSON filter whose names are lent.
 pub fn lent_seccomp_filter(
     alloc: Global,
     arch: TargetArch,

@@ -110,24 +110,3 @@ returns c = let none = λ (none : length c.self.inside.rules.entries ≡ 0). fal
           c.write_chains.new.part _ words some c.requires.compilable.short c.write_chains.ensures.code
           (written ∙ cc (c.load_word.ensures.instruction, c.from.ensures, c.return_word-2.ensures.instruction));
     }
-
-pub slice_bounds-copy_from_slice-end-2 : goal.slice_bounds-copy_from_slice-end-2
-slice_bounds-copy_from_slice-end-2 c = search rules
-
-pub slice_bounds-copy_from_slice-end-3 : goal.slice_bounds-copy_from_slice-end-3
-slice_bounds-copy_from_slice-end-3 c = search rules
-
-pub bounds-program-3 : goal.bounds-program-3
-bounds-program-3 c = search rules
-
-pub bounds-program-3-2 : goal.bounds-program-3-2
-bounds-program-3-2 c = search rules
-
-pub overflow_add-write_chains : goal.overflow_add-write_chains
-overflow_add-write_chains c = search rules
-
-pub offset_bounds-program : goal.offset_bounds-program
-offset_bounds-program c = search rules
-
-pub slice_bounds-write_chains-end : goal.slice_bounds-write_chains-end
-slice_bounds-write_chains-end c = search rules

@@ -23,15 +23,3 @@ returns c =
           ∙ ap (λ b. chain_of b (rules_at c.args.gathered q)) (told_all told _ q (omega (arith, long, c.loop-number-test.false)));
       ordered = made.1;
     }
-
-pub returns-in_err-found : goal.returns-in_err-found
-returns-in_err-found c = search rules
-
-pub returns-in_default : goal.returns-in_default
-returns-in_default c = search rules
-
-pub returns-in_err-push : goal.returns-in_err-push
-returns-in_err-push c = search rules
-
-pub returns-in_err-collect : goal.returns-in_err-collect
-returns-in_err-collect c = search rules

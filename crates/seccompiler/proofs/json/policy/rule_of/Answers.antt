@@ -1,4 +1,4 @@
-use Rattle.std.proofs.Common.{◌≤◌, ◌++◌, ◌∷◌, [], map, take, ap, sym, ◌∙◌, arith, rules}
+use Rattle.std.proofs.Common.{◌≤◌, ◌++◌, ◌∷◌, [], map, take, ap, sym, ◌∙◌, arith}
 use Rattle.std.proofs.lemmas.List.{map_more}
 use Rattle.std.proofs.lemmas.List.Elements.{All-more}
 use Rattle.seccompiler.specs.JsonPolicyOf.{condition_of}
@@ -18,9 +18,3 @@ loop-condition-preserved c =
           c.loop-condition.invariant.indices of.0;
       room = omega (arith, c.push_reserved.ensures.len, c.push_reserved.ensures.capacity, c.loop-condition.invariant.room);
     }
-
-pub returns-in_default : goal.returns-in_default
-returns-in_default c = search rules
-
-pub returns-in_err-try_from : goal.returns-in_err-try_from
-returns-in_err-try_from c = search rules

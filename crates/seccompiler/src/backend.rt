@@ -1,8 +1,8 @@
 // What conditions, rules and filters have in common: architectures, comparisons, actions and errors.
 
 use crate::bpf::{
-    AUDIT_ARCH_AARCH64, AUDIT_ARCH_RISCV64, AUDIT_ARCH_X86_64, SECCOMP_DATA_ARCH_OFFSET,
-    jump_if_equal, load_word, return_word, sock_filter,
+    AUDIT_ARCH_AARCH64, AUDIT_ARCH_RISCV64, AUDIT_ARCH_X86_64, JUMP_EQUAL, LOAD, RETURN,
+    SECCOMP_DATA_ARCH_OFFSET, bpf_jump, bpf_stmt, sock_filter,
 };
 use crate::equality::EqualByParts;
 use std::alloc::{AllocError, AllocFailed, Global};
@@ -352,8 +352,8 @@ pub(crate) fn arch_guard(arch: TargetArch) -> [sock_filter; GUARD_LEN]
     ensures { result ≡ guard_code (audit_word arch) }
 {
     [
-        load_word(u32::from(SECCOMP_DATA_ARCH_OFFSET)),
-        jump_if_equal(arch.get_audit_value(), 1, 0),
-        return_word(SECCOMP_RET_KILL_PROCESS),
+        bpf_stmt(LOAD, u32::from(SECCOMP_DATA_ARCH_OFFSET)),
+        bpf_jump(JUMP_EQUAL, arch.get_audit_value(), 1, 0),
+        bpf_stmt(RETURN, SECCOMP_RET_KILL_PROCESS),
     ]
 }

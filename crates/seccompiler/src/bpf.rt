@@ -1,8 +1,6 @@
 // Instructions and programs of classic BPF, and the constants that they are made of.
 
 ghost use Rattle.std.specs.Prelude.{◌≡◌};
-ghost use Rattle.seccompiler.specs.Code.{load, mask, jump, jump_equal, jump_greater, jump_at_least, give};
-ghost use Rattle.seccompiler.specs.Machine.{IsInRange};
 
 use crate::equality::EqualByParts;
 
@@ -188,60 +186,4 @@ pub fn bpf_jump(code: u16, k: u32, jt: u8, jf: u8) -> sock_filter
     ensures { result ≡ record { code = code; jt = jt; jf = jf; k = k } }
 {
     sock_filter { code, jt, jf, k }
-}
-
-/// Loads the 32 bits at byte `k` of the record into the accumulator.
-pub(crate) fn load_word(k: u32) -> sock_filter
-    ensures instruction { result ≡ load k }
-    ensures range { IsInRange result }
-{
-    bpf_stmt(LOAD, k)
-}
-
-/// Keeps the bits of the accumulator that are set in `k`.
-pub(crate) fn and_mask(k: u32) -> sock_filter
-    ensures instruction { result ≡ mask k }
-    ensures range { IsInRange result }
-{
-    bpf_stmt(MASK, k)
-}
-
-/// Jumps over `k` instructions.
-pub(crate) fn jump_over(k: u32) -> sock_filter
-    ensures instruction { result ≡ jump k }
-    ensures range { IsInRange result }
-{
-    bpf_stmt(JUMP, k)
-}
-
-/// Jumps over `jt` instructions if the accumulator equals `k`, else over `jf`.
-pub(crate) fn jump_if_equal(k: u32, jt: u8, jf: u8) -> sock_filter
-    ensures instruction { result ≡ jump_equal k jt jf }
-    ensures range { IsInRange result }
-{
-    bpf_jump(JUMP_EQUAL, k, jt, jf)
-}
-
-/// Jumps over `jt` instructions if the accumulator is greater than `k`, else over `jf`.
-pub(crate) fn jump_if_greater(k: u32, jt: u8, jf: u8) -> sock_filter
-    ensures instruction { result ≡ jump_greater k jt jf }
-    ensures range { IsInRange result }
-{
-    bpf_jump(JUMP_GREATER, k, jt, jf)
-}
-
-/// Jumps over `jt` instructions if the accumulator is at least `k`, else over `jf`.
-pub(crate) fn jump_if_at_least(k: u32, jt: u8, jf: u8) -> sock_filter
-    ensures instruction { result ≡ jump_at_least k jt jf }
-    ensures range { IsInRange result }
-{
-    bpf_jump(JUMP_AT_LEAST, k, jt, jf)
-}
-
-/// Ends the run and returns `k`.
-pub(crate) fn return_word(k: u32) -> sock_filter
-    ensures instruction { result ≡ give k }
-    ensures range { IsInRange result }
-{
-    bpf_stmt(RETURN, k)
 }

@@ -8,7 +8,7 @@ ghost use Rattle.seccompiler.specs.Layout.{rule_length, rules_length};
 ghost use Rattle.seccompiler.specs.Compiled.{AreCallNumbers, IsLeastUnfit};
 ghost use Rattle.seccompiler.specs.ChainCode.{IsRulesCode};
 
-use crate::bpf::{return_word, sock_filter};
+use crate::bpf::{RETURN, bpf_stmt, sock_filter};
 use crate::rule::SeccompRule;
 use std::collections::BTreeMap;
 
@@ -60,6 +60,6 @@ fn write_rule(part: &mut [sock_filter], rule: &SeccompRule, matched: u32) -> usi
 {
     let end = rule.code_len();
     rule.write(&mut part[..end]);
-    part[end] = return_word(matched);
+    part[end] = bpf_stmt(RETURN, matched);
     end + 1
 }

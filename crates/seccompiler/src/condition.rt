@@ -2,8 +2,8 @@
 
 use crate::backend::{BackendError, SeccompCmpArgLen, SeccompCmpOp};
 use crate::bpf::{
-    ARG_NUMBER_MAX, CONDITION_MAX_LEN, SECCOMP_DATA_ARG_SIZE, SECCOMP_DATA_ARGS_OFFSET, and_mask,
-    jump_if_at_least, jump_if_equal, jump_if_greater, load_word, return_word, sock_filter,
+    ARG_NUMBER_MAX, CONDITION_MAX_LEN, JUMP_AT_LEAST, JUMP_EQUAL, JUMP_GREATER, LOAD, MASK, RETURN,
+    SECCOMP_DATA_ARG_SIZE, SECCOMP_DATA_ARGS_OFFSET, bpf_jump, bpf_stmt, sock_filter,
 };
 use crate::equality::EqualByParts;
 use crate::record::argument_at;
@@ -170,7 +170,7 @@ impl SeccompCondition {
         ensures meets { IfOk result (λ code. IsConditionCode self.now offset code.items) }
         ensures memory { IsOkUnless result OutOfMemory }
     {
-        let Ok(mut code) = vec![in alloc; return_word(0); self.code_len()] else {
+        let Ok(mut code) = vec![in alloc; bpf_stmt(RETURN, 0); self.code_len()] else {
             return Err(BackendError::OutOfMemory);
         };
         self.write(&mut code, offset);
@@ -225,12 +225,12 @@ fn write_dword(part: &mut [sock_filter], operator: SeccompCmpOp, low: u8, value:
     ensures ranges { AreInRange part.new }
 {
     let test = low_test(operator, value, offset);
-    let low = load_word(u32::from(low));
+    let load = bpf_stmt(LOAD, u32::from(low));
     match operator {
         SeccompCmpOp::MaskedEq(mask) => {
-            part.copy_from_slice(&[low, and_mask(low_half(mask)), test]);
+            part.copy_from_slice(&[load, bpf_stmt(MASK, low_half(mask)), test]);
         }
-        _ => part.copy_from_slice(&[low, test]),
+        _ => part.copy_from_slice(&[load, test]),
     }
 }
 
@@ -242,12 +242,13 @@ fn write_qword(part: &mut [sock_filter], operator: SeccompCmpOp, low: u8, value:
     ensures ranges { AreInRange part.new }
 {
     let test = low_test(operator, value, offset);
-    let (high, low) = (load_word(u32::from(low) + 4), load_word(u32::from(low)));
+    let high = bpf_stmt(LOAD, u32::from(low) + 4);
+    let low = bpf_stmt(LOAD, u32::from(low));
     let high_value = (value >> 32) as u32;
-    let equal_or_fail = jump_if_equal(high_value, 0, offset + 2);
-    let equal_or_done = jump_if_equal(high_value, 0, 2);
-    let greater_or_on = jump_if_greater(high_value, 3, 0);
-    let greater_fails = jump_if_greater(high_value, offset + 3, 0);
+    let equal_or_fail = bpf_jump(JUMP_EQUAL, high_value, 0, offset + 2);
+    let equal_or_done = bpf_jump(JUMP_EQUAL, high_value, 0, 2);
+    let greater_or_on = bpf_jump(JUMP_GREATER, high_value, 3, 0);
+    let greater_fails = bpf_jump(JUMP_GREATER, high_value, offset + 3, 0);
     match operator {
         SeccompCmpOp::Eq => part.copy_from_slice(&[high, equal_or_fail, low, test]),
         SeccompCmpOp::Ne => part.copy_from_slice(&[high, equal_or_done, low, test]),
@@ -259,8 +260,8 @@ fn write_qword(part: &mut [sock_filter], operator: SeccompCmpOp, low: u8, value:
         }
         SeccompCmpOp::MaskedEq(mask) => {
             let high_mask = (mask >> 32) as u32;
-            let high_test = jump_if_equal(high_value & high_mask, 0, offset + 3);
-            let (high_and, and) = (and_mask(high_mask), and_mask(low_half(mask)));
+            let high_test = bpf_jump(JUMP_EQUAL, high_value & high_mask, 0, offset + 3);
+            let (high_and, and) = (bpf_stmt(MASK, high_mask), bpf_stmt(MASK, low_half(mask)));
             part.copy_from_slice(&[high, high_and, high_test, low, and, test]);
         }
     }
@@ -273,13 +274,13 @@ fn low_test(operator: SeccompCmpOp, value: u64, offset: u8) -> sock_filter
 {
     let value = low_half(value);
     match operator {
-        SeccompCmpOp::Eq => jump_if_equal(value, 0, offset),
-        SeccompCmpOp::Ne => jump_if_equal(value, offset, 0),
-        SeccompCmpOp::Ge => jump_if_at_least(value, 0, offset),
-        SeccompCmpOp::Gt => jump_if_greater(value, 0, offset),
-        SeccompCmpOp::Le => jump_if_greater(value, offset, 0),
-        SeccompCmpOp::Lt => jump_if_at_least(value, offset, 0),
-        SeccompCmpOp::MaskedEq(mask) => jump_if_equal(value & low_half(mask), 0, offset),
+        SeccompCmpOp::Eq => bpf_jump(JUMP_EQUAL, value, 0, offset),
+        SeccompCmpOp::Ne => bpf_jump(JUMP_EQUAL, value, offset, 0),
+        SeccompCmpOp::Ge => bpf_jump(JUMP_AT_LEAST, value, 0, offset),
+        SeccompCmpOp::Gt => bpf_jump(JUMP_GREATER, value, 0, offset),
+        SeccompCmpOp::Le => bpf_jump(JUMP_GREATER, value, offset, 0),
+        SeccompCmpOp::Lt => bpf_jump(JUMP_AT_LEAST, value, offset, 0),
+        SeccompCmpOp::MaskedEq(mask) => bpf_jump(JUMP_EQUAL, value & low_half(mask), 0, offset),
     }
 }
 

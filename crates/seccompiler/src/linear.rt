@@ -10,8 +10,8 @@ ghost use Rattle.seccompiler.specs.ChainCode.{IsChainCode, IsChainsCode};
 
 use crate::backend::{BackendError, GUARD_LEN, arch_guard};
 use crate::bpf::{
-    BPF_MAX_LEN, BpfProgram, SECCOMP_DATA_NR_OFFSET, jump_if_equal, jump_over, load_word,
-    return_word, sock_filter,
+    BPF_MAX_LEN, BpfProgram, JUMP, JUMP_EQUAL, LOAD, RETURN, SECCOMP_DATA_NR_OFFSET, bpf_jump,
+    bpf_stmt, sock_filter,
 };
 use crate::chain::{call_number, unfit_number, write_rules};
 use crate::filter::SeccompFilter;
@@ -61,7 +61,7 @@ impl SeccompFilter {
         ensures refused { IfErr result (IsRefusal self.now) }
     {
         let length = self.compiled_len()?;
-        let Ok(mut program) = vec![in alloc; return_word(0); length] else {
+        let Ok(mut program) = vec![in alloc; bpf_stmt(RETURN, 0); length] else {
             return Err(BackendError::OutOfMemory);
         };
         self.write(&mut program);
@@ -131,10 +131,10 @@ impl SeccompFilter {
         let mismatch = u32::from(self.mismatch_action);
         program[..GUARD_LEN].copy_from_slice(&arch_guard(self.target_arch));
         if self.rules.is_empty() {
-            program[GUARD_LEN] = return_word(mismatch);
+            program[GUARD_LEN] = bpf_stmt(RETURN, mismatch);
             return;
         }
-        program[GUARD_LEN] = load_word(u32::from(SECCOMP_DATA_NR_OFFSET));
+        program[GUARD_LEN] = bpf_stmt(LOAD, u32::from(SECCOMP_DATA_NR_OFFSET));
         let last = program.len() - 1;
         write_chains(
             &mut program[GUARD_LEN + 1..last],
@@ -142,7 +142,7 @@ impl SeccompFilter {
             mismatch,
             self.match_action.into(),
         );
-        program[last] = return_word(mismatch);
+        program[last] = bpf_stmt(RETURN, mismatch);
     }
 }
 
@@ -200,16 +200,16 @@ fn write_chain(
 {
     if chain.is_empty() {
         part[..EMPTY_CHAIN_LEN].copy_from_slice(&[
-            jump_if_equal(number, 0, 1),
-            jump_over(1),
-            jump_over(2),
-            return_word(matched),
-            return_word(mismatch),
+            bpf_jump(JUMP_EQUAL, number, 0, 1),
+            bpf_stmt(JUMP, 1),
+            bpf_stmt(JUMP, 2),
+            bpf_stmt(RETURN, matched),
+            bpf_stmt(RETURN, mismatch),
         ]);
         return EMPTY_CHAIN_LEN;
     }
-    part[0] = jump_if_equal(number, 0, 1);
+    part[0] = bpf_jump(JUMP_EQUAL, number, 0, 1);
     let end = 1 + write_rules(&mut part[1..], chain, matched);
-    part[end] = return_word(mismatch);
+    part[end] = bpf_stmt(RETURN, mismatch);
     end + 1
 }

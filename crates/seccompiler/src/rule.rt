@@ -1,7 +1,7 @@
 // Conditions that must all hold.
 
 use crate::backend::BackendError;
-use crate::bpf::{BpfProgram, jump_over, return_word, sock_filter};
+use crate::bpf::{BpfProgram, JUMP, RETURN, bpf_stmt, sock_filter};
 use crate::condition::{GREATEST_OFFSET, SeccompCondition};
 use crate::equality::EqualByParts;
 use std::alloc::{AllocError, Global};
@@ -118,7 +118,7 @@ impl SeccompRule {
         if length == usize::MAX {
             return Err(BackendError::OutOfMemory);
         }
-        let Ok(mut code) = vec![in alloc; return_word(0); length] else {
+        let Ok(mut code) = vec![in alloc; bpf_stmt(RETURN, 0); length] else {
             return Err(BackendError::OutOfMemory);
         };
         self.write(&mut code);
@@ -178,7 +178,7 @@ impl SeccompRule {
             offset = near + size as u8;
         }
         // On to the conditions, and past the rule.
-        part[..end].copy_from_slice(&[jump_over(1), jump_over(u32::from(offset) + 1)]);
+        part[..end].copy_from_slice(&[bpf_stmt(JUMP, 1), bpf_stmt(JUMP, u32::from(offset) + 1)]);
     }
 }
 
@@ -244,7 +244,7 @@ fn relay_if_far(part: &mut [sock_filter], end: usize, offset: u8) -> (usize, u8)
         return (end, offset);
     }
     let start = end - RELAY_LEN;
-    let far = u32::from(offset) + 1;
-    part[start..end].copy_from_slice(&[jump_over(2), jump_over(far), jump_over(far)]);
+    let far = bpf_stmt(JUMP, u32::from(offset) + 1);
+    part[start..end].copy_from_slice(&[bpf_stmt(JUMP, 2), far, far]);
     (start, 1)
 }

@@ -1,4 +1,4 @@
-use Rattle.std.proofs.Common.{◌≡◌, ◌+◌, ◌<◌, ◌∷◌, [], ◌++◌, length, take, drop, set, refl, ap, ◌∙◌, arith, rules}
+use Rattle.std.proofs.Common.{◌≡◌, ◌+◌, ◌<◌, ◌∷◌, [], ◌++◌, length, take, drop, set, refl, ap, ◌∙◌, arith}
 use Rattle.std.proofs.lemmas.Bool.Decides.{nat_tests}
 use Rattle.std.proofs.Math.ListN.{length-set}
 use lib.Seq.{take_at}
@@ -29,9 +29,9 @@ pub bounds-part-0 : goal.bounds-part-0
 bounds-part-0 c = omega (arith, c.requires.room, some_length c.args.chain.now (grind (arith, nat_tests)))
 
 pub write_rules-end-requires-clause-room : goal.write_rules-end-requires-clause-room
-write_rules-end-requires-clause-room c = let first = set c.args.part.now 0 c.jump_if_equal-2.result in
+write_rules-end-requires-clause-room c = let first = set c.args.part.now 0 c.bpf_jump-2.result in
     let whole = some_length c.args.chain.now (grind (arith, nat_tests)) in
-    let same = length-set c.args.part.now 0 c.jump_if_equal-2.result in
+    let same = length-set c.args.part.now 0 c.bpf_jump-2.result in
     let lent = length-part 1 (length first) first (omega (arith, same, whole, c.requires.room)) (omega arith) in
     omega (arith, c.requires.room, whole, same, lent)
 
@@ -41,24 +41,24 @@ returns-clause-length c =
 
 pub returns-then-is_empty-clause-code : goal.returns-then-is_empty-clause-code
 returns-then-is_empty-clause-code c = let none : length c.args.chain.now ≡ 0 = grind (arith, nat_tests) in
-    let over = c.jump_over-then-is_empty.ensures.instruction in let give = c.return_word.ensures.instruction in
-    let last = c.return_word-then-is_empty.ensures.instruction in
+    let over = c.bpf_stmt-then-is_empty.ensures in let give = c.bpf_stmt-then-is_empty-2.ensures in
+    let last = c.bpf_stmt-then-is_empty-3.ensures in
     chain_without c.args.number c.args.mismatch c.args.matched (omega arith) (omega arith) (omega arith) c.args.chain.now _ none
     (take_at c.copy_from_slice.new.self (drop 5 c.args.part.now) 5 (ap length c.copy_from_slice.ensures.after)
-    ∙ cc (c.copy_from_slice.ensures.after, c.jump_if_equal.ensures.instruction, c.jump_over.ensures.instruction, over, give, last))
+    ∙ cc (c.copy_from_slice.ensures.after, c.bpf_jump.ensures, c.bpf_stmt.ensures, over, give, last))
 
 pub returns-clause-code : goal.returns-clause-code
 returns-clause-code c = let some : 0 < length c.args.chain.now = grind (arith, nat_tests) in
     let rules = take c.write_rules-end.result c.write_rules-end.new.part in
     let whole = some_length c.args.chain.now some in
-    let first = set c.args.part.now 0 c.jump_if_equal-2.result in
-    let same : length first ≡ length c.args.part.now = length-set c.args.part.now 0 c.jump_if_equal-2.result in
+    let first = set c.args.part.now 0 c.bpf_jump-2.result in
+    let same : length first ≡ length c.args.part.now = length-set c.args.part.now 0 c.bpf_jump-2.result in
     let lent = length-part 1 (length first) first (omega (arith, same, c.requires.room)) (omega arith) in
     let long : length c.write_rules-end.new.part + 1 ≡ length c.args.part.now =
     omega (arith, c.write_rules-end.auto.part, lent, same, c.requires.room, whole) in
     let written = framed c.write_rules-end.result c.args.part.now c.write_rules-end.new.part
-    c.jump_if_equal-2.result c.return_word-2.result long (omega (arith, long, c.requires.room, whole, c.write_rules-end.ensures.length)) in
+    c.bpf_jump-2.result c.bpf_stmt-2.result long (omega (arith, long, c.requires.room, whole, c.write_rules-end.ensures.length)) in
     chain_with c.args.number c.args.mismatch c.args.matched (omega arith) (omega arith)
     (omega arith) c.args.chain.now rules _ some c.write_rules-end.ensures.code
-    (written ∙ ap (λ x. x ∷ (rules ++ c.return_word-2.result ∷ [])) c.jump_if_equal-2.ensures.instruction
-    ∙ ap (λ x. jump_equal c.args.number 0 1 ∷ (rules ++ x ∷ [])) c.return_word-2.ensures.instruction)
+    (written ∙ ap (λ x. x ∷ (rules ++ c.bpf_stmt-2.result ∷ [])) c.bpf_jump-2.ensures
+    ∙ ap (λ x. jump_equal c.args.number 0 1 ∷ (rules ++ x ∷ [])) c.bpf_stmt-2.ensures)

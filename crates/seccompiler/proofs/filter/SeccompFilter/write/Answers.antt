@@ -1,6 +1,6 @@
 use Rattle.std.proofs.Common.{◌≡◌, ℤ, ◌+◌, ◌-◌, ◌<◌, ◌≤◌, List, [], ◌∷◌, ◌++◌, Vec, Global, All, length, set, take}
 use Rattle.std.proofs.Common.{drop, refl, sym, ap, ◌∙◌, subst}
-use Rattle.std.proofs.Common.{true, false, arith, length-append, length-drop, rules}
+use Rattle.std.proofs.Common.{true, false, arith, length-append, length-drop}
 use Rattle.std.proofs.Math.ListN.{length-set}
 use Rattle.std.proofs.lemmas.Bool.{false≢true}
 use lib.Seq.{length-take-le}
@@ -48,7 +48,7 @@ returns-then-is_empty c = let none : length c.self.inside.rules.entries ≡ 0 = 
     let long : length c.args.program.now ≡ 4 =
     c.requires.room ∙ counted_empty c.self.inside.rules.entries _ (ap (λ (f : Filter). f.chains) c.self.view_is) none in
     let written = four-written c.copy_from_slice.new.self c.args.program.now _
-    (jump_equal (audit_word c.args.self.now.target_arch) 1 0) _ c.return_word.result
+    (jump_equal (audit_word c.args.self.now.target_arch) 1 0) _ c.bpf_stmt.result
     (c.copy_from_slice.ensures.after ∙ c.arch_guard.ensures ∙ ap
     (λ (f : Filter). guard_code (audit_word f.target_arch)) c.self.view_is) long in
     let words = words_of c.args.self.now c.self.inside.rules.entries
@@ -56,34 +56,34 @@ returns-then-is_empty c = let none : length c.self.inside.rules.entries ≡ 0 = 
     c.from-mismatch.result _ c.self.view_is c.from-mismatch.ensures refl in
     record {
       compiled = written_empty c.args.self.now c.self.inside.rules.entries c.from-mismatch.result _ _ words none
-          (written ∙ cc (c.return_word.ensures.instruction));
+          (written ∙ cc (c.bpf_stmt.ensures));
     }
 
 pub overflow_sub-last : goal.overflow_sub-last
-overflow_sub-last c = let s = lengths c.args.self.now c.self.inside.rules.entries c.args.program.now c.load_word.result refl c.self.view_is
+overflow_sub-last c = let s = lengths c.args.self.now c.self.inside.rules.entries c.args.program.now c.bpf_stmt-2.result refl c.self.view_is
     c.if-is_empty.ensures.1 c.requires.room c.requires.compilable.short c.copy_from_slice.ensures.after (ap length c.arch_guard.ensures) in
     omega (arith, s.0)
 
 pub write_chains-requires-clause-room : goal.write_chains-requires-clause-room
 write_chains-requires-clause-room c =
-    (lengths c.args.self.now c.self.inside.rules.entries c.args.program.now c.load_word.result refl c.self.view_is
+    (lengths c.args.self.now c.self.inside.rules.entries c.args.program.now c.bpf_stmt-2.result refl c.self.view_is
     c.if-is_empty.ensures.1 c.requires.room c.requires.compilable.short c.copy_from_slice.ensures.after (ap length c.arch_guard.ensures)).2
 
 pub write_chains-requires-clause-short : goal.write_chains-requires-clause-short
-write_chains-requires-clause-short c = let first = set (c.copy_from_slice.new.self ++ drop 3 c.args.program.now) 3 c.load_word.result in
-    let s = lengths c.args.self.now c.self.inside.rules.entries c.args.program.now c.load_word.result refl c.self.view_is
+write_chains-requires-clause-short c = let first = set (c.copy_from_slice.new.self ++ drop 3 c.args.program.now) 3 c.bpf_stmt-2.result in
+    let s = lengths c.args.self.now c.self.inside.rules.entries c.args.program.now c.bpf_stmt-2.result refl c.self.view_is
     c.if-is_empty.ensures.1 c.requires.room c.requires.compilable.short c.copy_from_slice.ensures.after (ap length c.arch_guard.ensures) in
     omega (arith, s.0, s.1, length-part 4 (length first - 1) first (omega (arith, s.0)) (omega arith))
 
 pub offset_bounds-program-last : goal.offset_bounds-program-last
 offset_bounds-program-last c =
-    let s = lengths c.args.self.now c.self.inside.rules.entries c.args.program.now c.load_word.result refl c.self.view_is
+    let s = lengths c.args.self.now c.self.inside.rules.entries c.args.program.now c.bpf_stmt-2.result refl c.self.view_is
     c.if-is_empty.ensures.1 c.requires.room c.requires.compilable.short c.copy_from_slice.ensures.after (ap length c.arch_guard.ensures) in
     omega (arith, s.1)
 
 pub bounds-program-last : goal.bounds-program-last
-bounds-program-last c = let first = set (c.copy_from_slice.new.self ++ drop 3 c.args.program.now) 3 c.load_word.result in
-    let s = lengths c.args.self.now c.self.inside.rules.entries c.args.program.now c.load_word.result refl c.self.view_is
+bounds-program-last c = let first = set (c.copy_from_slice.new.self ++ drop 3 c.args.program.now) 3 c.bpf_stmt-2.result in
+    let s = lengths c.args.self.now c.self.inside.rules.entries c.args.program.now c.bpf_stmt-2.result refl c.self.view_is
     c.if-is_empty.ensures.1 c.requires.room c.requires.compilable.short c.copy_from_slice.ensures.after (ap length c.arch_guard.ensures) in
     omega (arith, s.0, same_len_mid 4 (length first - 1 - 4) first c.write_chains.new.part c.write_chains.auto.part)
 
@@ -99,7 +99,7 @@ returns c = let none = λ (none : length c.self.inside.rules.entries ≡ 0). fal
     let long : length c.write_chains.new.part + 5 ≡ length c.args.program.now =
     omega (arith, c.write_chains.ensures.code.long, c.requires.room, counted) in
     let written = headed c.copy_from_slice.new.self c.args.program.now c.write_chains.new.part _
-    (jump_equal (audit_word c.args.self.now.target_arch) 1 0) _ c.load_word.result c.return_word-2.result
+    (jump_equal (audit_word c.args.self.now.target_arch) 1 0) _ c.bpf_stmt-2.result c.bpf_stmt-3.result
     (c.copy_from_slice.ensures.after ∙ c.arch_guard.ensures ∙ ap
     (λ (f : Filter). guard_code (audit_word f.target_arch)) c.self.view_is) long in
     let words = words_of c.args.self.now c.self.inside.rules.entries c.self.inside.mismatch_action
@@ -108,5 +108,5 @@ returns c = let none = λ (none : length c.self.inside.rules.entries ≡ 0). fal
     record {
       compiled = written_full c.args.self.now c.self.inside.rules.entries c.from-mismatch.result c.into.result
           c.write_chains.new.part _ words some c.requires.compilable.short c.write_chains.ensures.code
-          (written ∙ cc (c.load_word.ensures.instruction, c.from.ensures, c.return_word-2.ensures.instruction));
+          (written ∙ cc (c.bpf_stmt-2.ensures, c.from.ensures, c.bpf_stmt-3.ensures));
     }

@@ -74,7 +74,7 @@ returns c = let l = c.loop-condition in
     let some : 1 ≤ length q = omega (arith, ap length c.deref-condition-items.ensures.value, c.self.invariant) in
     let all = built_all q l.condition-index (drop l.end l.part) l.offset c.loop-condition-test.false l.invariant.built in
     let entry : c.copy_from_slice.new.self ≡ entry_code l.offset = c.copy_from_slice.ensures.after
-    ∙ cc (c.jump_over.ensures.instruction, c.jump_over-2.ensures.instruction, c.from.ensures) in
+    ∙ cc (c.bpf_stmt.ensures, c.bpf_stmt-2.ensures, c.from.ensures) in
     let code = built_rule q (drop l.end l.part) (c.copy_from_slice.new.self ++ drop l.end l.part) l.offset some all
     (ap (λ e. e ++ drop l.end l.part) entry) in
     record { code = rw (← c.self.view_is, ← c.deref-condition-items.ensures.value) code }

@@ -1,10 +1,10 @@
 -- Steps over call numbers: the numbers up to the next that is answered otherwise, and that the steps are as few as can be.
-use Rattle.seccomp_tree.proofs.Common.{if◌then◌else◌, below_length, AreCallSteps, rules_length, default_from, calls_length, DefaultValue, ℕ}
+use Rattle.seccomp_tree.proofs.Common.{if◌then◌else◌, nat_lt, AreCallSteps, rules_length, default_from, calls_length, DefaultValue, ℕ}
 use Rattle.seccomp_tree.proofs.Common.{IsNextStart, sock_filter, DecisionSet, default_for, rulings_for, IsAnswered, found_from, AscendFrom}
 use Rattle.seccomp_tree.proofs.Common.{nat_tests, is_member, AreRanges, IsAnswer, cases_lt, IsPushed, calls_of, AreTight, nat_cmp, length}
 use Rattle.seccomp_tree.proofs.Common.{get_or, IsSome, lookup, Global, Target, Ruling, nat_eq, nat_le, arith, is_at, false, List, refl, ◌≡◌}
 use Rattle.seccomp_tree.proofs.Common.{Step, Bool, true, ◌+◌, ◌<◌, ◌≤◌, ◌^◌, ◌∷◌, Vec, sym, ◌∙◌, suc, ◌⊎◌, inl, inr, ◌-◌, [], ap}
-use Rattle.seccomp_tree.proofs.Runs.{grows_on, is_in_grown, leads_grown}
+use Rattle.seccomp_tree.proofs.Runs.{grows_not, grows_on, is_in_grown, leads_grown}
 use Rattle.seccomp_tree.proofs.Begun.{steps_more, found_before}
 use Rattle.seccomp_tree.proofs.Decided.{items_of, rulings_under}
 
@@ -42,11 +42,16 @@ pub none_before : (entries : List (ℕ × Vec Ruling Global)) (n next : ℕ)
 none_before entries n next least lt =
     let none : items_of (lookup (is_at (nat_cmp n)) entries) ≡ [] = grind (arith, least) in sym (rulings_under entries n) ∙ none
 
+-- How many instructions the rulings of the numbers below one take.
+abbrev pub below_length : List (ℕ × List Ruling) → ℕ → ℕ
+below_length [] n = 0
+below_length (e ∷ calls) n = (if nat_lt e.0 n then rules_length e.1 else 0) + below_length calls n
+
 below_more : (calls : List (ℕ × List Ruling)) (a b : ℕ) → a ≤ b → below_length calls a ≤ below_length calls b
 below_more [] a b le = omega arith
 below_more (e ∷ calls) a b le = grind (arith, nat_tests, below_more calls a b le)
 
-pub below_all : (calls : List (ℕ × List Ruling)) (n : ℕ) → below_length calls n ≤ calls_length calls
+below_all : (calls : List (ℕ × List Ruling)) (n : ℕ) → below_length calls n ≤ calls_length calls
 below_all [] n = omega arith
 below_all (e ∷ calls) n = grind (arith, nat_tests, below_all calls n)
 
@@ -62,8 +67,8 @@ calls_less calls n = omega (arith, below_one calls n (n + 1) (omega arith), belo
 -- ---- the loop of `call_steps`
 
 pub calls_on : {d : DecisionSet} {old mid new : List sock_filter} {steps more : List Step} {number next : ℕ} {t : Target}
-    → AreCallSteps old d number steps mid → IsAnswered mid (default_for d.defaults number) (rulings_for d.calls number) t new
-    → IsPushed steps number t more → IsNextStart d.defaults d.calls number next → AreCallSteps old d next more new
+    → AreCallSteps old d (below_length d.calls number) number steps mid → IsAnswered mid (default_for d.defaults number) (rulings_for d.calls number) t new
+    → IsPushed steps number t more → IsNextStart d.defaults d.calls number next → AreCallSteps old d (below_length d.calls next) next more new
 calls_on {d} {number = number} {next} h answered pushed on = record {
   grows = grows_on _ h.grows answered.grows (below_one d.calls number next on.above);
   are = steps_more (number + 1) next _ (omega arith) (omega (arith, on.above)) pushed.are;
@@ -77,6 +82,14 @@ calls_on {d} {number = number} {next} h answered pushed on = record {
         }
     | inr le ↦ rw (pushed.from n le, on.default n le lt, on.rulings n le lt) answered.answer
   ];
+}
+
+pub calls_all : {d : DecisionSet} {old new : List sock_filter} {steps : List Step} {n : ℕ}
+    → AreCallSteps old d (below_length d.calls n) n steps new → AreCallSteps old d (calls_length d.calls) n steps new
+calls_all {d} {n = n} h = record {
+  grows = grows_on _ h.grows (grows_not _ 0) (omega (arith, below_all d.calls n));
+  are = h.are;
+  each = h.each;
 }
 
 -- ---- steps without alike neighbours are at most as many as any ranges of the decisions
@@ -126,8 +139,8 @@ few_from d code starts y (x ∷ steps) ranges ascend tight each =
         let high = (each (x.start - 1 + 1) (omega (arith, ascend.0)) (omega (arith, ascend.0, ascend.1.0))).one alike.0 alike.2 in
         absurd (tight.0 (sym below ∙ low ∙ sym high ∙ at))
 
-pub fewest : {d : DecisionSet} {old code : List sock_filter} (steps : List Step) (starts : List ℕ)
-    → AreCallSteps old d (2 ^ 32) steps code → AreRanges d starts → length steps ≤ length starts
+pub fewest : {d : DecisionSet} {most : ℕ} {old code : List sock_filter} (steps : List Step) (starts : List ℕ)
+    → AreCallSteps old d most (2 ^ 32) steps code → AreRanges d starts → length steps ≤ length starts
 fewest [] starts h ranges = omega arith
 fewest {d} {code = code} (x ∷ steps) starts h ranges =
     let zero : x.start ≡ 0 = h.are.first in

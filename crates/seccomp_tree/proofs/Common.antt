@@ -2,7 +2,7 @@
 pub use Rattle.seccomp_tree.specs.Code.{AllIn, AreCallSteps, AreFine, AreIn, AreLaid, AreOver, AreSteps, AreTight, AscendFrom, DoesAs}
 pub use Rattle.seccomp_tree.specs.Code.{GoesOn, Grows, HasBits, IsAnswer, IsAnswered, IsChosen, IsConditionMet, IsIn, IsMet, IsNextStart}
 pub use Rattle.seccomp_tree.specs.Code.{IsPart, IsPushed, IsReached, IsRulingMet, IsSound, IsTested, IsTree, IsTurn, Leads, Returns, Starts}
-pub use Rattle.seccomp_tree.specs.Code.{below_length, chosen, first_start, found_from, found_in, gives, goes_on, near, passed, row, same}
+pub use Rattle.seccomp_tree.specs.Code.{chosen, first_start, found_from, found_in, gives, goes_on, near, passed, row, same}
 pub use Rattle.seccomp_tree.specs.Code.{second_stands_out, single, tail_at, to_place, to_return}
 pub use Rattle.seccomp_tree.specs.Decisions.{First, Ruling, Takes, alike, begins, behind, condition_length, condition_steps}
 pub use Rattle.seccomp_tree.specs.Decisions.{conditions_length, conditions_steps, ends, here, is_plain, joined, nothing, only, part_length}

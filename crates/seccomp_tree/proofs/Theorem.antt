@@ -3,7 +3,7 @@
 use Rattle.seccomp_tree.proofs.Common.{drop_all, ◌≡◌, ℕ, zero, suc, ◌+◌, ◌-◌, ◌<◌, ◌≤◌, ◌^◌, List, [], ◌∷◌, length, drop, Some}
 use Rattle.seccomp_tree.proofs.Common.{length-append, goes_on, EndsWithin, length-drop, subst, refl, sym, ap, ◌∙◌, arith, add-one, zero-add}
 use Rattle.seccomp_tree.proofs.Common.{slice_get, drop-drop, sock_filter, give, Goes, stays, then_step, IsFine, IsInRange, IsChecked}
-use Rattle.seccomp_tree.proofs.Common.{greatest_length, AreFine, IsSound, Returns, gives, ◌*◌, inl, inr, IsAnswer, AreCallSteps, length_by}
+use Rattle.seccomp_tree.proofs.Common.{greatest_length, AreFine, IsSound, Returns, gives, ◌*◌, inl, inr, IsAnswer, AreCallSteps, length_by, calls_length}
 use Rattle.seccomp_tree.proofs.Common.{Equal, nat_tests, IsRecord, word_at, audit_word, Target, Give, Step, one, Leads, to_return, IsPart}
 use Rattle.seccomp_tree.proofs.Common.{chosen, Dword, Ruling, First, Takes, stops, passes, ends, begins, run_steps, joined, DecisionSet}
 use Rattle.seccomp_tree.proofs.Common.{default_for, IsDecided, rulings_for, other_architecture, decided, TakesOwn, other, own}
@@ -12,7 +12,7 @@ use Rattle.seccomp_tree.proofs.Runs.{returns_more, grown_long}
 use Rattle.seccomp_tree.proofs.Decided.{decided_some, one_first}
 use Rattle.seccomp_tree.proofs.Begun.{not_none}
 use Rattle.seccomp_tree.proofs.Trees.{load_run}
-use Rattle.seccomp_tree.proofs.CallsPushed.{below_all, fewest}
+use Rattle.seccomp_tree.proofs.CallsPushed.{fewest}
 use Rattle.seccomp_tree.proofs.Meeting.{rule_or_not}
 use Rattle.seccompiler.proofs.Runs.{get_behind}
 
@@ -125,7 +125,7 @@ takes_some r (d ∷ rest) zero =
 pub record IsWritten (d : DecisionSet) (p : List sock_filter) : Type 0 where
   pub mid : List sock_filter
   pub steps : List Step
-  pub answers : AreCallSteps (give 0x80000000 ∷ []) d (2 ^ 32) steps mid
+  pub answers : AreCallSteps (give 0x80000000 ∷ []) d (calls_length d.calls) (2 ^ 32) steps mid
   pub calls : Target
   pub behind : List sock_filter
   pub word : IsPart mid Dword (λ r. word_at r 0) steps calls behind
@@ -167,8 +167,7 @@ module _ (d : DecisionSet) (p : List sock_filter) (h : IsWritten d p) where
       let some = not_none (2 ^ 32) h.steps h.answers.are (omega arith) in
       let few = fewest h.steps starts h.answers ranges in
       let grown = (grown_long h.answers.grows).1 in
-      let calls = below_all d.calls (2 ^ 32) in
-      omega (arith, some, few, grown, calls, (grown_long h.word.grows).1, (grown_long h.tests.grows).1, ap length h.whole)
+      omega (arith, some, few, grown, (grown_long h.word.grows).1, (grown_long h.tests.grows).1, ap length h.whole)
 
   pub written_program : IsSound p → length p ≤ greatest_length → IsTreeProgram d p
   written_program sound fits = record {

@@ -266,13 +266,9 @@ pub record IsNextStart (defaults : List DefaultValue) (calls : List (ℕ × List
   pub default : (n : ℕ) → number ≤ n → n < next → default_for defaults n ≡ default_for defaults number
   pub rulings : (n : ℕ) → number ≤ n → n < next → rulings_for calls n ≡ rulings_for calls number
 
--- How many instructions the rulings of the numbers below one take.
-abbrev pub below_length : List (ℕ × List Ruling) → ℕ → ℕ
-below_length [] n = 0
-below_length (e ∷ calls) n = (if nat_lt e.0 n then rules_length e.1 else 0) + below_length calls n
-
--- Code was put in front, and the steps over the numbers below one answer each of them.
-pub record AreCallSteps (old : List sock_filter) (d : DecisionSet) (next : ℕ) (steps : List Step) (new : List sock_filter) : Type 0 where
-  pub grows : Grows old (below_length d.calls next) new
+-- At most so many instructions were put in front, and the steps over the numbers below one answer each of them.
+pub record AreCallSteps (old : List sock_filter) (d : DecisionSet) (most next : ℕ) (steps : List Step) (new : List sock_filter) :
+    Type 0 where
+  pub grows : Grows old most new
   pub are : AreSteps next steps
   pub each : (n : ℕ) → n < next → IsAnswer new (default_for d.defaults n) (rulings_for d.calls n) (found_in steps n)

@@ -5,7 +5,7 @@ use Rattle.seccompiler.specs.declared.backend.SeccompCmpArgLen.{SeccompCmpArgLen
 use Rattle.seccompiler.specs.declared.backend.SeccompCmpArgLen.TheVariants.{Dword, Qword}
 use Rattle.seccompiler.specs.Policy.{Condition, RuleHolds}
 use Rattle.seccompiler.specs.declared.backend.SeccompCmpOp.{SeccompCmpOp}
-use Rattle.seccompiler.specs.declared.backend.SeccompCmpOp.TheVariants.{MaskedEq}
+use Rattle.seccompiler.specs.declared.backend.SeccompCmpOp.TheVariants.{Eq, Ne, Ge, Gt, Le, Lt, MaskedEq}
 
 -- Conditions, and the word that is returned if they all hold.
 pub record Ruling : Type 0 where
@@ -21,8 +21,13 @@ pub data First (default : ℕ) (r : List ℕ) : List Ruling → ℕ → Type 0 w
 
 -- Whether the operator compares without a mask: it holds on the numbers of one interval or two.
 abbrev pub is_plain : SeccompCmpOp → Bool
+is_plain Eq = true
+is_plain Ne = true
+is_plain Ge = true
+is_plain Gt = true
+is_plain Le = true
+is_plain Lt = true
 is_plain (MaskedEq m) = false
-is_plain _ = true
 
 -- ---- runs: rulings that compare one argument, one after the other
 
@@ -62,15 +67,13 @@ part_steps Qword k = 5 + 4 * k
 
 -- How many instructions a condition takes at most. It has three steps, or it has masks.
 abbrev pub condition_length : SeccompCmpArgLen → SeccompCmpOp → ℕ
-condition_length Dword (MaskedEq m) = 5
-condition_length Qword (MaskedEq m) = 10
-condition_length l _ = part_length l 3
+condition_length Dword o = if is_plain o then part_length Dword 3 else 5
+condition_length Qword o = if is_plain o then part_length Qword 3 else 10
 
 -- How many steps of the machine a condition takes at most.
 abbrev pub condition_steps : SeccompCmpArgLen → SeccompCmpOp → ℕ
-condition_steps Dword (MaskedEq m) = 3
-condition_steps Qword (MaskedEq m) = 7
-condition_steps l _ = part_steps l 2
+condition_steps Dword o = if is_plain o then part_steps Dword 2 else 3
+condition_steps Qword o = if is_plain o then part_steps Qword 2 else 7
 
 -- The lengths of conditions by themselves.
 abbrev pub conditions_length : List Condition → ℕ

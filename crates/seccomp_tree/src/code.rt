@@ -116,8 +116,8 @@ impl Code {
                 bpf_stmt(JUMP, over as u32)
             }
         };
-        let nearest = self.len().saturating_sub(REACH + 1);
-        for place in (nearest..self.len()).rev() {
+        let farthest = self.len().saturating_sub(REACH + 1);
+        for place in (farthest..self.len()).rev() {
             if self.does(place, target) {
                 return Ok(place);
             }

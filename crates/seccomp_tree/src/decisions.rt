@@ -1,6 +1,6 @@
 // Decisions on calls: what each call is answered with.
 
-ghost use Rattle.std.specs.Prelude.{◌≡◌, ℕ, ◌↔◌, IsTrue};
+ghost use Rattle.std.specs.Prelude.{◌≡◌, ℕ, ◌↔◌};
 ghost use Rattle.seccomp_tree.specs.Decisions.{First};
 ghost use Rattle.seccomp_tree.specs.Decided.{AscendFromZero, calls_of, default_for, rulings_for};
 

@@ -1,14 +1,13 @@
 // A filter as decisions.
 
-ghost use Rattle.std.specs.Prelude.{◌≡◌, IfOk, IfErr, OnOk, IsOkUnless};
+ghost use Rattle.std.specs.Prelude.{◌≡◌, IfOk, IfErr, OnOk};
 ghost use Rattle.seccompiler.specs.Compiled.{AreCallNumbers, numbers_of};
-ghost use Rattle.seccomp_tree.specs.declared.error.FilterError.TheVariants.{OutOfMemory};
 ghost use Rattle.seccomp_tree.specs.FilterDecisions.{rulings_of};
 
 use crate::decisions::{Decision, Decisions, DefaultValue};
 use crate::error::FilterError;
 use seccompiler::{BackendError, SeccompFilter, SeccompRule};
-use std::alloc::Global;
+use std::alloc::{AllocError, Global};
 use std::collections::BTreeMap;
 
 impl Decisions {
@@ -30,10 +29,10 @@ impl Decisions {
         if let Err(BackendError::InvalidSyscallNumber(number)) = filter.compiled_len() {
             return Err(FilterError::InvalidSyscallNumber(number));
         }
-        let value = filter.match_action().into();
+        let match_value = filter.match_action().into();
         let mut calls = BTreeMap::new(alloc);
         for (number, chain) in filter.rules() {
-            drop(calls.insert(*number as u32, rulings_of(alloc, chain, value)?)?);
+            drop(calls.insert(*number as u32, rulings_of(alloc, chain, match_value)?)?);
         }
         let value = filter.mismatch_action().into();
         let defaults = vec![in alloc; DefaultValue { start: 0, value }]?;
@@ -47,13 +46,8 @@ impl Decisions {
 }
 
 // The rulings of a chain.
-fn rulings_of(
-    alloc: Global,
-    chain: &[SeccompRule],
-    value: u32,
-) -> Result<Vec<Decision>, FilterError>
-    ensures made { IfOk result (λ rulings. rulings.items ≡ rulings_of value chain.now) }
-    ensures memory { IsOkUnless result OutOfMemory }
+fn rulings_of(alloc: Global, chain: &[SeccompRule], value: u32) -> Result<Vec<Decision>, AllocError>
+    ensures { IfOk result (λ rulings. rulings.items ≡ rulings_of value chain.now) }
 {
     let mut rulings = Vec::new(alloc);
     for rule in chain {

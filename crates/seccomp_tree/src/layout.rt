@@ -74,6 +74,13 @@ pub fn to_bpf_in(
 /// `InvalidSyscallNumber` with the least key that lies outside 0 to 4294967295, if there is one, which takes no
 /// memory; `TreeTooLarge` if the program would have more than 4096 instructions, and only if the bound on its
 /// length is more than that too; `OutOfMemory` if memory runs out.
+///
+/// # Examples
+///
+/// ```
+/// let program = to_tree_bpf(alloc, &filter)?;
+/// assert!(rt; check(&program));
+/// ```
 pub fn to_tree_bpf(alloc: Global, filter: &SeccompFilter) -> Result<BpfProgram, FilterError>
     ensures compiled { IfOk result (λ program. IsCompiledIn Tree filter.now program.items) }
     ensures numbers { OnOk result (AreCallNumbers (numbers_of filter.now.chains)) }

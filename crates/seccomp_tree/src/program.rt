@@ -46,7 +46,7 @@ impl Decisions {
     // The steps over call numbers.
     #[tactic(auto, using(crate::proofs::CallsPushed::calls_less))]
     fn call_steps(&self, alloc: Global, code: &mut Code) -> Result<Vec<Step>, TreeError>
-        ensures ok { IfOk result (λ steps. AreCallSteps code.old self.now (2 ^ 32) steps.items code.new) }
+        ensures ok { IfOk result (λ steps. AreCallSteps code.old self.now (calls_length self.now.calls) (2 ^ 32) steps.items code.new) }
         ensures err { IfErr result (IsTooMany (calls_length self.now.calls)) }
     {
         let mut steps = Vec::new(alloc);

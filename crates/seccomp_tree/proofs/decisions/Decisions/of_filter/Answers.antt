@@ -6,16 +6,16 @@ pub loop-number-init : goal.loop-number-init
 loop-number-init c =
     let into = c.into_iter-number-iterator.ensures.into_iter_gives in
     let fit : AreCallNumbers (numbers_of c.args.filter.now.chains) = search rules in
-    let begun = calls_begin c.into-value.result c.rules-number-items.result.now.entries (rw c.rules-number-items.ensures fit) into.5 in
+    let begun = calls_begin c.into-match_value.result c.rules-number-items.result.now.entries (rw c.rules-number-items.ensures fit) into.5 in
     rw (c.new-calls.ensures.empty, into.0) (rw c.rules-number-items.ensures at begun)
 
 pub loop-number-preserved : goal.loop-number-preserved
 loop-number-preserved c =
     let so_far = rw c.in-Some.ensures.steps at c.loop-number.invariant in
     let number = so_far.rise.0 in
-    rw c.in_ok-insert.ensures.entries (calls_next c.into-value.result _ c.in-Some.number.now c.in-Some.chain.now
+    rw c.in_ok-insert.ensures.entries (calls_next c.into-match_value.result _ c.in-Some.number.now c.in-Some.chain.now
     c.in_ok-rulings_of.field-0 c.args.filter.now.chains c.next.new.self c.loop-number.calls.entries so_far
-    (search (rules, number.1, number.2)) (c.in_ok-rulings_of.ensures.made ∙ ap (rulings_of c.into-value.result) c.deref.ensures.value))
+    (search (rules, number.1, number.2)) (c.in_ok-rulings_of.ensures ∙ ap (rulings_of c.into-match_value.result) c.deref.ensures.value))
 
 same : (c : goal.After-target_arch-target_arch) → (record {
   target_arch = c.target_arch-target_arch.result;

@@ -1,11 +1,19 @@
 -- Steps that ascend: what they have for a number, what is left of them there, one step more, and comparisons laid over them.
 use Rattle.seccomp_tree.proofs.Common.{SeccompCmpArgLen, if◌then◌else◌, length-append, SeccompCmpOp, length-drop, first_start, sock_filter}
-use Rattle.seccomp_tree.proofs.Common.{found_from, AscendFrom, nat_tests, Condition, take_all, found_in, AreSteps, AreTight, IsPushed, take}
-use Rattle.seccomp_tree.proofs.Common.{cases_lt, cases_eq, MaskedEq, Compares, is_plain, IsChosen, AreOver, bit_and, part_of, AreLaid, zero}
+use Rattle.seccomp_tree.proofs.Common.{found_from, AscendFrom, nat_tests, Condition, take_rest, found_in, AreSteps, AreTight, IsPushed, take}
+use Rattle.seccomp_tree.proofs.Common.{cases_lt, cases_eq, MaskedEq, Compares, is_plain, IsChosen, bit_and, part_of, AreLaid, zero}
 use Rattle.seccomp_tree.proofs.Common.{nat_le, IsTurn, length, get_or, Target, nat_eq, nat_lt, AllIn, arith, AreIn, List, ◌++◌, drop, true}
 use Rattle.seccomp_tree.proofs.Common.{refl, Bool, Step, IsIn, ◌≡◌, suc, ◌+◌, ◌-◌, ◌^◌, ◌<◌, ◌≤◌, ◌≢◌, ◌∷◌, ◌∙◌, ◌⊎◌, inl, inr, [], ap, ℕ}
 use Rattle.seccomp_tree.specs.Code.{numbers_of}
 use mir.Val.{bool_byte}
+
+-- One target for all numbers.
+abbrev pub single : Target → List Step
+single target = record { start = 0; target = target } ∷ []
+
+-- Steps over numbers of 32 bits, of which it doesn't matter where the first starts.
+abbrev pub AreOver : List Step → Type 0
+AreOver steps = AscendFrom (2 ^ 32) 1 (drop 1 steps)
 
 -- ---- ascending
 
@@ -113,10 +121,6 @@ pub left_has : {size number : ℕ} {steps : List Step} (rest : List Step) (d : S
     → number ≤ a → a < first_start size (drop 1 rest) → found_in steps a ≡ (get_or rest 0 d).target
 left_has rest d a h some le lt = grind (arith, h.from some, h.same a le, left_end rest h some, found_until)
 
--- the rest of a slice is what is left of the list
-pub all_behind : (steps : List Step) (n : ℕ) → take (length steps - n) (drop n steps) ≡ drop n steps
-all_behind steps n = take_all (length steps - n) (drop n steps) (omega (arith, length-drop n steps))
-
 -- What is left at the next number: the others, if the first ends there.
 abbrev pub HasMoved : ℕ → ℕ → List Step → List Step → Type 0
 HasMoved next end rest back = ((next ≡ end) × (back ≡ drop 1 rest)) ⊎ ((next ≢ end) × (back ≡ rest))
@@ -127,10 +131,7 @@ byte_is b = grind arith
 
 pub moves : (k next end : ℕ) (rest : List Step) → k ≡ (if nat_eq next end then 1 else 0)
     → HasMoved next end rest (take (length rest - k) (drop k rest))
-moves k next end rest is = rw (all_behind rest k) (elim (cases_eq next end) [
-  | inl same ↦ let one : k ≡ 1 = grind (arith, nat_tests) in inl (same, rw one refl)
-  | inr other ↦ let none : k ≡ 0 = grind (arith, nat_tests) in inr (other, rw none refl)
-])
+moves k next end rest is = rw (take_rest rest k) (grind (arith, nat_tests, is))
 
 pub left_on : {size number : ℕ} {steps : List Step} (next end : ℕ) (rest back : List Step) → AreLeft size steps number rest → number < size
     → end ≡ first_start size (drop 1 rest) → number < next → next ≤ end → HasMoved next end rest back → AreLeft size steps next back

@@ -1,9 +1,9 @@
 -- The names that the proofs share, of std, of the library and of the definitions.
-pub use Rattle.seccomp_tree.specs.Code.{AllIn, AreCallSteps, AreFine, AreIn, AreLaid, AreOver, AreSteps, AreTight, AscendFrom, DoesAs}
+pub use Rattle.seccomp_tree.specs.Code.{AllIn, AreCallSteps, AreFine, AreIn, AreLaid, AreSteps, AreTight, AscendFrom, DoesAs}
 pub use Rattle.seccomp_tree.specs.Code.{GoesOn, Grows, HasBits, IsAnswer, IsAnswered, IsChosen, IsConditionMet, IsIn, IsMet, IsNextStart}
 pub use Rattle.seccomp_tree.specs.Code.{IsPart, IsPushed, IsReached, IsRulingMet, IsSound, IsTested, IsTree, IsTurn, Leads, Returns, Starts}
 pub use Rattle.seccomp_tree.specs.Code.{chosen, first_start, found_from, found_in, gives, goes_on, near, passed, row, same}
-pub use Rattle.seccomp_tree.specs.Code.{second_stands_out, single, tail_at, to_place, to_return}
+pub use Rattle.seccomp_tree.specs.Code.{second_stands_out, tail_at, to_place, to_return}
 pub use Rattle.seccomp_tree.specs.Decisions.{First, Ruling, Takes, alike, begins, behind, condition_length, condition_steps}
 pub use Rattle.seccomp_tree.specs.Decisions.{conditions_length, conditions_steps, ends, here, is_plain, joined, nothing, only, part_length}
 pub use Rattle.seccomp_tree.specs.Decisions.{part_steps, passes, rules_length, run_steps, stops}
@@ -43,7 +43,7 @@ pub use Rattle.std.proofs.lemmas.Bool.{and_parts, cases_Bool, cases_eq, cases_lt
 pub use Rattle.std.proofs.lemmas.Bool.Decides.{nat_tests}
 pub use Rattle.std.proofs.lemmas.Int.{ints}
 pub use Rattle.std.proofs.lemmas.List.{drop-drop, drop_all, drop_more, get_or-drop, get_or-reverse, get_or-take, get_or_read_under}
-pub use Rattle.std.proofs.lemmas.List.{length-reverse, length-take, length-take-le, map-append, reverse-append, take-append-drop, take_all}
+pub use Rattle.std.proofs.lemmas.List.{length-reverse, length-take, length-take-le, map-append, reverse-append, take-append-drop, take_all, take_rest}
 pub use Rattle.std.proofs.lemmas.List.Elements.{All-cons, All-drop, All-take, All-head, All-nil, All-push, All-tail}
 pub use Rattle.std.proofs.lemmas.Result.{IfOk-weaker}
 pub use Rattle.std.specs.BTreeMap.{insert_entry, is_at}

@@ -3,13 +3,13 @@ use Rattle.seccomp_tree.proofs.Common.{SeccompCmpArgLen, condition_length, condi
 use Rattle.seccomp_tree.proofs.Common.{number_halves, sock_filter, argument_at, mask_halves, part_length, part_steps, goes_on}
 use Rattle.seccomp_tree.proofs.Common.{Condition, RuleHolds, word_fits, cases_eq, MaskedEq, IsRecord, Compares, found_in, is_plain, bit_and}
 use Rattle.seccomp_tree.proofs.Common.{IsChosen, IsTested, word_at, part_of, AreLaid, HasBits, length, and_lt, eq-eqb, ne_eqb, Target, List}
-use Rattle.seccomp_tree.proofs.Common.{single, chosen, IsPart, Equal, arith, Dword, Qword, masks, Holds, IsMet, Leads, true, refl, load, ap}
+use Rattle.seccomp_tree.proofs.Common.{chosen, IsPart, Equal, arith, Dword, Qword, masks, Holds, IsMet, Leads, true, refl, load, ap}
 use Rattle.seccomp_tree.proofs.Common.{mask, Step, IsIn, ◌≡◌, suc, ◌+◌, ◌-◌, ◌*◌, ◌/◌, ◌%◌, ◌<◌, ◌≤◌, ◌^◌, ◌∷◌, inl, inr, ◌⊎◌, ◌↔◌, At}
 use Rattle.seccomp_tree.specs.Code.{numbers_of}
 use Rattle.seccompiler.proofs.Searches.{all_or_any, none_is_any}
 use Rattle.seccomp_tree.proofs.Runs.{grows_not, grows_one, grows_on, starts_more, leads_by, leads_grown, starts_last}
 use Rattle.seccomp_tree.proofs.Trees.{load_run}
-use Rattle.seccomp_tree.proofs.Begun.{compares_or_not}
+use Rattle.seccomp_tree.proofs.Begun.{compares_or_not, single}
 
 -- ---- numbers of an argument
 

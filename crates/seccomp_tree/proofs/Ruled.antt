@@ -3,12 +3,12 @@ use Rattle.seccomp_tree.proofs.Common.{get_or_read_under, SeccompCmpArgLen, Cond
 use Rattle.seccomp_tree.proofs.Common.{AllIn, sock_filter, argument_at, IsConditionMet, part_length, rules_length, IsRulingMet, IsAnswered}
 use Rattle.seccomp_tree.proofs.Common.{one_value, nat_tests, All-cons, RuleHolds, to_return, false≢true, option_map, unwrap_or, [], All-nil}
 use Rattle.seccomp_tree.proofs.Common.{All-head, All-tail, IsRecord, found_in, is_plain, AreLaid, AreSteps, IsChosen, length, Option, Dword}
-use Rattle.seccomp_tree.proofs.Common.{part_of, Target, Give, single, Ruling, joined, IsPart, begins, passes, get_or, IsIn, ℕ, List, drop}
+use Rattle.seccomp_tree.proofs.Common.{part_of, Target, Give, Ruling, joined, IsPart, begins, passes, get_or, IsIn, ℕ, List, drop}
 use Rattle.seccomp_tree.proofs.Common.{Some, None, arith, Holds, Step, Leads, Grows, First, alike, Takes, stops, ◌≡◌, zero, suc, ◌+◌}
 use Rattle.seccomp_tree.proofs.Common.{◌*◌, ◌<◌, ◌≤◌, ◌^◌, ◌∷◌, true, refl, ap, ◌∙◌, sym, ◌-◌, only}
 use Rattle.seccomp_tree.specs.Code.{numbers_of}
 use Rattle.seccomp_tree.proofs.Runs.{grows_not, grows_on, leads_by, starts_more}
-use Rattle.seccomp_tree.proofs.Begun.{numbers_many, laid_in}
+use Rattle.seccomp_tree.proofs.Begun.{numbers_many, laid_in, single}
 use Rattle.seccomp_tree.proofs.Decided.{first_here, first_behind, first_nothing, one_first}
 use Rattle.seccomp_tree.proofs.Meeting.{holds_or_not, chosen_plain, part_fits, met_both}
 

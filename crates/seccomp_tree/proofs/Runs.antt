@@ -117,10 +117,13 @@ runs_last {code} {r} is some (to_place m w a n inside h) =
     returns_more (suc n) (omega arith) (subst (λ l. Returns r l a w n) (tail_whole code m (grind (arith, is, some))) h)
 runs_last {code} {r} is some (near m w a n inside close h) = subst (λ l. Returns r l a w n) (tail_whole code m (omega arith)) h
 
+pub sound_some : (code : List sock_filter) → IsSound code → 1 ≤ length code
+sound_some code h = grind (arith, h.ends)
+
 pub sound_push : (code : List sock_filter) (i : sock_filter) → IsSound code → IsFine i 0 (length code + 1) → IsInRange i
     → length code + 1 < 2 ^ 32 → IsSound (i ∷ code)
 sound_push code i h fine range room =
-    record { fine = (fine, (range, h.fine)); few = omega arith; front = i ∷ h.front; ends = ap (λ l. i ∷ l) h.ends }
+    record { fine = (fine, (range, h.fine)); few = omega arith; ends = tail_grown (i ∷ []) code 0 (sound_some code h) ∙ h.ends }
 
 -- ---- for `does`, `reach` and `test`: places that do what a target says
 

@@ -8,13 +8,12 @@ use Rattle.seccomp_tree.proofs.Common.{Equal, nat_tests, IsRecord, word_at, audi
 use Rattle.seccomp_tree.proofs.Common.{chosen, Dword, Ruling, First, Takes, stops, passes, ends, begins, run_steps, joined, DecisionSet}
 use Rattle.seccomp_tree.proofs.Common.{default_for, IsDecided, rulings_for, other_architecture, decided, TakesOwn, other, own}
 use Rattle.seccomp_tree.proofs.Common.{EndsAsDecided, IsTreeProgram, AreRanges, IsTested, load, word_fits, pow-succ', one-le-pow}
-use Rattle.seccomp_tree.proofs.Runs.{returns_more, grown_long}
+use Rattle.seccomp_tree.proofs.Runs.{returns_more, grown_long, sound_some}
 use Rattle.seccomp_tree.proofs.Decided.{decided_some, one_first}
 use Rattle.seccomp_tree.proofs.Begun.{not_none}
 use Rattle.seccomp_tree.proofs.Trees.{load_run}
 use Rattle.seccomp_tree.proofs.CallsPushed.{fewest}
 use Rattle.seccomp_tree.proofs.Meeting.{rule_or_not}
-use Rattle.seccompiler.proofs.Runs.{get_behind}
 
 get_at : (p : List sock_filter) (place : ℕ) (i : sock_filter) (rest : List sock_filter) → drop place p ≡ i ∷ rest
     → slice_get p place ≡ Some i
@@ -77,17 +76,14 @@ each_fine (x ∷ p) (suc place) i h here =
 -- Sound code is a checked program, if it is no longer than that may be.
 pub sound_checked : (p : List sock_filter) → IsSound p → length p ≤ greatest_length → IsChecked p
 sound_checked p h few =
-    let kill = give 0x80000000 in
-    let long : length p ≡ length h.front + 1 = ap length h.ends ∙ length-append h.front (kill ∷ []) in
     record {
-      some = omega (arith, long);
+      some = sound_some p h;
       few = few;
       ranges = record { each = λ place i here. (each_fine p place i h.fine here).1 };
       each = λ place i here. (each_fine p place i h.fine here).0;
       last = λ i here.
-          let at : length p - 1 ≡ length h.front + 0 = omega (arith, long) in
-          let end = rw (at, h.ends) at here in
-          let same : i ≡ kill = cc (get_behind h.front (kill ∷ []) 0 kill refl) in ap (λ (j : sock_filter). j.code) same;
+          let same : i ≡ give 0x80000000 = cc (get_at p (length p - 1) (give 0x80000000) [] h.ends) in
+          ap (λ (j : sock_filter). j.code) same;
     }
 
 -- what answers a number leads to what is decided, within its own steps and one

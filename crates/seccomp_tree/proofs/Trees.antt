@@ -1,11 +1,11 @@
 -- For `tree` and `word`: parts of steps, rows of tests, and the code of steps, put together of the code of fewer and a test.
 use Rattle.seccomp_tree.proofs.Common.{second_stands_out, take-append-drop, length-take-le, if◌then◌else◌, GoesOn}
 use Rattle.seccomp_tree.proofs.Common.{length-drop, sock_filter, cases_Bool, nat_tests, pow-succ', and_parts, drop_more, AreIn}
-use Rattle.seccomp_tree.proofs.Common.{word_fits, All-drop, found_in, IsTested, IsRecord, goes_on, AtLeast, AreOver, Returns, word_at, IsIn}
-use Rattle.seccomp_tree.proofs.Common.{length, get_or, passed, nat_le, nat_eq, Target, single, chosen, IsTree, IsPart, Equal, Grows, Dword}
+use Rattle.seccomp_tree.proofs.Common.{word_fits, All-drop, found_in, IsTested, IsRecord, goes_on, AtLeast, Returns, word_at, IsIn}
+use Rattle.seccomp_tree.proofs.Common.{length, get_or, passed, nat_le, nat_eq, Target, take_rest, chosen, IsTree, IsPart, Equal, Grows, Dword}
 use Rattle.seccomp_tree.proofs.Common.{false, subst, arith, loads, Give, zero, List, take, drop, true, refl, Step, same, ◌++◌, Test, load}
 use Rattle.seccomp_tree.proofs.Common.{inl, ◌≡◌, suc, ◌+◌, ◌-◌, ◌*◌, ◌/◌, ◌^◌, ◌<◌, ◌≤◌, ◌∷◌, sym, ◌∙◌, inr, row, [], ap, At, ℕ}
-use Rattle.seccomp_tree.proofs.Begun.{all_behind, ascend_more, ascend_parts, found_back, found_before, found_front}
+use Rattle.seccomp_tree.proofs.Begun.{AreOver, single, ascend_more, ascend_parts, found_back, found_before, found_front}
 use Rattle.seccomp_tree.proofs.Runs.{grows_not, grows_on, last_in, starts_more, starts_last, leads_by, leads_grown, grows_one, runs_last}
 
 -- ---- parts of steps
@@ -60,7 +60,7 @@ rest_of code n t steps some lt all_in over inside =
     let long = length-drop n steps in
     let others = (over_halves steps n none some lt over).1.0 in
     let are_in = All-drop (λ (x : Step). IsIn code x.target) n steps inside in
-    rw (all_behind steps n) (omega (arith, long), (omega (arith, long), (others, are_in)))
+    rw (take_rest steps n) (omega (arith, long), (omega (arith, long), (others, are_in)))
 
 -- the number of halvings of a half is one less
 pub halvings : (n m k : ℕ) → 2 ≤ n → n ≤ 2 ^ k → m ≤ n - n / 2 → (j : ℕ) × (k ≡ suc j) × (m ≤ 2 ^ j)

@@ -31,19 +31,10 @@ abbrev pub found_in : List Step → ℕ → Target
 found_in [] a = Give 0
 found_in (x ∷ steps) a = found_from x.target steps a
 
--- One target for all numbers.
-abbrev pub single : Target → List Step
-single target = record { start = 0; target = target } ∷ []
-
 -- The steps start at a number or above it and below the size, each above the one before it.
 abbrev pub AscendFrom : ℕ → ℕ → List Step → Type 0
 AscendFrom size start [] = ⊤
 AscendFrom size start (x ∷ steps) = (start ≤ x.start) × ((x.start < size) × AscendFrom size (x.start + 1) steps)
-
--- There are steps over numbers of 32 bits; where the first starts doesn't matter.
-abbrev pub AreOver : List Step → Type 0
-AreOver [] = ⊥
-AreOver (x ∷ steps) = AscendFrom (2 ^ 32) 1 steps
 
 -- No two neighbours have one target.
 abbrev pub AreTight : List Step → Type 0
@@ -94,16 +85,15 @@ abbrev pub AreFine : List sock_filter → Type 0
 AreFine [] = ⊤
 AreFine (i ∷ rest) = IsFine i 0 (length rest + 1) × (IsInRange i × AreFine rest)
 
+-- The code from a place on. A place counts instructions from the end, the last one being 0.
+abbrev pub tail_at : List sock_filter → ℕ → List sock_filter
+tail_at code place = drop (length code - (place + 1)) code
+
 -- Code that may be run: it is fine, its places fit 32 bits, and it ends in a return that kills the process.
 pub record IsSound (code : List sock_filter) : Type 0 where
   pub fine : AreFine code
   pub few : length code < 2 ^ 32
-  pub front : List sock_filter
-  pub ends : code ≡ front ++ give 0x80000000 ∷ []
-
--- The code from a place on. A place counts instructions from the end, the last one being 0.
-abbrev pub tail_at : List sock_filter → ℕ → List sock_filter
-tail_at code place = drop (length code - (place + 1)) code
+  pub ends : tail_at code 0 ≡ give 0x80000000 ∷ []
 
 -- A run that begins at the head of the code, with this accumulator, returns the word w in at most n steps.
 pub data Returns (r : List ℕ) : List sock_filter → ℕ → ℕ → ℕ → Type 0 where

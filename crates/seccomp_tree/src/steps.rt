@@ -1,7 +1,7 @@
 // What is looked up by a number: steps, each from its start up to the next one's.
 
-ghost use Rattle.std.specs.Prelude.{◌≡◌, IfOk};
-ghost use Rattle.seccomp_tree.specs.Code.{AreSteps, IsPushed, single};
+ghost use Rattle.std.specs.Prelude.{◌≡◌, ◌∷◌, [], IfOk};
+ghost use Rattle.seccomp_tree.specs.Code.{AreSteps, IsPushed};
 
 use std::alloc::{AllocError, Global};
 
@@ -26,7 +26,7 @@ pub(crate) struct Step {
 
 /// One target for all numbers.
 pub(crate) fn one(alloc: Global, target: Target) -> Result<Vec<Step>, AllocError>
-    ensures { IfOk result (λ steps. steps.items ≡ single target) }
+    ensures { IfOk result (λ steps. steps.items ≡ record { start = 0; target = target } ∷ []) }
 {
     Ok(vec![in alloc; Step { start: 0, target }]?)
 }

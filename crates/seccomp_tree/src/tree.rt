@@ -1,7 +1,7 @@
 // The tree of tests of steps.
 
-ghost use Rattle.std.specs.Prelude.{◌≡◌, ◌≤◌, ◌+◌, ◌-◌, ◌*◌, ◌%◌, ◌^◌, ◌↔◌, IsTrue, IfOk, length};
-ghost use Rattle.seccomp_tree.specs.Code.{AllIn, AreIn, AreOver, AreSteps, IsPart, IsTree, row, second_stands_out};
+ghost use Rattle.std.specs.Prelude.{◌≡◌, ◌≤◌, ◌+◌, ◌-◌, ◌*◌, ◌%◌, ◌^◌, ◌↔◌, IsTrue, IfOk, drop, length};
+ghost use Rattle.seccomp_tree.specs.Code.{AllIn, AreIn, AreSteps, AscendFrom, IsPart, IsTree, row, second_stands_out};
 ghost use Rattle.seccompiler.specs.Machine.{word_at};
 ghost use Rattle.seccompiler.specs.declared.backend.SeccompCmpArgLen.TheVariants.{Dword};
 
@@ -34,7 +34,7 @@ impl Code {
     /// Goes on as the steps say for the accumulator. A row of few tests is written as it is, others are halved.
     pub(crate) fn tree(&mut self, steps: &[Step]) -> Result<Target, AllocError>
         requires some { 1 ≤ length steps.now }
-        requires over { AreOver steps.now }
+        requires over { AscendFrom (2 ^ 32) 1 (drop 1 steps.now) }
         requires inside { AreIn self.old steps.now }
         ensures { IfOk result (λ t. IsTree self.old steps.now t self.new) }
     {

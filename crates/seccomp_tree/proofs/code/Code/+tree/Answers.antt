@@ -1,7 +1,6 @@
 use Rattle.seccomp_tree.proofs.Common.{◌≤◌, All-take, IsIn, Step, ◌/◌, length, refl, sym, ◌∙◌, arith, inl, inr, cases_lt, false≢true, row}
-use Rattle.seccomp_tree.proofs.Common.{IfOk-weaker, length-take-le}
+use Rattle.seccomp_tree.proofs.Common.{IfOk-weaker, length-take-le, take_rest}
 use Rattle.seccomp_tree.proofs.Runs.{is_in_grown}
-use Rattle.seccomp_tree.proofs.Begun.{all_behind}
 use Rattle.seccomp_tree.proofs.Trees.{none, over_halves, rest_of, tree_single, tree_out, tree_first, tree_halves}
 use Rattle.seccomp_tree.proofs.code.Code.+tree.Goals as goal
 
@@ -34,7 +33,7 @@ overflow_cast-steps t c = omega (
 pub returns-then-not-is_row : goal.returns-then-not-is_row
 returns-then-not-is_row t c =
     let steps = c.args.steps.now in
-    let all = all_behind steps (length steps / 2) in
+    let all = take_rest steps (length steps / 2) in
     IfOk-weaker c.test.result _ _
     (λ u h. tree_halves steps (length steps / 2) _ refl c.requires.over (omega (arith, c.requires.some))
     (elim (cases_lt 6 (row steps)) [ inl lt ↦ lt | inr le ↦ absurd (false≢true (c.if-not-is_row.ensures.1 le)) ])
@@ -51,7 +50,7 @@ tree-requires-then-stands_out t c =
 pub returns-then-stands_out : goal.returns-then-stands_out
 returns-then-stands_out t c =
     let steps = c.args.steps.now in
-    let all = all_behind steps 2 in
+    let all = take_rest steps 2 in
     IfOk-weaker c.test-then-stands_out.result _ _
     (λ u h. tree_out steps _ c.requires.over (sym c.stands_out.ensures ∙ c.if-stands_out.true)
     (c.is_row.ensures.0 c.if-not-is_row.false) (rw all at c.in_ok-rest.ensures) h)
@@ -65,7 +64,7 @@ tree-requires-2 t c =
 pub returns : goal.returns
 returns t c =
     let steps = c.args.steps.now in
-    let all = all_behind steps 1 in
+    let all = take_rest steps 1 in
     IfOk-weaker c.test-2.result _ _
     (λ u h. tree_first steps _ (omega (arith, c.requires.some)) c.requires.over (sym c.stands_out.ensures ∙ c.if-stands_out.false)
     (c.is_row.ensures.0 c.if-not-is_row.false) (rw all at c.in_ok-rest-2.ensures) h)

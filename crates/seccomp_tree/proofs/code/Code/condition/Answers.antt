@@ -1,5 +1,5 @@
-use Rattle.seccomp_tree.proofs.Common.{◌≡◌, refl, rules, sym, ◌∙◌, single, IfOk-weaker}
-use Rattle.seccomp_tree.proofs.Begun.{laid_in}
+use Rattle.seccomp_tree.proofs.Common.{◌≡◌, refl, rules, sym, ◌∙◌, IfOk-weaker}
+use Rattle.seccomp_tree.proofs.Begun.{laid_in, single}
 use Rattle.seccomp_tree.proofs.Meeting.{met_now, met_by_steps, masked_dword, masked_qword}
 use Rattle.seccomp_tree.proofs.code.Code.condition.Goals as goal
 

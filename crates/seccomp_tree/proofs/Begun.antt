@@ -31,17 +31,12 @@ steps_more m n [] some le h = absurd (omega (arith, h.first))
 steps_more m n (x ∷ steps) some le h =
     record { first = h.first; ascend = ascend_more m n 0 0 (x ∷ steps) le (omega arith) h.ascend; tight = h.tight }
 
--- and are over all numbers of 32 bits
-pub over_zero : (steps : List Step) → AreSteps (2 ^ 32) steps → AreOver steps
-over_zero steps h = grind (arith, h.first, h.ascend, ascend_more)
-
 -- steps in front of one ascend up to its start, and those behind it from there on
 pub ascend_parts : (m from : ℕ) (front : List Step) (x : Step) (back : List Step) → AscendFrom m from (front ++ x ∷ back)
     → AscendFrom x.start from front × ((from ≤ x.start) × ((x.start < m) × AscendFrom m (x.start + 1) back))
 ascend_parts m from [] x back h = (tt, (h.0, h.1))
 ascend_parts m from (y ∷ front) x back h =
-    let rest = ascend_parts m (y.start + 1) front x back h.1.1 in
-    ((h.0, (omega (arith, rest.1.0), rest.0)), (omega (arith, h.0, rest.1.0), rest.1.1))
+    grind (arith, h.0, h.1.0, ascend_parts m (y.start + 1) front x back h.1.1)
 
 -- ---- targets
 
@@ -49,10 +44,6 @@ ascend_parts m from (y ∷ front) x back h =
 pub found_before : (m from : ℕ) (t : Target) (steps : List Step) (a : ℕ) → AscendFrom m from steps → a < from → found_from t steps a ≡ t
 found_before m from t [] a h lt = refl
 found_before m from t (x ∷ steps) a h lt = grind (arith, nat_tests, h.0)
-
--- so for one below the first start
-pub found_until : (m : ℕ) (t : Target) (steps : List Step) (a : ℕ) → a < first_start m steps → found_from t steps a ≡ t
-found_until m t steps a lt = grind (arith, nat_tests)
 
 -- numbers below the start of a step have what those in front of it have, and others what it and those behind it have
 pub found_front : (t : Target) (front : List Step) (x : Step) (back : List Step) (a : ℕ) → a < x.start
@@ -119,7 +110,7 @@ left_end rest h some = grind (arith, h.from some)
 -- numbers up to there have what the first of them has
 pub left_has : {size number : ℕ} {steps : List Step} (rest : List Step) (d : Step) (a : ℕ) → AreLeft size steps number rest → number < size
     → number ≤ a → a < first_start size (drop 1 rest) → found_in steps a ≡ (get_or rest 0 d).target
-left_has rest d a h some le lt = grind (arith, h.from some, h.same a le, left_end rest h some, found_until)
+left_has rest d a h some le lt = grind (arith, nat_tests, h.from some, h.same a le, left_end rest h some, lt)
 
 -- What is left at the next number: the others, if the first ends there.
 abbrev pub HasMoved : ℕ → ℕ → List Step → List Step → Type 0
@@ -176,9 +167,8 @@ pushed_more (y ∷ old) x h not = record {
 -- steps that end in the target need no step more
 pub pushed_same : (old : List Step) (start : ℕ) (target : Target) → AreSteps start old → 1 ≤ length old
     → ((a : ℕ) → start ≤ a → found_in old a ≡ target) → IsPushed old start target old
-pushed_same [] start target h some same = absurd (omega arith)
-pushed_same (x ∷ old) start target h some same = record {
-  are = steps_more start (start + 1) (x ∷ old) (omega (arith, h.ascend.1.0)) (omega arith) h;
+pushed_same old start target h some same = record {
+  are = steps_more start (start + 1) old (grind (arith, some, h.ascend)) (omega arith) h;
   from = same;
   below = λ a lt. refl;
   few = omega arith;

@@ -1,10 +1,10 @@
 -- Steps over call numbers: the numbers up to the next that is answered otherwise, and that the steps are as few as can be.
 use Rattle.seccomp_tree.proofs.Common.{if◌then◌else◌, nat_lt, AreCallSteps, rules_length, default_from, calls_length, DefaultValue, ℕ}
 use Rattle.seccomp_tree.proofs.Common.{IsNextStart, sock_filter, DecisionSet, default_for, rulings_for, IsAnswered, found_from, AscendFrom}
-use Rattle.seccomp_tree.proofs.Common.{nat_tests, is_member, AreRanges, IsAnswer, cases_lt, IsPushed, calls_of, AreTight, nat_cmp, length}
+use Rattle.seccomp_tree.proofs.Common.{nat_tests, is_member, AreRanges, IsAnswer, cases_lt, cases_eq, IsPushed, calls_of, AreTight, nat_cmp, length}
 use Rattle.seccomp_tree.proofs.Common.{get_or, IsSome, lookup, Global, Target, Ruling, nat_eq, nat_le, arith, is_at, false, List, refl, ◌≡◌}
 use Rattle.seccomp_tree.proofs.Common.{Step, Bool, true, ◌+◌, ◌<◌, ◌≤◌, ◌^◌, ◌∷◌, Vec, sym, ◌∙◌, suc, ◌⊎◌, inl, inr, ◌-◌, [], ap}
-use Rattle.seccomp_tree.proofs.Runs.{grows_not, grows_on, is_in_grown, leads_grown}
+use Rattle.seccomp_tree.proofs.Runs.{grows_on, is_in_grown, leads_grown}
 use Rattle.seccomp_tree.proofs.Begun.{steps_more, found_before}
 use Rattle.seccomp_tree.proofs.Decided.{items_of, rulings_under}
 
@@ -26,6 +26,20 @@ pub record NextSoFar (defaults : List DefaultValue) (calls : List (ℕ × List R
   pub none : (k : ℕ) (d : DefaultValue) → k < i → k < length defaults
       → ((get_or defaults k d).start ≤ number) ⊎ (next ≤ (get_or defaults k d).start)
   pub rulings : (n : ℕ) → number ≤ n → n < next → rulings_for calls n ≡ rulings_for calls number
+
+-- It is, if up to a number there are no rulings, and it is no greater or the very next.
+pub next_begins : {defaults : List DefaultValue} {calls : List (ℕ × List Ruling)} {number next : ℕ} (empty : ℕ) → number < next
+    → next ≤ 2 ^ 32 → ((n : ℕ) → number ≤ n → n < empty → rulings_for calls n ≡ []) → (next ≤ empty) ⊎ (next ≡ number + 1)
+    → NextSoFar defaults calls number next 0
+next_begins {calls = calls} {number} empty up fits none which = record {
+  above = up;
+  within = fits;
+  none = λ k d lt. absurd (omega arith);
+  rulings = λ n le lt. elim (cases_eq n number) [
+    | inl same ↦ ap (rulings_for calls) same
+    | inr other ↦ none n le (omega (arith, which)) ∙ sym (none number (omega arith) (omega (arith, which)))
+  ];
+}
 
 pub next_is : {defaults : List DefaultValue} {calls : List (ℕ × List Ruling)} {number next i : ℕ} → length defaults ≤ i
     → NextSoFar defaults calls number next i → IsNextStart defaults calls number next
@@ -51,7 +65,7 @@ below_more : (calls : List (ℕ × List Ruling)) (a b : ℕ) → a ≤ b → bel
 below_more [] a b le = omega arith
 below_more (e ∷ calls) a b le = grind (arith, nat_tests, below_more calls a b le)
 
-below_all : (calls : List (ℕ × List Ruling)) (n : ℕ) → below_length calls n ≤ calls_length calls
+pub below_all : (calls : List (ℕ × List Ruling)) (n : ℕ) → below_length calls n ≤ calls_length calls
 below_all [] n = omega arith
 below_all (e ∷ calls) n = grind (arith, nat_tests, below_all calls n)
 
@@ -82,14 +96,6 @@ calls_on {d} {number = number} {next} h answered pushed on = record {
         }
     | inr le ↦ rw (pushed.from n le, on.default n le lt, on.rulings n le lt) answered.answer
   ];
-}
-
-pub calls_all : {d : DecisionSet} {old new : List sock_filter} {steps : List Step} {n : ℕ}
-    → AreCallSteps old d (below_length d.calls n) n steps new → AreCallSteps old d (calls_length d.calls) n steps new
-calls_all {d} {n = n} h = record {
-  grows = grows_on _ h.grows (grows_not _ 0) (omega (arith, below_all d.calls n));
-  are = h.are;
-  each = h.each;
 }
 
 -- ---- steps without alike neighbours are at most as many as any ranges of the decisions

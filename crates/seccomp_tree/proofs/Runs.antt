@@ -17,10 +17,6 @@ tail_grown front old m inside =
 pub tail_whole : (code : List sock_filter) (m : ℕ) → m + 1 ≡ length code → tail_at code m ≡ code
 tail_whole code m last = let none : length code - (m + 1) ≡ 0 = omega arith in ap (λ k. drop k code) none
 
--- where a jump leads that stands in front of the code
-pub jump_to : (code : List sock_filter) (d to : ℕ) → d + to + 1 ≡ length code → drop d code ≡ tail_at code to
-jump_to code d to over = let at : d ≡ length code - (to + 1) = omega arith in ap (λ k. drop k code) at
-
 -- where a jump leads that stands at a place of it
 pub jump_from : (code : List sock_filter) (place d to : ℕ) (i : sock_filter) (rest : List sock_filter) → place < length code
     → tail_at code place ≡ i ∷ rest → to + 1 + d ≡ place → drop d rest ≡ tail_at code to
@@ -244,4 +240,5 @@ tested {old} {mid} {code} {new} {met} {other} {t} {y} {n} test i is over_yes ove
   where
     jumps_on : (r : List ℕ) (a w m : ℕ) → a < 2 ^ 32 → (d place : ℕ) → d + place + 1 ≡ length code
         → ((p : ℕ) → Does i r p a (p + (1 + d)) a) → Returns r (tail_at code place) a w m → Returns r (i ∷ code) a w (suc m)
-    jumps_on r a w m small d place over does h = goes_on i code a a w m d does small (rw (jump_to code d place over) h)
+    jumps_on r a w m small d place over does h =
+        let at : d ≡ length code - (place + 1) = omega arith in goes_on i code a a w m d does small (rw at h)

@@ -1,6 +1,8 @@
 // Why there is no program.
 
 ghost use Rattle.std.specs.Prelude.{◌≡◌, Some};
+ghost use Rattle.seccomp_tree.specs.declared.error.FilterError.TheVariants as filter;
+ghost use Rattle.seccomp_tree.specs.declared.error.TreeError.TheVariants as tree;
 
 use seccompiler::BackendError;
 use std::alloc::{AllocError, AllocFailed};
@@ -16,9 +18,7 @@ pub enum TreeError {
 }
 
 impl From<AllocError> for TreeError {
-    ghost use Rattle.seccomp_tree.specs.declared.error.TreeError.TheVariants.{OutOfMemory};
-
-    ghost from_gives = { λ _ e. e ≡ OutOfMemory };
+    ghost from_gives = { λ _ e. e ≡ tree.OutOfMemory };
 
     fn from(_: AllocError) -> Self {
         TreeError::OutOfMemory
@@ -61,9 +61,7 @@ impl fmt::Display for FilterError {
 impl error::Error for FilterError {}
 
 impl From<AllocError> for FilterError {
-    ghost use Rattle.seccomp_tree.specs.declared.error.FilterError.TheVariants.{OutOfMemory};
-
-    ghost from_gives = { λ _ e. e ≡ OutOfMemory };
+    ghost from_gives = { λ _ e. e ≡ filter.OutOfMemory };
 
     fn from(_: AllocError) -> Self {
         FilterError::OutOfMemory
@@ -71,9 +69,7 @@ impl From<AllocError> for FilterError {
 }
 
 impl<T: Drop> From<AllocFailed<T>> for FilterError {
-    ghost use Rattle.seccomp_tree.specs.declared.error.FilterError.TheVariants.{OutOfMemory};
-
-    ghost from_gives = { λ _ e. e ≡ OutOfMemory };
+    ghost from_gives = { λ _ e. e ≡ filter.OutOfMemory };
 
     fn from(_: AllocFailed<T>) -> Self {
         FilterError::OutOfMemory

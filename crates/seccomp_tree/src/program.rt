@@ -36,8 +36,7 @@ impl Decisions {
         code.test(Test::Equal, arch, calls, Target::Give(KILL_PROCESS))?;
         code.push(bpf_stmt(LOAD, u32::from(SECCOMP_DATA_ARCH_OFFSET)))?;
         let program = code.into_program();
-        let is_large = program.len() > BPF_MAX_LEN;
-        if is_large {
+        if program.len() > BPF_MAX_LEN {
             return Err(TreeError::TooLarge);
         }
         Ok(program)

@@ -1,12 +1,12 @@
 use Rattle.seccomp_tree.proofs.Common.{◌^◌, ◌-◌, ◌∷◌, ap, ◌∙◌, arith, load, At}
-use Rattle.seccomp_tree.proofs.Begun.{are_in_below, not_none, over_zero}
+use Rattle.seccomp_tree.proofs.Begun.{are_in_below, ascend_more, not_none}
 use Rattle.seccomp_tree.proofs.Trees.{word_one, word_more}
 use Rattle.seccomp_tree.proofs.code.Code.word.Goals as goal
 
 pub tree-requires : goal.tree-requires
 tree-requires c = record {
   some = not_none _ _ c.requires.are (omega arith);
-  over = over_zero _ c.requires.are;
+  over = grind (arith, c.requires.are.first, c.requires.are.ascend, ascend_more);
   inside = are_in_below _ (2 ^ 32) _ (omega arith) c.requires.are c.requires.inside;
 }
 

@@ -1,5 +1,6 @@
 use Rattle.seccomp_tree.proofs.Common.{◌≡◌, ◌^◌, arith, ap, ◌∙◌, DecisionSet, default_for}
-use Rattle.seccomp_tree.proofs.CallsPushed.{calls_all, calls_on}
+use Rattle.seccomp_tree.proofs.CallsPushed.{below_all, calls_on}
+use Rattle.seccomp_tree.proofs.Runs.{grows_not, grows_on}
 use Rattle.seccomp_tree.proofs.decisions.Decisions.call_steps.Goals as goal
 
 pub loop-next-preserved : goal.loop-next-preserved
@@ -13,4 +14,7 @@ loop-next-preserved c =
 
 pub returns-clause-ok : goal.returns-clause-ok
 returns-clause-ok c =
-    let end : c.loop-next.next ≡ 2 ^ 32 = omega arith in calls_all (rw end at c.loop-next.invariant.1)
+    let end : c.loop-next.next ≡ 2 ^ 32 = omega arith in
+    let h = rw end at c.loop-next.invariant.1 in
+    let grows = grows_on _ h.grows (grows_not _ 0) (omega (arith, below_all c.args.self.now.calls (2 ^ 32))) in
+    record { grows = grows; are = h.are; each = h.each }

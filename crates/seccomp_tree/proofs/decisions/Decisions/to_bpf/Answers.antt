@@ -1,6 +1,6 @@
 use Rattle.seccomp_tree.proofs.Common.{refl, ◌∙◌, ◌∷◌, ap, arith, nat_tests, load, audit_word, DecisionSet}
 use Rattle.seccomp_tree.proofs.Theorem.{IsWritten, written_program, written_short}
-use Rattle.seccomp_tree.proofs.decisions.Decisions.to_bpf.Goals.{After-len-is_large}
+use Rattle.seccomp_tree.proofs.decisions.Decisions.to_bpf.Goals.{After-len}
 use Rattle.seccomp_tree.proofs.decisions.Decisions.to_bpf.Goals as goal
 
 pub word-requires : goal.word-requires
@@ -13,7 +13,7 @@ word-requires c =
       inside = λ a lt. (answers.each a lt).inside;
     }
 
-written : (c : After-len-is_large) → IsWritten c.args.self.now c.into_program-program.result.items
+written : (c : After-len) → IsWritten c.args.self.now c.into_program-program.result.items
 written c = record {
   mid = c.call_steps.new.code;
   steps = c.in_ok-steps.steps.items;
@@ -30,12 +30,12 @@ written c = record {
       ∙ ap (λ i. i ∷ c.test.new.self) (c.bpf_stmt.ensures ∙ ap load c.from.ensures);
 }
 
-pub returns-then-is_large-clause-large : goal.returns-then-is_large-clause-large
-returns-then-is_large-clause-large c = λ is starts ranges.
-    let h = written ((goal.at.returns-then-is_large-clause-large c).After-len-is_large) in
+pub returns-then-len-gt-BPF_MAX_LEN-clause-large : goal.returns-then-len-gt-BPF_MAX_LEN-clause-large
+returns-then-len-gt-BPF_MAX_LEN-clause-large c = λ is starts ranges.
+    let h = written ((goal.at.returns-then-len-gt-BPF_MAX_LEN-clause-large c).After-len) in
     let short = written_short c.args.self.now _ h starts ranges in
-    grind (arith, nat_tests, short, c.len-is_large.ensures, c.if-is_large.true)
+    grind (arith, nat_tests, short, c.len.ensures, c.if-len-gt-BPF_MAX_LEN.true)
 
 pub returns-clause-program : goal.returns-clause-program
-returns-clause-program c = written_program c.args.self.now _ (written ((goal.at.returns-clause-program c).After-len-is_large))
-    c.into_program-program.ensures.sound (grind (arith, nat_tests, c.len-is_large.ensures, c.if-is_large.false))
+returns-clause-program c = written_program c.args.self.now _ (written ((goal.at.returns-clause-program c).After-len))
+    c.into_program-program.ensures.sound (grind (arith, nat_tests, c.len.ensures, c.if-len-gt-BPF_MAX_LEN.false))

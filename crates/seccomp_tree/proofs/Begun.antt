@@ -1,5 +1,5 @@
 -- Steps that ascend: what they have for a number, what is left of them there, one step more, and comparisons laid over them.
-use Rattle.seccomp_tree.proofs.Common.{SeccompCmpArgLen, if◌then◌else◌, length-append, SeccompCmpOp, length-drop, first_start, sock_filter}
+use Rattle.seccomp_tree.proofs.Common.{SeccompCmpArgLen, if◌then◌else◌, length-append, SeccompCmpOp, first_start, sock_filter}
 use Rattle.seccomp_tree.proofs.Common.{found_from, AscendFrom, nat_tests, Condition, take_rest, found_in, AreSteps, AreTight, IsPushed, take}
 use Rattle.seccomp_tree.proofs.Common.{cases_lt, cases_eq, MaskedEq, Compares, is_plain, IsChosen, bit_and, part_of, AreLaid, zero}
 use Rattle.seccomp_tree.proofs.Common.{nat_le, IsTurn, length, get_or, Target, nat_eq, nat_lt, AllIn, arith, AreIn, List, ◌++◌, drop, true}

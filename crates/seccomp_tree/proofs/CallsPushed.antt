@@ -2,7 +2,7 @@
 use Rattle.seccomp_tree.proofs.Common.{if◌then◌else◌, nat_lt, AreCallSteps, rules_length, default_from, calls_length, DefaultValue, ℕ}
 use Rattle.seccomp_tree.proofs.Common.{IsNextStart, sock_filter, DecisionSet, default_for, rulings_for, IsAnswered, found_from, AscendFrom}
 use Rattle.seccomp_tree.proofs.Common.{nat_tests, is_member, AreRanges, IsAnswer, cases_lt, cases_eq, IsPushed, calls_of, AreTight, nat_cmp, length}
-use Rattle.seccomp_tree.proofs.Common.{get_or, IsSome, lookup, Global, Target, Ruling, nat_eq, nat_le, arith, is_at, false, List, refl, ◌≡◌}
+use Rattle.seccomp_tree.proofs.Common.{get_or, lookup, Global, Target, Ruling, nat_eq, nat_le, arith, is_at, false, List, refl, ◌≡◌}
 use Rattle.seccomp_tree.proofs.Common.{Step, Bool, true, ◌+◌, ◌<◌, ◌≤◌, ◌^◌, ◌∷◌, Vec, sym, ◌∙◌, suc, ◌⊎◌, inl, inr, ◌-◌, [], ap}
 use Rattle.seccomp_tree.proofs.Runs.{grows_on, is_in_grown, leads_grown}
 use Rattle.seccomp_tree.proofs.Begun.{steps_more, found_before}
@@ -28,16 +28,17 @@ pub record NextSoFar (defaults : List DefaultValue) (calls : List (ℕ × List R
   pub rulings : (n : ℕ) → number ≤ n → n < next → rulings_for calls n ≡ rulings_for calls number
 
 -- It is, if up to a number there are no rulings, and it is no greater or the very next.
-pub next_begins : {defaults : List DefaultValue} {calls : List (ℕ × List Ruling)} {number next : ℕ} (empty : ℕ) → number < next
-    → next ≤ 2 ^ 32 → ((n : ℕ) → number ≤ n → n < empty → rulings_for calls n ≡ []) → (next ≤ empty) ⊎ (next ≡ number + 1)
-    → NextSoFar defaults calls number next 0
-next_begins {calls = calls} {number} empty up fits none which = record {
+pub next_begins : {defaults : List DefaultValue} {number next : ℕ} (entries : List (ℕ × Vec Ruling Global)) (empty : ℕ)
+    → number < next → next ≤ 2 ^ 32 → ((n : ℕ) → number ≤ n → n < empty → items_of (lookup (is_at (nat_cmp n)) entries) ≡ [])
+    → (next ≤ empty) ⊎ (next ≡ number + 1) → NextSoFar defaults (calls_of entries) number next 0
+next_begins {number = number} entries empty up fits none which = record {
   above = up;
   within = fits;
   none = λ k d lt. absurd (omega arith);
   rulings = λ n le lt. elim (cases_eq n number) [
-    | inl same ↦ ap (rulings_for calls) same
-    | inr other ↦ none n le (omega (arith, which)) ∙ sym (none number (omega arith) (omega (arith, which)))
+    | inl same ↦ ap (rulings_for (calls_of entries)) same
+    | inr other ↦ sym (rulings_under entries n) ∙ none n le (omega (arith, which))
+        ∙ sym (none number (omega arith) (omega (arith, which))) ∙ rulings_under entries number
   ];
 }
 
@@ -49,12 +50,6 @@ next_is {defaults} {number = number} all h = record {
   default = λ n le less. same_from 0 defaults n number (λ k d inside. grind (arith, h.none k d (omega arith) inside, h.above));
   rulings = h.rulings;
 }
-
--- a number that the map has only if it is another's or above it
-pub none_before : (entries : List (ℕ × Vec Ruling Global)) (n next : ℕ)
-    → (IsSome (lookup (is_at (nat_cmp n)) entries) → next ≤ n) → n < next → rulings_for (calls_of entries) n ≡ []
-none_before entries n next least lt =
-    let none : items_of (lookup (is_at (nat_cmp n)) entries) ≡ [] = grind (arith, least) in sym (rulings_under entries n) ∙ none
 
 -- How many instructions the rulings of the numbers below one take.
 abbrev pub below_length : List (ℕ × List Ruling) → ℕ → ℕ

@@ -1,6 +1,6 @@
 -- What decisions decide: the first ruling that holds, the rulings of a number, the default; for a filter what it decides itself; and the
 -- calls that a loop makes of its chains.
-use Rattle.seccomp_tree.proofs.Common.{other_architecture, Less, IsCallNumber, ChainMatches, policy_matches, policy_differs, AreCallNumbers}
+use Rattle.seccomp_tree.proofs.Common.{other_architecture, Less, IsCallNumber, ChainMatches, policy_differs, AreCallNumbers}
 use Rattle.seccomp_tree.proofs.Common.{DecisionSet, default_for, append_assoc, unsigned_abs, insert_entry, Chain, chain_under, decisions_of}
 use Rattle.seccomp_tree.proofs.Common.{First, audit_word, rulings_for, IsDecided, map-append, numbers_of, Condition, IsDecision, rulings_of}
 use Rattle.seccomp_tree.proofs.Common.{one_value, drop_more, nat_tests, RuleHolds, All-push, All-head, All-tail, chains_of, Holds}
@@ -185,10 +185,8 @@ module _ (f : Filter) (r : List ℕ) where
   given_decision : (found : Option Chain) → chain_under f.chains (word_at r 0) ≡ found → word_at r 4 ≡ audit_word f.target_arch → (v : ℕ)
       → First (word_of f.mismatch_action) r (found_rulings (word_of f.match_action) found) v → IsDecision f r v
   given_decision None is own v nothing = policy_differs own (λ m. let e = m.there in cc) refl
-  given_decision (Some chain) is own v first = elim (chain_is r (word_of f.mismatch_action) (word_of f.match_action) chain v first) [
-    | inl h ↦ policy_matches own (record { chain = chain; there = is; matches = h.0 }) h.1
-    | inr h ↦ policy_differs own (λ m. let same : m.chain ≡ chain = cc m.there in h.0 (rw same at m.matches)) h.1
-  ]
+  given_decision (Some chain) is own v first =
+      grind (arith, own, is, chain_is r (word_of f.mismatch_action) (word_of f.match_action) chain v first)
 
 -- a filter names one word for a record
 pub one_decision : (f : Filter) (r : List ℕ) (v w : ℕ) → IsDecision f r v → IsDecision f r w → v ≡ w

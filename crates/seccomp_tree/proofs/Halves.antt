@@ -1,9 +1,10 @@
 -- Arguments of 64 bits: steps by their high and their low halves.
-use Rattle.seccomp_tree.proofs.Common.{AllIn, IsTurn, first_start, if◌then◌else◌, sock_filter, argument_at, number_halves, length-drop}
+use Rattle.seccomp_tree.proofs.Common.{AllIn, IsTurn, first_start, if◌then◌else◌, sock_filter, argument_at, length-drop}
 use Rattle.seccomp_tree.proofs.Common.{IsPart, cases_lt, nat_tests, pow-succ', word_at, IsRecord, word_fits, found_in, AreSteps, IsPushed}
 use Rattle.seccomp_tree.proofs.Common.{ℕ, List, length, subst, arith, nat_lt, Step, Target, Dword, Qword, get_or, Grows, IsIn, Leads, ◌≡◌}
-use Rattle.seccomp_tree.proofs.Common.{suc, ◌+◌, ◌-◌, ◌*◌, ◌/◌, ◌%◌, ◌^◌, ◌<◌, ◌≤◌, [], ◌∷◌, drop, ap, ◌∙◌, inl, inr, refl, sym, ◌⊎◌}
+use Rattle.seccomp_tree.proofs.Common.{suc, ◌+◌, ◌-◌, ◌*◌, ◌/◌, ◌%◌, ◌^◌, ◌<◌, ◌≤◌, [], ◌∷◌, drop, ◌∙◌, inl, inr, refl, sym, ◌⊎◌}
 use Rattle.seccomp_tree.proofs.Runs.{grows_not, grows_on, is_in_grown, leads_by, leads_grown, starts_more}
+use Rattle.seccomp_tree.proofs.Meeting.{high_word, low_word}
 use Rattle.seccomp_tree.proofs.Begun.{AreLeft, HasMoved, left_begins, left_end, left_has, left_on, steps_more}
 
 -- How many further high halves a number may begin for which no step that is left starts.
@@ -36,11 +37,6 @@ some_left size rest lt = grind (arith, lt)
 
 -- ---- the loop of `argument`
 
--- A target goes on as the steps say for the arguments of a high half.
-abbrev pub GoesFor : List sock_filter → ℕ → List Step → ℕ → Target → List sock_filter → Type 0
-GoesFor old index steps high t code = IsIn code t × ((r : List ℕ) → IsRecord r → (w n k : ℕ) → length steps ≤ 2 ^ k
-    → Leads 0 old r (found_in steps (high * 2 ^ 32 + word_at r (16 + 8 * index))) w n → Leads 0 code r t w (n + 2 + 2 * k))
-
 -- Steps over the high halves below that of a number, whose targets go on as the steps say for an argument; and over those low halves
 -- of this one that are below the number.
 pub record Halving (old : List sock_filter) (index : ℕ) (steps : List Step) (number : ℕ) (rest lows highs : List Step)
@@ -54,7 +50,10 @@ pub record Halving (old : List sock_filter) (index : ℕ) (steps : List Step) (n
   pub before : ℕ
   pub grows : Grows old before code
   pub room : before + 3 * length lows + 5 * length (drop 1 rest) + due number rest + 4 ≤ 5 * length steps
-  pub leads : (h : ℕ) → h < number / 2 ^ 32 → GoesFor old index steps h (found_in highs h) code
+  pub leads : (h : ℕ) → h < number / 2 ^ 32 → IsIn code (found_in highs h)
+      × ((r : List ℕ) → IsRecord r → (w n k : ℕ) → length steps ≤ 2 ^ k
+      → Leads 0 old r (found_in steps (h * 2 ^ 32 + word_at r (16 + 8 * index))) w n
+      → Leads 0 code r (found_in highs h) w (n + 2 + 2 * k))
 
 pub halving_begins : (old : List sock_filter) (index : ℕ) (steps : List Step) → AreSteps (2 ^ 64) steps
     → Halving old index steps 0 steps [] [] old
@@ -172,9 +171,8 @@ module _ {old code : List sock_filter} {index number : ℕ} {steps rest lows hig
     inside = word.inside;
     leads = λ r rec w n k few lead.
         let top = word_at r (20 + 8 * index) in
-        let at : word_at r (16 + 8 * index + 4) ≡ top = ap (λ i. word_at r i) (omega arith) in
         let number : argument_at r index ≡ top * 2 ^ 32 + word_at r (16 + 8 * index) =
-        omega (arith, number_halves r (16 + 8 * index), at) in
+        omega (arith, high_word r index rec, low_word r index rec) in
         let both = (h.leads top (omega (arith, end, word_fits r (20 + 8 * index) rec))).1 r rec w n k few
         (subst (λ u. Leads 0 old r (found_in steps u) w n) number lead) in
         λ a small. starts_more (n + (5 + 4 * k)) (omega arith)

@@ -150,12 +150,11 @@ mask_parts x v m =
 pub masked_dword : {old new : List sock_filter} {fit unfit t : Target} (c : Condition) (m : ℕ) → c.arg_len ≡ Dword → c.operator ≡ MaskedEq m
     → IsMet (HasBits (16 + 8 * c.arg_index) (m % 2 ^ 32) (c.value % 2 ^ 32)) 5 4 old fit unfit t new → IsConditionMet old c fit unfit t new
 masked_dword c m short is h =
-    let cost : (condition_length c.arg_len c.operator ≡ 5) × (condition_steps c.arg_len c.operator ≡ 3) = rw (short, is) (refl, refl) in
-    rw (cost.0, cost.1) record {
+    rw (short, is) record {
       grows = h.grows;
       inside = h.inside;
-      met = λ r rec holds. h.met r rec (rw (← low_word r c.arg_index rec) (rw (short, is) at holds));
-      unmet = λ r rec not. h.unmet r rec (λ has. not (rw (short, is, low_word r c.arg_index rec) has));
+      met = λ r rec holds. h.met r rec (rw (← low_word r c.arg_index rec) holds);
+      unmet = λ r rec not. h.unmet r rec (λ has. not (rw (low_word r c.arg_index rec) has));
     }
 
 pub masked_qword : {old mid new : List sock_filter} {fit unfit one t : Target} (c : Condition) (m : ℕ) → c.arg_len ≡ Qword

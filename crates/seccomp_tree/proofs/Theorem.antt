@@ -1,7 +1,7 @@
 -- The theorem: what is written answers every record as is decided. Sound code is a checked program, and a run that returns a word ends
 -- with it there.
 use Rattle.seccomp_tree.proofs.Common.{drop_all, ◌≡◌, ℕ, zero, suc, ◌+◌, ◌-◌, ◌<◌, ◌≤◌, ◌^◌, List, [], ◌∷◌, length, drop, Some}
-use Rattle.seccomp_tree.proofs.Common.{length-append, goes_on, EndsWithin, length-drop, subst, refl, sym, ap, ◌∙◌, arith, add-one, zero-add}
+use Rattle.seccomp_tree.proofs.Common.{goes_on, EndsWithin, length-drop, subst, refl, sym, ap, ◌∙◌, arith, add-one, zero-add}
 use Rattle.seccomp_tree.proofs.Common.{slice_get, drop-drop, sock_filter, give, Goes, stays, then_step, IsFine, IsInRange, IsChecked}
 use Rattle.seccomp_tree.proofs.Common.{greatest_length, AreFine, IsSound, Returns, gives, ◌*◌, inl, inr, IsAnswer, AreCallSteps, length_by, calls_length}
 use Rattle.seccomp_tree.proofs.Common.{Equal, nat_tests, IsRecord, word_at, audit_word, Target, Give, Step, one, Leads, to_return, IsPart}

@@ -1,9 +1,9 @@
 -- For `tree` and `word`: parts of steps, rows of tests, and the code of steps, put together of the code of fewer and a test.
 use Rattle.seccomp_tree.proofs.Common.{second_stands_out, take-append-drop, length-take-le, if◌then◌else◌, GoesOn}
-use Rattle.seccomp_tree.proofs.Common.{length-drop, sock_filter, cases_Bool, nat_tests, pow-succ', and_parts, drop_more, AreIn}
+use Rattle.seccomp_tree.proofs.Common.{length-drop, sock_filter, cases_Bool, nat_tests, pow-succ', drop_more, AreIn}
 use Rattle.seccomp_tree.proofs.Common.{word_fits, All-drop, found_in, IsTested, IsRecord, goes_on, AtLeast, Returns, word_at, IsIn}
-use Rattle.seccomp_tree.proofs.Common.{length, get_or, passed, nat_le, nat_eq, Target, take_rest, chosen, IsTree, IsPart, Equal, Grows, Dword}
-use Rattle.seccomp_tree.proofs.Common.{false, subst, arith, loads, Give, zero, List, take, drop, true, refl, Step, same, ◌++◌, Test, load}
+use Rattle.seccomp_tree.proofs.Common.{length, get_or, passed, nat_le, Target, take_rest, chosen, IsTree, IsPart, Equal, Grows, Dword}
+use Rattle.seccomp_tree.proofs.Common.{false, subst, arith, loads, Give, zero, List, take, drop, true, refl, Step, ◌++◌, Test, load}
 use Rattle.seccomp_tree.proofs.Common.{inl, ◌≡◌, suc, ◌+◌, ◌-◌, ◌*◌, ◌/◌, ◌^◌, ◌<◌, ◌≤◌, ◌∷◌, sym, ◌∙◌, inr, row, [], ap, At, ℕ}
 use Rattle.seccomp_tree.proofs.Begun.{AreOver, single, ascend_more, ascend_parts, found_back, found_before, found_front}
 use Rattle.seccomp_tree.proofs.Runs.{grows_not, grows_on, last_in, starts_more, starts_last, leads_by, leads_grown, grows_one, runs_last}
@@ -14,9 +14,11 @@ over_parts : (front : List Step) (x : Step) (back : List Step) → 1 ≤ length 
     → AreOver front × (AreOver (x ∷ back) × ((0 < x.start) × (x.start < 2 ^ 32)))
 over_parts [] x back some h = absurd (omega arith)
 over_parts (y ∷ front) x back some h =
-    let p = ascend_parts (2 ^ 32) 1 front x back h in (
-      ascend_more x.start (2 ^ 32) 1 1 front (omega (arith, p.1.1.0)) (omega arith) p.0,
-      (ascend_more (2 ^ 32) (2 ^ 32) (x.start + 1) 1 back (omega arith) (omega arith) p.1.1.1, (omega (arith, p.1.0), p.1.1.0)),
+    grind (
+      arith,
+      ascend_parts (2 ^ 32) 1 front x back h,
+      ascend_more x.start (2 ^ 32) 1 1 front,
+      ascend_more (2 ^ 32) (2 ^ 32) (x.start + 1) 1 back,
     )
 
 found_parts : (front : List Step) (x : Step) (back : List Step) (a : ℕ) → 1 ≤ length front → AreOver (front ++ x ∷ back)
@@ -82,8 +84,7 @@ row_halvings steps k some six le = omega (arith, row_few steps some)
 stands_beside : (i : ℕ) (x y z : Step) (steps : List Step) → AreOver (x ∷ y ∷ z ∷ steps) → second_stands_out (x ∷ y ∷ z ∷ steps) ≡ true
     → found_in (x ∷ y ∷ z ∷ steps) i ≡ chosen Equal (y.start) y.target (found_in (z ∷ steps) i) i
 stands_beside i x y z steps h out =
-    let both = and_parts (same x.target z.target) (nat_eq (z.start - y.start) 1) out in
-    grind (arith, nat_tests, both.0, both.1, h.0, found_before (2 ^ 32) (z.start + 1) z.target steps i h.1.1.1.1)
+    grind (arith, nat_tests, out, h.0, found_before (2 ^ 32) (z.start + 1) z.target steps i h.1.1.1.1)
 
 -- ---- the code
 

@@ -33,11 +33,10 @@ overflow_cast-steps t c = omega (
 pub returns-then-not-is_row : goal.returns-then-not-is_row
 returns-then-not-is_row t c =
     let steps = c.args.steps.now in
-    let all = take_rest steps (length steps / 2) in
     IfOk-weaker c.test.result _ _
     (λ u h. tree_halves steps (length steps / 2) _ refl c.requires.over (omega (arith, c.requires.some))
     (elim (cases_lt 6 (row steps)) [ inl lt ↦ lt | inr le ↦ absurd (false≢true (c.if-not-is_row.ensures.1 le)) ])
-    (rw all at c.in_ok-upper.ensures) c.in_ok-lower.ensures h)
+    (rw (take_rest steps (length steps / 2)) at c.in_ok-upper.ensures) c.in_ok-lower.ensures h)
     c.test.ensures
 
 pub tree-requires-then-stands_out : goal.tree-requires-then-stands_out
@@ -50,10 +49,9 @@ tree-requires-then-stands_out t c =
 pub returns-then-stands_out : goal.returns-then-stands_out
 returns-then-stands_out t c =
     let steps = c.args.steps.now in
-    let all = take_rest steps 2 in
     IfOk-weaker c.test-then-stands_out.result _ _
     (λ u h. tree_out steps _ c.requires.over (sym c.stands_out.ensures ∙ c.if-stands_out.true)
-    (c.is_row.ensures.0 c.if-not-is_row.false) (rw all at c.in_ok-rest.ensures) h)
+    (c.is_row.ensures.0 c.if-not-is_row.false) (rw (take_rest steps 2) at c.in_ok-rest.ensures) h)
     c.test-then-stands_out.ensures
 
 pub tree-requires-2 : goal.tree-requires-2
@@ -64,8 +62,7 @@ tree-requires-2 t c =
 pub returns : goal.returns
 returns t c =
     let steps = c.args.steps.now in
-    let all = take_rest steps 1 in
     IfOk-weaker c.test-2.result _ _
     (λ u h. tree_first steps _ (omega (arith, c.requires.some)) c.requires.over (sym c.stands_out.ensures ∙ c.if-stands_out.false)
-    (c.is_row.ensures.0 c.if-not-is_row.false) (rw all at c.in_ok-rest-2.ensures) h)
+    (c.is_row.ensures.0 c.if-not-is_row.false) (rw (take_rest steps 1) at c.in_ok-rest-2.ensures) h)
     c.test-2.ensures

@@ -1,4 +1,4 @@
-use Rattle.seccomp_tree.proofs.Common.{◌≡◌, ◌-◌, ◌∷◌, sym, subst, arith, load, mask, At, HasBits, IsMet, refl, and_zero_r, word_at}
+use Rattle.seccomp_tree.proofs.Common.{arith, refl, and_zero_r, word_at}
 use Rattle.seccomp_tree.proofs.Meeting.{masked_some, met_now}
 use Rattle.seccomp_tree.proofs.code.Code.masked.Goals as goal
 
@@ -8,10 +8,5 @@ returns-then-mask-eq0 c = met_now c.requires.yes (λ r is. refl)
     (λ r not. absurd (not (rw (c.if-mask-eq0.true, and_zero_r (word_at r c.args.byte), and_zero_r c.args.value) refl)))
 
 pub returns : goal.returns
-returns c =
-    let new = c.push-2.new.self in
-    let is : new ≡ load c.args.byte ∷ mask c.args.mask ∷ c.test.new.self =
-    cc (c.in_ok-push-2.ensures, c.in_ok-push.ensures, c.bpf_stmt.ensures, c.bpf_stmt-2.ensures) in
-    subst (λ n. IsMet (HasBits c.args.byte c.args.mask c.args.value) 5 4 c.args.self.now c.args.yes c.args.no (At (n - 1)) new)
-    (sym c.len.ensures.len)
-    (masked_some c.args.byte c.args.mask c.args.value c.requires.inside_record (omega arith) c.in_ok-test.ensures is)
+returns c = rw c.len.ensures.len (masked_some c.args.byte c.args.mask c.args.value c.requires.inside_record (omega arith)
+    c.in_ok-test.ensures (cc (c.in_ok-push-2.ensures, c.in_ok-push.ensures, c.bpf_stmt.ensures, c.bpf_stmt-2.ensures)))

@@ -3,7 +3,7 @@ use Rattle.seccomp_tree.proofs.Common.{SeccompCmpArgLen, if◌then◌else◌, le
 use Rattle.seccomp_tree.proofs.Common.{found_from, AscendFrom, nat_tests, Condition, take_rest, found_in, AreSteps, AreTight, IsPushed, take}
 use Rattle.seccomp_tree.proofs.Common.{cases_lt, cases_eq, MaskedEq, Compares, is_plain, IsChosen, bit_and, part_of, AreLaid, zero}
 use Rattle.seccomp_tree.proofs.Common.{nat_le, IsTurn, length, get_or, Target, nat_eq, nat_lt, AllIn, arith, AreIn, List, ◌++◌, drop, true}
-use Rattle.seccomp_tree.proofs.Common.{refl, Bool, Step, IsIn, ◌≡◌, suc, ◌+◌, ◌-◌, ◌^◌, ◌<◌, ◌≤◌, ◌≢◌, ◌∷◌, ◌∙◌, ◌⊎◌, inl, inr, [], ap, ℕ}
+use Rattle.seccomp_tree.proofs.Common.{refl, Bool, Step, IsIn, ◌≡◌, suc, ◌+◌, ◌-◌, ◌^◌, ◌<◌, ◌≤◌, ◌≢◌, ◌∷◌, ◌∙◌, ◌⊎◌, ◌↔◌, inl, inr, [], ap, ℕ}
 use Rattle.seccomp_tree.specs.Code.{numbers_of}
 use mir.Val.{bool_byte}
 
@@ -182,8 +182,8 @@ compares_or_not _ a v = grind arith
 
 -- numbers that lie alike to a value compare alike
 alike_on : (o : SeccompCmpOp) (a b v : ℕ) → is_plain o ≡ true
-    → ((a < v) × (b < v)) ⊎ (((a ≡ v) × (b ≡ v)) ⊎ ((v < a) × (v < b))) → Compares o a v → Compares o b v
-alike_on o a b v plain side h = grind (arith, plain, side, h)
+    → ((a < v) × (b < v)) ⊎ (((a ≡ v) × (b ≡ v)) ⊎ ((v < a) × (v < b))) → Compares o a v ↔ Compares o b v
+alike_on o a b v plain side = (λ h. grind (arith, plain, side, h), λ h. grind (arith, plain, side, h))
 
 pub numbers_many : (l : SeccompCmpArgLen) → 2 ^ 32 ≤ numbers_of l
 numbers_many l = grind arith
@@ -225,12 +225,9 @@ laying_on {c} {end = end} {number} {next} (x ∷ rest) back d plain h some ends 
     | inl below ↦ rw (pushed.below a below) (h.each a below)
     | inr le ↦
         let other = left_has (x ∷ rest) d a h.left some le (omega (arith, ends, turn.within)) in
-        rw (pushed.from a le, other) record {
-          met = λ is. chosen.met (alike_on c.operator a number (part_of c.arg_len c.value) plain (grind
-              (arith, nat_tests, turn.before, le, lt)) is);
-          unmet = λ not. chosen.unmet (λ is. not (alike_on c.operator number a (part_of c.arg_len c.value) plain (grind
-              (arith, nat_tests, turn.before, le, lt)) is));
-        }
+        let same = alike_on c.operator a number (part_of c.arg_len c.value) plain (grind (arith, nat_tests, turn.before, le, lt)) in
+        rw (pushed.from a le, other)
+        record { met = λ is. chosen.met (same.0 is); unmet = λ not. chosen.unmet (λ is. not (same.1 is)) }
   ];
   few = grind (arith, nat_tests, h.few, pushed.few, turn.above, turn.stops, turn.within, moved);
 }

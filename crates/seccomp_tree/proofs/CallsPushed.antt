@@ -37,8 +37,7 @@ next_begins {number = number} entries empty up fits none which = record {
   none = λ k d lt. absurd (omega arith);
   rulings = λ n le lt. elim (cases_eq n number) [
     | inl same ↦ ap (rulings_for (calls_of entries)) same
-    | inr other ↦ sym (rulings_under entries n) ∙ none n le (omega (arith, which))
-        ∙ sym (none number (omega arith) (omega (arith, which))) ∙ rulings_under entries number
+    | inr other ↦ grind (arith, which, other, rulings_under entries, none n le, none number)
   ];
 }
 

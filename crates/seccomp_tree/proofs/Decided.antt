@@ -94,10 +94,7 @@ rising n e (f ∷ entries) calls h le =
     let rest = All-tail IsCallNumber e.0 (numbers_of (chains_of (f ∷ entries))) calls in
     let own = All-head IsCallNumber e.0 (numbers_of (chains_of (f ∷ entries))) calls in
     let next = All-head IsCallNumber f.0 (numbers_of (chains_of entries)) rest in
-    (own, (le, rising (unsigned_abs e.0 + 1) f entries rest h.1 (above e.0 f.0 own next h.0.0)))
-  where
-    above : (z y : ℤ) → IsCallNumber z → IsCallNumber y → int_cmp z y ≡ Less → unsigned_abs z + 1 ≤ unsigned_abs y
-    above z y (n, is, small) (m, is', small') h = rw (is, is') (grind (arith, nat_tests, ints, rw (is, is') at h))
+    (own, (le, rising (unsigned_abs e.0 + 1) f entries rest h.1 (grind (arith, nat_tests, ints, own, next, h.0.0))))
 
 pub record CallsSoFar (w : ℕ) (chains : List (ℤ × Chain)) (left : List (ℤ × Vec Rule Global)) (calls : List (ℕ × Vec Ruling Global)) :
     Type 0 where

@@ -66,12 +66,8 @@ program_ends p r w n h = rw zero-add at (ends_from p r p 0 0 0 w n refl stays (o
 each_fine : (p : List sock_filter) (place : ℕ) (i : sock_filter) → AreFine p → slice_get p place ≡ Some i
     → IsFine i place (length p) × IsInRange i
 each_fine [] place i h here = absurd (cc)
-each_fine (x ∷ p) zero i h here =
-    let same : i ≡ x = cc in
-    rw (same, ← add-one) (h.0, h.1.0)
-each_fine (x ∷ p) (suc place) i h here =
-    let both = each_fine p place i h.1.1 here in
-    (grind (arith, both.0), both.1)
+each_fine (x ∷ p) zero i h here = grind (arith, h, here)
+each_fine (x ∷ p) (suc place) i h here = grind (arith, each_fine p place i h.1.1 here)
 
 -- Sound code is a checked program, if it is no longer than that may be.
 pub sound_checked : (p : List sock_filter) → IsSound p → length p ≤ greatest_length → IsChecked p

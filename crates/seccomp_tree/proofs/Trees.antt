@@ -13,23 +13,14 @@ use Rattle.seccomp_tree.proofs.Runs.{grows_not, grows_on, last_in, starts_more, 
 over_parts : (front : List Step) (x : Step) (back : List Step) → 1 ≤ length front → AreOver (front ++ x ∷ back)
     → AreOver front × (AreOver (x ∷ back) × ((0 < x.start) × (x.start < 2 ^ 32)))
 over_parts [] x back some h = absurd (omega arith)
-over_parts (y ∷ front) x back some h =
-    grind (
-      arith,
-      ascend_parts (2 ^ 32) 1 front x back h,
-      ascend_more x.start (2 ^ 32) 1 1 front,
-      ascend_more (2 ^ 32) (2 ^ 32) (x.start + 1) 1 back,
-    )
+over_parts (y ∷ front) x back some h = grind (arith, ascend_parts (2 ^ 32) 1 front x back h, ascend_more)
 
 found_parts : (front : List Step) (x : Step) (back : List Step) (a : ℕ) → 1 ≤ length front → AreOver (front ++ x ∷ back)
     → found_in (front ++ x ∷ back) a ≡ (if nat_le x.start a then found_in (x ∷ back) a else found_in front a)
 found_parts [] x back a some h = absurd (omega arith)
-found_parts (y ∷ front) x back a some h = grind (
-  arith,
-  nat_tests,
-  found_front y.target front x back a,
-  found_back y.target 1 front x back a (ascend_parts (2 ^ 32) 1 front x back h).0,
-)
+found_parts (y ∷ front) x back a some h =
+    let below = (ascend_parts (2 ^ 32) 1 front x back h).0 in
+    grind (arith, nat_tests, found_front y.target front x back a, found_back y.target 1 front x back a below)
 
 module _ (steps : List Step) (n : ℕ) (d : Step) (some : 1 ≤ n) (lt : n < length steps) (over : AreOver steps) where
   cut : drop n steps ≡ get_or steps n d ∷ drop (n + 1) steps

@@ -24,11 +24,9 @@ tree-requires-then-not-is_row t c =
     )
 
 pub overflow_cast-steps : goal.overflow_cast-steps
-overflow_cast-steps t c = omega (
-  arith,
-  (over_halves c.args.steps.now (length c.args.steps.now / 2) none (omega (arith, c.requires.some)) (omega (arith, c.requires.some))
-      c.requires.over).1.1.1,
-)
+overflow_cast-steps t c =
+    let halves = over_halves c.args.steps.now (length c.args.steps.now / 2) none (omega (arith, c.requires.some))
+    (omega (arith, c.requires.some)) c.requires.over in omega (arith, halves.1.1.1)
 
 pub returns-then-not-is_row : goal.returns-then-not-is_row
 returns-then-not-is_row t c =

@@ -67,17 +67,14 @@ last_from m from (z ∷ steps) a y d h le = grind (arith, nat_tests, h.1.0, last
 pub found_last : (m a n : ℕ) (steps : List Step) (d : Step) → AreSteps m steps → 1 ≤ length steps → n ≡ length steps - 1 → m ≤ a
     → found_in steps a ≡ (get_or steps n d).target
 found_last m a n [] d h some last le = absurd (omega arith)
-found_last m a n (y ∷ steps) d h some last le =
-    let at : n ≡ length steps = omega (arith, last) in rw at (last_from m (y.start + 1) steps a y d h.ascend.1.1 le)
+found_last m a n (y ∷ steps) d h some last le = grind (arith, last, last_from m (y.start + 1) steps a y d h.ascend.1.1 le)
 
 -- targets for all numbers below the size are all targets, and the other way round
 in_below : (code : List sock_filter) (m from : ℕ) (t : Target) (steps : List Step) → AscendFrom m from steps
     → ((a : ℕ) → from ≤ a → a < m → IsIn code (found_from t steps a)) → AreIn code steps
 in_below code m from t [] up h k d lt = absurd (omega arith)
 in_below code m from t (x ∷ steps) up h zero d lt =
-    let here : found_from t (x ∷ steps) x.start ≡ x.target =
-    grind (arith, nat_tests, found_before m (x.start + 1) x.target steps x.start up.1.1) in
-    rw here at (h x.start up.0 up.1.0)
+    grind (arith, nat_tests, found_before m (x.start + 1) x.target steps x.start up.1.1, h x.start up.0 up.1.0)
 in_below code m from t (x ∷ steps) up h (suc k) d lt = in_below code m (x.start + 1) x.target steps up.1.1
     (λ a le lt'. let yes : nat_le x.start a ≡ true = grind (arith, nat_tests) in rw yes at (h a (omega (arith, up.0)) lt')) k d
     (omega arith)

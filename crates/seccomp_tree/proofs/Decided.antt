@@ -119,9 +119,7 @@ insert_last : (calls : List (ℕ × Vec Ruling Global)) (next n : ℕ) (q : Vec 
 insert_last [] next n q below le = refl
 insert_last (x ∷ calls) next n q below le =
     let P = λ (y : ℕ × Vec Ruling Global). y.0 < next in
-    let less = All-head P x calls below in
-    let higher : nat_cmp n x.0 ≡ Greater = grind (arith, nat_tests) in
-    rw higher (ap (λ l. x ∷ l) (insert_last calls next n q (All-tail P x calls below) le))
+    grind (arith, nat_tests, All-head P x calls below, insert_last calls next n q (All-tail P x calls below) le)
 
 pub calls_next : (w n : ℕ) (z : ℤ) (chain : Vec Rule Global) (q : Vec Ruling Global) (chains : List (ℤ × Chain))
     (back : List (ℤ × Vec Rule Global)) (calls : List (ℕ × Vec Ruling Global)) → CallsSoFar w chains ((z, chain) ∷ back) calls → z ≡ pos n

@@ -22,8 +22,7 @@ IsPast number end past =
 
 next_is : (number end next past : ℕ) → IsTurn number (past * 2 ^ 32) end next → IsPast number end past → number / 2 ^ 32 < end / 2 ^ 32
     → next ≡ past * 2 ^ 32
-next_is number end next past t (inl (first, is)) high = grind (arith, t.before, t.stops, t.within, t.above)
-next_is number end next past t (inr (later, is)) high = grind (arith, t.before, t.stops, t.within, t.above)
+next_is number end next past t which high = grind (arith, which, t.before, t.stops, t.within, t.above)
 
 -- a high half that is done is one of them, or a step fewer is left
 due_less : (number end next past : ℕ) (rest back : List Step) → IsTurn number (past * 2 ^ 32) end next → IsPast number end past
@@ -80,19 +79,13 @@ module _ {old code : List sock_filter} {index number end : ℕ} {steps lows push
   -- what is pushed is so for the rest of the high half, and if that begins with it for others
   held : (high a : ℕ) → number / 2 ^ 32 ≤ high → (high ≡ number / 2 ^ 32) ⊎ (number % 2 ^ 32 ≡ 0) → a < 2 ^ 32
       → high * 2 ^ 32 + a < end → found_in steps (high * 2 ^ 32 + a) ≡ found_in pushed a
-  held high a le begins fits lt = elim (cases_lt a (number % 2 ^ 32)) [
-    | inl less ↦
-        let same : high ≡ number / 2 ^ 32 = grind (arith, begins, less) in rw same (h.own a less ∙ sym (p.below a less))
-    | inr more ↦ left_has rest d (high * 2 ^ 32 + a) h.left some (omega arith) (rw ends at lt) ∙ sym (p.from a more)
-  ]
+  held high a le begins fits lt =
+      grind (arith, begins, ends, h.own a, p.below a, p.from a, left_has rest d (high * 2 ^ 32 + a) h.left some)
 
   pub lows_in : AllIn old (2 ^ 64) steps → AreSteps (2 ^ 32) pushed × AllIn code (2 ^ 32) pushed
   lows_in inside = (
     steps_more (number % 2 ^ 32 + 1) (2 ^ 32) pushed (omega arith) (omega arith) p.are,
-    λ a lt. elim (cases_lt a (number % 2 ^ 32)) [
-      | inl less ↦ here a (omega arith)
-      | inr le ↦ rw (p.from a le ∙ sym (p.from (number % 2 ^ 32) (omega arith))) (here (number % 2 ^ 32) (omega arith))
-    ],
+    λ a lt. grind (arith, p.from a, p.from (number % 2 ^ 32), here a, here (number % 2 ^ 32)),
   )
     where
       here : (a : ℕ) → a ≤ number % 2 ^ 32 → IsIn code (found_in pushed a)

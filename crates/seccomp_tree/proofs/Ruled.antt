@@ -27,8 +27,7 @@ pub only_is : (q : List Condition) (c : Condition) → only q ≡ Some c → (q 
 only_is q c e = grind (arith, e)
 
 only_length : (q : List Condition) (c : Condition) → only q ≡ Some c → conditions_length q ≡ part_length c.arg_len 3
-only_length q c is =
-    let own = only_is q c is in rw own.0 (grind (arith, own.1))
+only_length q c is = grind (arith, only_is q c is)
 
 only_holds : (q : List Condition) (c : Condition) (r : List ℕ) → only q ≡ Some c → (Holds c r → RuleHolds q r) × (RuleHolds q r → Holds c r)
 only_holds q c r is =

@@ -133,12 +133,10 @@ pub tree_first : {old mid new : List sock_filter} {x t : Target} (steps : List S
     → AreOver steps → second_stands_out steps ≡ false → row steps ≤ 6 → IsTree old (drop 1 steps) x mid
     → IsTested mid AtLeast ((get_or steps 1 d).start) x (get_or steps 0 d).target t new → IsTree old steps t new
 tree_first {old} {mid} (a ∷ b ∷ steps) d some over out six tree h =
-    row_tree (a ∷ b ∷ steps) tree h (one steps out) six (omega arith) (omega arith)
+    let one : row (a ∷ b ∷ steps) ≡ suc (row (b ∷ steps)) = grind (arith, out) in
+    row_tree (a ∷ b ∷ steps) tree h one six (omega arith) (omega arith)
     (test_goes (a ∷ b ∷ steps) (b ∷ steps) (single a.target) (row (b ∷ steps)) (λ i small. grind (arith, nat_tests, over.0))
-    (tree.soon (omega (arith, one steps out))) (plain_goes old mid a.target (row (b ∷ steps)) tree.grows) h)
-  where
-    one : (l : List Step) → second_stands_out (a ∷ b ∷ l) ≡ false → row (a ∷ b ∷ l) ≡ suc (row (b ∷ l))
-    one l out = grind (arith, out)
+    (tree.soon (omega (arith, one))) (plain_goes old mid a.target (row (b ∷ steps)) tree.grows) h)
 tree_first _ d some over out six tree h = absurd (omega arith)
 
 -- a test in front of two halves

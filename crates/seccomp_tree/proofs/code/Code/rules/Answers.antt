@@ -96,8 +96,7 @@ loop-left-preserved-in-loop-left c =
     let d = c.index-rulings-left.result in
     let front = in_front c.args.rulings.now (c.loop-left.left - 1) in
     let apart : joined front (d ∷ rest b) ≡ 0 = elim c.then-left-eq0.branch [
-      | then-left-eq0-via-then-left-eq0 w ↦
-          let first : c.loop-left.left - 1 ≡ 0 = w.if-left-eq0.true in rw first refl
+      | then-left-eq0-via-then-left-eq0 w ↦ rw w.if-left-eq0.true refl
       | then-left-eq0-via-else-left-eq0+then-not-joins w ↦
           let at = front_is c.args.rulings.now (c.loop-left.left - 1) _ (omega (arith, w.if-left-eq0.false)) (omega arith)
           w.index-rulings-left-else-left-eq0.is in

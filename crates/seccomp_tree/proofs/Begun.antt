@@ -19,8 +19,7 @@ AreOver steps = AscendFrom (2 ^ 32) 1 (drop 1 steps)
 
 pub ascend_more : (m n from to : ℕ) (steps : List Step) → m ≤ n → to ≤ from → AscendFrom m from steps → AscendFrom n to steps
 ascend_more m n from to [] le le' h = tt
-ascend_more m n from to (x ∷ steps) le le' h =
-    (omega (arith, h.0), (omega (arith, h.1.0), ascend_more m n (x.start + 1) (x.start + 1) steps le (omega arith) h.1.1))
+ascend_more m n from to (x ∷ steps) le le' h = grind (arith, h, ascend_more m n (x.start + 1) (x.start + 1) steps le)
 
 pub not_none : (m : ℕ) (steps : List Step) → AreSteps m steps → 0 < m → 1 ≤ length steps
 not_none m steps h some = grind (arith, h.first)

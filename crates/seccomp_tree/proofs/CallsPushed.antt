@@ -125,19 +125,14 @@ few_from d code starts y (x ∷ steps) ranges ascend tight each =
     let yes : nat_le s n ≡ true = grind (arith, nat_tests) in rw yes at (each n (omega (arith, ascend.0)) lt)) in
     omega (arith, rest, above_one s (s + 1) starts (omega arith) here, above_less (y.start + 1) s starts ascend.0)
   where
-    below : found_from y.target (x ∷ steps) (x.start - 1) ≡ y.target
-    below = grind (arith, nat_tests, ascend.0)
-
-    at : found_from y.target (x ∷ steps) (x.start - 1 + 1) ≡ x.target
-    at = grind (arith, nat_tests, ascend.0, found_before (2 ^ 32) (x.start + 1) x.target steps (x.start - 1 + 1) ascend.1.1)
-
     begins : (b : Bool) → is_member nat_eq starts (x.start - 1 + 1) ≡ b → is_member nat_eq starts x.start ≡ true
     begins true e = ap (is_member nat_eq starts) (omega (arith, ascend.0)) ∙ e
     begins false e =
         let alike = ranges.alike (x.start - 1) (omega (arith, ascend.0, ascend.1.0)) e in
         let low = (each (x.start - 1) (omega (arith, ascend.0)) (omega (arith, ascend.1.0))).one alike.0 alike.1 in
         let high = (each (x.start - 1 + 1) (omega (arith, ascend.0)) (omega (arith, ascend.0, ascend.1.0))).one alike.0 alike.2 in
-        absurd (tight.0 (sym below ∙ low ∙ sym high ∙ at))
+        let at = found_before (2 ^ 32) (x.start + 1) x.target steps (x.start - 1 + 1) ascend.1.1 in
+        absurd (tight.0 (grind (arith, nat_tests, ascend.0, low, high, at)))
 
 pub fewest : {d : DecisionSet} {most : ℕ} {old code : List sock_filter} (steps : List Step) (starts : List ℕ)
     → AreCallSteps old d most (2 ^ 32) steps code → AreRanges d starts → length steps ≤ length starts

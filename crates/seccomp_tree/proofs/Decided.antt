@@ -171,8 +171,7 @@ rulings_found w [] n numbers = refl
 rulings_found w (e ∷ chains) n numbers =
     let call = All-head IsCallNumber e.0 (numbers_of chains) numbers in
     let rest = rulings_found w chains n (All-tail IsCallNumber e.0 (numbers_of chains) numbers) in
-    let same : is_at (int_cmp (pos n)) e.0 ≡ nat_eq n (unsigned_abs e.0) = rw call.1 (grind (arith, nat_tests, ints)) in
-    rw same (grind (arith, nat_tests, rest))
+    grind (arith, nat_tests, ints, call, rest)
 
 -- ---- the decisions
 

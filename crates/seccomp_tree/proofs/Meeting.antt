@@ -17,9 +17,7 @@ pub low_word : (r : List ℕ) (index : ℕ) → IsRecord r → argument_at r ind
 low_word r index rec = omega (arith, number_halves r (16 + 8 * index), word_fits r (16 + 8 * index) rec)
 
 pub high_word : (r : List ℕ) (index : ℕ) → IsRecord r → argument_at r index / 2 ^ 32 ≡ word_at r (20 + 8 * index)
-high_word r index rec =
-    let same : word_at r (16 + 8 * index + 4) ≡ word_at r (20 + 8 * index) = ap (λ i. word_at r i) (omega arith) in
-    omega (arith, number_halves r (16 + 8 * index), same, word_fits r (16 + 8 * index) rec)
+high_word r index rec = grind (arith, number_halves r (16 + 8 * index), word_fits r (16 + 8 * index) rec)
 
 pub part_fits : (l : SeccompCmpArgLen) (r : List ℕ) (index : ℕ) → IsRecord r → part_of l (argument_at r index) < numbers_of l
 part_fits l r index rec =

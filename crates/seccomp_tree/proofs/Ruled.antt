@@ -31,9 +31,7 @@ only_length q c is = grind (arith, only_is q c is)
 
 only_holds : (q : List Condition) (c : Condition) (r : List ℕ) → only q ≡ Some c → (Holds c r → RuleHolds q r) × (RuleHolds q r → Holds c r)
 only_holds q c r is =
-    let own = only_is q c is in
-    let P = λ (x : Condition). Holds x r in
-    rw own.0 (λ h. All-cons P c [] h (All-nil P), λ h. All-head P c [] h)
+    let P = λ (x : Condition). Holds x r in grind (arith, only_is q c is, All-cons P c [], All-nil P, All-head P c [])
 
 -- ---- what comes after
 
@@ -151,9 +149,7 @@ module _ {old code : List sock_filter} {default : ℕ} (d : Ruling) (rest : List
     behind_laid {j} {steps} {laid} fits x h = record {
       before = x.before;
       grows = x.grows;
-      room =
-          let more : suc j * part_length c.arg_len 3 ≡ part_length c.arg_len 3 + j * part_length c.arg_len 3 = grind arith in
-          omega (arith, more, only_length d.conditions c own, x.room);
+      room = grind (arith, only_length d.conditions c own, x.room);
       few = omega (arith, h.few, x.few);
       are = h.are;
       inside = laid_in code c (Give d.value) steps laid h fits x.inside;
@@ -205,7 +201,7 @@ pub behind_many : {old code : List sock_filter} {default : ℕ} {like : SeccompC
     {steps : List Step} → IsBehind old default like j rulings steps code → greatest_length < length steps
     → greatest_length < rules_length rulings
 behind_many {like = like} {j} h many =
-    let more : 7 * j ≤ j * part_length like.0 3 = grind arith in omega (arith, many, h.few, h.room, more)
+    grind (arith, many, h.few, h.room)
 
 pub rules_less : (n : ℕ) (rulings : List Ruling) → rules_length (drop n rulings) ≤ rules_length rulings
 rules_less (suc n) (d ∷ rulings) = omega (arith, rules_less n rulings)

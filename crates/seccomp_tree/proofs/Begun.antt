@@ -1,9 +1,9 @@
 -- Steps that ascend: what they have for a number, what is left of them there, one step more, and comparisons laid over them.
-use Rattle.seccomp_tree.proofs.Common.{SeccompCmpArgLen, if◌then◌else◌, length-append, SeccompCmpOp, first_start, sock_filter}
-use Rattle.seccomp_tree.proofs.Common.{found_from, AscendFrom, nat_tests, Condition, take_rest, found_in, AreSteps, AreTight, IsPushed, take}
-use Rattle.seccomp_tree.proofs.Common.{cases_lt, cases_eq, MaskedEq, Compares, is_plain, IsChosen, bit_and, part_of, AreLaid, zero}
-use Rattle.seccomp_tree.proofs.Common.{nat_le, IsTurn, length, get_or, Target, nat_eq, nat_lt, AllIn, arith, AreIn, List, ◌++◌, drop, true}
-use Rattle.seccomp_tree.proofs.Common.{refl, Bool, Step, IsIn, ◌≡◌, suc, ◌+◌, ◌-◌, ◌^◌, ◌<◌, ◌≤◌, ◌≢◌, ◌∷◌, ◌∙◌, ◌⊎◌, ◌↔◌, inl, inr, [], ap, ℕ}
+use Rattle.seccomp_tree.proofs.Common.{SeccompCmpArgLen, if◌then◌else◌, length-append, SeccompCmpOp, first_start, sock_filter, found_from}
+use Rattle.seccomp_tree.proofs.Common.{AscendFrom, nat_tests, Condition, take_rest, found_in, AreSteps, AreTight, IsPushed, cases_lt, AllIn}
+use Rattle.seccomp_tree.proofs.Common.{cases_eq, MaskedEq, Compares, is_plain, IsChosen, bit_and, part_of, AreLaid, nat_le, IsTurn, length}
+use Rattle.seccomp_tree.proofs.Common.{get_or, Target, nat_eq, nat_lt, arith, AreIn, take, zero, List, ◌++◌, drop, true, refl, Bool, Step}
+use Rattle.seccomp_tree.proofs.Common.{IsIn, ◌≡◌, suc, ◌+◌, ◌-◌, ◌^◌, ◌<◌, ◌≤◌, ◌≢◌, ◌∷◌, ◌∙◌, ◌⊎◌, ◌↔◌, inl, inr, [], ap, ℕ}
 use Rattle.seccomp_tree.specs.Code.{numbers_of}
 use mir.Val.{bool_byte}
 
@@ -75,8 +75,7 @@ in_below code m from t [] up h k d lt = absurd (omega arith)
 in_below code m from t (x ∷ steps) up h zero d lt =
     grind (arith, nat_tests, found_before m (x.start + 1) x.target steps x.start up.1.1, h x.start up.0 up.1.0)
 in_below code m from t (x ∷ steps) up h (suc k) d lt = in_below code m (x.start + 1) x.target steps up.1.1
-    (λ a le lt'. let yes : nat_le x.start a ≡ true = grind (arith, nat_tests) in rw yes at (h a (omega (arith, up.0)) lt')) k d
-    (omega arith)
+    (λ a le lt'. grind (arith, nat_tests, up.0, h a, lt')) k d (omega arith)
 
 pub are_in_below : (code : List sock_filter) (m : ℕ) (steps : List Step) → 0 < m → AreSteps m steps → AllIn code m steps → AreIn code steps
 are_in_below code m [] some are h = absurd (omega (arith, are.first))

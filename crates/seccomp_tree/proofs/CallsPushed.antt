@@ -1,9 +1,9 @@
 -- Steps over call numbers: the numbers up to the next that is answered otherwise, and that the steps are as few as can be.
-use Rattle.seccomp_tree.proofs.Common.{if◌then◌else◌, nat_lt, AreCallSteps, rules_length, default_from, calls_length, DefaultValue, ℕ}
-use Rattle.seccomp_tree.proofs.Common.{IsNextStart, sock_filter, DecisionSet, default_for, rulings_for, IsAnswered, found_from, AscendFrom}
-use Rattle.seccomp_tree.proofs.Common.{nat_tests, is_member, AreRanges, IsAnswer, cases_lt, cases_eq, IsPushed, calls_of, AreTight, nat_cmp, length}
-use Rattle.seccomp_tree.proofs.Common.{get_or, lookup, Global, Target, Ruling, nat_eq, nat_le, arith, is_at, false, List, refl, ◌≡◌}
-use Rattle.seccomp_tree.proofs.Common.{Step, Bool, true, ◌+◌, ◌<◌, ◌≤◌, ◌^◌, ◌∷◌, Vec, sym, ◌∙◌, suc, ◌⊎◌, inl, inr, ◌-◌, [], ap}
+use Rattle.seccomp_tree.proofs.Common.{if◌then◌else◌, AreCallSteps, rules_length, default_from, calls_length, DefaultValue, IsNextStart, []}
+use Rattle.seccomp_tree.proofs.Common.{sock_filter, DecisionSet, default_for, rulings_for, IsAnswered, found_from, AscendFrom, nat_tests, ℕ}
+use Rattle.seccomp_tree.proofs.Common.{is_member, AreRanges, IsAnswer, cases_lt, cases_eq, IsPushed, calls_of, AreTight, nat_cmp, nat_lt}
+use Rattle.seccomp_tree.proofs.Common.{length, get_or, lookup, Global, Target, Ruling, nat_eq, nat_le, arith, is_at, false, List, refl, ◌≡◌}
+use Rattle.seccomp_tree.proofs.Common.{Step, Bool, true, ◌+◌, ◌<◌, ◌≤◌, ◌^◌, ◌∷◌, Vec, ◌∙◌, suc, ◌⊎◌, inl, inr, ◌-◌, ap}
 use Rattle.seccomp_tree.proofs.Runs.{grows_on, is_in_grown, leads_grown}
 use Rattle.seccomp_tree.proofs.Begun.{steps_more, found_before}
 use Rattle.seccomp_tree.proofs.Decided.{items_of, rulings_under}
@@ -75,8 +75,9 @@ calls_less calls n = omega (arith, below_one calls n (n + 1) (omega arith), belo
 -- ---- the loop of `call_steps`
 
 pub calls_on : {d : DecisionSet} {old mid new : List sock_filter} {steps more : List Step} {number next : ℕ} {t : Target}
-    → AreCallSteps old d (below_length d.calls number) number steps mid → IsAnswered mid (default_for d.defaults number) (rulings_for d.calls number) t new
-    → IsPushed steps number t more → IsNextStart d.defaults d.calls number next → AreCallSteps old d (below_length d.calls next) next more new
+    → AreCallSteps old d (below_length d.calls number) number steps mid
+    → IsAnswered mid (default_for d.defaults number) (rulings_for d.calls number) t new → IsPushed steps number t more
+    → IsNextStart d.defaults d.calls number next → AreCallSteps old d (below_length d.calls next) next more new
 calls_on {d} {number = number} {next} h answered pushed on = record {
   grows = grows_on _ h.grows answered.grows (below_one d.calls number next on.above);
   are = steps_more (number + 1) next _ (omega arith) (omega (arith, on.above)) pushed.are;

@@ -42,8 +42,9 @@ pub use Rattle.std.proofs.Math.Nat.{one-le-pow, pow-succ'}
 pub use Rattle.std.proofs.lemmas.Bool.{and_parts, cases_Bool, cases_eq, cases_lt, eq-eqb, false≢true, ne_eqb}
 pub use Rattle.std.proofs.lemmas.Bool.Decides.{nat_tests}
 pub use Rattle.std.proofs.lemmas.Int.{ints}
-pub use Rattle.std.proofs.lemmas.List.{drop-drop, drop_all, drop_more, get_or-drop, get_or-reverse, get_or-take, get_or_read_under}
-pub use Rattle.std.proofs.lemmas.List.{length-reverse, length-take, length-take-le, map-append, reverse-append, take-append-drop, take_all, take_rest}
+pub use Rattle.std.proofs.lemmas.List.{get_or_read_under, take-append-drop, get_or-reverse, length-reverse, length-take-le, reverse-append}
+pub use Rattle.std.proofs.lemmas.List.{get_or-drop, get_or-take, length-take, map-append, drop-drop, drop_more, take_rest, drop_all}
+pub use Rattle.std.proofs.lemmas.List.{take_all}
 pub use Rattle.std.proofs.lemmas.List.Elements.{All-cons, All-drop, All-take, All-head, All-nil, All-push, All-tail}
 pub use Rattle.std.proofs.lemmas.Result.{IfOk-weaker}
 pub use Rattle.std.specs.BTreeMap.{insert_entry, is_at}

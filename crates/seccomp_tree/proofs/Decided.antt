@@ -1,11 +1,11 @@
 -- What decisions decide: the first ruling that holds, the rulings of a number, the default; for a filter what it decides itself; and the
 -- calls that a loop makes of its chains.
-use Rattle.seccomp_tree.proofs.Common.{other_architecture, Less, IsCallNumber, ChainMatches, policy_differs, AreCallNumbers}
+use Rattle.seccomp_tree.proofs.Common.{other_architecture, IsCallNumber, ChainMatches, policy_differs, AreCallNumbers}
 use Rattle.seccomp_tree.proofs.Common.{DecisionSet, default_for, append_assoc, unsigned_abs, insert_entry, Chain, chain_under, decisions_of}
 use Rattle.seccomp_tree.proofs.Common.{First, audit_word, rulings_for, IsDecided, map-append, numbers_of, Condition, IsDecision, rulings_of}
 use Rattle.seccomp_tree.proofs.Common.{one_value, drop_more, nat_tests, RuleHolds, All-push, All-head, All-tail, chains_of, Holds}
-use Rattle.seccomp_tree.proofs.Common.{nat_cmp, nothing, cases_eq, calls_of, decided, All-nil, Greater, call_of, DecideAs, int_cmp, keys_of}
-use Rattle.seccomp_tree.proofs.Common.{length, get_or, Option, arith, lookup, Global, Ruling, behind, word_at, Filter, word_of, nat_eq, All}
+use Rattle.seccomp_tree.proofs.Common.{nat_cmp, nothing, cases_eq, calls_of, decided, All-nil, call_of, DecideAs, int_cmp, keys_of}
+use Rattle.seccomp_tree.proofs.Common.{length, get_or, Option, arith, lookup, Global, Ruling, behind, word_at, Filter, word_of, All}
 use Rattle.seccomp_tree.proofs.Common.{List, [], drop, refl, Some, None, Vec, inl, inr, is_at, here, ◌++◌, Any, ints, Rule, pos, map}
 use Rattle.seccomp_tree.proofs.Common.{◌≡◌, ◌≤◌, ◌-◌, ℕ, ◌+◌, ◌<◌, ◌∷◌, sym, ap, ◌∙◌, ℤ, ⊤, ◌⊎◌}
 use Rattle.seccomp_tree.proofs.Meeting.{rule_or_not}

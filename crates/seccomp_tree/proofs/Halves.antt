@@ -2,7 +2,7 @@
 use Rattle.seccomp_tree.proofs.Common.{AllIn, IsTurn, first_start, if◌then◌else◌, sock_filter, argument_at, length-drop}
 use Rattle.seccomp_tree.proofs.Common.{IsPart, cases_lt, nat_tests, pow-succ', word_at, IsRecord, word_fits, found_in, AreSteps, IsPushed}
 use Rattle.seccomp_tree.proofs.Common.{ℕ, List, length, subst, arith, nat_lt, Step, Target, Dword, Qword, get_or, Grows, IsIn, Leads, ◌≡◌}
-use Rattle.seccomp_tree.proofs.Common.{suc, ◌+◌, ◌-◌, ◌*◌, ◌/◌, ◌%◌, ◌^◌, ◌<◌, ◌≤◌, [], ◌∷◌, drop, ◌∙◌, inl, inr, refl, sym, ◌⊎◌}
+use Rattle.seccomp_tree.proofs.Common.{suc, ◌+◌, ◌-◌, ◌*◌, ◌/◌, ◌%◌, ◌^◌, ◌<◌, ◌≤◌, [], ◌∷◌, drop, inl, inr, refl, ◌⊎◌}
 use Rattle.seccomp_tree.proofs.Runs.{grows_not, grows_on, is_in_grown, leads_by, leads_grown, starts_more}
 use Rattle.seccomp_tree.proofs.Meeting.{high_word, low_word}
 use Rattle.seccomp_tree.proofs.Begun.{AreLeft, HasMoved, left_begins, left_end, left_has, left_on, steps_more}

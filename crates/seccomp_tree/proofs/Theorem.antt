@@ -1,13 +1,13 @@
 -- The theorem: what is written answers every record as is decided. Sound code is a checked program, and a run that returns a word ends
 -- with it there.
-use Rattle.seccomp_tree.proofs.Common.{drop_all, ◌≡◌, ℕ, zero, suc, ◌+◌, ◌-◌, ◌<◌, ◌≤◌, ◌^◌, List, [], ◌∷◌, length, drop, Some}
-use Rattle.seccomp_tree.proofs.Common.{goes_on, EndsWithin, length-drop, subst, refl, sym, ap, ◌∙◌, arith, add-one, zero-add}
-use Rattle.seccomp_tree.proofs.Common.{slice_get, drop-drop, sock_filter, give, Goes, stays, then_step, IsFine, IsInRange, IsChecked}
-use Rattle.seccomp_tree.proofs.Common.{greatest_length, AreFine, IsSound, Returns, gives, ◌*◌, inl, inr, IsAnswer, AreCallSteps, length_by, calls_length}
-use Rattle.seccomp_tree.proofs.Common.{Equal, nat_tests, IsRecord, word_at, audit_word, Target, Give, Step, one, Leads, to_return, IsPart}
-use Rattle.seccomp_tree.proofs.Common.{chosen, Dword, Ruling, First, Takes, stops, passes, ends, begins, run_steps, joined, DecisionSet}
-use Rattle.seccomp_tree.proofs.Common.{default_for, IsDecided, rulings_for, other_architecture, decided, TakesOwn, other, own}
-use Rattle.seccomp_tree.proofs.Common.{EndsAsDecided, IsTreeProgram, AreRanges, IsTested, load, word_fits, pow-succ', one-le-pow}
+use Rattle.seccomp_tree.proofs.Common.{other_architecture, greatest_length, EndsAsDecided, IsTreeProgram, AreCallSteps, calls_length, subst}
+use Rattle.seccomp_tree.proofs.Common.{length-drop, sock_filter, DecisionSet, default_for, rulings_for, EndsWithin, audit_word, one-le-pow}
+use Rattle.seccomp_tree.proofs.Common.{slice_get, drop-drop, then_step, IsInRange, IsChecked, length_by, nat_tests, to_return, run_steps, ℕ}
+use Rattle.seccomp_tree.proofs.Common.{IsDecided, AreRanges, word_fits, pow-succ', drop_all, zero-add, IsAnswer, IsRecord, TakesOwn, length}
+use Rattle.seccomp_tree.proofs.Common.{IsTested, goes_on, AreFine, IsSound, Returns, word_at, decided, IsFine, Target, IsPart, chosen, zero}
+use Rattle.seccomp_tree.proofs.Common.{Ruling, passes, begins, joined, arith, stays, gives, Equal, Leads, Dword, First, Takes, stops, other}
+use Rattle.seccomp_tree.proofs.Common.{List, drop, Some, refl, give, Goes, Give, Step, ends, load, ◌≡◌, suc, ◌+◌, ◌-◌, ◌<◌, ◌≤◌, ◌^◌, ◌∷◌}
+use Rattle.seccomp_tree.proofs.Common.{sym, ◌∙◌, ◌*◌, inl, inr, one, own, [], ap}
 use Rattle.seccomp_tree.proofs.Runs.{returns_more, grown_long, sound_some}
 use Rattle.seccomp_tree.proofs.Decided.{decided_some, one_first}
 use Rattle.seccomp_tree.proofs.Begun.{not_none}

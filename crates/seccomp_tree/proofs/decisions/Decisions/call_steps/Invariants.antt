@@ -3,7 +3,8 @@ use Rattle.seccomp_tree.proofs.CallsPushed.{below_length}
 use Rattle.seccomp_tree.proofs.decisions.Decisions.call_steps.Given as goal
 
 abbrev pub invariant-loop-next : goal.invariant-loop-next
-invariant-loop-next l = (l.next ≤ 2 ^ 32) × AreCallSteps l.initial.code l.self (below_length l.self.calls l.next) l.next l.steps.items l.code
+invariant-loop-next l =
+    (l.next ≤ 2 ^ 32) × AreCallSteps l.initial.code l.self (below_length l.self.calls l.next) l.next l.steps.items l.code
 
 abbrev pub decreases-loop-next : goal.decreases-loop-next
 decreases-loop-next l = 2 ^ 32 - l.next

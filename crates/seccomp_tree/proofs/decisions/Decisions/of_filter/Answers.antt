@@ -6,7 +6,8 @@ pub loop-number-init : goal.loop-number-init
 loop-number-init c =
     let into = c.into_iter-number-iterator.ensures.into_iter_gives in
     let fit : AreCallNumbers (numbers_of c.args.filter.now.chains) = search rules in
-    let begun = calls_begin c.into-match_value.result c.rules-number-items.result.now.entries (rw c.rules-number-items.ensures fit) into.5 in
+    let begun = calls_begin c.into-match_value.result c.rules-number-items.result.now.entries
+    (rw c.rules-number-items.ensures fit) into.5 in
     rw (c.new-calls.ensures.empty, into.0) (rw c.rules-number-items.ensures at begun)
 
 pub loop-number-preserved : goal.loop-number-preserved

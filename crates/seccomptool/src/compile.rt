@@ -4,7 +4,7 @@ ghost use Rattle.std.specs.Prelude.{◌≡◌, ◌++◌, IfOk, OnOk};
 ghost use Rattle.seccomptool.specs.Compile.{instruction_bytes, program_bytes};
 
 use crate::error::ToolError;
-use crate::json::{push_json, said};
+use crate::json::{or_null, push_json};
 use seccomp_command_line::listing::push_listing;
 use seccomp_command_line::readable::{TextKind, readable};
 use seccomp_tree::{FilterError, Layout, to_bpf_in};
@@ -104,7 +104,7 @@ pub(crate) fn program_value(
         let value = match notes.get(place) {
             None => json!(in alloc; { "code": code, "jt": jt, "jf": jf, "k": k })?,
             Some(note) => {
-                let note = said(note.as_str());
+                let note = or_null(note.as_str());
                 json!(in alloc; { "code": code, "jt": jt, "jf": jf, "k": k, "note": note })?
             }
         };

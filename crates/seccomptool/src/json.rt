@@ -4,11 +4,137 @@ ghost use Rattle.std.specs.Prelude.{⊤};
 
 use crate::findings::parts::name_of;
 use seccompiler::TargetArch;
-use serde_json::{ToValue, Value};
+use serde_json::{Map, ToValue, Value};
 use std::alloc::{AllocError, Global};
 
-// Adds the text of a value, in ASCII. What isn't stands in strings alone, and is written there by its number, so that no
-// character of it steers a terminal.
+/// An object to which members are added. Want of memory is noted, and told where its value is made; no member that comes after it is
+/// added.
+#[derive(Drop)]
+pub(crate) struct Object {
+    alloc: Global,
+    members: Result<Map<String, Value>, AllocError>,
+}
+
+impl Object {
+    /// One without members.
+    pub(crate) fn new(alloc: Global) -> Object {
+        Object {
+            alloc,
+            members: Ok(Map::new(alloc)),
+        }
+    }
+
+    /// Adds a member.
+    pub(crate) fn field<T: ToValue>(&mut self, key: &str, part: T) {
+        let part = part.to_value(self.alloc);
+        if let Ok(members) = &mut self.members {
+            if let Err(error) = put(members, self.alloc, key, part) {
+                self.members = Err(error);
+            }
+        }
+    }
+}
+
+// Adds a member, if its value could be made.
+fn put(
+    members: &mut Map<String, Value>,
+    alloc: Global,
+    key: &str,
+    part: Result<Value, AllocError>,
+) -> Result<(), AllocError> {
+    drop(members.insert(String::from_str(alloc, key)?, part?)?);
+    Ok(())
+}
+
+impl ToValue for Object {
+    ghost gives = { λ object value. ⊤ };
+
+    fn to_value(self, _alloc: Global) -> Result<Value, AllocError> {
+        Ok(Value::Object(self.members?))
+    }
+}
+
+/// A list to which items are added. Want of memory is noted, and told where its value is made; no item that comes after it is added.
+#[derive(Drop)]
+pub(crate) struct List {
+    alloc: Global,
+    items: Result<Vec<Value>, AllocError>,
+}
+
+impl List {
+    /// One without items.
+    pub(crate) fn new(alloc: Global) -> List {
+        List {
+            alloc,
+            items: Ok(Vec::new(alloc)),
+        }
+    }
+
+    /// Adds an item.
+    pub(crate) fn item<T: ToValue>(&mut self, part: T) {
+        let part = part.to_value(self.alloc);
+        if let Ok(items) = &mut self.items {
+            if let Err(error) = add(items, part) {
+                self.items = Err(error);
+            }
+        }
+    }
+}
+
+// Adds an item, if its value could be made.
+fn add(items: &mut Vec<Value>, part: Result<Value, AllocError>) -> Result<(), AllocError> {
+    Ok(items.push(part?)?)
+}
+
+impl ToValue for List {
+    ghost gives = { λ list value. ⊤ };
+
+    fn to_value(self, _alloc: Global) -> Result<Value, AllocError> {
+        Ok(Value::Array(self.items?))
+    }
+}
+
+/// A text, or null if there is none.
+#[derive(Clone, Copy)]
+pub(crate) struct OrNull<'a>(pub Option<&'a str>);
+
+impl ToValue for OrNull<'_> {
+    ghost gives = { λ text value. ⊤ };
+
+    fn to_value(self, alloc: Global) -> Result<Value, AllocError> {
+        match self.0 {
+            Some(text) => Value::try_from_str(alloc, text),
+            None => Ok(Value::Null),
+        }
+    }
+}
+
+// A text, or null if it is empty.
+pub(crate) fn or_null(text: &str) -> OrNull<'_> {
+    if text.is_empty() {
+        return OrNull(None);
+    }
+    OrNull(Some(text))
+}
+
+// The name of the call of a number, or null if it has none, or there is no number.
+pub(crate) fn call_name(target: TargetArch, number: Option<u32>) -> OrNull<'static> {
+    match number {
+        Some(number) => OrNull(name_of(target, number)),
+        None => OrNull(None),
+    }
+}
+
+// The text of an object, in ASCII. What isn't stands in strings alone, and is written there by its number, so that no character of it
+// steers a terminal.
+pub(crate) fn ascii_of(alloc: Global, object: Object) -> Result<Vec<u8>, AllocError> {
+    let mut text = Vec::new(alloc);
+    push_json(&mut text, alloc, &object.to_value(alloc)?)?;
+    Ok(text)
+}
+
+// OLD FORMS, which go.
+
 pub(crate) fn push_json(
     text: &mut Vec<u8>,
     alloc: Global,
@@ -25,37 +151,6 @@ pub(crate) fn push_json(
         }
     }
     Ok(())
-}
-
-/// A text, or null if there is none.
-#[derive(Clone, Copy)]
-pub(crate) struct Text<'a>(pub Option<&'a str>);
-
-impl ToValue for Text<'_> {
-    ghost gives = { λ text value. ⊤ };
-
-    fn to_value(self, alloc: Global) -> Result<Value, AllocError> {
-        match self.0 {
-            Some(text) => Value::try_from_str(alloc, text),
-            None => Ok(Value::Null),
-        }
-    }
-}
-
-// A text, or null if it says nothing.
-pub(crate) fn said(text: &str) -> Text<'_> {
-    if text.is_empty() {
-        return Text(None);
-    }
-    Text(Some(text))
-}
-
-// The name of the call of a number, or null if it has none, or there is no number.
-pub(crate) fn call_said(target: TargetArch, number: Option<u32>) -> Text<'static> {
-    match number {
-        Some(number) => Text(name_of(target, number)),
-        None => Text(None),
-    }
 }
 
 // Adds an item of a list: in a line, with a comma behind it.

@@ -23,6 +23,7 @@ mod shell;
 mod show;
 mod sides;
 mod stats;
+mod text;
 mod words;
 
 use crate::progress::Watch;

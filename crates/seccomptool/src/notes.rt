@@ -2,6 +2,7 @@
 
 use crate::check::warnings_in;
 use crate::error::ToolError;
+use crate::text::Text;
 use crate::words::Inputs;
 use seccomp_command_line::readable::{TextKind, readable as readable_text};
 use seccompiler::json::filters_of;
@@ -48,6 +49,24 @@ pub(crate) fn push_note(
     let front = front_of(alloc, path)?;
     let line = format!(in alloc; "seccomptool: {front}{told}\n")?;
     notes.extend_from_slice(line.as_bytes())
+}
+
+// Adds the line of a note on what stands at this path.
+pub(crate) fn note(notes: &mut Text, path: &str, told: Result<String, AllocError>) {
+    notes.push_str("seccomptool: ");
+    push_front(notes, path);
+    notes.push_format(told);
+    notes.push_str("\n");
+}
+
+// Adds what stands in front of each line about what is at this path.
+pub(crate) fn push_front(text: &mut Text, path: &str) {
+    if path == "-" {
+        text.push_str("standard input");
+    } else {
+        text.push_readable(path, TextKind::Name);
+    }
+    text.push_str(": ");
 }
 
 // What stands in front of each line about the policy of this path.

@@ -8,7 +8,7 @@ ghost use Rattle.seccomptool.specs.Ways.{IsGreatestNext, IsMost};
 
 use crate::error::ToolError;
 use crate::findings::lines::push_filter;
-use crate::json::{Text, push_item};
+use crate::json::{OrNull, push_item};
 use seccomp_compare::machine::run;
 use seccomp_tree::{FilterError, Layout, to_bpf_in};
 use seccompiler::bpf::{JUMP, LOAD, MASK, RETURN};
@@ -171,7 +171,7 @@ pub(crate) fn measure_text(
     let (length, most, passing) = (measure.length, measure.most, measure.passing);
     if json {
         let mut text = Vec::new(alloc);
-        let layout = Text(layout);
+        let layout = OrNull(layout);
         let value = json!(in alloc;
             { "name": name, "layout": layout, "length": length, "most": most, "passing": passing }
         )?;

@@ -2,7 +2,7 @@
 
 use crate::check::diagnostic::{Diagnostic, Place, path_text};
 use crate::check::outline::{Outline, Position};
-use crate::json::{Text, push_item};
+use crate::json::{OrNull, push_item};
 use crate::notes::front_of;
 use seccomp_command_line::readable::{TextKind, readable};
 use serde_json::{Value, json};
@@ -117,10 +117,10 @@ fn value_of(
         "line": line,
         "column": column,
         "path": path.as_str(),
-        "call": Text(diagnostic.call.as_deref()),
+        "call": OrNull(diagnostic.call.as_deref()),
         "code": diagnostic.code,
         "severity": diagnostic.severity,
         "message": &diagnostic.message,
-        "suggestion": Text(diagnostic.suggestion)
+        "suggestion": OrNull(diagnostic.suggestion)
     })
 }

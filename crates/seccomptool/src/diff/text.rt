@@ -3,7 +3,7 @@
 use crate::diff::{Diff, Found, NamedFound, Pair, verdict_found};
 use crate::findings::lines::{Shown, part_value, push_filter, push_finding, verdict_name};
 use crate::findings::{Answer, Finding, Part, Terms, Verdict, verdict_of};
-use crate::json::{Text, push_item, said, written};
+use crate::json::{OrNull, or_null, push_item, written};
 use crate::kind::Subject;
 use crate::sides::Side;
 use seccomp_command_line::readable::{TextKind, push_readable};
@@ -167,9 +167,9 @@ fn value_of(alloc: Global, target: TargetArch, found: Compared<'_>) -> Result<Va
         None => "",
     };
     json!(in alloc; {
-        "old": Text(old),
-        "new": Text(new),
-        "architecture": said(arch),
+        "old": OrNull(old),
+        "new": OrNull(new),
+        "architecture": or_null(arch),
         "verdict": verdict_name(found.verdict),
         "parts": parts
     })

@@ -5,7 +5,7 @@ use crate::explain::search::{Miss, Reason};
 use crate::explain::{Explained, Explanation, Why};
 use crate::findings::lines::Word;
 use crate::findings::parts::name_of;
-use crate::json::{call_said, push_item, said, written};
+use crate::json::{call_name, or_null, push_item, written};
 use crate::record::KnownCall;
 use seccomp_command_line::readable::{TextKind, readable};
 use seccompiler::TargetArch;
@@ -175,14 +175,14 @@ fn value_of(
     let path = path_of(alloc, name, why)?;
     json!(in alloc; {
         "action": Word(word),
-        "call": call_said(target, number),
+        "call": call_name(target, number),
         "number": number,
         "reason": reason,
-        "path": said(path.as_str()),
+        "path": or_null(path.as_str()),
         "entry": entry,
         "condition": condition,
         "steps": steps,
-        "program": said(caller.program),
-        "process": said(caller.process)
+        "program": or_null(caller.program),
+        "process": or_null(caller.process)
     })
 }

@@ -5,7 +5,7 @@ ghost use Rattle.std.specs.Prelude.{◌≤◌, ⊤};
 use crate::explain::search::word_at;
 use crate::findings::parts::X32;
 use crate::findings::{Answer, Finding, Part, Verdict};
-use crate::json::{Text, call_said};
+use crate::json::{OrNull, call_name};
 use crate::record::KnownCall;
 use seccomp_command_line::readable::{TextKind, push_readable};
 use seccomp_compare::rank;
@@ -159,7 +159,7 @@ impl ToValue for Word {
 
     fn to_value(self, alloc: Global) -> Result<Value, AllocError> {
         let (name, number) = self.action();
-        json!(in alloc; { "name": Text(name), "number": number, "value": self.0 })
+        json!(in alloc; { "name": OrNull(name), "number": number, "value": self.0 })
     }
 }
 
@@ -201,14 +201,14 @@ pub(crate) fn part_value(
         ),
     };
     json!(in alloc; {
-        "call": call_said(target, number),
+        "call": call_name(target, number),
         "number": number,
         "least": least,
         "greatest": greatest,
         "verdict": verdict_name(verdict),
         "old": old,
         "new": new,
-        "change": Text(change),
+        "change": OrNull(change),
         "example": example
     })
 }

@@ -2,7 +2,7 @@
 
 use super::Learning;
 use crate::findings::parts::name_of;
-use crate::json::{call_said, push_json};
+use crate::json::{call_name, push_json};
 use crate::notes::push_note;
 use seccomp_learn::{Kept, Observation, Trace};
 use seccompiler::{SeccompCmpArgLen, TargetArch};
@@ -100,7 +100,7 @@ pub(super) fn learned_json(
                 SeccompCmpArgLen::Dword => "dword",
                 SeccompCmpArgLen::Qword => "qword",
             };
-            let call = call_said(arch, Some(number));
+            let call = call_name(arch, Some(number));
             kept.push(json!(in alloc;
                 { "call": call, "number": number, "index": index, "type": length }
             )?)?;

@@ -21,7 +21,8 @@ use crate::run::program::program_of;
 use crate::show;
 use crate::show::programs_in;
 use crate::sides::{Side, ruled_by};
-use crate::stats::{filters_text, measure_of, measure_text, stats_of};
+use crate::stats::{filters_text, measure_of, push_measure, stats_of};
+use crate::text::Text;
 use crate::words::{Calling, Comparing, Compiling, Inputs, Showing};
 use seccomp_check::policies_in;
 use seccomp_oci::Container;
@@ -200,7 +201,9 @@ fn shown_text(
     let name = one.name.as_str();
     if asked.measured {
         let measure = measure_of(alloc, arch, &one.program)?;
-        return Ok(measure_text(alloc, json, name, None, measure)?);
+        let mut text = Text::new(alloc);
+        push_measure(&mut text, json, name, None, measure);
+        return Ok(text.finish()?);
     }
     Ok(show::program_text(alloc, json, name, arch, &one.program)?)
 }

@@ -8,14 +8,14 @@ ghost use Rattle.seccomptool.specs.Ways.{IsGreatestNext, IsMost};
 
 use crate::error::ToolError;
 use crate::findings::lines::push_filter;
-use crate::json::{OrNull, push_item};
+use crate::json::{Object, OrNull};
+use crate::text::Text;
 use seccomp_compare::machine::run;
 use seccomp_tree::{FilterError, Layout, to_bpf_in};
 use seccompiler::bpf::{JUMP, LOAD, MASK, RETURN};
 use seccompiler::{
     BpfProgramRef, JsonCompiler, SeccompFilter, SyscallTable, TargetArch, sock_filter,
 };
-use serde_json::json;
 use std::alloc::{AllocError, Global};
 
 /// How long a program is, and how many steps it takes.
@@ -145,42 +145,41 @@ pub(crate) fn filters_text(
     asked: Option<&str>,
     all: &[FilterStats],
 ) -> Result<Vec<u8>, AllocError> {
-    let mut text = Vec::new(alloc);
+    let mut text = Text::new(alloc);
     for FilterStats { name, linear, tree } in all {
         let name = name.as_str();
         if asked.unwrap_or(name) == name {
             if !json {
-                push_filter(&mut text, name)?;
-                text.push(b'\n')?;
+                push_filter(&mut text, name);
+                text.push_str("\n");
             }
-            text.extend_from_slice(&measure_text(alloc, json, name, Some("linear"), *linear)?)?;
-            text.extend_from_slice(&measure_text(alloc, json, name, Some("tree"), *tree)?)?;
+            push_measure(&mut text, json, name, Some("linear"), *linear);
+            push_measure(&mut text, json, name, Some("tree"), *tree);
         }
     }
-    Ok(text)
+    text.finish()
 }
 
-/// The line of the numbers of one program, after its layout, or after its name if it has none; as JSON an item.
-pub(crate) fn measure_text(
-    alloc: Global,
+/// Adds the line of the numbers of one program, after its layout, or after its name if it has none; as JSON an item.
+pub(crate) fn push_measure(
+    text: &mut Text,
     json: bool,
     name: &str,
     layout: Option<&str>,
     measure: Measure,
-) -> Result<Vec<u8>, AllocError> {
+) {
     let (length, most, passing) = (measure.length, measure.most, measure.passing);
     if json {
-        let mut text = Vec::new(alloc);
-        let layout = OrNull(layout);
-        let value = json!(in alloc;
-            { "name": name, "layout": layout, "length": length, "most": most, "passing": passing }
-        )?;
-        push_item(&mut text, alloc, &value)?;
-        return Ok(text);
+        let mut object = Object::new(text.alloc());
+        object.field("name", name);
+        object.field("layout", OrNull(layout));
+        object.field("length", length);
+        object.field("most", most);
+        object.field("passing", passing);
+        return text.push_item(object);
     }
     let front = layout.unwrap_or(name);
-    let line = format!(in alloc;
+    text.push_format(format!(in text.alloc();
         "{front}: {length} instructions, at most {most} steps, {passing} passing\n"
-    )?;
-    Ok(line.into_bytes())
+    ));
 }

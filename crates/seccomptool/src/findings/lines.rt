@@ -5,13 +5,14 @@ ghost use Rattle.std.specs.Prelude.{◌≤◌, ⊤};
 use crate::explain::search::word_at;
 use crate::findings::parts::X32;
 use crate::findings::{Answer, Finding, Part, Verdict};
-use crate::json::{OrNull, call_name};
+use crate::json::{List, Object, OrNull, call_name};
 use crate::record::KnownCall;
-use seccomp_command_line::readable::{TextKind, push_readable};
+use crate::text::Text;
+use seccomp_command_line::readable::TextKind;
 use seccomp_compare::rank;
 use seccomp_names::error_name;
 use seccompiler::TargetArch;
-use serde_json::{ToValue, Value, json};
+use serde_json::{ToValue, Value};
 use std::alloc::{AllocError, Global};
 use std::fmt;
 
@@ -25,43 +26,36 @@ pub(crate) struct Shown {
 }
 
 /// Adds a filter by its name.
-pub(crate) fn push_filter(text: &mut Vec<u8>, name: &str) -> Result<(), AllocError> {
-    text.extend_from_slice(b"filter ")?;
-    push_readable(text, name, TextKind::Name)
+pub(crate) fn push_filter(text: &mut Text, name: &str) {
+    text.push_str("filter ");
+    text.push_readable(name, TextKind::Name);
 }
 
 /// Adds the line of what is found on a part: none if the relation holds.
-pub(crate) fn push_finding(
-    alloc: Global,
-    text: &mut Vec<u8>,
-    shown: Shown,
-    finding: Finding,
-) -> Result<(), AllocError> {
-    let target = shown.target;
-    let told = match finding.answer {
-        Answer::Holds => return Ok(()),
-        Answer::Fails { call, old, new } => {
-            let (kind, example) = (kind_of(old, new), Example { shown, call });
-            let (old, new) = (Word(old), Word(new));
-            format!(in alloc; "{old} -> {new}, {kind}: {example}")?
-        }
-        Answer::Undecided => String::from_str(alloc, "undecided")?,
-    };
-    let line = match finding.part {
-        Part::Named { number } => {
-            let name = KnownCall { target, number };
-            format!(in alloc; "  {name}: {told}\n")?
-        }
+pub(crate) fn push_finding(text: &mut Text, shown: Shown, finding: Finding) {
+    if matches!(finding.answer, Answer::Holds) {
+        return;
+    }
+    let (alloc, target) = (text.alloc(), shown.target);
+    text.push_str("  ");
+    match finding.part {
+        Part::Named { number } => text.push_display(&KnownCall { target, number }),
         Part::Unnamed { least, greatest } => {
             let is_x32 = least == X32 && target == TargetArch::x86_64;
             let of = if is_x32 { "x32" } else { "other" };
-            format!(in alloc; "  {of} calls {least} to {greatest}: {told}\n")?
+            text.push_format(format!(in alloc; "{of} calls {least} to {greatest}"));
         }
-        Part::Elsewhere { least, greatest } => format!(in alloc;
-            "  other architectures 0x{least:x} to 0x{greatest:x}: {told}\n"
-        )?,
-    };
-    text.extend_from_slice(line.as_bytes())
+        Part::Elsewhere { least, greatest } => text.push_format(format!(in alloc;
+            "other architectures 0x{least:x} to 0x{greatest:x}"
+        )),
+    }
+    if let Answer::Fails { call, old, new } = finding.answer {
+        let (kind, example) = (kind_of(old, new), Example { shown, call });
+        let (old, new) = (Word(old), Word(new));
+        text.push_format(format!(in alloc; ": {old} -> {new}, {kind}: {example}\n"));
+    } else {
+        text.push_str(": undecided\n");
+    }
 }
 
 // Whether the new value permits more than the old one.
@@ -84,16 +78,16 @@ impl Word {
     /// The action's name in a policy, if the value stands for one, and its number, if it has one.
     pub(crate) fn action(self) -> (Option<&'static str>, Option<u32>) {
         // The actions of return values, and the data beside them, as `linux/seccomp.h` has them.
-        let data = self.0 % 0x1_0000;
-        match (self.0 / 0x1_0000, data) {
-            (0x7fff, 0) => (Some("allow"), None),
-            (0x7ffc, 0) => (Some("log"), None),
-            (0x7fc0, 0) => (Some("user_notif"), None),
-            (0x0003, 0) => (Some("trap"), None),
-            (0x0000, 0) => (Some("kill_thread"), None),
-            (0x8000, 0) => (Some("kill_process"), None),
-            (0x0005, _) => (Some("errno"), Some(data)),
-            (0x7ff0, _) => (Some("trace"), Some(data)),
+        let data = Some(self.0 % 0x1_0000);
+        match self.0 {
+            0x7fff_0000 => (Some("allow"), None),
+            0x7ffc_0000 => (Some("log"), None),
+            0x7fc0_0000 => (Some("user_notif"), None),
+            0x0003_0000 => (Some("trap"), None),
+            0x0000_0000 => (Some("kill_thread"), None),
+            0x8000_0000 => (Some("kill_process"), None),
+            0x0005_0000..=0x0005_ffff => (Some("errno"), data),
+            0x7ff0_0000..=0x7ff0_ffff => (Some("trace"), data),
             _ => (None, None),
         }
     }
@@ -106,7 +100,7 @@ impl fmt::Display for Word {
             (None, _) => write!(f, "0x{word:x}"),
             (Some(name), None) => f.write_str(name),
             (Some(name), Some(data)) => match error_name(data) {
-                Some(error) if name == "errno" => write!(f, "{name} {data} ({error})"),
+                Some(error) if name == "errno" => write!(f, "errno {data} ({error})"),
                 _ => write!(f, "{name} {data}"),
             },
         }
@@ -126,23 +120,22 @@ impl fmt::Display for Example {
         let Example { shown, call } = *self;
         let Shown { target, pointer } = shown;
         let (number, arch) = (word_at(&call, 0), word_at(&call, 4));
-        if arch == target.get_audit_value() {
-            let name = KnownCall { target, number };
-            write!(f, "{name}(")?;
+        let named = if arch == target.get_audit_value() {
+            KnownCall { target, number }.fmt(f)
         } else {
-            write!(f, "0x{arch:x} {number}(")?;
-        }
+            write!(f, "0x{arch:x} {number}")
+        };
+        named?;
         for index in 0..6usize {
-            let front = if index == 0 { "" } else { ", " };
+            let front = if index == 0 { "(" } else { ", " };
             let argument = number_at(&call, 16 + 8 * index);
             write!(f, "{front}0x{argument:x}")?;
         }
-        f.write_str(")")?;
         if pointer {
             let pointer = number_at(&call, 8);
-            write!(f, " at 0x{pointer:x}")?;
+            return write!(f, ") at 0x{pointer:x}");
         }
-        Ok(())
+        f.write_str(")")
     }
 }
 
@@ -159,7 +152,11 @@ impl ToValue for Word {
 
     fn to_value(self, alloc: Global) -> Result<Value, AllocError> {
         let (name, number) = self.action();
-        json!(in alloc; { "name": OrNull(name), "number": number, "value": self.0 })
+        let mut object = Object::new(alloc);
+        object.field("name", OrNull(name));
+        object.field("number", number);
+        object.field("value", self.0);
+        object.to_value(alloc)
     }
 }
 
@@ -173,58 +170,57 @@ pub(crate) fn verdict_name(verdict: Verdict) -> &'static str {
 }
 
 /// What is found on a part on which the relation doesn't hold, or that is undecided, as an object.
-pub(crate) fn part_value(
-    alloc: Global,
-    target: TargetArch,
-    finding: Finding,
-) -> Result<Value, AllocError> {
+pub(crate) fn part_value(alloc: Global, target: TargetArch, finding: Finding) -> Object {
     let (number, least, greatest) = match finding.part {
         Part::Named { number } => (Some(number), number, number),
         Part::Unnamed { least, greatest } | Part::Elsewhere { least, greatest } => {
             (None, least, greatest)
         }
     };
-    let (verdict, old, new, change, example) = match finding.answer {
-        Answer::Fails { call, old, new } => (
-            Verdict::Different,
-            Word(old).to_value(alloc)?,
-            Word(new).to_value(alloc)?,
-            Some(kind_of(old, new)),
-            record_value(alloc, &call)?,
-        ),
-        _ => (
-            Verdict::Undecided,
-            Value::Null,
-            Value::Null,
-            None,
-            Value::Null,
-        ),
-    };
-    json!(in alloc; {
-        "call": call_name(target, number),
-        "number": number,
-        "least": least,
-        "greatest": greatest,
-        "verdict": verdict_name(verdict),
-        "old": old,
-        "new": new,
-        "change": OrNull(change),
-        "example": example
-    })
+    let mut part = Object::new(alloc);
+    part.field("call", call_name(target, number));
+    part.field("number", number);
+    part.field("least", least);
+    part.field("greatest", greatest);
+    if let Answer::Fails { call, old, new } = finding.answer {
+        part.field("verdict", verdict_name(Verdict::Different));
+        part.field("old", Word(old));
+        part.field("new", Word(new));
+        part.field("change", kind_of(old, new));
+        part.field("example", record_value(alloc, &call));
+    } else {
+        part.field("verdict", verdict_name(Verdict::Undecided));
+        part.field("old", Value::Null);
+        part.field("new", Value::Null);
+        part.field("change", Value::Null);
+        part.field("example", Value::Null);
+    }
+    part
 }
 
 // The members of a record, as an object: numbers of 64 bits in hexadecimal digits.
-fn record_value(alloc: Global, call: &[u8; 64]) -> Result<Value, AllocError> {
-    let mut arguments = Vec::new(alloc);
+fn record_value(alloc: Global, call: &[u8; 64]) -> Object {
+    let mut arguments = List::new(alloc);
     for index in 0..6usize {
-        let argument = number_at(call, 16 + 8 * index);
-        arguments.push(Value::from(format!(in alloc; "0x{argument:x}")?))?;
+        arguments.item(Hexadecimal(number_at(call, 16 + 8 * index)));
     }
-    let pointer = number_at(call, 8);
-    json!(in alloc; {
-        "number": word_at(call, 0),
-        "architecture": word_at(call, 4),
-        "instruction_pointer": format!(in alloc; "0x{pointer:x}")?,
-        "arguments": arguments
-    })
+    let mut record = Object::new(alloc);
+    record.field("number", word_at(call, 0));
+    record.field("architecture", word_at(call, 4));
+    record.field("instruction_pointer", Hexadecimal(number_at(call, 8)));
+    record.field("arguments", arguments);
+    record
+}
+
+// A number whose text has hexadecimal digits.
+#[derive(Clone, Copy)]
+struct Hexadecimal(u64);
+
+impl ToValue for Hexadecimal {
+    ghost gives = { λ number value. ⊤ };
+
+    fn to_value(self, alloc: Global) -> Result<Value, AllocError> {
+        let number = self.0;
+        Ok(Value::from(format!(in alloc; "0x{number:x}")?))
+    }
 }

@@ -11,7 +11,7 @@ use crate::diff::diff_of;
 use crate::diff::text::diff_text;
 use crate::error::ToolError;
 use crate::findings::Verdict;
-use crate::json::{push_item, written};
+use crate::json::{Object, written};
 use crate::kind::{Subject, subject_of};
 use crate::notes::counted;
 use crate::profile::{compiled_of, profile_notes, uncompiled};
@@ -30,7 +30,6 @@ use seccomp_tree::to_bpf_in;
 use seccomp_warnings::Code;
 use seccompiler::TargetArch;
 use seccompiler::json::filters_of;
-use serde_json::json;
 use std::alloc::Global;
 
 /// What a command makes of the texts that it is given.
@@ -213,17 +212,19 @@ fn shown_text(
 pub(crate) fn codes_made(alloc: Global, json: bool) -> Result<Made, ToolError>
     ensures { IfOk result (λ made. made.verdict ≡ Same) }
 {
-    let mut text = Vec::new(alloc);
+    let mut text = Text::new(alloc);
     for code in Code::all() {
         let (name, paragraph) = (code.name(), code.paragraph());
         if json {
-            let value = json!(in alloc; { "code": name, "meaning": paragraph })?;
-            push_item(&mut text, alloc, &value)?;
+            let mut item = Object::new(alloc);
+            item.field("code", name);
+            item.field("meaning", paragraph);
+            text.push_item(item);
         } else {
-            text.extend_from_slice(format!(in alloc; "{name}: {paragraph}\n")?.as_bytes())?;
+            text.push_format(format!(in alloc; "{name}: {paragraph}\n"));
         }
     }
-    let text = written(alloc, json, "codes", text)?;
+    let text = written(alloc, json, "codes", text.finish()?)?;
     Ok(Made::plain(alloc, text))
 }
 

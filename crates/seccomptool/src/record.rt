@@ -6,10 +6,10 @@ ghost use Rattle.seccomptool.specs.Record.{IsCall, IsRecordOf, IsUncalled};
 
 use crate::error::ToolError;
 use crate::findings::parts::name_of;
-use crate::json::{push_item, written};
+use crate::json::{Object, written};
+use crate::text::Text;
 use seccomp_command_line::numbers::read_digits;
 use seccompiler::{SyscallTable, TargetArch};
-use serde_json::json;
 use std::alloc::{AllocError, Global};
 use std::fmt;
 
@@ -91,7 +91,7 @@ pub(crate) fn calls_text(
     given: &str,
     calls: &[KnownCall],
 ) -> Result<Vec<u8>, AllocError> {
-    let mut text = Vec::new(alloc);
+    let mut text = Text::new(alloc);
     for known in calls {
         let (arch, number) = (known.target.name(), known.number);
         let name = match read_number(given) {
@@ -99,13 +99,16 @@ pub(crate) fn calls_text(
             None => given,
         };
         if json {
-            let value = json!(in alloc; { "architecture": arch, "name": name, "number": number })?;
-            push_item(&mut text, alloc, &value)?;
+            let mut call = Object::new(alloc);
+            call.field("architecture", arch);
+            call.field("name", name);
+            call.field("number", number);
+            text.push_item(call);
         } else {
-            text.extend_from_slice(format!(in alloc; "{arch} {name} {number}\n")?.as_bytes())?;
+            text.push_format(format!(in alloc; "{arch} {name} {number}\n"));
         }
     }
-    written(alloc, json, "calls", text)
+    written(alloc, json, "calls", text.finish()?)
 }
 
 // The number of the call of this name or number.

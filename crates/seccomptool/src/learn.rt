@@ -10,13 +10,13 @@ ghost use Rattle.seccomptool.specs.declared.findings.Verdict.TheVariants.{Same};
 use crate::chosen::chosen_name;
 use crate::error::ToolError;
 use crate::findings::Verdict;
-use crate::learn::notes::{learned_json, notes_of, strange_text};
+use crate::learn::notes::{first_strange, learned_json, notes_of};
 use crate::made::Made;
 use crate::record::call_number;
 use crate::words::Inputs;
 use seccomp_learn::{
-    Kept, Lesson, Observation, asked_kept, learn_within, profile_text, read_trace, start_and_exit,
-    usual_kept, written_policy,
+    Kept, Lesson, Observation, Trace, asked_kept, learn_within, profile_text, read_trace,
+    start_and_exit, usual_kept, written_policy,
 };
 use seccompiler::json::filters_of;
 use seccompiler::{JsonFilter, JsonFilterMap, SeccompAction, TargetArch};
@@ -78,41 +78,51 @@ pub(crate) fn learn_made(
 {
     let arch = learning.arch;
     let mut trace = read_trace(alloc, arch, given)?;
+    if learning.strict && trace.strange > 0 {
+        return Err(ToolError::Fault(first_strange(alloc, &trace)?));
+    }
     if learning.runnable {
         let observed = start_and_exit(alloc, arch)?;
         trace.observed.extend_from_slice(&observed)?;
     }
-    if learning.strict && trace.strange > 0 {
-        let told = strange_text(alloc, trace.strange, trace.first_strange, true)?;
-        return Err(ToolError::Fault(told));
-    }
     let wanted = wanted_in(alloc, learning, &trace.observed)?;
     let learned = learned_of(alloc, learning, &trace.observed, &wanted, policy);
-    let (name, lesson, others) = match learned {
+    let learned = match learned {
         Ok(learned) => learned,
         Err(error) => return Err(ToolError::in_second(alloc, error)?),
     };
-    let path = inputs.first.unwrap_or("-");
-    let notes = notes_of(alloc, learning, path, &trace, &wanted, &lesson.kept)?;
-    let filter = &lesson.learned.json;
+    let (text, notes) = views_of(alloc, learning, inputs, &trace, &wanted, &learned)?;
+    Ok(Made::noting(text, Verdict::Same, notes))
+}
+
+// The text of what is learned, which is a policy's, a profile's or an object with one of these, and the notes.
+fn views_of(
+    alloc: Global,
+    learning: &Learning<'_>,
+    inputs: Inputs<'_>,
+    trace: &Trace,
+    wanted: &[Kept],
+    learned: &Named<Lesson>,
+) -> Result<(Vec<u8>, Vec<u8>), ToolError> {
+    let (name, lesson, others) = learned;
+    let (filter, path) = (&lesson.learned.json, inputs.first.unwrap_or("-"));
+    let notes = notes_of(alloc, learning, path, trace, wanted, &lesson.kept)?;
     let mut text = if learning.as_profile {
-        profile_text(alloc, arch, filter)?
+        profile_text(alloc, learning.arch, filter)?
     } else {
-        written_policy(alloc, &others, name.as_str(), filter)?
+        written_policy(alloc, others, name.as_str(), filter)?
     };
     if inputs.json {
-        let (observed, is_profile) = (&trace.observed, learning.as_profile);
         text = learned_json(
             alloc,
-            arch,
-            observed,
+            learning,
+            &trace.observed,
             &lesson.kept,
             &notes,
-            is_profile,
             &text,
         )?;
     }
-    Ok(Made::noting(text, Verdict::Same, notes))
+    Ok((text, notes))
 }
 
 // The filter that allows the observed calls, with the values of the arguments that are wanted, and what it is added to.

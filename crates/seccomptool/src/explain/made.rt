@@ -11,10 +11,11 @@ use crate::chosen::refuse_name;
 use crate::error::ToolError;
 use crate::findings::Verdict;
 use crate::kind::{Subject, subject_of};
-use crate::learn::notes::strange_note;
+use crate::learn::notes::note_strange;
 use crate::made::Made;
 use crate::record::called_record;
 use crate::run::explain_program;
+use crate::text::Text;
 use crate::words::{Calls, Explaining};
 use std::alloc::Global;
 
@@ -37,8 +38,9 @@ pub(crate) fn explain_made(
         Calls::Log => {
             let log = log_of(alloc, asked.arch, bytes)?;
             let made = explain_records(alloc, asked, given, &log.records, &log.callers)?;
-            let notes = strange_note(alloc, path, log.strange, log.first_strange)?;
-            Ok(Made::noting(made.text, made.verdict, notes))
+            let mut notes = Text::new(alloc);
+            note_strange(&mut notes, path, log.strange, log.first_strange);
+            Ok(Made::noting(made.text, made.verdict, notes.finish()?))
         }
     }
 }

@@ -1,15 +1,15 @@
 // What is written of what is decided on records.
 
-use crate::explain::log::Caller;
+use crate::explain::log::{Caller, push_caller};
 use crate::explain::search::{Miss, Reason};
 use crate::explain::{Explained, Explanation, Why};
 use crate::findings::lines::Word;
 use crate::findings::parts::name_of;
-use crate::json::{call_name, or_null, push_item, written};
+use crate::json::{Object, call_name, or_null, written};
 use crate::record::KnownCall;
-use seccomp_command_line::readable::{TextKind, readable};
+use crate::text::Text;
+use seccomp_command_line::readable::TextKind;
 use seccompiler::TargetArch;
-use serde_json::{Value, json};
 use std::alloc::{AllocError, Global};
 
 /// How `explain` writes the line of a decision.
@@ -38,31 +38,32 @@ pub(crate) fn explained_text(
     explanation: &Explanation,
     callers: &[Caller<'_>],
 ) -> Result<Vec<u8>, AllocError> {
-    let mut text = Vec::new(alloc);
-    let (name, mut callers) = (explanation.name.as_str(), callers.iter());
-    let readable_name = readable(alloc, name, TextKind::Name)?;
-    for Explained { word, why } in &explanation.records {
-        let (word, why) = (*word, *why);
-        let caller = callers.next().copied().unwrap_or(Caller {
-            program: "",
-            process: "",
-        });
+    let (mut text, mut callers) = (Text::new(alloc), callers.iter());
+    for explained in &explanation.records {
+        let Explained { word, why } = *explained;
+        let caller = callers.next().copied().unwrap_or_default();
+        let path = path_of(alloc, explanation.name.as_str(), why)?;
         if matches!(format, LineFormat::Json) {
-            let value = value_of(alloc, target, name, caller, word, why)?;
-            push_item(&mut text, alloc, &value)?;
+            text.push_item(value_of(alloc, target, path.as_str(), caller, *explained));
             continue;
         }
-        let reason = reason_text(alloc, target, format, readable_name.as_str(), why)?;
-        let line = match format {
-            LineFormat::Word => format!(in alloc; "{caller}{word:08x} {reason}\n")?,
-            _ => {
-                let action = Word(word);
-                format!(in alloc; "{caller}{action}: {reason}\n")?
-            }
-        };
-        text.extend_from_slice(line.as_bytes())?;
+        push_caller(&mut text, caller);
+        if matches!(format, LineFormat::Word) {
+            text.push_format(format!(in alloc; "{word:08x} "));
+            push_numbers(&mut text, target, path.as_str(), why);
+        } else {
+            text.push_display(&Word(word));
+            text.push_str(": ");
+            push_reason(&mut text, target, path.as_str(), why);
+        }
+        text.push_str("\n");
     }
-    written(alloc, matches!(format, LineFormat::Json), "decisions", text)
+    written(
+        alloc,
+        matches!(format, LineFormat::Json),
+        "decisions",
+        text.finish()?,
+    )
 }
 
 // The kind of a reason; the number of the call, if it is of the architecture; the entry, and the condition of it, that are the
@@ -104,85 +105,98 @@ fn told_of(why: Why) -> Told {
 
 // The path of what is the reason, in the filter of this name or in a profile: nothing if it is no entry and no condition.
 fn path_of(alloc: Global, name: &str, why: Why) -> Result<String, AllocError> {
-    let (_, _, entry, condition, _) = told_of(why);
-    match (why, entry, condition) {
-        (_, None, _) => Ok(String::new(alloc)),
-        (Why::Profile { .. }, Some(entry), _) => format!(in alloc; "syscalls[{entry}]"),
-        (_, Some(entry), None) => format!(in alloc; "{name}.filter[{entry}]"),
-        (_, Some(entry), Some(condition)) => {
+    match why {
+        Why::Profile {
+            entry: Some(entry),
+            ..
+        } => format!(in alloc; "syscalls[{entry}]"),
+        Why::Filter(Reason::Entry { place, .. }) => format!(in alloc; "{name}.filter[{place}]"),
+        Why::Filter(Reason::NoMatch { nearest, .. }) => {
+            let Miss { entry, condition } = nearest;
             format!(in alloc; "{name}.filter[{entry}].args[{condition}]")
+        }
+        _ => Ok(String::new(alloc)),
+    }
+}
+
+// Adds a reason of this path, and the call, by its name too if it has one.
+fn push_reason(text: &mut Text, target: TargetArch, path: &str, why: Why) {
+    let (_, Some(number), ..) = told_of(why) else {
+        text.push_str("another architecture");
+        return;
+    };
+    match why {
+        Why::Filter(Reason::NoEntry { .. }) => text.push_str("no entry of "),
+        Why::Filter(Reason::NoMatch { .. }) => text.push_str("no match: "),
+        Why::Profile { entry: None, .. } => text.push_str("defaultAction of "),
+        _ => {}
+    }
+    if !path.is_empty() {
+        text.push_readable(path, TextKind::Name);
+        text.push_str(" of ");
+    }
+    text.push_format(match name_of(target, number) {
+        Some(name) => format!(in text.alloc(); "{name} ({number})"),
+        None => format!(in text.alloc(); "call {number}"),
+    });
+    if let Why::Filter(Reason::NoMatch { entries, .. }) = why {
+        text.push_str(" does not hold");
+        if entries > 1 {
+            text.push_format(format!(in text.alloc(); ", the nearest of {entries} entries"));
         }
     }
 }
 
-// A reason and the call: in numbers, or by paths in the policy of a filter of this name, and by the call's name too if it has one.
-fn reason_text(
-    alloc: Global,
-    target: TargetArch,
-    format: LineFormat,
-    name: &str,
-    why: Why,
-) -> Result<String, AllocError> {
-    let (in_numbers, told) = (matches!(format, LineFormat::Word), told_of(why));
-    if let (true, Why::Program { steps, .. }) = (in_numbers, why) {
-        return format!(in alloc; "{steps}");
-    }
-    let Some(number) = told.1 else {
-        return String::from_str(alloc, "another architecture");
-    };
-    let call = match name_of(target, number) {
-        Some(name) if !in_numbers => format!(in alloc; "{name} ({number})"),
-        _ => format!(in alloc; "call {number}"),
-    }?;
-    let subject = match why {
-        Why::Program { .. } => return Ok(call),
+// Adds a reason in numbers: of an entry of a profile this path, and the call by its name.
+fn push_numbers(text: &mut Text, target: TargetArch, path: &str, why: Why) {
+    let alloc = text.alloc();
+    text.push_format(match why {
+        Why::Elsewhere | Why::Filter(Reason::AnotherArchitecture) => {
+            String::from_str(alloc, "another architecture")
+        }
+        Why::Filter(Reason::NoEntry { number }) => format!(in alloc; "no entry of call {number}"),
+        Why::Filter(
+            Reason::NoMatch {
+                entries,
+                number,
+                ..
+            },
+        ) => format!(in alloc; "no match among {entries} entries of call {number}"),
+        Why::Filter(
+            Reason::Entry {
+                place,
+                rule,
+                number,
+            },
+        ) => format!(in alloc; "entry {place}, rule {rule} of call {number}"),
         Why::Profile { entry: None, .. } => String::from_str(alloc, "defaultAction"),
-        Why::Filter(Reason::NoEntry { .. }) => String::from_str(alloc, "no entry"),
-        Why::Filter(Reason::Entry { place, rule, .. }) if in_numbers => {
-            format!(in alloc; "entry {place}, rule {rule}")
-        }
-        Why::Filter(Reason::NoMatch { entries, .. }) if in_numbers => {
-            format!(in alloc; "no match among {entries} entries")
-        }
-        _ => path_of(alloc, name, why),
-    }?;
-    match why {
-        Why::Profile { entry: None, .. } if in_numbers => Ok(subject),
-        Why::Profile { .. } if in_numbers => {
+        Why::Profile { number, .. } => {
             let name = KnownCall { target, number };
-            format!(in alloc; "{subject} ({name})")
+            format!(in alloc; "{path} ({name})")
         }
-        Why::Filter(Reason::NoMatch { entries: 1, .. }) if !in_numbers => {
-            format!(in alloc; "no match: {subject} of {call} does not hold")
-        }
-        Why::Filter(Reason::NoMatch { entries, .. }) if !in_numbers => format!(in alloc;
-            "no match: {subject} of {call} does not hold, the nearest of {entries} entries"
-        ),
-        _ => format!(in alloc; "{subject} of {call}"),
-    }
+        Why::Program { steps, .. } => format!(in alloc; "{steps}"),
+    });
 }
 
 // A decision as an object.
 fn value_of(
     alloc: Global,
     target: TargetArch,
-    name: &str,
+    path: &str,
     caller: Caller<'_>,
-    word: u32,
-    why: Why,
-) -> Result<Value, AllocError> {
-    let (reason, number, entry, condition, steps) = told_of(why);
-    let path = path_of(alloc, name, why)?;
-    json!(in alloc; {
-        "action": Word(word),
-        "call": call_name(target, number),
-        "number": number,
-        "reason": reason,
-        "path": or_null(path.as_str()),
-        "entry": entry,
-        "condition": condition,
-        "steps": steps,
-        "program": or_null(caller.program),
-        "process": or_null(caller.process)
-    })
+    explained: Explained,
+) -> Object {
+    let (reason, number, entry, condition, steps) = told_of(explained.why);
+    let mut object = Object::new(alloc);
+    object.field("action", Word(explained.word));
+    object.field("call", call_name(target, number));
+    object.field("number", number);
+    object.field("reason", reason);
+    object.field("path", or_null(path));
+    object.field("entry", entry);
+    object.field("condition", condition);
+    object.field("steps", steps);
+    object.field("program", or_null(caller.program));
+    object.field("process", or_null(caller.process));
+    object
 }

@@ -1,12 +1,12 @@
 // The calls that lines of a log or of a trace are about.
 
+use crate::text::Text;
 use seccomp_learn::{Line, Told, line_of, told_number};
 use seccompiler::TargetArch;
 use std::alloc::{AllocError, Global};
-use std::fmt;
 
 /// Who made a call: no bytes of what its line doesn't say.
-#[derive(Clone, Copy)]
+#[derive(Clone, Copy, Default)]
 pub(crate) struct Caller<'a> {
     /// The program's name.
     pub program: &'a str,
@@ -14,16 +14,18 @@ pub(crate) struct Caller<'a> {
     pub process: &'a str,
 }
 
-/// With what stands between that and the decision.
-impl fmt::Display for Caller<'_> {
-    fn fmt<W: fmt::Write>(&self, f: &mut fmt::Formatter<W>) -> fmt::Result {
-        let Caller { program, process } = *self;
-        match (program, process) {
-            ("", _) => Ok(()),
-            (_, "") => write!(f, "{program}: "),
-            _ => write!(f, "{program}[{process}]: "),
-        }
+/// Adds who made a call, with what stands between that and the decision.
+pub(super) fn push_caller(text: &mut Text, caller: Caller<'_>) {
+    if caller.program.is_empty() {
+        return;
     }
+    text.push_str(caller.program);
+    if !caller.process.is_empty() {
+        text.push_str("[");
+        text.push_str(caller.process);
+        text.push_str("]");
+    }
+    text.push_str(": ");
 }
 
 /// The calls that lines are about.
@@ -74,10 +76,10 @@ fn push_call<'a>(arch: TargetArch, log: &mut Log<'a>, told: &Told<'a>) -> Result
         program: told.program,
         process: told.process,
     })?;
-    log.records.extend_from_slice(&number.to_le_bytes())?;
-    log.records
-        .extend_from_slice(&told.arch_word.to_le_bytes())?;
-    log.records.extend_from_slice(&0u64.to_le_bytes())?;
+    // The instruction pointer has two words.
+    for word in [number, told.arch_word, 0, 0] {
+        log.records.extend_from_slice(&word.to_le_bytes())?;
+    }
     for argument in told.arguments {
         log.records
             .extend_from_slice(&argument.unwrap_or(0).to_le_bytes())?;

@@ -86,8 +86,7 @@ pub(crate) fn learn_made(
         trace.observed.extend_from_slice(&observed)?;
     }
     let wanted = wanted_in(alloc, learning, &trace.observed)?;
-    let learned = learned_of(alloc, learning, &trace.observed, &wanted, policy);
-    let learned = match learned {
+    let learned = match learned_of(alloc, learning, &trace.observed, &wanted, policy) {
         Ok(learned) => learned,
         Err(error) => return Err(ToolError::in_second(alloc, error)?),
     };

@@ -38,12 +38,13 @@ pub(crate) fn explained_text(
     explanation: &Explanation,
     callers: &[Caller<'_>],
 ) -> Result<Vec<u8>, AllocError> {
+    let json = matches!(format, LineFormat::Json);
     let (mut text, mut callers) = (Text::new(alloc), callers.iter());
     for explained in &explanation.records {
         let Explained { word, why } = *explained;
         let caller = callers.next().copied().unwrap_or_default();
         let path = path_of(alloc, explanation.name.as_str(), why)?;
-        if matches!(format, LineFormat::Json) {
+        if json {
             text.push_item(value_of(alloc, target, path.as_str(), caller, *explained));
             continue;
         }
@@ -58,12 +59,7 @@ pub(crate) fn explained_text(
         }
         text.push_str("\n");
     }
-    written(
-        alloc,
-        matches!(format, LineFormat::Json),
-        "decisions",
-        text.finish()?,
-    )
+    written(alloc, json, "decisions", text.finish()?)
 }
 
 // The kind of a reason; the number of the call, if it is of the architecture; the entry, and the condition of it, that are the

@@ -92,19 +92,17 @@ pub(super) fn learned_json(
 ) -> Result<Vec<u8>, AllocError> {
     let (mut kept, mut lines) = (List::new(alloc), List::new(alloc));
     for each in all {
-        let number = each.number;
+        let (number, index) = (each.number, each.arg_index);
         if observed.iter().any(|call| call.number == number) {
+            let length = match each.arg_len {
+                SeccompCmpArgLen::Dword => "dword",
+                SeccompCmpArgLen::Qword => "qword",
+            };
             let mut argument = Object::new(alloc);
             argument.field("call", call_name(learning.arch, Some(number)));
             argument.field("number", number);
-            argument.field("index", each.arg_index);
-            argument.field(
-                "type",
-                match each.arg_len {
-                    SeccompCmpArgLen::Dword => "dword",
-                    SeccompCmpArgLen::Qword => "qword",
-                },
-            );
+            argument.field("index", index);
+            argument.field("type", length);
             kept.item(argument);
         }
     }

@@ -29,14 +29,16 @@ fn failure_line(
     inputs: Inputs<'_>,
     error: &ToolError,
 ) -> Result<String, AllocError> {
-    let front = match error {
+    let mut line = Text::new(alloc);
+    line.push_str("seccomptool: ");
+    match error {
         ToolError::OutOfMemory => return Err(AllocError),
-        ToolError::UnknownCall(_, _) | ToolError::Told(_) => String::new(alloc),
-        ToolError::Second(_) => front_of(alloc, inputs.second.unwrap_or("-"))?,
-        _ => front_of(alloc, inputs.first.unwrap_or("-"))?,
-    };
-    let line = format!(in alloc; "seccomptool: {front}{error}")?;
-    readable(alloc, line.as_bytes(), TextKind::Line)
+        ToolError::UnknownCall(_, _) | ToolError::Told(_) => {}
+        ToolError::Second(_) => push_front(&mut line, inputs.second.unwrap_or("-")),
+        _ => push_front(&mut line, inputs.first.unwrap_or("-")),
+    }
+    line.push_display(error);
+    readable(alloc, &line.finish()?, TextKind::Line)
 }
 
 // Adds the line of a note on what stands at this path.
@@ -94,9 +96,8 @@ pub(crate) fn counted(
     path: &str,
     text: &[u8],
 ) -> Result<Vec<u8>, AllocError> {
-    let mut notes = Vec::new(alloc);
     if quiet {
-        return Ok(notes);
+        return Ok(Vec::new(alloc));
     }
     let checked = match filters_of(alloc, text) {
         Ok(filters) => warnings_in(alloc, arch, &[], &filters),
@@ -108,10 +109,11 @@ pub(crate) fn counted(
         Err(_) => 0,
     };
     let told = match count {
-        0 => return Ok(notes),
+        0 => return Ok(Vec::new(alloc)),
         1 => String::from_str(alloc, "1 warning; seccomptool check prints it"),
         _ => format!(in alloc; "{count} warnings; seccomptool check prints them"),
-    }?;
-    push_note(&mut notes, alloc, path, told.as_str())?;
-    Ok(notes)
+    };
+    let mut notes = Text::new(alloc);
+    note(&mut notes, path, told);
+    notes.finish()
 }

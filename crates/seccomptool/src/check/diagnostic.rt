@@ -1,24 +1,23 @@
 // What `check` says of a text, one thing at a time; and what it says of the warnings of a policy.
 
 use crate::check::FilterWarnings;
+use crate::check::format::Lines;
 use crate::check::outline::Position;
 use seccomp_check::Step;
 use seccomp_warnings::{Code, Subject, Warning, part_of, said_text};
 use std::alloc::{AllocError, Global};
 
-/// An error or a warning.
-#[derive(Drop)]
-pub(crate) struct Diagnostic {
+/// An error or a warning, of what a path leads to.
+#[derive(Clone, Copy)]
+pub(crate) struct Diagnostic<'a> {
     /// What it is: `error` or `warning`.
     pub severity: &'static str,
     /// The name of its code.
     pub code: &'static str,
-    /// The way to what it is about: none of all of a text.
-    pub path: Vec<Step>,
     /// The name of the call that it is about, if it is about one of several.
-    pub call: Option<String>,
+    pub call: Option<&'static str>,
     /// What is wrong, and what to write instead.
-    pub message: String,
+    pub message: &'a str,
     /// What may have been meant by the value there.
     pub suggestion: Option<&'static str>,
     /// Where it is found in the text.
@@ -32,108 +31,111 @@ pub(crate) enum Place {
     Value,
     /// Where the key of this value begins, which is what it is about.
     Key,
-    /// Here.
-    At(Position),
-    /// Nowhere.
-    None,
+    /// Here, or nowhere.
+    At(Option<Position>),
 }
 
-impl Diagnostic {
-    /// What is said of a value at a place, with no call and no suggestion.
-    pub(crate) fn new(
+impl Diagnostic<'_> {
+    /// What is said of a value, with no call and no suggestion.
+    pub(crate) fn new<'a>(
         severity: &'static str,
         code: &'static str,
-        path: Vec<Step>,
-        message: String,
-        place: Place,
-    ) -> Diagnostic {
+        message: &'a str,
+    ) -> Diagnostic<'a> {
         Diagnostic {
             severity,
             code,
-            path,
             call: None,
             message,
             suggestion: None,
-            place,
+            place: Place::Value,
         }
     }
 }
 
-/// The way that goes to what is under each of these keys, and to an item of that, as far as there are such.
-pub(crate) fn path_by(
+/// A way from a value to one inside it, in the making. Want of memory is noted.
+#[derive(Drop)]
+pub(crate) struct Path {
     alloc: Global,
-    turns: &[(Option<&str>, Option<usize>)],
-) -> Result<Vec<Step>, AllocError> {
-    let mut path = Vec::new(alloc);
-    for (key, item) in turns {
-        if let Some(key) = *key {
-            path.push(Step::Key(String::from_str(alloc, key)?))?;
-        }
-        if let Some(item) = *item {
-            path.push(Step::Item(item))?;
-        }
-    }
-    Ok(path)
+    /// Its steps.
+    pub steps: Result<Vec<Step>, AllocError>,
 }
 
-/// The text of a path.
-pub(crate) fn path_text(alloc: Global, path: &[Step]) -> Result<String, AllocError> {
-    let mut text = String::new(alloc);
-    for (place, step) in path.iter().enumerate() {
-        let piece = match step {
-            Step::Item(item) => format!(in alloc; "[{item}]")?,
-            Step::Key(name) if place > 0 => format!(in alloc; ".{name}")?,
-            Step::Key(name) => name.clone()?,
-        };
-        text.push_str(piece.as_str())?;
+impl Path {
+    /// The way to the value itself.
+    pub(crate) fn new(alloc: Global) -> Path {
+        Path {
+            alloc,
+            steps: Ok(Vec::new(alloc)),
+        }
     }
-    Ok(text)
+
+    /// Goes on to what is under this key.
+    pub(crate) fn key(&mut self, key: &str) {
+        match String::from_str(self.alloc, key) {
+            Ok(key) => self.step(Step::Key(key)),
+            Err(error) => self.steps = Err(error),
+        }
+    }
+
+    /// Goes on by a step.
+    pub(crate) fn step(&mut self, step: Step) {
+        if let Ok(steps) = &mut self.steps {
+            if steps.push(step).is_err() {
+                self.steps = Err(AllocError);
+            }
+        }
+    }
 }
 
-/// What is said of the warnings of all filters.
-pub(crate) fn policy_diagnostics(
+/// Adds what is said of the warnings of all filters.
+pub(crate) fn push_policy(
+    lines: &mut Lines<'_>,
     alloc: Global,
     all: &[FilterWarnings],
-) -> Result<Vec<Diagnostic>, AllocError> {
-    let mut diagnostics = Vec::new(alloc);
+) -> Result<(), AllocError> {
     for own in all {
         for warning in &own.warnings {
-            diagnostics.push(diagnostic_of(alloc, own, *warning)?)?;
+            push_warning(lines, alloc, own, *warning)?;
         }
     }
-    Ok(diagnostics)
+    Ok(())
 }
 
-// What is said of a warning of a filter.
-fn diagnostic_of(
+// Adds what is said of a warning of a filter.
+fn push_warning(
+    lines: &mut Lines<'_>,
     alloc: Global,
     own: &FilterWarnings,
     warning: Warning,
-) -> Result<Diagnostic, AllocError> {
-    let none = (None, None);
-    let (member, place, call) = match warning.subject {
-        Subject::MismatchAction(_) => ((Some("mismatch_action"), None), none, None),
-        Subject::MismatchCall(call) => ((Some("mismatch_action"), None), none, Some(call.name())),
-        Subject::MatchAction(_) => ((Some("match_action"), None), none, None),
-        Subject::Entry(entry) => match (warning.code, own.judgements.get(entry)) {
-            (Code::SiblingAllowed, Some(judgement)) => {
-                ((Some("filter"), Some(entry)), none, judgement.sibling)
-            }
-            _ => ((Some("filter"), Some(entry)), none, None),
-        },
-        Subject::Condition(comparison) => {
-            let place = (Some("args"), Some(comparison.place));
-            ((Some("filter"), Some(comparison.entry)), place, None)
+) -> Result<(), AllocError> {
+    let code = warning.code;
+    let mut diagnostic = Diagnostic::new("warning", code.name(), said_text(code));
+    let mut path = Path::new(alloc);
+    path.key(own.name.as_str());
+    match warning.subject {
+        Subject::MismatchAction(_) => path.key("mismatch_action"),
+        Subject::MismatchCall(unlisted) => {
+            path.key("mismatch_action");
+            diagnostic.call = Some(unlisted.name());
         }
-    };
-    let (name, part) = (own.name.as_str(), part_of(warning.code));
-    let turns = [(Some(name), None), member, place, (part, None)];
-    let path = path_by(alloc, &turns)?;
-    let message = String::from_str(alloc, said_text(warning.code))?;
-    let code = warning.code.name();
-    let mut diagnostic = Diagnostic::new("warning", code, path, message, Place::Value);
-    if let Some(call) = call {
-        diagnostic.call = Some(String::from_str(alloc, call)?);
+        Subject::MatchAction(_) => path.key("match_action"),
+        Subject::Entry(entry) => {
+            path.key("filter");
+            path.step(Step::Item(entry));
+            if let (Code::SiblingAllowed, Some(judgement)) = (code, own.judgements.get(entry)) {
+                diagnostic.call = judgement.sibling;
+            }
+        }
+        Subject::Condition(comparison) => {
+            path.key("filter");
+            path.step(Step::Item(comparison.entry));
+            path.key("args");
+            path.step(Step::Item(comparison.place));
+        }
     }
-    Ok(diagnostic)
+    if let Some(part) = part_of(code) {
+        path.key(part);
+    }
+    lines.push(&path.steps?, diagnostic)
 }

@@ -1,11 +1,12 @@
 // The forms of what `check` says.
 
-use crate::check::diagnostic::{Diagnostic, Place, path_text};
+use crate::check::diagnostic::{Diagnostic, Place};
 use crate::check::outline::{Outline, Position};
-use crate::json::{OrNull, push_item};
-use crate::notes::front_of;
-use seccomp_command_line::readable::{TextKind, readable};
-use serde_json::{Value, json};
+use crate::json::{Object, OrNull};
+use crate::notes::push_front;
+use crate::text::Text;
+use seccomp_check::Step;
+use seccomp_command_line::readable::TextKind;
 use std::alloc::{AllocError, Global};
 
 /// How `check` writes what it says.
@@ -19,108 +20,133 @@ pub enum CheckFormat {
     Json,
 }
 
-/// What is said of the text at a path: lines for people or as gcc's; or JSON, an object for each diagnostic, in a line, with a comma
-/// behind it.
-pub(crate) fn lines_of(
-    alloc: Global,
+/// What is said of the text at a path, in the making: lines for people or as gcc's; or JSON, an object for each diagnostic, in a line,
+/// with a comma behind it.
+#[derive(Drop)]
+pub(crate) struct Lines<'a> {
     format: CheckFormat,
-    path: &str,
-    text: &[u8],
-    diagnostics: &[Diagnostic],
-) -> Result<Vec<u8>, AllocError> {
-    let mut lines = Vec::new(alloc);
-    if diagnostics.is_empty() {
-        return Ok(lines);
+    file: &'a str,
+    /// Where the values of the text stand.
+    pub outline: Outline,
+    /// What is said so far.
+    pub said: Text,
+}
+
+impl Lines<'_> {
+    /// None yet, of this text.
+    pub(crate) fn new<'a>(
+        alloc: Global,
+        format: CheckFormat,
+        file: &'a str,
+        text: &[u8],
+    ) -> Result<Lines<'a>, AllocError> {
+        let outline = match format {
+            // Lines for people don't say where.
+            CheckFormat::Text => Outline::of(alloc, b""),
+            _ => Outline::of(alloc, text),
+        }?;
+        Ok(Lines {
+            format,
+            file,
+            outline,
+            said: Text::new(alloc),
+        })
     }
-    let outline = match format {
-        CheckFormat::Text => Outline::of(alloc, b"")?,
-        _ => Outline::of(alloc, text)?,
-    };
-    for diagnostic in diagnostics {
-        let places = outline.places_at(alloc, &diagnostic.path)?;
-        let position = match (diagnostic.place, places) {
-            (Place::At(position), _) => Some(position),
-            (Place::Value, Some((value, _))) => Some(value),
-            (Place::Key, Some((_, key))) => Some(key),
-            _ => None,
-        };
-        let line = match format {
-            CheckFormat::Text => text_line(alloc, path, diagnostic)?,
-            CheckFormat::Gcc => gcc_line(alloc, path, position, diagnostic)?,
-            CheckFormat::Json => {
-                let value = value_of(alloc, path, position, diagnostic)?;
-                push_item(&mut lines, alloc, &value)?;
-                continue;
+
+    /// Adds what is said of what a path leads to: of all of the text, if it has no steps. A line of gcc is
+    /// `FILE:LINE:COLUMN: SEVERITY: PATH: MESSAGE [CODE]`, without a place or path that there isn't; standard input is `-`.
+    pub(crate) fn push(
+        &mut self,
+        path: &[Step],
+        diagnostic: Diagnostic<'_>,
+    ) -> Result<(), AllocError> {
+        let text = &mut self.said;
+        let alloc = text.alloc();
+        let position = self.outline.position_of(path, diagnostic.place);
+        let subject = path_text(alloc, path)?;
+        let subject = subject.as_str();
+        let Diagnostic {
+            severity,
+            code,
+            message,
+            ..
+        } = diagnostic;
+        match self.format {
+            CheckFormat::Text => {
+                push_front(text, self.file);
+                push_subject(text, subject, diagnostic);
+                text.push_format(format!(in alloc; ": warning [{code}]: {message}\n"));
             }
-        };
-        lines.extend_from_slice(line.as_bytes())?;
+            CheckFormat::Gcc => {
+                text.push_readable(self.file, TextKind::Name);
+                if let Some(Position { line, column }) = position {
+                    text.push_format(format!(in alloc; ":{line}:{column}"));
+                }
+                text.push_format(format!(in alloc; ": {severity}: "));
+                push_subject(text, subject, diagnostic);
+                if !path.is_empty() {
+                    text.push_str(": ");
+                }
+                text.push_readable(message, TextKind::Line);
+                text.push_format(format!(in alloc; " [{code}]\n"));
+            }
+            CheckFormat::Json => {
+                text.push_item(object_of(alloc, self.file, subject, position, diagnostic));
+            }
+        }
+        Ok(())
     }
-    Ok(lines)
 }
 
-// The line of a warning for people.
-fn text_line(alloc: Global, path: &str, diagnostic: &Diagnostic) -> Result<String, AllocError> {
-    let front = front_of(alloc, path)?;
-    let subject = subject_of(alloc, diagnostic)?;
-    let (code, said) = (diagnostic.code, &diagnostic.message);
-    format!(in alloc; "{front}{subject}: warning [{code}]: {said}\n")
+// The text of a path.
+fn path_text(alloc: Global, path: &[Step]) -> Result<String, AllocError> {
+    let mut text = String::new(alloc);
+    for (place, step) in path.iter().enumerate() {
+        let front = if place > 0 { "." } else { "" };
+        let piece = match step {
+            Step::Item(item) => format!(in alloc; "[{item}]"),
+            Step::Key(name) => format!(in alloc; "{front}{name}"),
+        }?;
+        text.push_str(piece.as_str())?;
+    }
+    Ok(text)
 }
 
-// The line `FILE:LINE:COLUMN: SEVERITY: PATH: MESSAGE [CODE]`, without a place or path that there isn't. Standard input is `-`.
-fn gcc_line(
-    alloc: Global,
-    file: &str,
-    position: Option<Position>,
-    diagnostic: &Diagnostic,
-) -> Result<String, AllocError> {
-    let file = readable(alloc, file, TextKind::Name)?;
-    let at = match position {
-        Some(Position { line, column }) => format!(in alloc; "{file}:{line}:{column}")?,
-        None => file,
-    };
-    let subject = subject_of(alloc, diagnostic)?;
-    let behind = if diagnostic.path.is_empty() { "" } else { ": " };
-    let message = readable(alloc, diagnostic.message.as_str(), TextKind::Line)?;
-    let (severity, code) = (diagnostic.severity, diagnostic.code);
-    format!(in alloc; "{at}: {severity}: {subject}{behind}{message} [{code}]\n")
-}
-
-// What a diagnostic is about: its path, and the call behind it. A key stands in quotes.
-fn subject_of(alloc: Global, diagnostic: &Diagnostic) -> Result<String, AllocError> {
+// Adds what a diagnostic is about: its path, and the call behind it. A key stands in quotes.
+fn push_subject(text: &mut Text, subject: &str, diagnostic: Diagnostic<'_>) {
     let quote = match diagnostic.place {
         Place::Key => "\"",
         _ => "",
     };
-    let path = path_text(alloc, &diagnostic.path)?;
-    let path = readable(alloc, path.as_str(), TextKind::Name)?;
-    let Some(call) = &diagnostic.call else {
-        return format!(in alloc; "{quote}{path}{quote}");
-    };
-    let call = readable(alloc, call.as_str(), TextKind::Name)?;
-    format!(in alloc; "{quote}{path}{quote} ({call})")
+    text.push_str(quote);
+    text.push_readable(subject, TextKind::Name);
+    text.push_str(quote);
+    if let Some(call) = diagnostic.call {
+        text.push_format(format!(in text.alloc(); " ({call})"));
+    }
 }
 
 // A diagnostic as JSON.
-fn value_of(
+fn object_of(
     alloc: Global,
     file: &str,
+    subject: &str,
     position: Option<Position>,
-    diagnostic: &Diagnostic,
-) -> Result<Value, AllocError> {
-    let path = path_text(alloc, &diagnostic.path)?;
+    diagnostic: Diagnostic<'_>,
+) -> Object {
     let (line, column) = match position {
         Some(Position { line, column }) => (Some(line), Some(column)),
         None => (None, None),
     };
-    json!(in alloc; {
-        "file": file,
-        "line": line,
-        "column": column,
-        "path": path.as_str(),
-        "call": OrNull(diagnostic.call.as_deref()),
-        "code": diagnostic.code,
-        "severity": diagnostic.severity,
-        "message": &diagnostic.message,
-        "suggestion": OrNull(diagnostic.suggestion)
-    })
+    let mut object = Object::new(alloc);
+    object.field("file", file);
+    object.field("line", line);
+    object.field("column", column);
+    object.field("path", subject);
+    object.field("call", OrNull(diagnostic.call));
+    object.field("code", diagnostic.code);
+    object.field("severity", diagnostic.severity);
+    object.field("message", diagnostic.message);
+    object.field("suggestion", OrNull(diagnostic.suggestion));
+    object
 }

@@ -4,21 +4,22 @@ ghost use Rattle.std.specs.Prelude.{◌≡◌, IfErr, IfOk};
 ghost use Rattle.seccomptool.specs.Commands.{IsAccepted, IsCheck, IsRejectedFor};
 ghost use Rattle.seccomptool.specs.declared.findings.Verdict.TheVariants.{Different};
 
-use crate::check::diagnostic::policy_diagnostics;
-use crate::check::fault::fault_diagnostic;
-use crate::check::format::{CheckFormat, lines_of};
-use crate::check::profile::lines::profile_diagnostics;
+use crate::check::diagnostic::push_policy;
+use crate::check::fault::push_error;
+use crate::check::format::{CheckFormat, Lines};
+use crate::check::profile::lines::push_profile;
 use crate::check::profile::profile_checked;
 use crate::check::{checked, verdict_where};
 use crate::error::ToolError;
 use crate::findings::Verdict;
 use crate::kind::{Subject, subject_of};
 use crate::made::Made;
-use crate::notes::{push_note, readable};
+use crate::notes::note;
 use crate::profile::profile_notes;
 use crate::run::program::program_of;
+use crate::text::Text;
 use crate::words::Checking;
-use seccomp_command_line::readable::TextKind;
+use seccomp_command_line::readable::{TextKind, readable};
 use std::alloc::{AllocError, Global};
 
 pub(crate) fn check_made(
@@ -33,7 +34,11 @@ pub(crate) fn check_made(
     match accepted(alloc, asked, subject, path, given) {
         Ok(made) => Ok(made),
         Err(ToolError::OutOfMemory) => Err(ToolError::OutOfMemory),
-        Err(fault) => Ok(rejected(alloc, asked.format, path, given, fault)?),
+        Err(fault) => {
+            let rejected = rejected(alloc, asked.format, path, given, &fault);
+            drop(fault);
+            Ok(rejected?)
+        }
     }
 }
 
@@ -52,17 +57,19 @@ fn accepted(
     match subject {
         Subject::Policy => {
             let checked = checked(alloc, arch, &asked.allowed, given)?;
-            let diagnostics = policy_diagnostics(alloc, &checked.filters)?;
-            let text = lines_of(alloc, asked.format, path, given, &diagnostics)?;
+            let mut lines = Lines::new(alloc, asked.format, path, given)?;
+            push_policy(&mut lines, alloc, &checked.filters)?;
+            let text = lines.said.finish()?;
             let verdict = verdict_where(denied, checked.count);
             Ok(Made::noting(text, verdict, Vec::new(alloc)))
         }
         Subject::Profile(container) => {
             let checked = profile_checked(alloc, arch, container, &asked.allowed, given)?;
-            let diagnostics = profile_diagnostics(alloc, arch, container, &checked)?;
+            let mut lines = Lines::new(alloc, asked.format, path, given)?;
+            push_profile(&mut lines, alloc, arch, container, &checked)?;
             let (listed, left_out) = (asked.reading.listed, &checked.compiled.left_out);
             let notes = profile_notes(alloc, arch, path, listed, left_out, &[])?;
-            let text = lines_of(alloc, asked.format, path, given, &diagnostics)?;
+            let text = lines.said.finish()?;
             let verdict = verdict_where(denied, checked.warnings.len());
             Ok(Made::noting(text, verdict, notes))
         }
@@ -79,18 +86,21 @@ fn rejected(
     format: CheckFormat,
     path: &str,
     given: &[u8],
-    error: ToolError,
+    error: &ToolError,
 ) -> Result<Made, AllocError>
     ensures { IfOk result (λ made. made.verdict ≡ Different) }
 {
-    let mut made = Made::noting(Vec::new(alloc), Verdict::Different, Vec::new(alloc));
+    let mut lines = Lines::new(alloc, format, path, given)?;
+    let mut notes = Text::new(alloc);
     if let CheckFormat::Text = format {
         let told = format!(in alloc; "{error}")?;
-        let told = readable(alloc, told.as_bytes(), TextKind::Line)?;
-        push_note(&mut made.notes, alloc, path, told.as_str())?;
-        return Ok(made);
+        note(
+            &mut notes,
+            path,
+            readable(alloc, told.as_str(), TextKind::Line),
+        );
+    } else {
+        push_error(&mut lines, alloc, error)?;
     }
-    let diagnostics = vec![in alloc; fault_diagnostic(alloc, given, error)?]?;
-    made.text = lines_of(alloc, format, path, given, &diagnostics)?;
-    Ok(made)
+    Ok(Made::noting(lines.said.finish()?, Verdict::Different, notes.finish()?))
 }

@@ -2,6 +2,7 @@
 
 ghost use Rattle.std.specs.Prelude.{◌≤◌, length};
 
+use crate::check::diagnostic::{Path, Place};
 use seccomp_check::Step;
 use serde_json::Value;
 use std::alloc::{AllocError, Global};
@@ -16,40 +17,57 @@ pub(crate) struct Position {
     pub column: usize,
 }
 
-// An array or an object whose end isn't read: its number, the step to it, and how many values are read of it.
+// A value of a JSON text.
+#[derive(Drop)]
+struct Located {
+    // Where it begins, and where its key does, or itself if it has none.
+    begins: Position,
+    key: Position,
+    // The numbers of the values in it: by their keys, or in their order.
+    members: BTreeMap<String, usize>,
+    items: Vec<usize>,
+}
+
+impl Located {
+    // The number of the value under a key. A filter's actions have two names.
+    fn member(&self, name: &str) -> Option<&usize> {
+        let other = match name {
+            "mismatch_action" => "default_action",
+            "match_action" => "filter_action",
+            _ => name,
+        };
+        self.members.get(name).or(self.members.get(other))
+    }
+}
+
+// An array or an object whose end isn't read: its number, and the place and the key of what is read of it.
 #[derive(Drop)]
 struct Open {
     number: usize,
-    step: Step,
-    count: usize,
     is_object: bool,
+    place: usize,
+    key: Option<(Position, String)>,
 }
 
 /// The values of a JSON text.
 #[derive(Drop)]
 pub(crate) struct Outline {
-    // Where each value begins, and where its key does, or itself if it has none.
-    places: Vec<(Position, Position)>,
-    // The number of a value, by that of the value that it is in, and by its key or place there.
-    inner: BTreeMap<(usize, String), usize>,
+    values: Vec<Located>,
     /// The first key that its object has already: the way to its value, and where the key begins.
-    pub repeated: Option<(Vec<Step>, Position)>,
-    // How far the text is read: where that is, the arrays and objects around, and the key in front of the next value.
+    pub repeated: Option<(Path, Position)>,
+    // How far the text is read: where that is, and the arrays and objects around.
     at: Position,
     open: Vec<Open>,
-    key: Option<(Position, String)>,
 }
 
 impl Outline {
     /// The values of a text, which is JSON.
     pub(crate) fn of(alloc: Global, text: &[u8]) -> Result<Outline, AllocError> {
         let mut outline = Outline {
-            places: Vec::new(alloc),
-            inner: BTreeMap::new(alloc),
+            values: Vec::new(alloc),
             repeated: None,
             at: Position { line: 1, column: 1 },
             open: Vec::new(alloc),
-            key: None,
         };
         let mut rest = text;
         // A piece has a byte at least, while there is a rest.
@@ -61,34 +79,46 @@ impl Outline {
         Ok(outline)
     }
 
-    /// Where the value to which a path leads begins, and where its key does; of the last one on the way, if it leads to none.
-    pub(crate) fn places_at(
-        &self,
-        alloc: Global,
-        path: &[Step],
-    ) -> Result<Option<(Position, Position)>, AllocError> {
+    /// Where what is said of what a path leads to is found: of the last value on the way, if it leads to none.
+    pub(crate) fn position_of(&self, path: &[Step], place: Place) -> Option<Position> {
+        if let Place::At(position) = place {
+            return position;
+        }
+        let value = self.values.get(self.number_of(path))?;
+        match place {
+            Place::Key => Some(value.key),
+            _ => Some(value.begins),
+        }
+    }
+
+    /// Where a key begins in the value to which a path leads.
+    pub(crate) fn key_in(&self, path: &[Step], key: &str) -> Option<Position> {
+        let outer = self.values.get(self.number_of(path))?;
+        Some(self.values.get(*outer.members.get(key)?)?.key)
+    }
+
+    // The number of the value to which a path leads, or else of the last one on the way.
+    fn number_of(&self, path: &[Step]) -> usize {
         let mut number = 0;
         for step in path {
-            let label = label_of(alloc, step)?;
-            // A filter's actions have two names.
-            let other = match label.as_str() {
-                "mismatch_action" => "default_action",
-                "match_action" => "filter_action",
-                _ => "",
+            let Some(outer) = self.values.get(number) else {
+                break;
             };
-            let other = (number, String::from_str(alloc, other)?);
-            match self.inner.get(&(number, label)).or(self.inner.get(&other)) {
+            let inner = match step {
+                Step::Key(name) => outer.member(name.as_str()),
+                Step::Item(item) => outer.items.get(*item),
+            };
+            match inner {
                 Some(inner) => number = *inner,
                 None => break,
             }
         }
-        Ok(self.places.get(number).copied())
+        number
     }
 
     // Takes the next piece of the text: a string is a key if it stands in an object and behind no other.
     fn take(&mut self, alloc: Global, piece: &[u8]) -> Result<(), AllocError> {
         let begins = self.at;
-        let is_in_object = matches!(self.open.last(), Some(outer) if outer.is_object);
         self.at.column = begins.column.saturating_add(piece.len());
         match piece {
             [b'\n', ..] => {
@@ -97,70 +127,69 @@ impl Outline {
                     column: 1,
                 };
             }
-            [] | [b',' | b':' | b' ' | b'\t' | b'\r', ..] => {}
+            [] | [b':' | b' ' | b'\t' | b'\r', ..] => {}
             [b'}' | b']', ..] => drop(self.open.pop()),
-            [b'"', ..] if self.key.is_none() && is_in_object => {
-                self.key = Some((begins, name_in(alloc, piece)?));
+            [b',', ..] => {
+                if let Some(outer) = self.open.last_mut() {
+                    outer.place = outer.place.saturating_add(1);
+                    outer.key = None;
+                }
             }
-            [first, ..] => self.push(alloc, begins, *first)?,
+            [first, ..] => match self.open.last_mut() {
+                Some(outer) if *first == b'"' && outer.is_object && outer.key.is_none() => {
+                    outer.key = Some((begins, name_in(alloc, piece)?));
+                }
+                _ => self.push(alloc, begins, *first)?,
+            },
         }
         Ok(())
     }
 
     // Adds the value that begins here, with this byte.
     fn push(&mut self, alloc: Global, begins: Position, first: u8) -> Result<(), AllocError> {
-        let number = self.places.len();
-        let (mut outer, mut item) = (None, 0);
-        if let Some(open) = self.open.last_mut() {
-            outer = Some(open.number);
-            item = open.count;
-            open.count = item.saturating_add(1);
-        }
-        let (key, step) = match self.key.take() {
-            Some((key, name)) => (key, Step::Key(name)),
-            None => (begins, Step::Item(item)),
-        };
-        self.places.push((begins, key))?;
-        if let Some(outer) = outer {
-            let label = label_of(alloc, &step)?;
-            if self.inner.insert((outer, label), number)?.is_some() && self.repeated.is_none() {
-                self.repeated = Some((self.way_to(alloc, &step)?, key));
+        let number = self.values.len();
+        let mut key = begins;
+        if let Some(open) = self.open.last() {
+            if let Some(outer) = self.values.get_mut(open.number) {
+                match &open.key {
+                    None => outer.items.push(number)?,
+                    Some((place, name)) => {
+                        key = *place;
+                        let earlier = outer.members.insert(name.clone()?, number)?;
+                        if earlier.is_some() && self.repeated.is_none() {
+                            self.repeated = Some((self.way(alloc), key));
+                        }
+                    }
+                }
             }
         }
+        self.values.push(Located {
+            begins,
+            key,
+            members: BTreeMap::new(alloc),
+            items: Vec::new(alloc),
+        })?;
         if matches!(first, b'{' | b'[') {
             self.open.push(Open {
                 number,
-                step,
-                count: 0,
                 is_object: first == b'{',
+                place: 0,
+                key: None,
             })?;
         }
         Ok(())
     }
 
-    // The way to what is one step behind the arrays and objects around.
-    fn way_to(&self, alloc: Global, last: &Step) -> Result<Vec<Step>, AllocError> {
-        let mut way = Vec::new(alloc);
-        for open in self.open.iter().skip(1) {
-            way.push(copy_of(&open.step)?)?;
+    // The way to what is read of the arrays and objects around.
+    fn way(&self, alloc: Global) -> Path {
+        let mut way = Path::new(alloc);
+        for open in &self.open {
+            match &open.key {
+                Some((_, name)) => way.key(name.as_str()),
+                None => way.step(Step::Item(open.place)),
+            }
         }
-        way.push(copy_of(last)?)?;
-        Ok(way)
-    }
-}
-
-fn copy_of(step: &Step) -> Result<Step, AllocError> {
-    match step {
-        Step::Key(name) => Ok(Step::Key(name.clone()?)),
-        Step::Item(item) => Ok(Step::Item(*item)),
-    }
-}
-
-// The key or number of a step.
-fn label_of(alloc: Global, step: &Step) -> Result<String, AllocError> {
-    match step {
-        Step::Key(name) => name.clone(),
-        Step::Item(item) => format!(in alloc; "{item}"),
+        way
     }
 }
 

@@ -1,11 +1,14 @@
 // What is said of the warnings of a profile.
 
-use crate::check::diagnostic::{Diagnostic, Place, path_by};
+use crate::check::diagnostic::{Diagnostic, Path, Place};
+use crate::check::format::Lines;
 use crate::check::profile::{CheckedProfile, ProfilePart, ProfileWarning, code_of};
 use crate::explain::search::word_at;
 use crate::findings::lines::{Example, Shown};
 use crate::findings::parts::name_of;
-use crate::record::{KnownCall, call_number};
+use crate::json::call_name;
+use crate::record::call_number;
+use seccomp_check::Step;
 use seccomp_oci::{Container, Profile, applies};
 use seccomp_profile_checks::Doubt;
 use seccomp_warnings::{Code, Subject, said_text};
@@ -21,14 +24,15 @@ struct Told<'a> {
     profile: &'a Profile,
 }
 
-/// What is said of the warnings of a profile, in the order of their places: once for each code of a place, and for each pair
+/// Adds what is said of the warnings of a profile, in the order of their places: once for each code of a place, and for each pair
 /// of entries.
-pub(crate) fn profile_diagnostics(
+pub(crate) fn push_profile(
+    lines: &mut Lines<'_>,
     alloc: Global,
     target: TargetArch,
     container: &Container,
     checked: &CheckedProfile,
-) -> Result<Vec<Diagnostic>, AllocError> {
+) -> Result<(), AllocError> {
     let told = Told {
         target,
         container,
@@ -38,15 +42,12 @@ pub(crate) fn profile_diagnostics(
     for (nth, warning) in checked.warnings.iter().enumerate() {
         let spot = spot_of(target, warning, nth);
         let order = (spot.entry, spot.rank, code_of(warning).name());
-        if !ordered.contains_key(&order) {
-            drop(ordered.insert(order, diagnostic_of(alloc, told, warning, spot)?)?);
-        }
+        ordered.entry(order)?.or_insert((warning, spot));
     }
-    let mut diagnostics = Vec::new(alloc);
-    for (_, diagnostic) in ordered {
-        diagnostics.push(diagnostic)?;
+    for (_, (warning, spot)) in ordered {
+        push_warning(lines, alloc, told, warning, spot)?;
     }
-    Ok(diagnostics)
+    Ok(())
 }
 
 // What a line is about.
@@ -133,13 +134,14 @@ fn spot_of_part<'a>(target: TargetArch, subject: Subject, part: ProfilePart) -> 
     }
 }
 
-// What is said of a warning that is about this.
-fn diagnostic_of(
+// Adds what is said of a warning that is about this.
+fn push_warning(
+    lines: &mut Lines<'_>,
     alloc: Global,
     told: Told<'_>,
     warning: &ProfileWarning,
     spot: Spot<'_>,
-) -> Result<Diagnostic, AllocError> {
+) -> Result<(), AllocError> {
     let code = code_of(warning);
     let said = match warning {
         ProfileWarning::Doubtful(doubt) => said_of_doubt(alloc, told, *doubt),
@@ -153,32 +155,26 @@ fn diagnostic_of(
         ),
         ProfileWarning::OfEntries(_, _) => String::from_str(alloc, said_of_entries(code)),
     }?;
-    let Spot {
-        entry,
-        key,
-        condition,
-        ..
-    } = spot;
-    let list = entry.and(Some("syscalls"));
-    let part = match (condition, code) {
-        (Some(_), Code::ValueOutsideMask) => Some("valueTwo"),
-        _ => None,
-    };
-    let turns = [(list, entry), (key, condition), (part, None)];
-    let path = path_by(alloc, &turns)?;
-    let place = match warning {
-        ProfileWarning::UnknownKey(_) => Place::Key,
-        _ => Place::Value,
-    };
-    let mut diagnostic = Diagnostic::new("warning", code.name(), path, said, place);
-    if let Some(number) = spot.number {
-        let name = KnownCall {
-            target: told.target,
-            number,
-        };
-        diagnostic.call = Some(name.to_string(alloc)?);
+    let mut diagnostic = Diagnostic::new("warning", code.name(), said.as_str());
+    diagnostic.call = call_name(told.target, spot.number).0;
+    if let ProfileWarning::UnknownKey(_) = warning {
+        diagnostic.place = Place::Key;
     }
-    Ok(diagnostic)
+    let mut path = Path::new(alloc);
+    if let Some(entry) = spot.entry {
+        path.key("syscalls");
+        path.step(Step::Item(entry));
+    }
+    if let Some(key) = spot.key {
+        path.key(key);
+    }
+    if let Some(condition) = spot.condition {
+        path.step(Step::Item(condition));
+        if let Code::ValueOutsideMask = code {
+            path.key("valueTwo");
+        }
+    }
+    lines.push(&path.steps?, diagnostic)
 }
 
 // What is doubtful, and what to write instead.

@@ -6,7 +6,8 @@ ghost use Rattle.seccomptool.specs.Chosen.{IsNamed, text_of};
 ghost use Rattle.seccomptool.specs.Sides.{IsChosen};
 
 use crate::error::ToolError;
-use seccomp_command_line::readable::{TextKind, readable};
+use crate::text::Text;
+use seccomp_command_line::readable::TextKind;
 use seccompiler::SeccompFilter;
 use std::alloc::Global;
 use std::collections::BTreeMap;
@@ -28,12 +29,16 @@ pub(crate) fn chosen_name<V>(
         }
     }
     // Their names, an empty one in quotes.
-    let mut names = Vec::new(alloc);
+    let (mut names, mut is_first) = (Text::new(alloc), true);
     for (name, _) in filters {
+        if !is_first {
+            names.push_str(", ");
+        }
         let name = if name.is_empty() { "''" } else { name.as_str() };
-        names.push(readable(alloc, name, TextKind::Name)?)?;
+        names.push_readable(name, TextKind::Name);
+        is_first = false;
     }
-    Err(ToolError::Unchosen(names.join(alloc, ", ")?))
+    Err(ToolError::Unchosen(names.finish_string()?))
 }
 
 // The filter that is asked for, or the only one.

@@ -1,7 +1,8 @@
 // Why the program fails.
 
-use crate::notes::front_of;
+use crate::notes::push_front;
 use crate::run::fault::ProgramFault;
+use crate::text::Text;
 use seccomp_check::Fault;
 use seccomp_oci::CompileError;
 use seccomp_tree::FilterError;
@@ -49,7 +50,7 @@ impl ToolError {
     pub(crate) fn in_second(alloc: Global, error: ToolError) -> Result<ToolError, AllocError> {
         match error {
             ToolError::OutOfMemory => Err(AllocError),
-            error => Ok(ToolError::Second(format!(in alloc; "{error}")?)),
+            error => Ok(ToolError::Second(error.to_string(alloc)?)),
         }
     }
 
@@ -61,14 +62,16 @@ impl ToolError {
     ) -> Result<ToolError, AllocError> {
         match error.kind() {
             ErrorKind::OutOfMemory => Err(AllocError),
-            _ => ToolError::of_path(alloc, path, format!(in alloc; "{error}")?.as_str()),
+            _ => ToolError::of_path(alloc, path, error.to_string(alloc)?.as_str()),
         }
     }
 
     // What is wrong with what is at a path.
     pub(crate) fn of_path(alloc: Global, path: &str, told: &str) -> Result<ToolError, AllocError> {
-        let front = front_of(alloc, path)?;
-        Ok(ToolError::Told(format!(in alloc; "{front}{told}")?))
+        let mut text = Text::new(alloc);
+        push_front(&mut text, path);
+        text.push_str(told);
+        Ok(ToolError::Told(text.finish_string()?))
     }
 }
 

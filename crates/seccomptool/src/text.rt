@@ -80,4 +80,9 @@ impl Text {
     pub(crate) fn finish(self) -> Result<Vec<u8>, AllocError> {
         self.bytes
     }
+
+    /// All parts as a string. They are UTF-8, if the bytes that were added are.
+    pub(crate) fn finish_string(self) -> Result<String, AllocError> {
+        String::from_utf8_lossy(self.alloc, &self.bytes?)
+    }
 }

@@ -5,8 +5,9 @@ ghost use Rattle.seccomp_oci.specs.CompiledProfile.{IsCompiledProfile};
 ghost use Rattle.seccomptool.specs.CheckProfile.{IsRefusedProfile};
 
 use crate::error::ToolError;
-use crate::notes::push_note;
-use seccomp_command_line::readable::{TextKind, readable};
+use crate::notes::note;
+use crate::text::Text;
+use seccomp_command_line::readable::TextKind;
 use seccomp_oci::{CompileError, CompiledProfile, Container, Flag, compile_profile};
 use seccompiler::TargetArch;
 use std::alloc::{AllocError, Global};
@@ -40,37 +41,38 @@ pub(crate) fn profile_notes(
     left_out: &[String],
     flags: &[Flag],
 ) -> Result<Vec<u8>, AllocError> {
-    let mut notes = Vec::new(alloc);
-    let names = each_once(alloc, left_out)?;
-    if !names.is_empty() {
-        let listing = match listed {
-            true => format!(in alloc; ": {}", names.join(alloc, ", ")?),
-            false => Ok(String::new(alloc)),
-        }?;
-        let told = match names.len() {
-            1 => format!(in alloc; "1 name that {arch} has no call for is left out{listing}"),
-            count => format!(in alloc;
-                "{count} names that {arch} has no call for are left out{listing}"
-            ),
-        }?;
-        push_note(&mut notes, alloc, path, told.as_str())?;
+    let mut notes = Text::new(alloc);
+    let (count, names) = each_once(alloc, left_out)?;
+    if count > 0 {
+        let mut told = Text::new(alloc);
+        told.push_format(match count {
+            1 => format!(in alloc; "1 name that {arch} has no call for is left out"),
+            _ => format!(in alloc; "{count} names that {arch} has no call for are left out"),
+        });
+        if listed {
+            told.push_str(": ");
+            told.push_str(names.as_str());
+        }
+        note(&mut notes, path, told.finish_string());
     }
     if !flags.is_empty() {
-        let mut names = Vec::new(alloc);
+        let (mut told, mut front) = (Text::new(alloc), ": ");
+        told.push_format(format!(in alloc;
+            "flags to set when the program is installed ({})",
+            flags.len()
+        ));
         for flag in flags {
-            names.push(match flag {
+            told.push_str(front);
+            told.push_str(match flag {
                 Flag::Tsync => "SECCOMP_FILTER_FLAG_TSYNC",
                 Flag::Log => "SECCOMP_FILTER_FLAG_LOG",
                 Flag::SpecAllow => "SECCOMP_FILTER_FLAG_SPEC_ALLOW",
-            })?;
+            });
+            front = ", ";
         }
-        let (count, names) = (flags.len(), names.join(alloc, ", ")?);
-        let told = format!(in alloc;
-            "flags to set when the program is installed ({count}): {names}"
-        )?;
-        push_note(&mut notes, alloc, path, told.as_str())?;
+        note(&mut notes, path, told.finish_string());
     }
-    Ok(notes)
+    notes.finish()
 }
 
 /// Why a profile isn't compiled: the error, or the names that no call of the architecture has.
@@ -79,22 +81,30 @@ pub(crate) fn uncompiled(
     arch: TargetArch,
     error: ToolError,
 ) -> Result<ToolError, AllocError> {
-    let ToolError::Profile(CompileError::UnknownNames(names)) = &error else {
-        return Ok(error);
+    let error = match error {
+        ToolError::Profile(error) => error,
+        error => return Ok(error),
     };
-    let names = each_once(alloc, names)?;
-    let (count, names) = (names.len(), names.join(alloc, ", ")?);
-    let told = format!(in alloc; "not system calls of {arch} ({count}): {names}")?;
-    Ok(ToolError::Fault(told))
+    match error {
+        CompileError::UnknownNames(names) => {
+            let (count, names) = each_once(alloc, &names)?;
+            let told = format!(in alloc; "not system calls of {arch} ({count}): {names}")?;
+            Ok(ToolError::Fault(told))
+        }
+        error => Ok(ToolError::Profile(error)),
+    }
 }
 
-// These names as people read them, each where it first stands.
-fn each_once(alloc: Global, names: &[String]) -> Result<Vec<String>, AllocError> {
-    let (mut told, mut list) = (BTreeMap::new(alloc), Vec::new(alloc));
+// How many different names these are, and their list as people read it, each where it first stands.
+fn each_once(alloc: Global, names: &[String]) -> Result<(usize, String), AllocError> {
+    let mut told = BTreeMap::new(alloc);
+    let (mut list, mut front) = (Text::new(alloc), "");
     for name in names {
         if told.insert(name.as_str(), ())?.is_none() {
-            list.push(readable(alloc, name.as_str(), TextKind::Name)?)?;
+            list.push_str(front);
+            list.push_readable(name.as_str(), TextKind::Name);
+            front = ", ";
         }
     }
-    Ok(list)
+    Ok((told.len(), list.finish_string()?))
 }

@@ -105,7 +105,7 @@ impl Reader {
                 self.is_braced = true;
                 1
             }
-            (1 | 3 | 5 | OPERAND, _) => self.number(piece)?,
+            (1 | 3 | 5 | OPERAND, _) => return self.number(piece),
             (0, b'{') | (2 | 4 | 6, b',') | (8, b'}') => self.next.saturating_add(1),
             (BEHIND, b',') => 0,
             (0 | BEHIND, b'}') if self.is_braced => END,
@@ -115,19 +115,20 @@ impl Reader {
         Ok(())
     }
 
-    // Adds the bytes of a number, and gives the place behind it.
-    fn number(&mut self, piece: &[u8]) -> Result<u8, ToolError> {
-        let number = read_number(str::from_utf8(piece).unwrap_or(""));
-        let Ok(number) = u32::try_from(number.unwrap_or(u64::MAX)) else {
-            return Err(self.fault());
+    // Adds the bytes of a number, and goes on behind it.
+    fn number(&mut self, piece: &[u8]) -> Result<(), ToolError> {
+        let (greatest, size) = match self.next {
+            OPERAND => (0xffff_ffff, 4),
+            1 => (255, 2),
+            _ => (255, 1),
         };
-        match (self.next, u8::try_from(number)) {
-            (OPERAND, _) => self.bytes.extend_from_slice(&number.to_le_bytes())?,
-            (1, Ok(code)) => self.bytes.extend_from_slice(&[code, 0])?,
-            (_, Ok(offset)) => self.bytes.push(offset)?,
-            (_, Err(_)) => return Err(self.fault()),
+        let number = read_number(str::from_utf8(piece).unwrap_or("")).unwrap_or(u64::MAX);
+        if number > greatest {
+            return Err(self.fault());
         }
-        Ok(self.next.saturating_add(1))
+        self.bytes.extend_from_slice(&number.to_le_bytes()[..size])?;
+        self.next = self.next.saturating_add(1);
+        Ok(())
     }
 
     fn fault(&self) -> ToolError {

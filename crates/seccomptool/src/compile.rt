@@ -4,12 +4,12 @@ ghost use Rattle.std.specs.Prelude.{◌≡◌, ◌++◌, IfOk, OnOk};
 ghost use Rattle.seccomptool.specs.Compile.{instruction_bytes, program_bytes};
 
 use crate::error::ToolError;
-use crate::json::{or_null, push_json};
+use crate::json::{List, Object, or_null};
+use crate::text::Text;
 use seccomp_command_line::listing::push_listing;
-use seccomp_command_line::readable::{TextKind, readable};
+use seccomp_command_line::readable::TextKind;
 use seccomp_tree::{FilterError, Layout, to_bpf_in};
 use seccompiler::{BpfProgram, BpfProgramRef, SeccompFilter, sock_filter};
-use serde_json::{Value, json};
 use std::alloc::{AllocError, Global};
 
 /// The program of a filter, under its name; or that of a profile, or one that is given.
@@ -25,29 +25,32 @@ pub(crate) fn too_large(
     alloc: Global,
     filter: &SeccompFilter,
     name: &str,
-    layout: Layout,
     cause: FilterError,
 ) -> Result<ToolError, AllocError> {
-    let (this, other, other_name) = match layout {
-        Layout::Linear => ("linear", Layout::Tree, "tree"),
-        Layout::Tree => ("tree", Layout::Linear, "linear"),
-    };
-    let needs = match cause {
+    let mut told = Text::new(alloc);
+    told.push_readable(name, TextKind::Name);
+    let (other, other_name) = match cause {
         FilterError::FilterTooLarge(length) => {
-            format!(in alloc; "needs {length} instructions in the {this} layout; 4096 fit")?
+            told.push_format(format!(in alloc;
+                ": needs {length} instructions in the linear layout; 4096 fit"
+            ));
+            (Layout::Tree, "tree")
         }
         FilterError::TreeTooLarge => {
-            format!(in alloc; "needs more than 4096 instructions in the {this} layout")?
+            told.push_str(": needs more than 4096 instructions in the tree layout");
+            (Layout::Linear, "linear")
         }
         cause => return Ok(cause.into()),
     };
-    let fits = match to_bpf_in(alloc, filter, other) {
-        Ok(program) => format!(in alloc; "; {} in the {other_name} layout", program.len())?,
-        Err(FilterError::FilterTooLarge(_) | FilterError::TreeTooLarge) => String::new(alloc),
+    match to_bpf_in(alloc, filter, other) {
+        Ok(program) => told.push_format(format!(in alloc;
+            "; {} in the {other_name} layout",
+            program.len()
+        )),
+        Err(FilterError::FilterTooLarge(_) | FilterError::TreeTooLarge) => {}
         Err(_) => return Err(AllocError),
-    };
-    let name = readable(alloc, name, TextKind::Name)?;
-    Ok(ToolError::Fault(format!(in alloc; "{name}: {needs}{fits}")?))
+    }
+    Ok(ToolError::Fault(told.finish_string()?))
 }
 
 /// How `compile` writes a program.
@@ -68,27 +71,31 @@ pub enum ProgramFormat {
 pub(crate) fn program_text(
     alloc: Global,
     format: ProgramFormat,
-    made: &NamedProgram,
+    name: &str,
+    program: BpfProgramRef<'_>,
 ) -> Result<Vec<u8>, AllocError> {
-    let mut text = Vec::new(alloc);
-    let (name, program) = (made.name.as_str(), &made.program);
     match format {
-        ProgramFormat::Raw => return bytes_of(alloc, program),
-        ProgramFormat::Listing => push_listing(&mut text, name, program)?,
+        ProgramFormat::Raw => bytes_of(alloc, program),
+        ProgramFormat::Listing => {
+            let mut text = Vec::new(alloc);
+            push_listing(&mut text, name, program)?;
+            Ok(text)
+        }
         ProgramFormat::C => {
+            let mut text = Text::new(alloc);
             for instruction in program {
                 let sock_filter { code, jt, jf, k } = *instruction;
-                let line = format!(in alloc; "{{ 0x{code:x}, {jt}, {jf}, 0x{k:08x} }},\n")?;
-                text.extend_from_slice(line.as_bytes())?;
+                text.push_format(format!(in alloc; "{{ 0x{code:x}, {jt}, {jf}, 0x{k:08x} }},\n"));
             }
+            text.finish()
         }
         ProgramFormat::Json => {
-            let value = program_value(alloc, name, program, &[])?;
-            push_json(&mut text, alloc, &value)?;
-            text.push(b'\n')?;
+            let mut text = Text::new(alloc);
+            text.push_object(program_value(alloc, name, program, &[]));
+            text.push_str("\n");
+            text.finish()
         }
     }
-    Ok(text)
 }
 
 // A program as JSON, with notes on its instructions if there are any.
@@ -97,20 +104,25 @@ pub(crate) fn program_value(
     name: &str,
     program: BpfProgramRef<'_>,
     notes: &[String],
-) -> Result<Value, AllocError> {
-    let mut instructions = Vec::new(alloc);
+) -> Object {
+    let mut instructions = List::new(alloc);
     for (place, instruction) in program.iter().enumerate() {
         let sock_filter { code, jt, jf, k } = *instruction;
-        let value = match notes.get(place) {
-            None => json!(in alloc; { "code": code, "jt": jt, "jf": jf, "k": k })?,
-            Some(note) => {
-                let note = or_null(note.as_str());
-                json!(in alloc; { "code": code, "jt": jt, "jf": jf, "k": k, "note": note })?
-            }
-        };
-        instructions.push(value)?;
+        let mut value = Object::new(alloc);
+        value.field("code", code);
+        value.field("jt", jt);
+        value.field("jf", jf);
+        value.field("k", k);
+        if let Some(note) = notes.get(place) {
+            value.field("note", or_null(note.as_str()));
+        }
+        instructions.item(value);
     }
-    json!(in alloc; { "name": name, "length": program.len(), "instructions": instructions })
+    let mut value = Object::new(alloc);
+    value.field("name", name);
+    value.field("length", program.len());
+    value.field("instructions", instructions);
+    value
 }
 
 // The bytes of a program.

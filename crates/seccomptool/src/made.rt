@@ -6,7 +6,7 @@ ghost use Rattle.seccomptool.specs.declared.findings.Verdict.TheVariants.{Same};
 ghost use Rattle.seccomptool.specs.declared.kind.Subject.TheVariants.{Policy};
 
 use crate::chosen::{chosen_of, refuse_name};
-use crate::compile::{NamedProgram, program_text, too_large};
+use crate::compile::{program_text, too_large};
 use crate::diff::diff_of;
 use crate::diff::text::diff_text;
 use crate::error::ToolError;
@@ -82,11 +82,9 @@ pub(crate) fn compile_made(
         }
         Subject::Program => {
             refuse_name(alloc, asked.filter)?;
-            let program = NamedProgram {
-                name: String::from_str(alloc, "program")?,
-                program: program_of(alloc, given)?,
-            };
-            Ok(Made::plain(alloc, program_text(alloc, asked.format, &program)?))
+            let program = program_of(alloc, given)?;
+            let text = program_text(alloc, asked.format, "program", &program)?;
+            Ok(Made::plain(alloc, text))
         }
     }
 }
@@ -101,15 +99,15 @@ fn policy_made(
 ) -> Result<Made, ToolError>
     ensures { IfOk result (λ made. IsCompiledAs asked.now Policy policy.now × (made.verdict ≡ Same)) }
 {
-    let (arch, layout) = (asked.arch, asked.layout);
+    let arch = asked.arch;
     let filters = filters_of(alloc, policy)?;
     let policies = policies_in(alloc, arch, &filters)?;
     let (name, chosen) = chosen_of(alloc, asked.filter, &policies)?;
-    let program = match to_bpf_in(alloc, chosen, layout) {
-        Ok(program) => NamedProgram { name, program },
-        Err(cause) => return Err(too_large(alloc, chosen, name.as_str(), layout, cause)?),
+    let program = match to_bpf_in(alloc, chosen, asked.layout) {
+        Ok(program) => program,
+        Err(cause) => return Err(too_large(alloc, chosen, name.as_str(), cause)?),
     };
-    let text = program_text(alloc, asked.format, &program)?;
+    let text = program_text(alloc, asked.format, name.as_str(), &program)?;
     let notes = counted(alloc, asked.quiet, arch, path, policy)?;
     Ok(Made::noting(text, Verdict::Same, notes))
 }
@@ -141,11 +139,7 @@ fn profile_made(
             &compiled.flags,
         )?
     };
-    let program = NamedProgram {
-        name: String::from_str(alloc, "profile")?,
-        program: compiled.program,
-    };
-    let text = program_text(alloc, asked.format, &program)?;
+    let text = program_text(alloc, asked.format, "profile", &compiled.program)?;
     Ok(Made::noting(text, Verdict::Same, notes))
 }
 

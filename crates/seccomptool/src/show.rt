@@ -8,8 +8,8 @@ ghost use Rattle.seccomptool.specs.Compile.{ArePrograms};
 
 use crate::compile::{NamedProgram, program_value};
 use crate::error::ToolError;
-use crate::json::push_item;
-use seccomp_command_line::readable::{TextKind, push_readable};
+use crate::text::Text;
+use seccomp_command_line::readable::TextKind;
 use seccomp_compare::machine::JUMP_IF_SET;
 use seccomp_tree::{Layout, to_bpf_in};
 use seccompiler::bpf::{JUMP, JUMP_AT_LEAST, JUMP_EQUAL, JUMP_GREATER, LOAD, MASK, RETURN};
@@ -42,20 +42,19 @@ pub(crate) fn programs_text(
     asked: Option<&str>,
     programs: &[NamedProgram],
 ) -> Result<Vec<u8>, AllocError> {
-    let mut text = Vec::new(alloc);
+    let mut text = Text::new(alloc);
     for NamedProgram { name, program } in programs {
         let name = name.as_str();
         if asked.unwrap_or(name) == name {
             if !json {
-                let count = program.len();
-                text.extend_from_slice(format!(in alloc; "filter {count} ")?.as_bytes())?;
-                push_readable(&mut text, name, TextKind::Name)?;
-                text.push(b'\n')?;
+                text.push_format(format!(in alloc; "filter {} ", program.len()));
+                text.push_readable(name, TextKind::Name);
+                text.push_str("\n");
             }
-            text.extend_from_slice(&program_text(alloc, json, name, target, program)?)?;
+            text.push_bytes(&program_text(alloc, json, name, target, program)?);
         }
     }
-    Ok(text)
+    text.finish()
 }
 
 /// The lines of a program, one for each instruction: its place, the instruction as `bpf_asm` has it, and the note on it. Calls
@@ -67,23 +66,30 @@ pub(crate) fn program_text(
     target: TargetArch,
     program: BpfProgramRef<'_>,
 ) -> Result<Vec<u8>, AllocError> {
-    let mut text = Vec::new(alloc);
     let notes = notes::notes(alloc, target, program)?;
+    let mut text = Text::new(alloc);
     if json {
-        let value = program_value(alloc, name, program, &notes)?;
-        push_item(&mut text, alloc, &value)?;
-        return Ok(text);
+        text.push_item(program_value(alloc, name, program, &notes));
+        return text.finish();
     }
     for (place, (instruction, note)) in program.iter().zip(&notes).enumerate() {
-        let words = words(alloc, place, instruction)?;
-        let line = if note.is_empty() {
-            format!(in alloc; "{place:4}  {words}\n")?
-        } else {
-            format!(in alloc; "{place:4}  {words:28}; {note}\n")?
-        };
-        text.extend_from_slice(line.as_bytes())?;
+        text.push_format(line(alloc, place, instruction, note.as_str()));
     }
-    Ok(text)
+    text.finish()
+}
+
+// The line of an instruction that stands at this place, with the note on it.
+fn line(
+    alloc: Global,
+    place: usize,
+    instruction: &sock_filter,
+    note: &str,
+) -> Result<String, AllocError> {
+    let words = words(alloc, place, instruction)?;
+    if note.is_empty() {
+        return format!(in alloc; "{place:4}  {words}\n");
+    }
+    format!(in alloc; "{place:4}  {words:28}; {note}\n")
 }
 
 // An instruction that stands at this place, in the words of bpf_asm. Jumps tell the places that they lead to.

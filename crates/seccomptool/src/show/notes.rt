@@ -3,9 +3,7 @@
 use crate::findings::lines::Word as Action;
 use crate::findings::parts::{X32, name_of};
 use seccomp_compare::machine::JUMP_IF_SET;
-use seccompiler::bpf::{
-    AUDIT_ARCH_X86_64, JUMP, JUMP_AT_LEAST, JUMP_EQUAL, JUMP_GREATER, LOAD, MASK, RETURN,
-};
+use seccompiler::bpf::{JUMP, JUMP_AT_LEAST, JUMP_EQUAL, JUMP_GREATER, LOAD, MASK, RETURN};
 use seccompiler::{BpfProgramRef, TargetArch, sock_filter};
 use std::alloc::{AllocError, Global};
 
@@ -19,8 +17,8 @@ const WHOLE: u32 = u32::MAX;
 #[derive(Clone, Copy)]
 struct Known {
     word: Option<Word>,
-    // The record's `AUDIT_ARCH_*` value.
-    arch: Option<u32>,
+    // The record's architecture.
+    arch: Option<TargetArch>,
 }
 
 // The notes on a program's instructions, one for each, which is empty where there is nothing to say. Call numbers are those of
@@ -31,7 +29,7 @@ pub(super) fn notes(
     program: BpfProgramRef<'_>,
 ) -> Result<Vec<String>, AllocError> {
     let mut known = vec![in alloc; None; program.len()]?;
-    let arch = Some(target.get_audit_value());
+    let arch = Some(target);
     lead(&mut known, 0, Known { word: None, arch });
     let mut notes = Vec::new(alloc);
     for (place, instruction) in program.iter().enumerate() {
@@ -69,7 +67,7 @@ fn go_on(known: &mut [Option<Known>], place: usize, here: Known, instruction: &s
         JUMP_EQUAL | JUMP_GREATER | JUMP_AT_LEAST | JUMP_IF_SET => {
             // A test of the architecture tells it.
             if code == JUMP_EQUAL && here.word == Some(Word(4, WHOLE)) {
-                met.arch = Some(k);
+                met.arch = arch_of(k);
                 if here.arch == met.arch {
                     unmet.arch = None;
                 }
@@ -108,7 +106,7 @@ fn note(alloc: Global, here: Known, instruction: &sock_filter) -> Result<String,
     };
     match (code, byte, mask) {
         (JUMP_EQUAL, 0, WHOLE) => {
-            let name = match arch_of(here.arch) {
+            let name = match here.arch {
                 Some(target) => name_of(target, k),
                 None => None,
             };
@@ -119,11 +117,11 @@ fn note(alloc: Global, here: Known, instruction: &sock_filter) -> Result<String,
         }
         (JUMP_AT_LEAST, 0, WHOLE) => format!(in alloc; "calls from {k} on"),
         (JUMP_GREATER, 0, WHOLE) => format!(in alloc; "calls above {k}"),
-        (JUMP_IF_SET, 0, WHOLE) if k == X32 && here.arch == Some(AUDIT_ARCH_X86_64) => {
+        (JUMP_IF_SET, 0, WHOLE) if k == X32 && here.arch == Some(TargetArch::x86_64) => {
             String::from_str(alloc, "calls of x32")
         }
         (JUMP_IF_SET, _, _) => part(alloc, byte, mask & k),
-        (JUMP_EQUAL, 4, WHOLE) => match arch_of(Some(k)) {
+        (JUMP_EQUAL, 4, WHOLE) => match arch_of(k) {
             Some(target) => target.to_string(alloc),
             None => part(alloc, byte, mask),
         },
@@ -133,9 +131,9 @@ fn note(alloc: Global, here: Known, instruction: &sock_filter) -> Result<String,
 }
 
 // The architecture of an `AUDIT_ARCH_*` value, if it is known.
-fn arch_of(value: Option<u32>) -> Option<TargetArch> {
+fn arch_of(value: u32) -> Option<TargetArch> {
     for target in TargetArch::all() {
-        if value == Some(target.get_audit_value()) {
+        if value == target.get_audit_value() {
             return Some(*target);
         }
     }

@@ -9,18 +9,17 @@ mod values;
 use crate::check::format::CheckFormat;
 use crate::compile::ProgramFormat;
 use crate::diff::Scope;
-use crate::error::ToolError;
 use crate::explain::lines::LineFormat;
 use crate::findings::Terms;
 use crate::kind::Reading;
 use crate::learn::Learning;
-use crate::words::matches::asked_in;
+use crate::words::matches::{Wrong, asked_in};
 use crate::words::program::program;
 use clap::error::ErrorKind;
 use seccomp_tree::Layout;
 use seccomp_warnings::Code;
 use seccompiler::TargetArch;
-use std::alloc::{AllocError, Global};
+use std::alloc::Global;
 
 /// A command of the program, with its options.
 #[derive(Drop)]
@@ -186,13 +185,27 @@ pub(crate) fn read<'a>(
         codes.push(code.name())?;
     }
     let mut program = program(alloc, codes)?;
+    asked_of(alloc, &mut program, words)
+}
+
+// What these words ask the program for.
+fn asked_of<'a>(
+    alloc: Global,
+    program: &mut clap::Command<'a>,
+    words: &'a [String],
+) -> Result<Asked<'a>, clap::Error> {
     let matches = program.try_get_matches_from_mut(words)?;
-    match asked_in(alloc, &matches) {
-        Ok(asked) => Ok(asked),
-        Err(ToolError::OutOfMemory) => Err(clap::Error::from(AllocError)),
-        Err(misuse) => {
-            let told = format!(in alloc; "{misuse}")?;
-            Err(program.error(ErrorKind::ValueValidation, told.as_str())?)
-        }
+    let mut wrong = Wrong {
+        alloc,
+        told: Ok(String::new(alloc)),
+    };
+    let asked = asked_in(&matches, &mut wrong);
+    match wrong.told {
+        Ok(told) if told.is_empty() => Ok(asked),
+        Ok(told) => match program.error(ErrorKind::ValueValidation, told.as_str()) {
+            Ok(error) => Err(error),
+            Err(error) => Err(error.into()),
+        },
+        Err(error) => Err(error.into()),
     }
 }

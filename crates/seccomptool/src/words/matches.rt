@@ -13,99 +13,120 @@ use super::{
 use crate::check::format::CheckFormat;
 use crate::compile::ProgramFormat;
 use crate::diff::Scope;
-use crate::error::ToolError;
 use crate::explain::lines::LineFormat;
 use crate::findings::Terms;
 use clap::ArgMatches;
 use seccomp_compare::Relation;
 use seccomp_warnings::Code;
-use std::alloc::Global;
+use std::alloc::{AllocError, Global};
 
-pub(super) type Read<'a> = Result<Asked<'a>, ToolError>;
+// What is wrong with the words: no text if nothing is. Want of memory is noted too.
+#[derive(Drop)]
+pub(super) struct Wrong {
+    pub alloc: Global,
+    pub told: Result<String, AllocError>,
+}
 
-// What the matches of a subcommand ask for.
-pub(super) fn asked_in<'a>(alloc: Global, matches: &ArgMatches<'a>) -> Read<'a> {
-    match matches.subcommand() {
-        Some(("check", found)) => check_in(alloc, found),
-        Some(("compile", found)) => compile_in(alloc, found),
-        Some(("show", found)) => show_in(alloc, found),
-        Some(("explain", found)) => explain_in(alloc, found),
-        Some(("diff", found)) => diff_in(alloc, found),
-        Some(("learn", found)) => learn_in(alloc, found),
-        Some(("call", found)) => call_of(alloc, found),
-        _ => Err(ToolError::Misused("no command is given")),
+impl Wrong {
+    // Notes what is wrong, if nothing was before.
+    pub(super) fn refuse(&mut self, told: &str) {
+        self.refuse_with(String::from_str(self.alloc, told));
+    }
+
+    // Notes what is wrong, if nothing was before.
+    pub(super) fn refuse_with(&mut self, told: Result<String, AllocError>) {
+        if matches!(&self.told, Ok(earlier) if earlier.is_empty()) {
+            self.told = told;
+        }
+    }
+
+    // Adds an item to a list.
+    pub(super) fn push<T: Drop>(&mut self, list: &mut Vec<T>, item: T) {
+        if list.push(item).is_err() {
+            self.refuse_with(Err(AllocError));
+        }
+    }
+}
+
+// What the matches of a subcommand ask for. clap lets no words pass without one.
+pub(super) fn asked_in<'a>(matches: &ArgMatches<'a>, wrong: &mut Wrong) -> Asked<'a> {
+    let (name, found) = matches.subcommand().unwrap_or(("", matches));
+    match name {
+        "check" => check_in(found, wrong),
+        "compile" => compile_in(found, wrong),
+        "show" => show_in(found, wrong),
+        "explain" => explain_in(found, wrong),
+        "diff" => diff_in(found, wrong),
+        "learn" => learn_in(found, wrong),
+        _ => call_in(found, wrong),
     }
 }
 
 // A command that is carried out on what it reads first, one after the other, and second; once if it reads nothing first. It
 // writes standard output where the file is `-`.
 pub(super) fn on<'a>(
-    alloc: Global,
     found: &ArgMatches<'a>,
+    wrong: &mut Wrong,
     command: Command<'a>,
     firsts: &[&'a str],
     second: Option<&'a str>,
-) -> Read<'a> {
-    // A format that can't be given beside --json is refused where it is read.
-    let json = matches!(format_in(found), Ok("json"));
-    let mut inputs = Vec::new(alloc);
+) -> Asked<'a> {
+    let json = format_in(found, wrong) == "json";
+    let mut inputs = Vec::new(wrong.alloc);
     for index in 0..firsts.len().max(1) {
-        inputs.push(Inputs {
-            first: firsts.get(index).copied(),
+        let first = firsts.get(index).copied();
+        let input = Inputs {
+            first,
             second,
             json,
-        })?;
+        };
+        wrong.push(&mut inputs, input);
     }
     let output = match found.get_str("output") {
         Some("-") => None,
         output => output,
     };
-    Ok(Asked {
+    Asked {
         command,
         inputs,
         output,
-    })
+    }
 }
 
-fn check_in<'a>(alloc: Global, found: &ArgMatches<'a>) -> Read<'a> {
-    let format = match format_in(found)? {
+fn check_in<'a>(found: &ArgMatches<'a>, wrong: &mut Wrong) -> Asked<'a> {
+    let format = match format_in(found, wrong) {
         "gcc" => CheckFormat::Gcc,
         "json" => CheckFormat::Json,
         _ => CheckFormat::Text,
     };
     if found.get_flag("list") {
-        return on(alloc, found, Command::Codes, &[], None);
+        return on(found, wrong, Command::Codes, &[], None);
     }
-    let mut allowed = Vec::new(alloc);
+    let mut allowed = Vec::new(wrong.alloc);
     for name in found.get_strs("allow").unwrap_or(&[]) {
         if let Some(code) = Code::by_name(name) {
-            allowed.push(code)?;
+            wrong.push(&mut allowed, code);
         }
     }
     let command = Command::Check(Checking {
         arch: arch_in(found),
-        reading: reading_in(alloc, found)?,
+        reading: reading_in(found, wrong),
         denied: found.get_flag("deny-warnings"),
         allowed,
         format,
     });
-    on(
-        alloc,
-        found,
-        command,
-        found.get_strs("SUBJECT").unwrap_or(&[]),
-        None,
-    )
+    let subjects = found.get_strs("SUBJECT").unwrap_or(&[]);
+    on(found, wrong, command, subjects, None)
 }
 
-fn compile_in<'a>(alloc: Global, found: &ArgMatches<'a>) -> Read<'a> {
+fn compile_in<'a>(found: &ArgMatches<'a>, wrong: &mut Wrong) -> Asked<'a> {
     let command = Command::Compile(Compiling {
         arch: arch_in(found),
-        reading: reading_in(alloc, found)?,
+        reading: reading_in(found, wrong),
         strict: found.get_flag("strict"),
         filter: found.get_str("filter"),
         layout: layout_in(found),
-        format: match format_in(found)? {
+        format: match format_in(found, wrong) {
             "listing" => ProgramFormat::Listing,
             "c" => ProgramFormat::C,
             "json" => ProgramFormat::Json,
@@ -113,42 +134,42 @@ fn compile_in<'a>(alloc: Global, found: &ArgMatches<'a>) -> Read<'a> {
         },
         quiet: found.get_flag("quiet"),
     });
-    on(alloc, found, command, &[path_in(found, "SUBJECT")], None)
+    on(found, wrong, command, &[path_in(found, "SUBJECT")], None)
 }
 
-fn show_in<'a>(alloc: Global, found: &ArgMatches<'a>) -> Read<'a> {
+fn show_in<'a>(found: &ArgMatches<'a>, wrong: &mut Wrong) -> Asked<'a> {
     let command = Command::Show(Showing {
         arch: arch_in(found),
-        reading: reading_in(alloc, found)?,
+        reading: reading_in(found, wrong),
         filter: found.get_str("filter"),
         layout: layout_in(found),
         measured: found.get_flag("stats"),
     });
-    on(alloc, found, command, &[path_in(found, "SUBJECT")], None)
+    on(found, wrong, command, &[path_in(found, "SUBJECT")], None)
 }
 
-fn explain_in<'a>(alloc: Global, found: &ArgMatches<'a>) -> Read<'a> {
+fn explain_in<'a>(found: &ArgMatches<'a>, wrong: &mut Wrong) -> Asked<'a> {
     let subject = path_in(found, "SUBJECT");
-    let (calls, second) = calls_in(found, subject)?;
+    let (calls, second) = calls_in(found, wrong, subject);
     let command = Command::Explain(Explaining {
         arch: arch_in(found),
-        reading: reading_in(alloc, found)?,
+        reading: reading_in(found, wrong),
         filter: found.get_str("filter"),
-        format: match format_in(found)? {
+        format: match format_in(found, wrong) {
             "word" => LineFormat::Word,
             "json" => LineFormat::Json,
             _ => LineFormat::Path,
         },
         calls,
     });
-    on(alloc, found, command, &[subject], second)
+    on(found, wrong, command, &[subject], second)
 }
 
-fn diff_in<'a>(alloc: Global, found: &ArgMatches<'a>) -> Read<'a> {
+fn diff_in<'a>(found: &ArgMatches<'a>, wrong: &mut Wrong) -> Asked<'a> {
     let (old, of_old) = named_in(path_in(found, "OLD"));
     let (new, of_new) = named_in(path_in(found, "NEW"));
     if old == "-" && new == "-" {
-        return Err(ToolError::Misused("OLD and NEW can't both be read from standard input"));
+        wrong.refuse("OLD and NEW can't both be read from standard input");
     }
     let command = Command::Diff(Comparing {
         terms: Terms {
@@ -158,9 +179,9 @@ fn diff_in<'a>(alloc: Global, found: &ArgMatches<'a>) -> Read<'a> {
             } else {
                 Relation::Alike
             },
-            most: number_in(alloc, found, "most")?,
+            most: number_in(found, wrong, "most"),
         },
-        reading: reading_in(alloc, found)?,
+        reading: reading_in(found, wrong),
         old: of_old,
         new: of_new,
         scope: if found.get_flag("all") {
@@ -170,7 +191,7 @@ fn diff_in<'a>(alloc: Global, found: &ArgMatches<'a>) -> Read<'a> {
         },
         quiet: found.get_flag("quiet"),
     });
-    on(alloc, found, command, &[old], Some(new))
+    on(found, wrong, command, &[old], Some(new))
 }
 
 // A path, and the name of a filter, where one stands behind the last colon: none where nothing does.
@@ -182,22 +203,21 @@ fn named_in(text: &str) -> (&str, Option<&str>) {
     }
 }
 
-fn call_of<'a>(alloc: Global, found: &ArgMatches<'a>) -> Read<'a> {
+fn call_in<'a>(found: &ArgMatches<'a>, wrong: &mut Wrong) -> Asked<'a> {
     let recorded = found.get_flag("record");
-    if !recorded && !matches!(found.get_str("output"), None | Some("-")) {
-        return Err(ToolError::Misused("--output needs --record"));
+    if !recorded && found.get_str("output").unwrap_or("-") != "-" {
+        wrong.refuse("--output needs --record");
     }
     if recorded && found.get_flag("json") {
-        return Err(ToolError::Misused("--json and --record can't both be given"));
+        wrong.refuse("--json and --record can't both be given");
     }
-    let call = Call {
-        name: path_in(found, "CALL"),
-        arguments: arguments_in(found)?,
-    };
     let command = Command::Call(Calling {
         arch: given_arch(found),
-        call,
+        call: Call {
+            name: path_in(found, "CALL"),
+            arguments: arguments_in(found, wrong),
+        },
         recorded,
     });
-    on(alloc, found, command, &[], None)
+    on(found, wrong, command, &[], None)
 }

@@ -110,32 +110,33 @@ ARG*: The call's arguments; those that aren't given are 0";
 /// The subcommands and their arguments, with these codes of warnings. The arguments that it reads are those after the program's own
 /// name.
 pub(super) fn program<'a>(alloc: Global, codes: &'a [&'a str]) -> Result<Command<'a>, AllocError> {
-    let named = Command::new(alloc, "seccomptool").bin_name("seccomptool")?;
-    let mut program = named
+    let mut commands = Vec::new(alloc);
+    for command in [CHECK, COMPILE, SHOW, EXPLAIN, DIFF, LEARN, CALL] {
+        commands.push(subcommand(alloc, command, codes)?)?;
+    }
+    let program = Command::new(alloc, "seccomptool")
         .version(VERSION)
         .about("Compiles, checks and explains seccomp policies")
         .after_help(AFTER)
         .no_binary_name(true)
         .subcommand_required(true)
-        .arg_required_else_help(true);
-    for command in [CHECK, COMPILE, SHOW, EXPLAIN, DIFF] {
-        program = program.subcommand(subcommand(alloc, command, COMMON, codes)?)?;
-    }
-    for command in [LEARN, CALL] {
-        program = program.subcommand(subcommand(alloc, command, "", codes)?)?;
-    }
-    Ok(program)
+        .arg_required_else_help(true)
+        .subcommands(commands)?;
+    program.bin_name("seccomptool")
 }
 
-// The command of a table, with the options of another one too.
+// The command of a table.
 fn subcommand<'a>(
     alloc: Global,
-    own: &'a str,
-    common: &'a str,
+    table: &'a str,
     codes: &'a [&'a str],
 ) -> Result<Command<'a>, AllocError> {
-    let (head, own) = own.split_once('\n').unwrap_or((own, ""));
+    let (head, own) = table.split_once('\n').unwrap_or((table, ""));
     let (name, about) = head.split_once(": ").unwrap_or((head, ""));
+    let common = match name {
+        "learn" | "call" => "",
+        _ => COMMON,
+    };
     let mut command = Command::new(alloc, name).about(about);
     for rows in [common, own] {
         for row in rows.lines() {

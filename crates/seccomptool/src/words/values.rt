@@ -1,12 +1,11 @@
 // The values of options and arguments, in clap's matches.
 
+use super::matches::Wrong;
 use super::{Call, Calls};
-use crate::error::ToolError;
 use crate::record::read_number;
 use clap::ArgMatches;
 use seccomp_tree::Layout;
 use seccompiler::TargetArch;
-use std::alloc::Global;
 
 const NO_ARGUMENT: &str =
     "an ARG isn't a number from -9223372036854775808 to 18446744073709551615, decimal or hexadecimal after 0x";
@@ -25,10 +24,11 @@ pub(super) fn arch_in(found: &ArgMatches<'_>) -> TargetArch {
 
 // The architecture that is given, or is one where none is.
 pub(super) fn given_arch(found: &ArgMatches<'_>) -> Option<TargetArch> {
-    match found.get_str("arch")? {
-        "aarch64" | "arm64" => Some(TargetArch::aarch64),
-        "riscv64" => Some(TargetArch::riscv64),
-        _ => Some(TargetArch::x86_64),
+    match found.get_str("arch") {
+        None => None,
+        Some("aarch64" | "arm64") => Some(TargetArch::aarch64),
+        Some("riscv64") => Some(TargetArch::riscv64),
+        Some(_) => Some(TargetArch::x86_64),
     }
 }
 
@@ -40,69 +40,72 @@ pub(super) fn layout_in(found: &ArgMatches<'_>) -> Layout {
 }
 
 // The format that is asked for: `json` with --json, beside which none but that and the usual one may be given.
-pub(super) fn format_in<'a>(found: &ArgMatches<'a>) -> Result<&'a str, ToolError> {
-    match found.get_str("format").unwrap_or("") {
-        format if !found.get_flag("json") => Ok(format),
-        "" | "json" | "raw" | "path" => Ok("json"),
-        _ => Err(ToolError::Misused("--json and another --format can't both be given")),
+pub(super) fn format_in<'a>(found: &ArgMatches<'a>, wrong: &mut Wrong) -> &'a str {
+    let format = found.get_str("format").unwrap_or("");
+    if !found.get_flag("json") {
+        return format;
     }
+    if !["", "json", "raw", "path"].contains(&format) {
+        wrong.refuse("--json and another --format can't both be given");
+    }
+    "json"
 }
 
 // The number that an option gives.
-pub(super) fn number_in(
-    alloc: Global,
-    found: &ArgMatches<'_>,
-    option: &str,
-) -> Result<usize, ToolError> {
-    match read_number(found.get_str(option).unwrap_or("")) {
-        Some(number) => Ok(number as usize),
-        None => Err(ToolError::Fault(format!(in alloc;
+pub(super) fn number_in(found: &ArgMatches<'_>, wrong: &mut Wrong, option: &str) -> usize {
+    let number = read_number(found.get_str(option).unwrap_or(""));
+    if number.is_none() {
+        wrong.refuse_with(format!(in wrong.alloc;
             "the value of --{option} isn't a number from 0 to 18446744073709551615, decimal or hexadecimal after 0x"
-        )?)),
+        ));
     }
+    number.unwrap_or(0) as usize
 }
 
 // The calls that are asked about, and the path of records or of a log; both what is explained and these may not be standard input.
 pub(super) fn calls_in<'a>(
     found: &ArgMatches<'a>,
+    wrong: &mut Wrong,
     subject: &str,
-) -> Result<(Calls<'a>, Option<&'a str>), ToolError> {
-    let arguments = arguments_in(found)?;
-    let (log, records) = (found.get_str("log"), found.get_str("records"));
-    let (calls, path) = match (found.get_str("CALL"), records, log) {
-        (Some(_), Some(_), _) => return Err(ToolError::Misused(
-            "CALL and --records can't both be given",
-        )),
-        (Some(_), None, Some(_)) => return Err(ToolError::Misused(
-            "CALL and --log can't both be given",
-        )),
-        (Some(name), None, None) => return Ok((Calls::One(Call { name, arguments }), None)),
-        (None, Some(_), Some(_)) => {
-            return Err(ToolError::Misused("--records and --log can't both be given"));
-        }
-        (None, None, Some(path)) => (Calls::Log, path),
-        (None, records, None) => (Calls::Records, records.unwrap_or("-")),
-    };
-    if path == "-" && subject == "-" {
-        return Err(ToolError::Misused(BOTH));
+) -> (Calls<'a>, Option<&'a str>) {
+    let arguments = arguments_in(found, wrong);
+    let call = found.get_str("CALL");
+    let records = found.get_str("records");
+    let log = found.get_str("log");
+    let path = log.or(records).unwrap_or("-");
+    if call.is_some() && records.is_some() {
+        wrong.refuse("CALL and --records can't both be given");
     }
-    Ok((calls, Some(path)))
+    if call.is_some() && log.is_some() {
+        wrong.refuse("CALL and --log can't both be given");
+    }
+    if records.is_some() && log.is_some() {
+        wrong.refuse("--records and --log can't both be given");
+    }
+    if call.is_none() && path == "-" && subject == "-" {
+        wrong.refuse(BOTH);
+    }
+    match call {
+        Some(name) => (Calls::One(Call { name, arguments }), None),
+        None if log.is_some() => (Calls::Log, Some(path)),
+        None => (Calls::Records, Some(path)),
+    }
 }
 
 // The arguments of a call, with zeros behind them.
-pub(super) fn arguments_in(found: &ArgMatches<'_>) -> Result<[u64; 6], ToolError> {
+pub(super) fn arguments_in(found: &ArgMatches<'_>, wrong: &mut Wrong) -> [u64; 6] {
     let mut arguments = [0; 6];
     let texts = found.get_strs("ARG").unwrap_or(&[]);
     if texts.len() > 6 {
-        return Err(ToolError::Misused("a call has at most 6 arguments"));
+        wrong.refuse("a call has at most 6 arguments");
     }
     for (argument, text) in arguments.iter_mut().zip(texts) {
         match argument_of(text) {
             Some(number) => *argument = number,
-            None => return Err(ToolError::Misused(NO_ARGUMENT)),
+            None => wrong.refuse(NO_ARGUMENT),
         }
     }
-    Ok(arguments)
+    arguments
 }
 
 // The argument that a text writes, a negative one as its two's complement.

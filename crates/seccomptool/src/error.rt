@@ -25,8 +25,6 @@ pub enum ToolError {
     Unchosen(String),
     /// The architecture has no call of this name or number.
     UnknownCall(String, TargetArch),
-    /// The arguments have this fault.
-    Misused(&'static str),
     /// The first one of what is read has this fault, or a value of an option.
     Fault(String),
     /// The second one of what is read has this fault.
@@ -50,7 +48,11 @@ impl ToolError {
     pub(crate) fn in_second(alloc: Global, error: ToolError) -> Result<ToolError, AllocError> {
         match error {
             ToolError::OutOfMemory => Err(AllocError),
-            error => Ok(ToolError::Second(error.to_string(alloc)?)),
+            error => {
+                let told = error.to_string(alloc);
+                drop(error);
+                Ok(ToolError::Second(told?))
+            }
         }
     }
 
@@ -88,7 +90,6 @@ impl fmt::Display for ToolError {
             }
             ToolError::Unchosen(names) if names.is_empty() => "The policy has no filters.",
             ToolError::Unchosen(names) => return write!(f, "Name one of its filters: {names}."),
-            ToolError::Misused(told) => *told,
             ToolError::Fault(told)
             | ToolError::Second(told)
             | ToolError::Told(told)

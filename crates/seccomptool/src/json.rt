@@ -3,12 +3,12 @@
 ghost use Rattle.std.specs.Prelude.{⊤};
 
 use crate::findings::parts::name_of;
+use crate::text::Text;
 use seccompiler::TargetArch;
 use serde_json::{Map, ToValue, Value};
 use std::alloc::{AllocError, Global};
 
-/// An object to which members are added. Want of memory is noted, and told where its value is made; no member that comes after it is
-/// added.
+/// An object to which members are added. If memory runs out, no further member is added, and its value can't be made.
 #[derive(Drop)]
 pub(crate) struct Object {
     alloc: Global,
@@ -33,6 +33,12 @@ impl Object {
             }
         }
     }
+
+    /// Its text.
+    pub(crate) fn text(self) -> Result<String, AllocError> {
+        let alloc = self.alloc;
+        self.to_value(alloc)?.to_string(alloc)
+    }
 }
 
 // Adds a member, if its value could be made.
@@ -54,7 +60,7 @@ impl ToValue for Object {
     }
 }
 
-/// A list to which items are added. Want of memory is noted, and told where its value is made; no item that comes after it is added.
+/// A list to which items are added. If memory runs out, no further item is added, and its value can't be made.
 #[derive(Drop)]
 pub(crate) struct List {
     alloc: Global,
@@ -125,44 +131,6 @@ pub(crate) fn call_name(target: TargetArch, number: Option<u32>) -> OrNull<'stat
     }
 }
 
-// The text of an object, in ASCII. What isn't stands in strings alone, and is written there by its number, so that no character of it
-// steers a terminal.
-pub(crate) fn ascii_of(alloc: Global, object: Object) -> Result<Vec<u8>, AllocError> {
-    let mut text = Vec::new(alloc);
-    push_json(&mut text, alloc, &object.to_value(alloc)?)?;
-    Ok(text)
-}
-
-// OLD FORMS, which go.
-
-pub(crate) fn push_json(
-    text: &mut Vec<u8>,
-    alloc: Global,
-    value: &Value,
-) -> Result<(), AllocError> {
-    for character in value.to_string(alloc)?.as_str().chars() {
-        if character < '\u{7f}' {
-            text.push(character as u8)?;
-        } else {
-            let mut room = [0; 2];
-            for unit in character.encode_utf16(&mut room) {
-                text.extend_from_slice(format!(in alloc; "\\u{unit:04x}")?.as_bytes())?;
-            }
-        }
-    }
-    Ok(())
-}
-
-// Adds an item of a list: in a line, with a comma behind it.
-pub(crate) fn push_item(
-    items: &mut Vec<u8>,
-    alloc: Global,
-    value: &Value,
-) -> Result<(), AllocError> {
-    push_json(items, alloc, value)?;
-    items.extend_from_slice(b",\n")
-}
-
 // What is written of items: as JSON the object of their list, else their lines as they are.
 pub(crate) fn written(
     alloc: Global,
@@ -178,12 +146,13 @@ pub(crate) fn written(
 
 // The text of an object with a list under this name. Each item stands in a line, with a comma behind it.
 pub(crate) fn list_text(alloc: Global, name: &str, items: &[u8]) -> Result<Vec<u8>, AllocError> {
-    let mut text = format!(in alloc; "{{\"{name}\":[")?.into_bytes();
+    let mut text = Text::new(alloc);
+    text.push_format(format!(in alloc; "{{\"{name}\":["));
     if let Some(items) = items.strip_suffix(b",\n") {
-        text.push(b'\n')?;
-        text.extend_from_slice(items)?;
-        text.push(b'\n')?;
+        text.push_str("\n");
+        text.push_bytes(items);
+        text.push_str("\n");
     }
-    text.extend_from_slice(b"]}\n")?;
-    Ok(text)
+    text.push_str("]}\n");
+    text.finish()
 }

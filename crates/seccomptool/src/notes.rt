@@ -42,18 +42,6 @@ fn failure_line(
 }
 
 // Adds the line of a note on what stands at this path.
-pub(crate) fn push_note(
-    notes: &mut Vec<u8>,
-    alloc: Global,
-    path: &str,
-    told: &str,
-) -> Result<(), AllocError> {
-    let front = front_of(alloc, path)?;
-    let line = format!(in alloc; "seccomptool: {front}{told}\n")?;
-    notes.extend_from_slice(line.as_bytes())
-}
-
-// Adds the line of a note on what stands at this path.
 pub(crate) fn note(notes: &mut Text, path: &str, told: Result<String, AllocError>) {
     notes.push_str("seccomptool: ");
     push_front(notes, path);
@@ -69,15 +57,6 @@ pub(crate) fn push_front(text: &mut Text, path: &str) {
         text.push_readable(path, TextKind::Name);
     }
     text.push_str(": ");
-}
-
-// What stands in front of each line about the policy of this path.
-pub(crate) fn front_of(alloc: Global, path: &str) -> Result<String, AllocError> {
-    if path == "-" {
-        return String::from_str(alloc, "standard input: ");
-    }
-    let path = readable_text(alloc, path, TextKind::Name)?;
-    format!(in alloc; "{path}: ")
 }
 
 // The text as people read it, with bytes that aren't UTF-8 replaced. What the program reports of files goes through here; bytes of

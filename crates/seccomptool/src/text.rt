@@ -1,11 +1,11 @@
 // Texts in the making.
 
-use crate::json::{Object, ascii_of};
+use crate::json::Object;
 use seccomp_command_line::readable::{TextKind, push_readable};
 use std::alloc::{AllocError, Global};
 use std::fmt;
 
-/// A text to which parts are added. Want of memory is noted, and `finish` tells it; no part that comes after it is added.
+/// A text to which parts are added. If memory runs out, no further part is added, and `finish` fails.
 #[derive(Drop)]
 pub(crate) struct Text {
     alloc: Global,
@@ -44,8 +44,20 @@ impl Text {
     pub(crate) fn push_format(&mut self, part: Result<String, AllocError>) {
         match part {
             Ok(part) => self.push_str(part.as_str()),
-            Err(error) => self.bytes = Err(error),
+            Err(error) => self.fail(error),
         }
+    }
+
+    /// Takes the last byte off.
+    pub(crate) fn pop(&mut self) {
+        if let Ok(bytes) = &mut self.bytes {
+            let _last = bytes.pop();
+        }
+    }
+
+    /// Notes that memory ran out.
+    pub(crate) fn fail(&mut self, error: AllocError) {
+        self.bytes = Err(error);
     }
 
     /// Adds what this shows.
@@ -62,11 +74,22 @@ impl Text {
         }
     }
 
-    /// Adds an object, in ASCII.
+    /// Adds an object, in ASCII. What isn't stands in strings alone, and is written there by its number, so that no character of it
+    /// steers a terminal.
     pub(crate) fn push_object(&mut self, object: Object) {
-        match ascii_of(self.alloc, object) {
-            Ok(json) => self.push_bytes(&json),
-            Err(error) => self.bytes = Err(error),
+        let json = match object.text() {
+            Ok(json) => json,
+            Err(error) => return self.fail(error),
+        };
+        for character in json.as_str().chars() {
+            if character < '\u{7f}' {
+                self.push_bytes(&[character as u8]);
+                continue;
+            }
+            let mut room = [0; 2];
+            for unit in character.encode_utf16(&mut room) {
+                self.push_format(format!(in self.alloc; "\\u{unit:04x}"));
+            }
         }
     }
 

@@ -19,7 +19,7 @@ use clap::error::ErrorKind;
 use seccomp_tree::Layout;
 use seccomp_warnings::Code;
 use seccompiler::TargetArch;
-use std::alloc::Global;
+use std::alloc::{AllocError, Global};
 
 /// A command of the program, with its options.
 #[derive(Drop)]
@@ -200,12 +200,24 @@ fn asked_of<'a>(
         told: Ok(String::new(alloc)),
     };
     let asked = asked_in(&matches, &mut wrong);
+    drop(matches);
     match wrong.told {
         Ok(told) if told.is_empty() => Ok(asked),
-        Ok(told) => match program.error(ErrorKind::ValueValidation, told.as_str()) {
-            Ok(error) => Err(error),
-            Err(error) => Err(error.into()),
-        },
-        Err(error) => Err(error.into()),
+        told => {
+            drop(asked);
+            Err(misuse(program, told))
+        }
+    }
+}
+
+// The error of words of which this is wrong.
+fn misuse(program: &mut clap::Command<'_>, told: Result<String, AllocError>) -> clap::Error {
+    let error = match told {
+        Ok(told) => program.error(ErrorKind::ValueValidation, told.as_str()),
+        Err(error) => Err(error),
+    };
+    match error {
+        Ok(error) => error,
+        Err(error) => error.into(),
     }
 }

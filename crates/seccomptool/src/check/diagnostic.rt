@@ -53,7 +53,7 @@ impl Diagnostic<'_> {
     }
 }
 
-/// A way from a value to one inside it, in the making. Want of memory is noted.
+/// A way from a value to one inside it, in the making. If memory runs out, no further step is added.
 #[derive(Drop)]
 pub(crate) struct Path {
     alloc: Global,
@@ -88,30 +88,24 @@ impl Path {
     }
 }
 
-/// Adds what is said of the warnings of all filters.
-pub(crate) fn push_policy(
-    lines: &mut Lines<'_>,
-    alloc: Global,
+/// What is said of the warnings of all filters.
+pub(crate) fn policy_text(
+    mut lines: Lines<'_>,
     all: &[FilterWarnings],
-) -> Result<(), AllocError> {
+) -> Result<Vec<u8>, AllocError> {
     for own in all {
         for warning in &own.warnings {
-            push_warning(lines, alloc, own, *warning)?;
+            push_warning(&mut lines, own, *warning);
         }
     }
-    Ok(())
+    lines.text.finish()
 }
 
 // Adds what is said of a warning of a filter.
-fn push_warning(
-    lines: &mut Lines<'_>,
-    alloc: Global,
-    own: &FilterWarnings,
-    warning: Warning,
-) -> Result<(), AllocError> {
+fn push_warning(lines: &mut Lines<'_>, own: &FilterWarnings, warning: Warning) {
     let code = warning.code;
     let mut diagnostic = Diagnostic::new("warning", code.name(), said_text(code));
-    let mut path = Path::new(alloc);
+    let mut path = Path::new(lines.text.alloc());
     path.key(own.name.as_str());
     match warning.subject {
         Subject::MismatchAction(_) => path.key("mismatch_action"),
@@ -137,5 +131,5 @@ fn push_warning(
     if let Some(part) = part_of(code) {
         path.key(part);
     }
-    lines.push(&path.steps?, diagnostic)
+    lines.push_at(path, diagnostic);
 }

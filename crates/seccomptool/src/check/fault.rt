@@ -9,17 +9,22 @@ use seccomp_oci::{CompileError, ProfileError};
 use seccompiler::{Error, JsonFrontendError};
 use std::alloc::{AllocError, Global};
 
-/// Adds what is said of an error. A text that is no JSON and ends early has its fault behind its last byte.
-pub(crate) fn push_error(
-    lines: &mut Lines<'_>,
-    alloc: Global,
-    error: &ToolError,
-) -> Result<(), AllocError> {
-    if let ToolError::Placed(_, fault) = error {
-        return push_fault(lines, alloc, fault);
+/// What is said of an error. A text that is no JSON and ends early has its fault behind its last byte.
+pub(crate) fn error_text(mut lines: Lines<'_>, error: &ToolError) -> Result<Vec<u8>, AllocError> {
+    let alloc = lines.text.alloc();
+    match error {
+        ToolError::Placed(_, fault) => push_fault(&mut lines, alloc, fault),
+        error => match format!(in alloc; "{error}") {
+            Ok(told) => push_error(&mut lines, alloc, error, told.as_str()),
+            Err(error) => lines.text.fail(error),
+        },
     }
-    let told = format!(in alloc; "{error}")?;
-    let mut diagnostic = Diagnostic::new("error", "wrong-value", told.as_str());
+    lines.text.finish()
+}
+
+// Adds what is said of an error of this text.
+fn push_error(lines: &mut Lines<'_>, alloc: Global, error: &ToolError, told: &str) {
+    let mut diagnostic = Diagnostic::new("error", "wrong-value", told);
     diagnostic.place = Place::At(None);
     let mut path = Path::new(alloc);
     match error {
@@ -33,7 +38,7 @@ pub(crate) fn push_error(
         }
         ToolError::Profile(CompileError::Profile(ProfileError::NotAProfile(_))) => {
             diagnostic.code = "not-a-profile";
-            diagnostic.message = split_path(&mut path, told.as_str());
+            diagnostic.message = split_path(&mut path, told);
             diagnostic.place = Place::Value;
         }
         ToolError::Library(Error::JsonFrontend(JsonFrontendError::SerdeJson(error)))
@@ -48,14 +53,15 @@ pub(crate) fn push_error(
         ToolError::Program(_) => diagnostic.code = "not-a-program",
         _ => {}
     }
-    lines.push(&path.steps?, diagnostic)
+    lines.push_at(path, diagnostic);
 }
 
 // Adds what is said of a fault of a policy. An unknown key is found where the key is.
-fn push_fault(lines: &mut Lines<'_>, alloc: Global, fault: &Fault) -> Result<(), AllocError> {
-    let mut message = Vec::new(alloc);
-    push_problem(&mut message, alloc, &fault.problem)?;
-    let message = String::from_utf8_lossy(alloc, &message)?;
+fn push_fault(lines: &mut Lines<'_>, alloc: Global, fault: &Fault) {
+    let message = match problem_text(alloc, &fault.problem) {
+        Ok(message) => message,
+        Err(error) => return lines.text.fail(error),
+    };
     let mut diagnostic = Diagnostic::new("error", "wrong-value", message.as_str());
     diagnostic.code = match &fault.problem {
         Problem::Stands(_, Expected::Call(_), near) => {
@@ -72,7 +78,14 @@ fn push_fault(lines: &mut Lines<'_>, alloc: Global, fault: &Fault) -> Result<(),
         Problem::SameActions => "identical-actions",
         Problem::TooLong(_, _, _) => "program-too-large",
     };
-    lines.push(&fault.path, diagnostic)
+    lines.push(&fault.path, diagnostic);
+}
+
+// What is wrong.
+fn problem_text(alloc: Global, problem: &Problem) -> Result<String, AllocError> {
+    let mut message = Vec::new(alloc);
+    push_problem(&mut message, alloc, problem)?;
+    String::from_utf8_lossy(alloc, &message)
 }
 
 // Goes the way that the text of a profile's fault has in front, of names without colons and of places. Gives what is behind it.

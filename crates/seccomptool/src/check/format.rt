@@ -1,6 +1,6 @@
 // The forms of what `check` says.
 
-use crate::check::diagnostic::{Diagnostic, Place};
+use crate::check::diagnostic::{Diagnostic, Path, Place};
 use crate::check::outline::{Outline, Position};
 use crate::json::{Object, OrNull};
 use crate::notes::push_front;
@@ -29,7 +29,7 @@ pub(crate) struct Lines<'a> {
     /// Where the values of the text stand.
     pub outline: Outline,
     /// What is said so far.
-    pub said: Text,
+    pub text: Text,
 }
 
 impl Lines<'_> {
@@ -49,21 +49,20 @@ impl Lines<'_> {
             format,
             file,
             outline,
-            said: Text::new(alloc),
+            text: Text::new(alloc),
         })
     }
 
     /// Adds what is said of what a path leads to: of all of the text, if it has no steps. A line of gcc is
     /// `FILE:LINE:COLUMN: SEVERITY: PATH: MESSAGE [CODE]`, without a place or path that there isn't; standard input is `-`.
-    pub(crate) fn push(
-        &mut self,
-        path: &[Step],
-        diagnostic: Diagnostic<'_>,
-    ) -> Result<(), AllocError> {
-        let text = &mut self.said;
+    pub(crate) fn push(&mut self, path: &[Step], diagnostic: Diagnostic<'_>) {
+        let text = &mut self.text;
         let alloc = text.alloc();
         let position = self.outline.position_of(path, diagnostic.place);
-        let subject = path_text(alloc, path)?;
+        let subject = match path_text(alloc, path) {
+            Ok(subject) => subject,
+            Err(error) => return text.fail(error),
+        };
         let subject = subject.as_str();
         let Diagnostic {
             severity,
@@ -94,22 +93,30 @@ impl Lines<'_> {
                 text.push_item(object_of(alloc, self.file, subject, position, diagnostic));
             }
         }
-        Ok(())
+    }
+
+    /// Adds what is said of what this path leads to.
+    pub(crate) fn push_at(&mut self, path: Path, diagnostic: Diagnostic<'_>) {
+        match path.steps {
+            Ok(steps) => self.push(&steps, diagnostic),
+            Err(error) => self.text.fail(error),
+        }
     }
 }
 
 // The text of a path.
 fn path_text(alloc: Global, path: &[Step]) -> Result<String, AllocError> {
-    let mut text = String::new(alloc);
+    let mut text = Text::new(alloc);
     for (place, step) in path.iter().enumerate() {
-        let front = if place > 0 { "." } else { "" };
-        let piece = match step {
-            Step::Item(item) => format!(in alloc; "[{item}]"),
-            Step::Key(name) => format!(in alloc; "{front}{name}"),
-        }?;
-        text.push_str(piece.as_str())?;
+        match step {
+            Step::Item(item) => text.push_format(format!(in alloc; "[{item}]")),
+            Step::Key(name) => {
+                text.push_str(if place > 0 { "." } else { "" });
+                text.push_str(name.as_str());
+            }
+        }
     }
-    Ok(text)
+    text.finish_string()
 }
 
 // Adds what a diagnostic is about: its path, and the call behind it. A key stands in quotes.

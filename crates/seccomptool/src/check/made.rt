@@ -4,10 +4,10 @@ ghost use Rattle.std.specs.Prelude.{◌≡◌, IfErr, IfOk};
 ghost use Rattle.seccomptool.specs.Commands.{IsAccepted, IsCheck, IsRejectedFor};
 ghost use Rattle.seccomptool.specs.declared.findings.Verdict.TheVariants.{Different};
 
-use crate::check::diagnostic::push_policy;
-use crate::check::fault::push_error;
+use crate::check::diagnostic::policy_text;
+use crate::check::fault::error_text;
 use crate::check::format::{CheckFormat, Lines};
-use crate::check::profile::lines::push_profile;
+use crate::check::profile::lines::profile_text;
 use crate::check::profile::profile_checked;
 use crate::check::{checked, verdict_where};
 use crate::error::ToolError;
@@ -57,19 +57,17 @@ fn accepted(
     match subject {
         Subject::Policy => {
             let checked = checked(alloc, arch, &asked.allowed, given)?;
-            let mut lines = Lines::new(alloc, asked.format, path, given)?;
-            push_policy(&mut lines, alloc, &checked.filters)?;
-            let text = lines.said.finish()?;
+            let lines = Lines::new(alloc, asked.format, path, given)?;
+            let text = policy_text(lines, &checked.filters)?;
             let verdict = verdict_where(denied, checked.count);
             Ok(Made::noting(text, verdict, Vec::new(alloc)))
         }
         Subject::Profile(container) => {
             let checked = profile_checked(alloc, arch, container, &asked.allowed, given)?;
-            let mut lines = Lines::new(alloc, asked.format, path, given)?;
-            push_profile(&mut lines, alloc, arch, container, &checked)?;
             let (listed, left_out) = (asked.reading.listed, &checked.compiled.left_out);
             let notes = profile_notes(alloc, arch, path, listed, left_out, &[])?;
-            let text = lines.said.finish()?;
+            let lines = Lines::new(alloc, asked.format, path, given)?;
+            let text = profile_text(lines, arch, container, &checked)?;
             let verdict = verdict_where(denied, checked.warnings.len());
             Ok(Made::noting(text, verdict, notes))
         }
@@ -90,17 +88,15 @@ fn rejected(
 ) -> Result<Made, AllocError>
     ensures { IfOk result (λ made. made.verdict ≡ Different) }
 {
-    let mut lines = Lines::new(alloc, format, path, given)?;
-    let mut notes = Text::new(alloc);
     if let CheckFormat::Text = format {
         let told = format!(in alloc; "{error}")?;
-        note(
-            &mut notes,
-            path,
-            readable(alloc, told.as_str(), TextKind::Line),
-        );
-    } else {
-        push_error(&mut lines, alloc, error)?;
+        let told = readable(alloc, told.as_str(), TextKind::Line);
+        let mut notes = Text::new(alloc);
+        note(&mut notes, path, told);
+        let notes = notes.finish()?;
+        return Ok(Made::noting(Vec::new(alloc), Verdict::Different, notes));
     }
-    Ok(Made::noting(lines.said.finish()?, Verdict::Different, notes.finish()?))
+    let lines = Lines::new(alloc, format, path, given)?;
+    let text = error_text(lines, error)?;
+    Ok(Made::noting(text, Verdict::Different, Vec::new(alloc)))
 }

@@ -2,7 +2,7 @@
 
 use super::Learning;
 use crate::findings::parts::name_of;
-use crate::json::{List, Object, ascii_of, call_name};
+use crate::json::{List, Object, call_name};
 use crate::notes::note;
 use crate::text::Text;
 use seccomp_learn::{Kept, Observation, Trace};
@@ -113,10 +113,10 @@ pub(super) fn learned_json(
     let mut object = Object::new(alloc);
     object.field("kept", kept);
     object.field("notes", lines);
-    let object = ascii_of(alloc, object)?;
     let mut json = Text::new(alloc);
-    // The text stands in front of the brace.
-    json.push_bytes(object.strip_suffix(b"}").unwrap_or(&object));
+    json.push_object(object);
+    // The text takes the place of the brace.
+    json.pop();
     json.push_str(if learning.as_profile {
         ",\"policy\":null,\"profile\":"
     } else {

@@ -24,30 +24,29 @@ struct Told<'a> {
     profile: &'a Profile,
 }
 
-/// Adds what is said of the warnings of a profile, in the order of their places: once for each code of a place, and for each pair
-/// of entries.
-pub(crate) fn push_profile(
-    lines: &mut Lines<'_>,
-    alloc: Global,
+/// What is said of the warnings of a profile, in the order of their places: once for each code of a place, and for each pair of
+/// entries.
+pub(crate) fn profile_text(
+    mut lines: Lines<'_>,
     target: TargetArch,
     container: &Container,
     checked: &CheckedProfile,
-) -> Result<(), AllocError> {
+) -> Result<Vec<u8>, AllocError> {
     let told = Told {
         target,
         container,
         profile: &checked.profile,
     };
-    let mut ordered = BTreeMap::new(alloc);
+    let mut ordered = BTreeMap::new(lines.text.alloc());
     for (nth, warning) in checked.warnings.iter().enumerate() {
         let spot = spot_of(target, warning, nth);
         let order = (spot.entry, spot.rank, code_of(warning).name());
         ordered.entry(order)?.or_insert((warning, spot));
     }
     for (_, (warning, spot)) in ordered {
-        push_warning(lines, alloc, told, warning, spot)?;
+        push_warning(&mut lines, told, warning, spot);
     }
-    Ok(())
+    lines.text.finish()
 }
 
 // What a line is about.
@@ -135,14 +134,8 @@ fn spot_of_part<'a>(target: TargetArch, subject: Subject, part: ProfilePart) -> 
 }
 
 // Adds what is said of a warning that is about this.
-fn push_warning(
-    lines: &mut Lines<'_>,
-    alloc: Global,
-    told: Told<'_>,
-    warning: &ProfileWarning,
-    spot: Spot<'_>,
-) -> Result<(), AllocError> {
-    let code = code_of(warning);
+fn push_warning(lines: &mut Lines<'_>, told: Told<'_>, warning: &ProfileWarning, spot: Spot<'_>) {
+    let (alloc, code) = (lines.text.alloc(), code_of(warning));
     let said = match warning {
         ProfileWarning::Doubtful(doubt) => said_of_doubt(alloc, told, *doubt),
         ProfileWarning::Flags => String::from_str(
@@ -154,7 +147,11 @@ fn push_warning(
             "the key is passed over; leave it out, or correct it, also its letter case",
         ),
         ProfileWarning::OfEntries(_, _) => String::from_str(alloc, said_of_entries(code)),
-    }?;
+    };
+    let said = match said {
+        Ok(said) => said,
+        Err(error) => return lines.text.fail(error),
+    };
     let mut diagnostic = Diagnostic::new("warning", code.name(), said.as_str());
     diagnostic.call = call_name(told.target, spot.number).0;
     if let ProfileWarning::UnknownKey(_) = warning {
@@ -174,7 +171,7 @@ fn push_warning(
             path.key("valueTwo");
         }
     }
-    lines.push(&path.steps?, diagnostic)
+    lines.push_at(path, diagnostic);
 }
 
 // What is doubtful, and what to write instead.

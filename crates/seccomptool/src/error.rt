@@ -50,6 +50,7 @@ impl ToolError {
             ToolError::OutOfMemory => Err(AllocError),
             error => {
                 let told = error.to_string(alloc);
+                // Here, so that no branch below has to.
                 drop(error);
                 Ok(ToolError::Second(told?))
             }

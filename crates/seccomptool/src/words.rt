@@ -170,12 +170,13 @@ pub struct Asked<'a> {
 /// # Errors
 ///
 /// `clap`'s: help and the version if they are asked for, and its own error of arguments that are no
-/// command. `ValueValidation` if an ARG or the value of `--most` is no number, if `explain` is given both CALL and
-/// `--records` or `--log`, or both of these, if the value of `--kernel` is no version
-/// or that of `--cap` no capability, if `call` is given `--output` without
-/// `--record`, if the values of `learn`'s `--otherwise`, `--args` or `--values` are none, if `learn` is given `--into` and
+/// command. `ValueValidation` if an ARG or the value of `--most` is no number, if there are more than six ARGs, if `explain` is given
+/// both CALL and `--records` or `--log`, or both of these, if the value of `--kernel` is no version
+/// or that of `--cap` no capability, if `call` is given `--output` without `--record`, or `--json` with it, if `--json` is given with
+/// another `--format`, if the values of `learn`'s `--otherwise`, `--args` or `--values` are none, if `learn` is given `--into` and
 /// `--otherwise` or `--profile`, or `--name` and `--profile`, and if two files would both be read from standard input: what is
-/// explained and records or a log, both of what is compared, or a trace and the policy. `OutOfMemory` may come in place of any.
+/// explained and records or a log, both of what is compared, or a trace and the policy. Of several faults one is reported.
+/// `OutOfMemory` may come in place of any.
 pub(crate) fn read<'a>(
     alloc: Global,
     words: &'a [String],
@@ -200,6 +201,7 @@ fn asked_of<'a>(
         told: Ok(String::new(alloc)),
     };
     let asked = asked_in(&matches, &mut wrong);
+    // Here, so that no branch below has to.
     drop(matches);
     match wrong.told {
         Ok(told) if told.is_empty() => Ok(asked),

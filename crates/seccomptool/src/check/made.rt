@@ -36,6 +36,7 @@ pub(crate) fn check_made(
         Err(ToolError::OutOfMemory) => Err(ToolError::OutOfMemory),
         Err(fault) => {
             let rejected = rejected(alloc, asked.format, path, given, &fault);
+            // Here, so that no branch below has to.
             drop(fault);
             Ok(rejected?)
         }

@@ -106,7 +106,7 @@ pub(super) fn learned_json(
             kept.item(argument);
         }
     }
-    // They are made of texts.
+    // They are UTF-8, since they are made of texts.
     for line in str::from_utf8(notes).unwrap_or_default().lines() {
         lines.item(line);
     }

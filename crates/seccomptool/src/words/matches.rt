@@ -20,7 +20,7 @@ use seccomp_compare::Relation;
 use seccomp_warnings::Code;
 use std::alloc::{AllocError, Global};
 
-// What is wrong with the words: no text if nothing is. Want of memory is noted too.
+// What is wrong with the words, the first of several: no text if nothing is. That memory ran out counts as one.
 #[derive(Drop)]
 pub(super) struct Wrong {
     pub alloc: Global,

@@ -133,6 +133,7 @@ fn subcommand<'a>(
 ) -> Result<Command<'a>, AllocError> {
     let (head, own) = table.split_once('\n').unwrap_or((table, ""));
     let (name, about) = head.split_once(": ").unwrap_or((head, ""));
+    // These two take no subject.
     let common = match name {
         "learn" | "call" => "",
         _ => COMMON,

@@ -8,11 +8,12 @@ use seccompiler::TargetArch;
 use serde_json::{Map, ToValue, Value};
 use std::alloc::{AllocError, Global};
 
-/// An object to which members are added. If memory runs out, no further member is added, and its value can't be made.
+/// An object to which members are added. If memory runs out, a member is missing, and its value can't be made.
 #[derive(Drop)]
 pub(crate) struct Object {
     alloc: Global,
-    members: Result<Map<String, Value>, AllocError>,
+    members: Map<String, Value>,
+    is_missing: bool,
 }
 
 impl Object {
@@ -20,17 +21,17 @@ impl Object {
     pub(crate) fn new(alloc: Global) -> Object {
         Object {
             alloc,
-            members: Ok(Map::new(alloc)),
+            members: Map::new(alloc),
+            is_missing: false,
         }
     }
 
     /// Adds a member.
     pub(crate) fn field<T: ToValue>(&mut self, key: &str, part: T) {
-        let part = part.to_value(self.alloc);
-        if let Ok(members) = &mut self.members {
-            if let Err(error) = put(members, self.alloc, key, part) {
-                self.members = Err(error);
-            }
+        let key = String::from_str(self.alloc, key);
+        match (key, part.to_value(self.alloc)) {
+            (Ok(key), Ok(part)) => self.is_missing |= self.members.insert(key, part).is_err(),
+            _ => self.is_missing = true,
         }
     }
 
@@ -41,62 +42,50 @@ impl Object {
     }
 }
 
-// Adds a member, if its value could be made.
-fn put(
-    members: &mut Map<String, Value>,
-    alloc: Global,
-    key: &str,
-    part: Result<Value, AllocError>,
-) -> Result<(), AllocError> {
-    drop(members.insert(String::from_str(alloc, key)?, part?)?);
-    Ok(())
-}
-
 impl ToValue for Object {
     ghost gives = { λ object value. ⊤ };
 
     fn to_value(self, _alloc: Global) -> Result<Value, AllocError> {
-        Ok(Value::Object(self.members?))
+        if self.is_missing {
+            return Err(AllocError);
+        }
+        Ok(Value::Object(self.members))
     }
 }
 
-/// A list to which items are added. If memory runs out, no further item is added, and its value can't be made.
+/// A list to which items are added. If memory runs out, an item is missing, and its value can't be made.
 #[derive(Drop)]
 pub(crate) struct List {
-    alloc: Global,
-    items: Result<Vec<Value>, AllocError>,
+    items: Vec<Value>,
+    is_missing: bool,
 }
 
 impl List {
     /// One without items.
     pub(crate) fn new(alloc: Global) -> List {
         List {
-            alloc,
-            items: Ok(Vec::new(alloc)),
+            items: Vec::new(alloc),
+            is_missing: false,
         }
     }
 
     /// Adds an item.
     pub(crate) fn item<T: ToValue>(&mut self, part: T) {
-        let part = part.to_value(self.alloc);
-        if let Ok(items) = &mut self.items {
-            if let Err(error) = add(items, part) {
-                self.items = Err(error);
-            }
+        match part.to_value(*self.items.allocator()) {
+            Ok(part) => self.is_missing |= self.items.push(part).is_err(),
+            Err(_) => self.is_missing = true,
         }
     }
-}
-
-// Adds an item, if its value could be made.
-fn add(items: &mut Vec<Value>, part: Result<Value, AllocError>) -> Result<(), AllocError> {
-    Ok(items.push(part?)?)
 }
 
 impl ToValue for List {
     ghost gives = { λ list value. ⊤ };
 
     fn to_value(self, _alloc: Global) -> Result<Value, AllocError> {
-        Ok(Value::Array(self.items?))
+        if self.is_missing {
+            return Err(AllocError);
+        }
+        Ok(Value::Array(self.items))
     }
 }
 

@@ -5,25 +5,35 @@ use seccomp_command_line::readable::{TextKind, push_readable};
 use std::alloc::{AllocError, Global};
 use std::fmt;
 
-/// A text to which parts are added. If memory runs out, no further part is added, and `finish` fails.
+/// A text to which parts are added. If memory runs out, a part is missing, and `finish` fails.
 #[derive(Drop)]
 pub(crate) struct Text {
-    alloc: Global,
-    bytes: Result<Vec<u8>, AllocError>,
+    bytes: Vec<u8>,
+    is_missing: bool,
 }
 
 impl Text {
     /// An empty one.
     pub(crate) fn new(alloc: Global) -> Text {
         Text {
-            alloc,
-            bytes: Ok(Vec::new(alloc)),
+            bytes: Vec::new(alloc),
+            is_missing: false,
         }
     }
 
     /// The heap that it is in.
     pub(crate) fn alloc(&self) -> Global {
-        self.alloc
+        *self.bytes.allocator()
+    }
+
+    /// Whether it has no byte.
+    pub(crate) fn is_empty(&self) -> bool {
+        self.bytes.is_empty()
+    }
+
+    /// Notes that memory ran out.
+    pub(crate) fn fail(&mut self) {
+        self.is_missing = true;
     }
 
     /// Adds a text as it is.
@@ -33,10 +43,8 @@ impl Text {
 
     /// Adds bytes.
     pub(crate) fn push_bytes(&mut self, part: &[u8]) {
-        if let Ok(bytes) = &mut self.bytes {
-            if let Err(error) = bytes.extend_from_slice(part) {
-                self.bytes = Err(error);
-            }
+        if self.bytes.extend_from_slice(part).is_err() {
+            self.fail();
         }
     }
 
@@ -44,42 +52,32 @@ impl Text {
     pub(crate) fn push_format(&mut self, part: Result<String, AllocError>) {
         match part {
             Ok(part) => self.push_str(part.as_str()),
-            Err(error) => self.fail(error),
+            Err(_) => self.fail(),
         }
     }
 
     /// Takes the last byte off.
     pub(crate) fn pop(&mut self) {
-        if let Ok(bytes) = &mut self.bytes {
-            let _last = bytes.pop();
-        }
-    }
-
-    /// Notes that memory ran out.
-    pub(crate) fn fail(&mut self, error: AllocError) {
-        self.bytes = Err(error);
+        let _last = self.bytes.pop();
     }
 
     /// Adds what this shows.
     pub(crate) fn push_display<T: fmt::Display>(&mut self, part: &T) {
-        self.push_format(format!(in self.alloc; "{part}"));
+        self.push_format(format!(in self.alloc(); "{part}"));
     }
 
     /// Adds what comes from outside, as people read it.
     pub(crate) fn push_readable(&mut self, part: &str, kind: TextKind) {
-        if let Ok(bytes) = &mut self.bytes {
-            if let Err(error) = push_readable(bytes, part, kind) {
-                self.bytes = Err(error);
-            }
+        if push_readable(&mut self.bytes, part, kind).is_err() {
+            self.fail();
         }
     }
 
     /// Adds an object, in ASCII. What isn't stands in strings alone, and is written there by its number, so that no character of it
     /// steers a terminal.
     pub(crate) fn push_object(&mut self, object: Object) {
-        let json = match object.text() {
-            Ok(json) => json,
-            Err(error) => return self.fail(error),
+        let Ok(json) = object.text() else {
+            return self.fail();
         };
         for character in json.as_str().chars() {
             if character < '\u{7f}' {
@@ -88,7 +86,7 @@ impl Text {
             }
             let mut room = [0; 2];
             for unit in character.encode_utf16(&mut room) {
-                self.push_format(format!(in self.alloc; "\\u{unit:04x}"));
+                self.push_format(format!(in self.alloc(); "\\u{unit:04x}"));
             }
         }
     }
@@ -101,11 +99,14 @@ impl Text {
 
     /// The bytes of all parts.
     pub(crate) fn finish(self) -> Result<Vec<u8>, AllocError> {
-        self.bytes
+        if self.is_missing {
+            return Err(AllocError);
+        }
+        Ok(self.bytes)
     }
 
     /// All parts as a string. They are UTF-8, if the bytes that were added are.
     pub(crate) fn finish_string(self) -> Result<String, AllocError> {
-        String::from_utf8_lossy(self.alloc, &self.bytes?)
+        String::from_utf8_lossy(self.alloc(), &self.finish()?)
     }
 }

@@ -13,6 +13,7 @@ use crate::explain::lines::LineFormat;
 use crate::findings::Terms;
 use crate::kind::Reading;
 use crate::learn::Learning;
+use crate::text::Text;
 use crate::words::matches::{Wrong, asked_in};
 use crate::words::program::program;
 use clap::error::ErrorKind;
@@ -196,14 +197,11 @@ fn asked_of<'a>(
     words: &'a [String],
 ) -> Result<Asked<'a>, clap::Error> {
     let matches = program.try_get_matches_from_mut(words)?;
-    let mut wrong = Wrong {
-        alloc,
-        told: Ok(String::new(alloc)),
-    };
+    let mut wrong = Wrong(Text::new(alloc));
     let asked = asked_in(&matches, &mut wrong);
     // Here, so that no branch below has to.
     drop(matches);
-    match wrong.told {
+    match wrong.0.finish_string() {
         Ok(told) if told.is_empty() => Ok(asked),
         told => {
             drop(asked);

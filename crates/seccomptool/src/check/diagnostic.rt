@@ -53,38 +53,35 @@ impl Diagnostic<'_> {
     }
 }
 
-/// A way from a value to one inside it, in the making. If memory runs out, no further step is added.
+/// A way from a value to one inside it, in the making. If memory runs out, a step is missing.
 #[derive(Drop)]
 pub(crate) struct Path {
-    alloc: Global,
     /// Its steps.
-    pub steps: Result<Vec<Step>, AllocError>,
+    pub steps: Vec<Step>,
+    /// Whether one is missing.
+    pub is_missing: bool,
 }
 
 impl Path {
     /// The way to the value itself.
     pub(crate) fn new(alloc: Global) -> Path {
         Path {
-            alloc,
-            steps: Ok(Vec::new(alloc)),
+            steps: Vec::new(alloc),
+            is_missing: false,
         }
     }
 
     /// Goes on to what is under this key.
     pub(crate) fn key(&mut self, key: &str) {
-        match String::from_str(self.alloc, key) {
+        match String::from_str(*self.steps.allocator(), key) {
             Ok(key) => self.step(Step::Key(key)),
-            Err(error) => self.steps = Err(error),
+            Err(_) => self.is_missing = true,
         }
     }
 
     /// Goes on by a step.
     pub(crate) fn step(&mut self, step: Step) {
-        if let Ok(steps) = &mut self.steps {
-            if steps.push(step).is_err() {
-                self.steps = Err(AllocError);
-            }
-        }
+        self.is_missing |= self.steps.push(step).is_err();
     }
 }
 

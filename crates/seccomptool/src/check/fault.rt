@@ -16,7 +16,7 @@ pub(crate) fn error_text(mut lines: Lines<'_>, error: &ToolError) -> Result<Vec<
         ToolError::Placed(_, fault) => push_fault(&mut lines, alloc, fault),
         error => match format!(in alloc; "{error}") {
             Ok(told) => push_error(&mut lines, alloc, error, told.as_str()),
-            Err(error) => lines.text.fail(error),
+            Err(_) => lines.text.fail(),
         },
     }
     lines.text.finish()
@@ -58,9 +58,8 @@ fn push_error(lines: &mut Lines<'_>, alloc: Global, error: &ToolError, told: &st
 
 // Adds what is said of a fault of a policy. An unknown key is found where the key is.
 fn push_fault(lines: &mut Lines<'_>, alloc: Global, fault: &Fault) {
-    let message = match problem_text(alloc, &fault.problem) {
-        Ok(message) => message,
-        Err(error) => return lines.text.fail(error),
+    let Ok(message) = problem_text(alloc, &fault.problem) else {
+        return lines.text.fail();
     };
     let mut diagnostic = Diagnostic::new("error", "wrong-value", message.as_str());
     diagnostic.code = match &fault.problem {

@@ -59,9 +59,8 @@ impl Lines<'_> {
         let text = &mut self.text;
         let alloc = text.alloc();
         let position = self.outline.position_of(path, diagnostic.place);
-        let subject = match path_text(alloc, path) {
-            Ok(subject) => subject,
-            Err(error) => return text.fail(error),
+        let Ok(subject) = path_text(alloc, path) else {
+            return text.fail();
         };
         let subject = subject.as_str();
         let Diagnostic {
@@ -97,10 +96,10 @@ impl Lines<'_> {
 
     /// Adds what is said of what this path leads to.
     pub(crate) fn push_at(&mut self, path: Path, diagnostic: Diagnostic<'_>) {
-        match path.steps {
-            Ok(steps) => self.push(&steps, diagnostic),
-            Err(error) => self.text.fail(error),
+        if path.is_missing {
+            self.text.fail();
         }
+        self.push(&path.steps, diagnostic);
     }
 }
 

@@ -38,7 +38,7 @@ pub(super) fn reading_in(found: &ArgMatches<'_>, wrong: &mut Wrong) -> Reading {
 
 // The capabilities that are given, as profiles name them.
 fn caps_in(found: &ArgMatches<'_>, wrong: &mut Wrong) -> Vec<String> {
-    let alloc = wrong.alloc;
+    let alloc = wrong.alloc();
     let mut caps = Vec::new(alloc);
     for list in found.get_strs("cap").unwrap_or(&[]) {
         for name in list.split(',') {

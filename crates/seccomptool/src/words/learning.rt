@@ -23,7 +23,7 @@ pub(super) fn learn_in<'a>(found: &ArgMatches<'a>, wrong: &mut Wrong) -> Asked<'
     if action.is_none() {
         wrong.refuse(NO_ACTION);
     }
-    let mut further = Vec::new(wrong.alloc);
+    let mut further = Vec::new(wrong.alloc());
     for path in found.get_strs("TRACE").unwrap_or(&[]).iter().skip(1) {
         wrong.push(&mut further, *path);
     }
@@ -82,7 +82,7 @@ fn action_of(text: &str) -> Option<SeccompAction> {
 
 // The arguments whose values are kept.
 fn arguments_in<'a>(found: &ArgMatches<'a>, wrong: &mut Wrong) -> Vec<AskedArguments<'a>> {
-    let mut all = Vec::new(wrong.alloc);
+    let mut all = Vec::new(wrong.alloc());
     for text in found.get_strs("args").unwrap_or(&[]) {
         let (call, list) = text.split_once(':').unwrap_or((*text, "0,1,2,3,4,5"));
         let indices = indices_in(list, wrong);

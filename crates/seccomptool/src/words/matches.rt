@@ -15,35 +15,40 @@ use crate::compile::ProgramFormat;
 use crate::diff::Scope;
 use crate::explain::lines::LineFormat;
 use crate::findings::Terms;
+use crate::text::Text;
 use clap::ArgMatches;
 use seccomp_compare::Relation;
 use seccomp_warnings::Code;
 use std::alloc::{AllocError, Global};
 
-// What is wrong with the words, the first of several: no text if nothing is. That memory ran out counts as one.
+// What is wrong with the words, the first of several: no text if nothing is.
 #[derive(Drop)]
-pub(super) struct Wrong {
-    pub alloc: Global,
-    pub told: Result<String, AllocError>,
-}
+pub(super) struct Wrong(pub Text);
 
 impl Wrong {
+    // The heap.
+    pub(super) fn alloc(&self) -> Global {
+        self.0.alloc()
+    }
+
     // Notes what is wrong, if nothing was before.
     pub(super) fn refuse(&mut self, told: &str) {
-        self.refuse_with(String::from_str(self.alloc, told));
+        if self.0.is_empty() {
+            self.0.push_str(told);
+        }
     }
 
     // Notes what is wrong, if nothing was before.
     pub(super) fn refuse_with(&mut self, told: Result<String, AllocError>) {
-        if matches!(&self.told, Ok(earlier) if earlier.is_empty()) {
-            self.told = told;
+        if self.0.is_empty() {
+            self.0.push_format(told);
         }
     }
 
     // Adds an item to a list.
     pub(super) fn push<T: Drop>(&mut self, list: &mut Vec<T>, item: T) {
         if list.push(item).is_err() {
-            self.refuse_with(Err(AllocError));
+            self.0.fail();
         }
     }
 }
@@ -72,7 +77,7 @@ pub(super) fn on<'a>(
     second: Option<&'a str>,
 ) -> Asked<'a> {
     let json = format_in(found, wrong) == "json";
-    let mut inputs = Vec::new(wrong.alloc);
+    let mut inputs = Vec::new(wrong.alloc());
     for index in 0..firsts.len().max(1) {
         let first = firsts.get(index).copied();
         let input = Inputs {
@@ -102,7 +107,7 @@ fn check_in<'a>(found: &ArgMatches<'a>, wrong: &mut Wrong) -> Asked<'a> {
     if found.get_flag("list") {
         return on(found, wrong, Command::Codes, &[], None);
     }
-    let mut allowed = Vec::new(wrong.alloc);
+    let mut allowed = Vec::new(wrong.alloc());
     for name in found.get_strs("allow").unwrap_or(&[]) {
         if let Some(code) = Code::by_name(name) {
             wrong.push(&mut allowed, code);

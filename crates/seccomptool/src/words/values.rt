@@ -55,7 +55,7 @@ pub(super) fn format_in<'a>(found: &ArgMatches<'a>, wrong: &mut Wrong) -> &'a st
 pub(super) fn number_in(found: &ArgMatches<'_>, wrong: &mut Wrong, option: &str) -> usize {
     let number = read_number(found.get_str(option).unwrap_or(""));
     if number.is_none() {
-        wrong.refuse_with(format!(in wrong.alloc;
+        wrong.refuse_with(format!(in wrong.alloc();
             "the value of --{option} isn't a number from 0 to 18446744073709551615, decimal or hexadecimal after 0x"
         ));
     }

@@ -148,9 +148,8 @@ fn push_warning(lines: &mut Lines<'_>, told: Told<'_>, warning: &ProfileWarning,
         ),
         ProfileWarning::OfEntries(_, _) => String::from_str(alloc, said_of_entries(code)),
     };
-    let said = match said {
-        Ok(said) => said,
-        Err(error) => return lines.text.fail(error),
+    let Ok(said) = said else {
+        return lines.text.fail();
     };
     let mut diagnostic = Diagnostic::new("warning", code.name(), said.as_str());
     diagnostic.call = call_name(told.target, spot.number).0;

@@ -28,10 +28,13 @@ impl Object {
 
     /// Adds a member.
     pub(crate) fn field<T: ToValue>(&mut self, key: &str, part: T) {
-        let key = String::from_str(self.alloc, key);
-        match (key, part.to_value(self.alloc)) {
-            (Ok(key), Ok(part)) => self.is_missing |= self.members.insert(key, part).is_err(),
-            _ => self.is_missing = true,
+        let Ok(part) = part.to_value(self.alloc) else {
+            self.is_missing = true;
+            return;
+        };
+        match String::from_str(self.alloc, key) {
+            Ok(key) => self.is_missing |= self.members.insert(key, part).is_err(),
+            Err(_) => self.is_missing = true,
         }
     }
 

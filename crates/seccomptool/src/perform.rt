@@ -23,8 +23,7 @@ use std::io::Read;
 ///
 /// # Errors
 ///
-/// The first of these: that the first one can't be read; the engine's error of the first one; that the second one can't be
-/// read; the engine's other errors.
+/// That the first one can't be read, or else the second one; else the engine's.
 pub(crate) fn perform<P: Read + Drop, R: Read + Drop, G: Progress>(
     alloc: Global,
     command: &Command<'_>,
@@ -36,22 +35,22 @@ pub(crate) fn perform<P: Read + Drop, R: Read + Drop, G: Progress>(
     ensures { IfOk result (λ made. Reads (P.remaining first) (λ one. Reads (R.remaining second) (λ two. IsCarriedOut command.now one two made.verdict))) }
 {
     let first = text_of(alloc, inputs.first, first)?;
-    let second = match text_of(alloc, inputs.second, second) {
-        Ok(text) => text,
-        // A fault of the first text comes before that the second one can't be read.
-        Err(unread) => {
-            return match made_by(alloc, command, inputs, &first, b"", progress) {
-                Ok(_) | Err(ToolError::Second(_)) => Err(unread),
-                Err(error) => Err(error),
-            };
-        }
-    };
+    let second = text_of(alloc, inputs.second, second)?;
     let mut made = made_by(alloc, command, inputs, &first, &second, progress)?;
-    let is_plain = |byte: &u8| matches!(*byte, b'\n' | b' '..=b'~');
-    if !writes_bytes(command) && !made.text.iter().all(is_plain) {
+    if !writes_bytes(command) && !is_plain(&made.text) {
         made.text = readable(alloc, &made.text, TextKind::Lines)?.into_bytes();
     }
     Ok(made)
+}
+
+// Whether a text has no bytes but those of lines in ASCII.
+fn is_plain(text: &[u8]) -> bool {
+    for byte in text {
+        if !matches!(*byte, b'\n' | b' '..=b'~') {
+            return false;
+        }
+    }
+    true
 }
 
 // What a command makes of these texts.

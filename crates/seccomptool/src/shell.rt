@@ -27,6 +27,16 @@ use std::rt::Files;
 // The status of a command that fails.
 const TROUBLE: u8 = 2;
 
+// The commands that are gone, and what does now what they did.
+const GONE: [(&str, &str); 6] = [
+    ("stats", "show --stats"),
+    ("run", "explain"),
+    ("record", "call --record"),
+    ("verify", "diff"),
+    ("compat", "check"),
+    ("import", "compile"),
+];
+
 // What is written where no file is.
 const OUTPUT: &str = "standard output";
 
@@ -42,19 +52,11 @@ pub(crate) fn answer<G: Progress>(
     ensures ended { exit_status result ≤ 3 }
 {
     if let Some(word) = words.first() {
-        // What does now what a command did that is gone.
-        let verb = match word.as_str() {
-            "stats" => "show --stats",
-            "run" => "explain",
-            "record" => "call --record",
-            "verify" => "diff",
-            "compat" => "check",
-            "import" => "compile",
-            _ => "",
-        };
-        if !verb.is_empty() {
-            let _ = eprintln!(rt; "seccomptool: '{word}' is now '{verb}'");
-            return ExitCode::from(TROUBLE);
+        for (gone, verb) in &GONE {
+            if word.as_str() == *gone {
+                let _ = eprintln!(rt; "seccomptool: '{gone}' is now '{verb}'");
+                return ExitCode::from(TROUBLE);
+            }
         }
     }
     let mut codes = Vec::new(rt.alloc());
@@ -198,13 +200,24 @@ fn carried_out<G: Progress>(
     let first = first_of(rt, &asked.command, inputs)?;
     let second = open(rt, inputs.second)?;
     let made = perform(rt.alloc(), &asked.command, inputs, first, second, progress)?;
+    write_made(rt, asked, &made, gathered)?;
+    Ok(made)
+}
+
+// Writes what a command makes, or gathers it, and says if its records end inside of one.
+fn write_made(
+    rt: &(impl Files + Print + AllocGlobal),
+    asked: &Asked<'_>,
+    made: &Made,
+    gathered: &mut Vec<u8>,
+) -> Result<(), ToolError> {
     if gathers(&asked.command) {
         gathered.extend_from_slice(&made.text)?;
     } else {
         write(rt, asked.output, &made.text)?;
     }
     match made.rest {
-        0 => Ok(made),
+        0 => Ok(()),
         rest => Err(ToolError::Second(format!(in rt.alloc();
             "The input ends inside a record, after {rest} bytes of it."
         )?)),

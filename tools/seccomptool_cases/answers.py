@@ -35,7 +35,7 @@ VALUES = {
 
 NUMBERS = numbers_on("x86_64")
 
-BOTH = "error: --json and another --format can't both be given\n.."
+BOTH = "error: the argument '--json' cannot be used with '--format <FORMAT>'\n.."
 
 
 def program(name, binary):
@@ -153,7 +153,6 @@ OF_PROGRAMS = [
            as_object(program("b\u009b", LINEAR)) + "\n"),
     writes("compile -q --json read.bpf", "", as_object(program("program", OF_READ)) + "\n"),
     writes("compile -q --json logs.json -o written.json && cat written.json && rm written.json", "", as_object(program("a", TREE)) + "\n"),
-    writes("compile -q logs.json --format raw --json", "", as_object(program("a", TREE)) + "\n"),
     writes("show --json -a aarch64", SHOWN, as_list("programs", [
         shown(name, text.split("\n", 1)[1]) for name, text in zip(("a", "b\n"), LOGS_AS_TREE.split("filter ")[1:], strict=True)])),
     writes("show --json -a aarch64 --layout linear -f a", CALLS, as_list("programs", [shown("a", CALLS_SHOWN.split("\n", 1)[1])])),
@@ -174,7 +173,7 @@ OF_DECISIONS = [
     *[writes("explain --json near.json", record_of(number, X86_64, *arguments), decisions(line, name="n\x07"))
       for number, arguments, line in NEAR_LINES],
     writes("explain --json explained.json fcntl 9 2 1", "", decisions(LINES[1][2])),
-    writes("explain explained-logs.json --json --format path", TWO_RECORDS, decisions(*TWO_LINES.splitlines())),
+    writes("explain explained-logs.json --json", TWO_RECORDS, decisions(*TWO_LINES.splitlines())),
     writes("explain --json logs.json", "", decisions()),
     Case("explain --json explained-logs.json", 2, decisions(*TWO_LINES.splitlines()), INPUT + SHORT, TWO_RECORDS + bytes(1)),
     writes("explain --json reads-profile.json read", "", decisions("allow: syscalls[0] of read (0)")),
@@ -233,10 +232,10 @@ OF_ERRORS = [
     *[rejects(f"{it} > /dev/full", "", FULL, OUTPUT) for it in (
         "compile -q --json logs.json", "show --json logs.json", "explain --json logs.json read", "diff --json logs.json logs.json",
         "learn --json short.trace", "call --json read", "check --list --json")],
-    *[misused(f"compile --json --format {it} logs.json", BOTH) for it in ("listing", "c")],
-    misused("explain --json --format word logs.json read", BOTH),
-    misused("check --list --json --format gcc", BOTH),
-    misused("call --json --record read", "error: --json and --record can't both be given\n.."),
+    *[misused(f"compile --json --format {it} logs.json", BOTH) for it in ("raw", "listing", "c")],
+    *[misused(f"explain --json --format {it} logs.json read", BOTH) for it in ("path", "word")],
+    *[misused(f"check --list --json --format {it}", BOTH) for it in ("gcc", "json")],
+    misused("call --json --record read", "error: the argument '--json' cannot be used with '--record'\n.."),
     misused("show --json=yes logs.json", "error: .."),
 ]
 

@@ -240,11 +240,12 @@ OF_SEVERAL = [
     Case("check --json missing.json", 2, as_json([]), f"{TOOL}missing.json: {MISSING}"),
 ]
 
-BOTH = "error: --json and another --format can't both be given\n.."
+BOTH = "error: the argument '--json' cannot be used with '--format <FORMAT>'\n.."
 
 OF_WORDS = [
-    *[Case(f"check {it} logs.json", 0, as_json([LOGS_SAID]), "") for it in ("--json", "--format=json", "--json --format json")],
-    *[Case(f"check {it} logs.json", 2, "", BOTH) for it in ("--json --format gcc", "--format text --json")],
+    *[Case(f"check {it} logs.json", 0, as_json([LOGS_SAID]), "") for it in ("--json", "--format=json")],
+    *[Case(f"check --json --format {it} logs.json", 2, "", BOTH) for it in ("gcc", "json")],
+    Case("check --format text --json logs.json", 2, "", "error: the argument '--format <FORMAT>' cannot be used with '--json'\n.."),
     Case("check --format text logs.json", 0, as_text(LOGS_SAID), ""),
     Case("check --format xml logs.json", 2, "", "error: invalid value 'xml' for '--format <FORMAT>'\n  [possible values: text, gcc, json]\n.."),
     # Output that takes nothing is trouble, whatever was found; of JSON it is told once.

@@ -107,7 +107,7 @@ CASES = [
     # Words that are no command.
     *[Case(f"a{it}b", 2, "", f"error: unrecognized subcommand 'a{told(it)}b'\n..") for it in UNQUOTED],
     Case(f"{WORD}", 2, "", f"error: unrecognized subcommand '{told(FIRST)}'\n.."),
-    Case(f"check --cap {WORD} logs.json", 2, "", f'error: the value of --cap names no capability: "{told(FIRST)}"\n..'),
+    Case(f"check --cap {WORD} logs.json", 2, "", f"error: no capability is called '{told(FIRST)}'\n.."),
     *[Case(f"{it} -a {WORD}", 2, "", f"error: invalid value '{told(FIRST)}' for '--arch <ARCH>'\n..")
       for it in ("check", "compile", "show", "explain", "diff", "learn", "call")],
     *[Case(f"{it} --{WORD}", 2, "", f"error: unexpected argument '--{told(FIRST)}' found\n..")

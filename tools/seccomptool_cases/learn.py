@@ -436,9 +436,9 @@ CASES = [
     fails("--into none.json short.trace", "none.json: The policy has no filters."),
     fails(f"--into logs.json --name {shlex.quote(HOSTILE)} short.trace", f"logs.json: No filter has this name: {HOSTILE_TOLD}."),
     # Words that are no command.
-    misused("--otherwise log --into logs.json short.trace", "error: --otherwise can't be given with --into\n.."),
-    misused("--profile --into logs.json short.trace", "error: --profile can't be given with --into\n.."),
-    misused("--profile --name a short.trace", "error: --profile can't be given with --name\n.."),
+    misused("--otherwise log --into logs.json short.trace", "error: the argument '--otherwise <ACTION>' cannot be used with '--into <POLICY>'\n.."),
+    misused("--profile --into logs.json short.trace", "error: the argument '--profile' cannot be used with '--into <POLICY>'\n.."),
+    misused("--profile --name a short.trace", "error: the argument '--profile' cannot be used with '--name <NAME>'\n.."),
     *[misused(f"--otherwise={it} short.trace", NO_ACTION) for it in (
         "allow", "deny", "errno", "errno:", "errno:a", "errno:-1", "errno:4294967296", "trace", "log:1", "Log", "errno 1", "1", "''")],
     *[misused(f"--args={it} short.trace", NO_ARGS) for it in (

@@ -118,8 +118,8 @@ call[10]: trap: call 500
     rejects("explain logs.json --log -", Failing(TRACED), RESET),
     rejects("explain -f b logs.json --log denied.log", "", "No filter has this name: b.\n", TOOL + "logs.json: "),
     rejects("explain logs.json --log denied.log > /dev/full", "", FULL, OUTPUT),
-    misused("logs.json read --log denied.log", "error: CALL and --log can't both be given\n.."),
-    misused("logs.json --records 63-bytes --log denied.log", "error: --records and --log can't both be given\n.."),
+    misused("logs.json read --log denied.log", "error: the argument '[CALL]' cannot be used with '--log <FILE>'\n.."),
+    misused("logs.json --records 63-bytes --log denied.log", "error: the argument '--records <FILE>' cannot be used with '--log <FILE>'\n.."),
     misused("- --log -"),
     misused("logs.json --log"),
 ]

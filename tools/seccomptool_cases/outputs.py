@@ -43,6 +43,8 @@ CASES = [
           ("read.json", "link")])],
     # So is a record.
     Case("call --record -o made.bin read && ./seccomptool call --record read | cmp -s - made.bin; status=$?; rm made.bin; (exit $status)", 0, "", ""),
-    Case("call -o made.bin read", 2, "", "error: --output needs --record\n.."),
+    *[Case(f"call -o {it} read", 2, "", "error: the following required arguments were not provided:\n  --record\n..")
+      for it in ("made.bin", "-")],
+    Case("call -o made.bin --json read", 2, "", "error: the argument '--output <FILE>' cannot be used with '--json'\n.."),
     beside("input", "", "- -o read.json < ../read.json", "wc -c < read.json", 0, f"{len(TREE)}\n"),
 ]

@@ -124,7 +124,7 @@ CASES = [
     # Words that are no command.
     misused(""),
     misused("read.bpf read 1a"),
-    misused("read.bpf read --records calls.bin", "error: CALL and --records can't both be given\n.."),
+    misused("read.bpf read --records calls.bin", "error: the argument '[CALL]' cannot be used with '--records <FILE>'\n.."),
     misused("-", "error: SUBJECT and records can't both be read from standard input: give CALL, --records or --log\n.."),
     # With `--format word` the return value and the steps: three instructions after the load, or two.
     writes("explain --format word read.bpf read", "", "7fff0000 3\n"),

@@ -26,11 +26,6 @@ impl Text {
         *self.bytes.allocator()
     }
 
-    /// Whether it has no byte.
-    pub(crate) fn is_empty(&self) -> bool {
-        self.bytes.is_empty()
-    }
-
     /// Notes that memory ran out.
     pub(crate) fn fail(&mut self) {
         self.is_missing = true;

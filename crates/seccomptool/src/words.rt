@@ -1,7 +1,5 @@
 // The words that the program is called with.
 
-mod container;
-mod learning;
 mod matches;
 mod program;
 mod values;
@@ -14,13 +12,13 @@ use crate::findings::Terms;
 use crate::kind::Reading;
 use crate::learn::Learning;
 use crate::text::Text;
-use crate::words::matches::{Wrong, asked_in};
+use crate::words::matches::asked_in;
 use crate::words::program::program;
 use clap::error::ErrorKind;
 use seccomp_tree::Layout;
 use seccomp_warnings::Code;
 use seccompiler::TargetArch;
-use std::alloc::{AllocError, Global};
+use std::alloc::Global;
 
 /// A command of the program, with its options.
 #[derive(Drop)]
@@ -170,14 +168,11 @@ pub struct Asked<'a> {
 ///
 /// # Errors
 ///
-/// `clap`'s: help and the version if they are asked for, and its own error of arguments that are no
-/// command. `ValueValidation` if an ARG or the value of `--most` is no number, if there are more than six ARGs, if `explain` is given
-/// both CALL and `--records` or `--log`, or both of these, if the value of `--kernel` is no version
-/// or that of `--cap` no capability, if `call` is given `--output` without `--record`, or `--json` with it, if `--json` is given with
-/// another `--format`, if the values of `learn`'s `--otherwise`, `--args` or `--values` are none, if `learn` is given `--into` and
-/// `--otherwise` or `--profile`, or `--name` and `--profile`, and if two files would both be read from standard input: what is
-/// explained and records or a log, both of what is compared, or a trace and the policy. Of several faults one is reported.
-/// `OutOfMemory` may come in place of any.
+/// `clap`'s: help and the version, and its own error of arguments that are no command, that exclude each other, or that lack
+/// another one. `ValueValidation` if an ARG or the value of `--most` or `--values` is no number, if options stand between more than
+/// six ARGs, if the value of `--kernel` is no version or that of `--cap` no capability, if that of `--otherwise` or `--args` is
+/// none, and if two files would both be read from standard input: what is explained and records or a log, both of what is compared,
+/// or a trace and the policy. Of several faults one is reported. `OutOfMemory` may come in place of any.
 pub(crate) fn read<'a>(
     alloc: Global,
     words: &'a [String],
@@ -197,27 +192,17 @@ fn asked_of<'a>(
     words: &'a [String],
 ) -> Result<Asked<'a>, clap::Error> {
     let matches = program.try_get_matches_from_mut(words)?;
-    let mut wrong = Wrong(Text::new(alloc));
+    let mut wrong = Text::new(alloc);
     let asked = asked_in(&matches, &mut wrong);
     // Here, so that no branch below has to.
     drop(matches);
-    match wrong.0.finish_string() {
-        Ok(told) if told.is_empty() => Ok(asked),
-        told => {
+    match wrong.finish_string() {
+        Ok(lines) if lines.is_empty() => Ok(asked),
+        lines => {
             drop(asked);
-            Err(misuse(program, told))
+            let lines = lines?;
+            let first = lines.as_str().lines().next().unwrap_or("");
+            Err(program.error(ErrorKind::ValueValidation, first)?)
         }
-    }
-}
-
-// The error of words of which this is wrong.
-fn misuse(program: &mut clap::Command<'_>, told: Result<String, AllocError>) -> clap::Error {
-    let error = match told {
-        Ok(told) => program.error(ErrorKind::ValueValidation, told.as_str()),
-        Err(error) => Err(error),
-    };
-    match error {
-        Ok(error) => error,
-        Err(error) => error.into(),
     }
 }

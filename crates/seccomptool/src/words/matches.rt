@@ -1,62 +1,32 @@
 // What clap's matches ask for.
 //
-// Where an option takes some names alone, clap lets no other pass. One that a command doesn't have isn't given.
+// Where an option takes some names alone, clap lets no other pass. One that a command doesn't have isn't given. What clap can't
+// check is checked here: each fault is a line of `wrong`.
 
-use super::container::reading_in;
-use super::learning::learn_in;
 use super::values::{
-    arch_in, arguments_in, calls_in, format_in, given_arch, layout_in, number_in, path_in,
+    action_of, arch_in, arguments_in, format_in, kept_in, layout_in, number_in, path_in, push,
+    reading_in,
 };
 use super::{
-    Asked, Call, Calling, Checking, Command, Comparing, Compiling, Explaining, Inputs, Showing,
+    Asked, Call, Calling, Calls, Checking, Command, Comparing, Compiling, Explaining, Inputs,
+    Showing,
 };
 use crate::check::format::CheckFormat;
 use crate::compile::ProgramFormat;
 use crate::diff::Scope;
 use crate::explain::lines::LineFormat;
 use crate::findings::Terms;
+use crate::learn::{Learning, Start};
 use crate::text::Text;
 use clap::ArgMatches;
 use seccomp_compare::Relation;
 use seccomp_warnings::Code;
-use std::alloc::{AllocError, Global};
-
-// What is wrong with the words, the first of several: no text if nothing is.
-#[derive(Drop)]
-pub(super) struct Wrong(pub Text);
-
-impl Wrong {
-    // The heap.
-    pub(super) fn alloc(&self) -> Global {
-        self.0.alloc()
-    }
-
-    // Notes what is wrong, if nothing was before.
-    pub(super) fn refuse(&mut self, told: &str) {
-        if self.0.is_empty() {
-            self.0.push_str(told);
-        }
-    }
-
-    // Notes what is wrong, if nothing was before.
-    pub(super) fn refuse_with(&mut self, told: Result<String, AllocError>) {
-        if self.0.is_empty() {
-            self.0.push_format(told);
-        }
-    }
-
-    // Adds an item to a list.
-    pub(super) fn push<T: Drop>(&mut self, list: &mut Vec<T>, item: T) {
-        if list.push(item).is_err() {
-            self.0.fail();
-        }
-    }
-}
 
 // What the matches of a subcommand ask for. clap lets no words pass without one.
-pub(super) fn asked_in<'a>(matches: &ArgMatches<'a>, wrong: &mut Wrong) -> Asked<'a> {
+pub(super) fn asked_in<'a>(matches: &ArgMatches<'a>, wrong: &mut Text) -> Asked<'a> {
     let (name, found) = matches.subcommand().unwrap_or(("", matches));
     match name {
+        "check" if found.get_flag("list") => on(found, wrong, Command::Codes, &[], None),
         "check" => check_in(found, wrong),
         "compile" => compile_in(found, wrong),
         "show" => show_in(found, wrong),
@@ -69,23 +39,21 @@ pub(super) fn asked_in<'a>(matches: &ArgMatches<'a>, wrong: &mut Wrong) -> Asked
 
 // A command that is carried out on what it reads first, one after the other, and second; once if it reads nothing first. It
 // writes standard output where the file is `-`.
-pub(super) fn on<'a>(
+fn on<'a>(
     found: &ArgMatches<'a>,
-    wrong: &mut Wrong,
+    wrong: &mut Text,
     command: Command<'a>,
     firsts: &[&'a str],
     second: Option<&'a str>,
 ) -> Asked<'a> {
-    let json = format_in(found, wrong) == "json";
     let mut inputs = Vec::new(wrong.alloc());
     for index in 0..firsts.len().max(1) {
-        let first = firsts.get(index).copied();
         let input = Inputs {
-            first,
+            first: firsts.get(index).copied(),
             second,
-            json,
+            json: format_in(found) == "json",
         };
-        wrong.push(&mut inputs, input);
+        push(wrong, &mut inputs, input);
     }
     let output = match found.get_str("output") {
         Some("-") => None,
@@ -98,19 +66,11 @@ pub(super) fn on<'a>(
     }
 }
 
-fn check_in<'a>(found: &ArgMatches<'a>, wrong: &mut Wrong) -> Asked<'a> {
-    let format = match format_in(found, wrong) {
-        "gcc" => CheckFormat::Gcc,
-        "json" => CheckFormat::Json,
-        _ => CheckFormat::Text,
-    };
-    if found.get_flag("list") {
-        return on(found, wrong, Command::Codes, &[], None);
-    }
+fn check_in<'a>(found: &ArgMatches<'a>, wrong: &mut Text) -> Asked<'a> {
     let mut allowed = Vec::new(wrong.alloc());
     for name in found.get_strs("allow").unwrap_or(&[]) {
         if let Some(code) = Code::by_name(name) {
-            wrong.push(&mut allowed, code);
+            push(wrong, &mut allowed, code);
         }
     }
     let command = Command::Check(Checking {
@@ -118,20 +78,24 @@ fn check_in<'a>(found: &ArgMatches<'a>, wrong: &mut Wrong) -> Asked<'a> {
         reading: reading_in(found, wrong),
         denied: found.get_flag("deny-warnings"),
         allowed,
-        format,
+        format: match format_in(found) {
+            "gcc" => CheckFormat::Gcc,
+            "json" => CheckFormat::Json,
+            _ => CheckFormat::Text,
+        },
     });
     let subjects = found.get_strs("SUBJECT").unwrap_or(&[]);
     on(found, wrong, command, subjects, None)
 }
 
-fn compile_in<'a>(found: &ArgMatches<'a>, wrong: &mut Wrong) -> Asked<'a> {
+fn compile_in<'a>(found: &ArgMatches<'a>, wrong: &mut Text) -> Asked<'a> {
     let command = Command::Compile(Compiling {
         arch: arch_in(found),
         reading: reading_in(found, wrong),
         strict: found.get_flag("strict"),
         filter: found.get_str("filter"),
         layout: layout_in(found),
-        format: match format_in(found, wrong) {
+        format: match format_in(found) {
             "listing" => ProgramFormat::Listing,
             "c" => ProgramFormat::C,
             "json" => ProgramFormat::Json,
@@ -142,7 +106,7 @@ fn compile_in<'a>(found: &ArgMatches<'a>, wrong: &mut Wrong) -> Asked<'a> {
     on(found, wrong, command, &[path_in(found, "SUBJECT")], None)
 }
 
-fn show_in<'a>(found: &ArgMatches<'a>, wrong: &mut Wrong) -> Asked<'a> {
+fn show_in<'a>(found: &ArgMatches<'a>, wrong: &mut Text) -> Asked<'a> {
     let command = Command::Show(Showing {
         arch: arch_in(found),
         reading: reading_in(found, wrong),
@@ -153,14 +117,25 @@ fn show_in<'a>(found: &ArgMatches<'a>, wrong: &mut Wrong) -> Asked<'a> {
     on(found, wrong, command, &[path_in(found, "SUBJECT")], None)
 }
 
-fn explain_in<'a>(found: &ArgMatches<'a>, wrong: &mut Wrong) -> Asked<'a> {
+fn explain_in<'a>(found: &ArgMatches<'a>, wrong: &mut Text) -> Asked<'a> {
     let subject = path_in(found, "SUBJECT");
-    let (calls, second) = calls_in(found, wrong, subject);
+    let arguments = arguments_in(found, wrong);
+    let log = found.get_str("log");
+    let (calls, second) = match found.get_str("CALL") {
+        Some(name) => (Calls::One(Call { name, arguments }), None),
+        None if log.is_some() => (Calls::Log, log),
+        None => (Calls::Records, Some(path_in(found, "records"))),
+    };
+    if subject == "-" && second == Some("-") {
+        wrong.push_str(
+            "SUBJECT and records can't both be read from standard input: give CALL, --records or --log\n",
+        );
+    }
     let command = Command::Explain(Explaining {
         arch: arch_in(found),
         reading: reading_in(found, wrong),
         filter: found.get_str("filter"),
-        format: match format_in(found, wrong) {
+        format: match format_in(found) {
             "word" => LineFormat::Word,
             "json" => LineFormat::Json,
             _ => LineFormat::Path,
@@ -170,11 +145,11 @@ fn explain_in<'a>(found: &ArgMatches<'a>, wrong: &mut Wrong) -> Asked<'a> {
     on(found, wrong, command, &[subject], second)
 }
 
-fn diff_in<'a>(found: &ArgMatches<'a>, wrong: &mut Wrong) -> Asked<'a> {
+fn diff_in<'a>(found: &ArgMatches<'a>, wrong: &mut Text) -> Asked<'a> {
     let (old, of_old) = named_in(path_in(found, "OLD"));
     let (new, of_new) = named_in(path_in(found, "NEW"));
     if old == "-" && new == "-" {
-        wrong.refuse("OLD and NEW can't both be read from standard input");
+        wrong.push_str("OLD and NEW can't both be read from standard input\n");
     }
     let command = Command::Diff(Comparing {
         terms: Terms {
@@ -208,21 +183,50 @@ fn named_in(text: &str) -> (&str, Option<&str>) {
     }
 }
 
-fn call_in<'a>(found: &ArgMatches<'a>, wrong: &mut Wrong) -> Asked<'a> {
-    let recorded = found.get_flag("record");
-    if !recorded && found.get_str("output").unwrap_or("-") != "-" {
-        wrong.refuse("--output needs --record");
+fn learn_in<'a>(found: &ArgMatches<'a>, wrong: &mut Text) -> Asked<'a> {
+    let traces = found.get_strs("TRACE").unwrap_or(&[]);
+    let into = found.get_str("into");
+    if into == Some("-") && traces.contains(&"-") {
+        wrong.push_str("TRACE and POLICY can't both be read from standard input\n");
     }
-    if recorded && found.get_flag("json") {
-        wrong.refuse("--json and --record can't both be given");
+    let action = action_of(found.get_str("otherwise").unwrap_or("kill_process"));
+    if action.is_none() {
+        wrong.push_str(
+            "the value of --otherwise isn't kill_process, kill_thread, log, trap, errno:N or trace:N\n",
+        );
     }
+    let mut further = Vec::new(wrong.alloc());
+    for path in traces.iter().skip(1) {
+        push(wrong, &mut further, *path);
+    }
+    let command = Command::Learn(Learning {
+        arch: arch_in(found),
+        start: match action {
+            Some(action) if into.is_none() => Start::Otherwise(action),
+            _ => Start::Into,
+        },
+        name: found.get_str("name"),
+        arguments: kept_in(found, wrong),
+        most: number_in(found, wrong, "values"),
+        runnable: found.get_flag("runnable"),
+        strict: found.get_flag("strict"),
+        as_profile: found.get_flag("profile"),
+        further,
+    });
+    on(found, wrong, command, &[path_in(found, "TRACE")], into)
+}
+
+fn call_in<'a>(found: &ArgMatches<'a>, wrong: &mut Text) -> Asked<'a> {
     let command = Command::Call(Calling {
-        arch: given_arch(found),
+        arch: match found.get_str("arch") {
+            Some(_) => Some(arch_in(found)),
+            None => None,
+        },
         call: Call {
             name: path_in(found, "CALL"),
             arguments: arguments_in(found, wrong),
         },
-        recorded,
+        recorded: found.get_flag("record"),
     });
     on(found, wrong, command, &[], None)
 }

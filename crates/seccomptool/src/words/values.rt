@@ -1,17 +1,21 @@
 // The values of options and arguments, in clap's matches.
 
-use super::matches::Wrong;
-use super::{Call, Calls};
+use crate::kind::Reading;
+use crate::learn::AskedArguments;
 use crate::record::read_number;
+use crate::text::Text;
 use clap::ArgMatches;
+use seccomp_names::capability;
+use seccomp_oci::{Container, Runtime, kernel_of};
 use seccomp_tree::Layout;
-use seccompiler::TargetArch;
+use seccompiler::{SeccompAction, TargetArch};
 
-const NO_ARGUMENT: &str =
-    "an ARG isn't a number from -9223372036854775808 to 18446744073709551615, decimal or hexadecimal after 0x";
-
-const BOTH: &str =
-    "SUBJECT and records can't both be read from standard input: give CALL, --records or --log";
+// Adds an item to a list.
+pub(super) fn push<T: Drop>(wrong: &mut Text, list: &mut Vec<T>, item: T) {
+    if list.push(item).is_err() {
+        wrong.fail();
+    }
+}
 
 // The path that is given, or standard input.
 pub(super) fn path_in<'a>(found: &ArgMatches<'a>, id: &str) -> &'a str {
@@ -19,16 +23,10 @@ pub(super) fn path_in<'a>(found: &ArgMatches<'a>, id: &str) -> &'a str {
 }
 
 pub(super) fn arch_in(found: &ArgMatches<'_>) -> TargetArch {
-    given_arch(found).unwrap_or(TargetArch::x86_64)
-}
-
-// The architecture that is given, or is one where none is.
-pub(super) fn given_arch(found: &ArgMatches<'_>) -> Option<TargetArch> {
     match found.get_str("arch") {
-        None => None,
-        Some("aarch64" | "arm64") => Some(TargetArch::aarch64),
-        Some("riscv64") => Some(TargetArch::riscv64),
-        Some(_) => Some(TargetArch::x86_64),
+        Some("aarch64" | "arm64") => TargetArch::aarch64,
+        Some("riscv64") => TargetArch::riscv64,
+        _ => TargetArch::x86_64,
     }
 }
 
@@ -39,82 +37,120 @@ pub(super) fn layout_in(found: &ArgMatches<'_>) -> Layout {
     }
 }
 
-// The format that is asked for: `json` with --json, beside which none but that and the usual one may be given.
-pub(super) fn format_in<'a>(found: &ArgMatches<'a>, wrong: &mut Wrong) -> &'a str {
-    let format = found.get_str("format").unwrap_or("");
-    if !found.get_flag("json") {
-        return format;
+// The format that is asked for: `json` with --json.
+pub(super) fn format_in<'a>(found: &ArgMatches<'a>) -> &'a str {
+    if found.get_flag("json") {
+        return "json";
     }
-    if !["", "json", "raw", "path"].contains(&format) {
-        wrong.refuse("--json and another --format can't both be given");
-    }
-    "json"
+    found.get_str("format").unwrap_or("")
 }
 
 // The number that an option gives.
-pub(super) fn number_in(found: &ArgMatches<'_>, wrong: &mut Wrong, option: &str) -> usize {
+pub(super) fn number_in(found: &ArgMatches<'_>, wrong: &mut Text, option: &str) -> usize {
     let number = read_number(found.get_str(option).unwrap_or(""));
     if number.is_none() {
-        wrong.refuse_with(format!(in wrong.alloc();
-            "the value of --{option} isn't a number from 0 to 18446744073709551615, decimal or hexadecimal after 0x"
+        wrong.push_format(format!(in wrong.alloc();
+            "the value of --{option} isn't a number from 0 to 18446744073709551615, decimal or hexadecimal after 0x\n"
         ));
     }
     number.unwrap_or(0) as usize
 }
 
-// The calls that are asked about, and the path of records or of a log; both what is explained and these may not be standard input.
-pub(super) fn calls_in<'a>(
-    found: &ArgMatches<'a>,
-    wrong: &mut Wrong,
-    subject: &str,
-) -> (Calls<'a>, Option<&'a str>) {
-    let arguments = arguments_in(found, wrong);
-    let call = found.get_str("CALL");
-    let records = found.get_str("records");
-    let log = found.get_str("log");
-    let path = log.or(records).unwrap_or("-");
-    if call.is_some() && records.is_some() {
-        wrong.refuse("CALL and --records can't both be given");
-    }
-    if call.is_some() && log.is_some() {
-        wrong.refuse("CALL and --log can't both be given");
-    }
-    if records.is_some() && log.is_some() {
-        wrong.refuse("--records and --log can't both be given");
-    }
-    if call.is_none() && path == "-" && subject == "-" {
-        wrong.refuse(BOTH);
-    }
-    match call {
-        Some(name) => (Calls::One(Call { name, arguments }), None),
-        None if log.is_some() => (Calls::Log, Some(path)),
-        None => (Calls::Records, Some(path)),
-    }
-}
-
-// The arguments of a call, with zeros behind them.
-pub(super) fn arguments_in(found: &ArgMatches<'_>, wrong: &mut Wrong) -> [u64; 6] {
+// The arguments of a call, a negative one as its two's complement, with zeros behind them.
+pub(super) fn arguments_in(found: &ArgMatches<'_>, wrong: &mut Text) -> [u64; 6] {
     let mut arguments = [0; 6];
-    let texts = found.get_strs("ARG").unwrap_or(&[]);
-    if texts.len() > 6 {
-        wrong.refuse("a call has at most 6 arguments");
-    }
-    for (argument, text) in arguments.iter_mut().zip(texts) {
-        match argument_of(text) {
-            Some(number) => *argument = number,
-            None => wrong.refuse(NO_ARGUMENT),
+    for (index, text) in found.get_strs("ARG").unwrap_or(&[]).iter().enumerate() {
+        let number = match text.strip_prefix("-") {
+            None => read_number(text),
+            Some(digits) => match read_number(digits) {
+                Some(number @ 1..=0x8000_0000_0000_0000) => Some(number.wrapping_neg()),
+                _ => None,
+            },
+        };
+        match (arguments.get_mut(index), number) {
+            (Some(argument), Some(number)) => *argument = number,
+            (None, _) => wrong.push_str("a call has at most 6 arguments\n"),
+            _ => wrong.push_str(
+                "an ARG isn't a number from -9223372036854775808 to 18446744073709551615, decimal or hexadecimal after 0x\n",
+            ),
         }
     }
     arguments
 }
 
-// The argument that a text writes, a negative one as its two's complement.
-fn argument_of(text: &str) -> Option<u64> {
-    let Some(digits) = text.strip_prefix("-") else {
-        return read_number(text);
-    };
-    match read_number(digits)? {
-        number @ 1..=0x8000_0000_0000_0000 => Some(u64::MAX - number + 1),
+// How what is given is read: whether as profiles, and in the container of the capabilities that `--cap` names, of the kernel that
+// `--kernel` names, and of the runtime of `--runtime`; and whether names that are left out are listed.
+pub(super) fn reading_in(found: &ArgMatches<'_>, wrong: &mut Text) -> Reading {
+    let version = found.get_str("kernel");
+    let kernel = kernel_of(version.unwrap_or(""));
+    if version.is_some() && kernel.is_none() {
+        wrong.push_str("the value of --kernel isn't a version of two numbers, such as 6.1\n");
+    }
+    Reading {
+        of_profiles: found.get_flag("oci"),
+        container: Container {
+            caps: caps_in(found, wrong),
+            kernel,
+            runtime: match found.get_str("runtime") {
+                Some("runc") => Runtime::Runc,
+                _ => Runtime::Crun,
+            },
+        },
+        listed: found.get_flag("verbose"),
+    }
+}
+
+// The capabilities that are given, as profiles name them.
+fn caps_in(found: &ArgMatches<'_>, wrong: &mut Text) -> Vec<String> {
+    let alloc = wrong.alloc();
+    let mut caps = Vec::new(alloc);
+    for list in found.get_strs("cap").unwrap_or(&[]) {
+        for name in list.split(',') {
+            match capability(name) {
+                Some(cap) => match String::from_str(alloc, cap) {
+                    Ok(cap) => push(wrong, &mut caps, cap),
+                    Err(_) => wrong.fail(),
+                },
+                None => wrong.push_format(format!(in alloc; "no capability is called '{name}'\n")),
+            }
+        }
+    }
+    caps
+}
+
+// The action that a text names; a number that it has is one that 16 bits hold.
+pub(super) fn action_of(text: &str) -> Option<SeccompAction> {
+    match text {
+        "kill_process" => return Some(SeccompAction::KillProcess),
+        "kill_thread" => return Some(SeccompAction::KillThread),
+        "log" => return Some(SeccompAction::Log),
+        "trap" => return Some(SeccompAction::Trap),
+        _ => {}
+    }
+    let (name, number) = text.split_once(':')?;
+    let number = u32::from(u16::try_from(read_number(number)?).ok()?);
+    match name {
+        "errno" => Some(SeccompAction::Errno(number)),
+        "trace" => Some(SeccompAction::Trace(number)),
         _ => None,
     }
+}
+
+// The arguments whose values are kept.
+pub(super) fn kept_in<'a>(found: &ArgMatches<'a>, wrong: &mut Text) -> Vec<AskedArguments<'a>> {
+    let mut all = Vec::new(wrong.alloc());
+    for text in found.get_strs("args").unwrap_or(&[]) {
+        let (call, list) = text.split_once(':').unwrap_or((*text, "0,1,2,3,4,5"));
+        let mut indices = [false; 6];
+        for index in list.split(',') {
+            match read_number(index) {
+                Some(index @ 0..=5) => indices[index as usize] = true,
+                _ => wrong.push_str(
+                    "the value of --args isn't CALL or CALL:INDEX,.. with indices from 0 to 5\n",
+                ),
+            }
+        }
+        push(wrong, &mut all, AskedArguments { call, indices });
+    }
+    all
 }

@@ -9,10 +9,15 @@ use seccompiler::json::filters_of;
 use seccompiler::{JsonFrontendError, TargetArch};
 use std::alloc::{AllocError, Global};
 
-// Tells a failure: the program, the file that it is in, and the error, in one line.
+// Tells a failure, and the file that it is in.
 pub(crate) fn tell(rt: &(impl Eprint + AllocGlobal), inputs: Inputs<'_>, error: &ToolError) {
-    let _ = match failure_line(rt.alloc(), inputs, error) {
-        Ok(line) => eprintln!(rt; "{line}"),
+    let path = match error {
+        ToolError::OutOfMemory | ToolError::UnknownCall(_, _) | ToolError::Told(_) => None,
+        ToolError::Second(_) => Some(inputs.second.unwrap_or("-")),
+        _ => Some(inputs.first.unwrap_or("-")),
+    };
+    let _ = match failure(rt.alloc(), path, error) {
+        Ok(line) => eprint!(rt; "{line}"),
         Err(_) => eprintln!(rt; "seccomptool: Out of memory."),
     };
 }
@@ -24,21 +29,21 @@ pub(crate) fn tell_notes(rt: &(impl Eprint + AllocGlobal), notes: &[u8]) {
     }
 }
 
-fn failure_line(
+// The line of a failure: the program, the path of what it is in, and the error.
+pub(crate) fn failure(
     alloc: Global,
-    inputs: Inputs<'_>,
+    path: Option<&str>,
     error: &ToolError,
 ) -> Result<String, AllocError> {
+    let told = format!(in alloc; "{error}")?;
     let mut line = Text::new(alloc);
     line.push_str("seccomptool: ");
-    match error {
-        ToolError::OutOfMemory => return Err(AllocError),
-        ToolError::UnknownCall(_, _) | ToolError::Told(_) => {}
-        ToolError::Second(_) => push_front(&mut line, inputs.second.unwrap_or("-")),
-        _ => push_front(&mut line, inputs.first.unwrap_or("-")),
+    if let Some(path) = path {
+        push_front(&mut line, path);
     }
-    line.push_display(error);
-    readable(alloc, &line.finish()?, TextKind::Line)
+    line.push_readable(told.as_str(), TextKind::Line);
+    line.push_str("\n");
+    line.finish_string()
 }
 
 // Adds the line of a note on what stands at this path.

@@ -14,12 +14,10 @@ use crate::error::ToolError;
 use crate::findings::Verdict;
 use crate::kind::{Subject, subject_of};
 use crate::made::Made;
-use crate::notes::note;
+use crate::notes::failure;
 use crate::profile::profile_notes;
 use crate::run::program::program_of;
-use crate::text::Text;
 use crate::words::Checking;
-use seccomp_command_line::readable::{TextKind, readable};
 use std::alloc::{AllocError, Global};
 
 pub(crate) fn check_made(
@@ -90,11 +88,7 @@ fn rejected(
     ensures { IfOk result (λ made. made.verdict ≡ Different) }
 {
     if let CheckFormat::Text = format {
-        let told = format!(in alloc; "{error}")?;
-        let told = readable(alloc, told.as_str(), TextKind::Line);
-        let mut notes = Text::new(alloc);
-        note(&mut notes, path, told);
-        let notes = notes.finish()?;
+        let notes = failure(alloc, Some(path), error)?.into_bytes();
         return Ok(Made::noting(Vec::new(alloc), Verdict::Different, notes));
     }
     let lines = Lines::new(alloc, format, path, given)?;

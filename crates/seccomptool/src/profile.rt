@@ -11,7 +11,7 @@ use seccomp_command_line::readable::TextKind;
 use seccomp_oci::{CompileError, CompiledProfile, Container, Flag, compile_profile};
 use seccompiler::TargetArch;
 use std::alloc::{AllocError, Global};
-use std::collections::BTreeMap;
+use std::collections::BTreeSet;
 
 /// The program of a profile's text. If it isn't strict, names that no call of the architecture has are left out.
 pub(crate) fn compiled_of(
@@ -43,17 +43,13 @@ pub(crate) fn profile_notes(
 ) -> Result<Vec<u8>, AllocError> {
     let mut notes = Text::new(alloc);
     let (count, names) = each_once(alloc, left_out)?;
+    let names = if listed { names.as_str() } else { "" };
     if count > 0 {
-        let mut told = Text::new(alloc);
-        told.push_format(match count {
-            1 => format!(in alloc; "1 name that {arch} has no call for is left out"),
-            _ => format!(in alloc; "{count} names that {arch} has no call for are left out"),
-        });
-        if listed {
-            told.push_str(": ");
-            told.push_str(names.as_str());
-        }
-        note(&mut notes, path, told.finish_string());
+        let told = match count {
+            1 => format!(in alloc; "1 name that {arch} has no call for is left out{names}"),
+            _ => format!(in alloc; "{count} names that {arch} has no call for are left out{names}"),
+        };
+        note(&mut notes, path, told);
     }
     if !flags.is_empty() {
         let (mut told, mut front) = (Text::new(alloc), ": ");
@@ -81,26 +77,23 @@ pub(crate) fn uncompiled(
     arch: TargetArch,
     error: ToolError,
 ) -> Result<ToolError, AllocError> {
-    let error = match error {
-        ToolError::Profile(error) => error,
-        error => return Ok(error),
+    let ToolError::Profile(CompileError::UnknownNames(names)) = &error else {
+        return Ok(error);
     };
-    match error {
-        CompileError::UnknownNames(names) => {
-            let (count, names) = each_once(alloc, &names)?;
-            let told = format!(in alloc; "not system calls of {arch} ({count}): {names}")?;
-            Ok(ToolError::Fault(told))
-        }
-        error => Ok(ToolError::Profile(error)),
-    }
+    let once = each_once(alloc, names);
+    // Here, so that no branch below has to.
+    drop(error);
+    let (count, names) = once?;
+    let told = format!(in alloc; "not system calls of {arch} ({count}){names}")?;
+    Ok(ToolError::Fault(told))
 }
 
-// How many different names these are, and their list as people read it, each where it first stands.
+// How many different names these are, and their list as people read it behind a colon, each where it first stands.
 fn each_once(alloc: Global, names: &[String]) -> Result<(usize, String), AllocError> {
-    let mut told = BTreeMap::new(alloc);
-    let (mut list, mut front) = (Text::new(alloc), "");
+    let mut told = BTreeSet::new(alloc);
+    let (mut list, mut front) = (Text::new(alloc), ": ");
     for name in names {
-        if told.insert(name.as_str(), ())?.is_none() {
+        if told.insert(name.as_str())? {
             list.push_str(front);
             list.push_readable(name.as_str(), TextKind::Name);
             front = ", ";

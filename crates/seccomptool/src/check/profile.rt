@@ -10,7 +10,9 @@ use crate::error::ToolError;
 use crate::profile::compiled_of;
 use seccomp_oci::{CompiledProfile, Container, Profile, profile_of};
 use seccomp_profile_checks::{Doubt, EntryFilter, Origin, doubts_of, entry_filters_of};
-use seccomp_warnings::{Code, Subject, Warning, denies_each, judgements_of, warnings_of};
+use seccomp_warnings::{
+    Code, Comparison, Subject, Warning, denies_each, judgements_of, warnings_of,
+};
 use seccompiler::{SeccompAction, TargetArch};
 use serde_json::Value;
 use std::alloc::{AllocError, Global};
@@ -137,10 +139,8 @@ pub(crate) fn code_of(warning: &ProfileWarning) -> Code
         ProfileWarning::Doubtful(doubt) => match doubt {
             Doubt::EqualsDefault { .. } | Doubt::Behind { .. } => Code::NoEffect,
             Doubt::OpenOrder { .. } => Code::OpenOrder,
-            Doubt::SameConditions { .. } | Doubt::LargeErrno { .. } | Doubt::LargeDefaultErrno => {
-                Code::RefusedByLibseccomp
-            }
             Doubt::ManyConditions { .. } => Code::RuntimesDiffer,
+            _ => Code::RefusedByLibseccomp,
         },
         ProfileWarning::Flags => Code::RuntimesDiffer,
         ProfileWarning::UnknownKey(_) => Code::UnknownKey,
@@ -148,17 +148,15 @@ pub(crate) fn code_of(warning: &ProfileWarning) -> Code
     }
 }
 
-// The keys of a text's object that are passed over.
+// The keys of a profile's text, which is an object, that are passed over.
 fn unknown_keys(alloc: Global, text: &[u8]) -> Result<Vec<String>, AllocError> {
-    let Ok(value) = Value::from_slice(alloc, text) else {
+    let Ok(Value::Object(members)) = Value::from_slice(alloc, text) else {
         return Err(AllocError);
     };
     let mut keys = Vec::new(alloc);
-    if let Value::Object(members) = &value {
-        for (key, _) in members.iter() {
-            if !KEYS.contains(&key.as_str()) {
-                keys.push(String::from_str(alloc, key.as_str())?)?;
-            }
+    for (key, _) in members.iter() {
+        if !KEYS.contains(&key.as_str()) {
+            keys.push(String::from_str(alloc, key.as_str())?)?;
         }
     }
     Ok(keys)
@@ -174,9 +172,10 @@ fn warnings_of_entries(
     ensures { IfOk result (λ all. AreOfEntries target all.items) }
 {
     let filters = entry_filters_of(alloc, target, container, profile)?;
-    let denied = filters
-        .iter()
-        .any(|filter| denies_each(&filter.filter, "clone3"));
+    let mut denied = false;
+    for filter in &filters {
+        denied |= denies_each(&filter.filter, "clone3");
+    }
     let has_base = !matches!(profile.default, SeccompAction::Allow);
     let mut all = Vec::new(alloc);
     for (place, filter) in filters.iter().enumerate() {
@@ -244,22 +243,18 @@ fn parts_of(
     subject: Subject,
 ) -> Result<Vec<ProfilePart>, AllocError> {
     let mut parts = Vec::new(alloc);
-    let place = match subject {
-        Subject::MismatchAction(_) | Subject::MismatchCall(_) => {
-            parts.push(ProfilePart::Default)?;
-            return Ok(parts);
-        }
+    match subject {
+        Subject::MismatchAction(_) | Subject::MismatchCall(_) => parts.push(ProfilePart::Default)?,
         Subject::MatchAction(_) => {
             for origin in &filter.origins {
                 parts.push(ProfilePart::Action(origin.entry))?;
             }
-            return Ok(parts);
         }
-        Subject::Entry(place) => place,
-        Subject::Condition(comparison) => comparison.entry,
-    };
-    if let Some(origin) = filter.origins.get(place) {
-        parts.push(ProfilePart::Rule(*origin))?;
+        Subject::Entry(entry) | Subject::Condition(Comparison { entry, .. }) => {
+            if let Some(origin) = filter.origins.get(entry) {
+                parts.push(ProfilePart::Rule(*origin))?;
+            }
+        }
     }
     Ok(parts)
 }

@@ -1,10 +1,10 @@
 // The first fault of a policy, or else its warnings.
 
-pub(crate) mod diagnostic;
 pub(crate) mod fault;
 pub mod format;
 pub(crate) mod made;
 pub(crate) mod outline;
+pub(crate) mod policy;
 pub mod profile;
 
 ghost use Rattle.std.specs.Prelude.{◌≡◌, IfErr, IfOk};

@@ -1,13 +1,12 @@
 // The forms of what `check` says.
 
-use crate::check::diagnostic::{Diagnostic, Path, Place};
-use crate::check::outline::{Outline, Position};
+use crate::check::outline::{Outline, Place, Position};
 use crate::json::{Object, OrNull};
 use crate::notes::push_front;
 use crate::text::Text;
-use seccomp_check::Step;
 use seccomp_command_line::readable::TextKind;
 use std::alloc::{AllocError, Global};
+use std::mem;
 
 /// How `check` writes what it says.
 #[derive(Clone, Copy)]
@@ -20,8 +19,8 @@ pub enum CheckFormat {
     Json,
 }
 
-/// What is said of the text at a path, in the making: lines for people or as gcc's; or JSON, an object for each diagnostic, in a line,
-/// with a comma behind it.
+/// What is said of a text, in the making: lines for people or as gcc's; or JSON, an object for each diagnostic, in a line, with a
+/// comma behind it. What is noted of the next diagnostic is forgotten once it is added.
 #[derive(Drop)]
 pub(crate) struct Lines<'a> {
     format: CheckFormat,
@@ -30,6 +29,16 @@ pub(crate) struct Lines<'a> {
     pub outline: Outline,
     /// What is said so far.
     pub text: Text,
+    /// The path of what the next diagnostic is about, with a point in front of each key.
+    pub path: Text,
+    /// The number of the value there, or else of the last one on the way.
+    pub number: usize,
+    /// Where it is found.
+    pub place: Place,
+    /// The name of the call that it is about, if it is about one of several.
+    pub call: Option<&'static str>,
+    /// What may have been meant by the value there.
+    pub suggestion: Option<&'static str>,
 }
 
 impl Lines<'_> {
@@ -50,29 +59,46 @@ impl Lines<'_> {
             file,
             outline,
             text: Text::new(alloc),
+            path: Text::new(alloc),
+            number: 0,
+            place: Place::Value,
+            call: None,
+            suggestion: None,
         })
     }
 
-    /// Adds what is said of what a path leads to: of all of the text, if it has no steps. A line of gcc is
+    /// Goes on to what is under this key.
+    pub(crate) fn key(&mut self, key: &str) {
+        self.path.push_str(".");
+        self.path.push_str(key);
+        self.number = self.outline.inner(self.number, key);
+    }
+
+    /// Goes on to the item at this place.
+    pub(crate) fn item(&mut self, place: usize) {
+        match format!(in self.text.alloc(); "[{place}]") {
+            Ok(step) => {
+                self.path.push_str(step.as_str());
+                self.number = self.outline.inner(self.number, step.as_str());
+            }
+            Err(_) => self.text.fail(),
+        }
+    }
+
+    /// Adds a diagnostic of what the path leads to: of all of the text, if it has no steps. A line of gcc is
     /// `FILE:LINE:COLUMN: SEVERITY: PATH: MESSAGE [CODE]`, without a place or path that there isn't; standard input is `-`.
-    pub(crate) fn push(&mut self, path: &[Step], diagnostic: Diagnostic<'_>) {
-        let text = &mut self.text;
-        let alloc = text.alloc();
-        let position = self.outline.position_of(path, diagnostic.place);
-        let Ok(subject) = path_text(alloc, path) else {
+    pub(crate) fn push(&mut self, severity: &str, code: &str, message: &str) {
+        let (alloc, text) = (self.text.alloc(), &mut self.text);
+        let position = self.outline.position_of(self.number, self.place);
+        let path = mem::replace(&mut self.path, Text::new(alloc));
+        let Ok(path) = path.finish_string() else {
             return text.fail();
         };
-        let subject = subject.as_str();
-        let Diagnostic {
-            severity,
-            code,
-            message,
-            ..
-        } = diagnostic;
+        let subject = path.as_str().strip_prefix('.').unwrap_or(path.as_str());
         match self.format {
             CheckFormat::Text => {
                 push_front(text, self.file);
-                push_subject(text, subject, diagnostic);
+                push_subject(text, subject, self.place, self.call);
                 text.push_format(format!(in alloc; ": warning [{code}]: {message}\n"));
             }
             CheckFormat::Gcc => {
@@ -81,65 +107,45 @@ impl Lines<'_> {
                     text.push_format(format!(in alloc; ":{line}:{column}"));
                 }
                 text.push_format(format!(in alloc; ": {severity}: "));
-                push_subject(text, subject, diagnostic);
-                if !path.is_empty() {
-                    text.push_str(": ");
-                }
+                push_subject(text, subject, self.place, self.call);
+                text.push_str(if path.is_empty() { "" } else { ": " });
                 text.push_readable(message, TextKind::Line);
                 text.push_format(format!(in alloc; " [{code}]\n"));
             }
             CheckFormat::Json => {
-                text.push_item(object_of(alloc, self.file, subject, position, diagnostic));
+                let mut object = place_object(alloc, self.file, position);
+                object.field("path", subject);
+                object.field("call", OrNull(self.call));
+                object.field("code", code);
+                object.field("severity", severity);
+                object.field("message", message);
+                object.field("suggestion", OrNull(self.suggestion));
+                text.push_item(object);
             }
         }
+        self.number = 0;
+        self.place = Place::Value;
+        self.call = None;
+        self.suggestion = None;
     }
-
-    /// Adds what is said of what this path leads to.
-    pub(crate) fn push_at(&mut self, path: Path, diagnostic: Diagnostic<'_>) {
-        if path.is_missing {
-            self.text.fail();
-        }
-        self.push(&path.steps, diagnostic);
-    }
-}
-
-// The text of a path.
-fn path_text(alloc: Global, path: &[Step]) -> Result<String, AllocError> {
-    let mut text = Text::new(alloc);
-    for (place, step) in path.iter().enumerate() {
-        match step {
-            Step::Item(item) => text.push_format(format!(in alloc; "[{item}]")),
-            Step::Key(name) => {
-                text.push_str(if place > 0 { "." } else { "" });
-                text.push_str(name.as_str());
-            }
-        }
-    }
-    text.finish_string()
 }
 
 // Adds what a diagnostic is about: its path, and the call behind it. A key stands in quotes.
-fn push_subject(text: &mut Text, subject: &str, diagnostic: Diagnostic<'_>) {
-    let quote = match diagnostic.place {
+fn push_subject(text: &mut Text, path: &str, place: Place, call: Option<&str>) {
+    let quote = match place {
         Place::Key => "\"",
         _ => "",
     };
     text.push_str(quote);
-    text.push_readable(subject, TextKind::Name);
+    text.push_readable(path, TextKind::Name);
     text.push_str(quote);
-    if let Some(call) = diagnostic.call {
+    if let Some(call) = call {
         text.push_format(format!(in text.alloc(); " ({call})"));
     }
 }
 
-// A diagnostic as JSON.
-fn object_of(
-    alloc: Global,
-    file: &str,
-    subject: &str,
-    position: Option<Position>,
-    diagnostic: Diagnostic<'_>,
-) -> Object {
+// The place of a diagnostic as JSON, to which the rest is added.
+fn place_object(alloc: Global, file: &str, position: Option<Position>) -> Object {
     let (line, column) = match position {
         Some(Position { line, column }) => (Some(line), Some(column)),
         None => (None, None),
@@ -148,11 +154,5 @@ fn object_of(
     object.field("file", file);
     object.field("line", line);
     object.field("column", column);
-    object.field("path", subject);
-    object.field("call", OrNull(diagnostic.call));
-    object.field("code", diagnostic.code);
-    object.field("severity", diagnostic.severity);
-    object.field("message", diagnostic.message);
-    object.field("suggestion", OrNull(diagnostic.suggestion));
     object
 }

@@ -4,9 +4,9 @@ ghost use Rattle.std.specs.Prelude.{◌≡◌, IfErr, IfOk};
 ghost use Rattle.seccomptool.specs.Commands.{IsAccepted, IsCheck, IsRejectedFor};
 ghost use Rattle.seccomptool.specs.declared.findings.Verdict.TheVariants.{Different};
 
-use crate::check::diagnostic::policy_text;
 use crate::check::fault::error_text;
 use crate::check::format::{CheckFormat, Lines};
+use crate::check::policy::policy_text;
 use crate::check::profile::lines::profile_text;
 use crate::check::profile::profile_checked;
 use crate::check::{checked, verdict_where};

@@ -2,11 +2,13 @@
 
 ghost use Rattle.std.specs.Prelude.{◌≤◌, length};
 
-use crate::check::diagnostic::{Path, Place};
-use seccomp_check::Step;
+use crate::text::Text;
 use serde_json::Value;
 use std::alloc::{AllocError, Global};
 use std::collections::BTreeMap;
+
+// The bytes that end a number or a name.
+const MARKS: &[u8] = b"{}[],:\" \t\r\n";
 
 /// A place of a text: its line, and the column of its byte in this line, both from 1.
 #[derive(Clone, Copy)]
@@ -17,27 +19,25 @@ pub(crate) struct Position {
     pub column: usize,
 }
 
+/// Where a diagnostic of a value is found.
+#[derive(Clone, Copy)]
+pub(crate) enum Place {
+    /// Where the value begins.
+    Value,
+    /// Where the value's key begins, which is what it is about.
+    Key,
+    /// Here, or nowhere.
+    At(Option<Position>),
+}
+
 // A value of a JSON text.
 #[derive(Drop)]
 struct Located {
     // Where it begins, and where its key does, or itself if it has none.
     begins: Position,
     key: Position,
-    // The numbers of the values in it: by their keys, or in their order.
-    members: BTreeMap<String, usize>,
-    items: Vec<usize>,
-}
-
-impl Located {
-    // The number of the value under a key. A filter's actions have two names.
-    fn member(&self, name: &str) -> Option<&usize> {
-        let other = match name {
-            "mismatch_action" => "default_action",
-            "match_action" => "filter_action",
-            _ => name,
-        };
-        self.members.get(name).or(self.members.get(other))
-    }
+    // The numbers of the values in it, by their keys, or by their places in brackets.
+    inner: BTreeMap<String, usize>,
 }
 
 // An array or an object whose end isn't read: its number, and the place and the key of what is read of it.
@@ -52,9 +52,10 @@ struct Open {
 /// The values of a JSON text.
 #[derive(Drop)]
 pub(crate) struct Outline {
+    // By their numbers, in the order in which they begin.
     values: Vec<Located>,
-    /// The first key that its object has already: the way to its value, and where the key begins.
-    pub repeated: Option<(Path, Position)>,
+    /// The first key that its object has already: the path of its value, and where the key begins.
+    pub repeated: Option<(Text, Position)>,
     // How far the text is read: where that is, and the arrays and objects around.
     at: Position,
     open: Vec<Open>,
@@ -79,41 +80,29 @@ impl Outline {
         Ok(outline)
     }
 
-    /// Where what is said of what a path leads to is found: of the last value on the way, if it leads to none.
-    pub(crate) fn position_of(&self, path: &[Step], place: Place) -> Option<Position> {
-        if let Place::At(position) = place {
-            return position;
-        }
-        let value = self.values.get(self.number_of(path))?;
-        match place {
-            Place::Key => Some(value.key),
-            _ => Some(value.begins),
-        }
+    /// The number of the value under a key of this one, or at a place in brackets; or of this one, if there is none. A filter's
+    /// actions have two names.
+    pub(crate) fn inner(&self, number: usize, step: &str) -> usize {
+        let Some(outer) = self.values.get(number) else {
+            return number;
+        };
+        let other = match step {
+            "mismatch_action" => "default_action",
+            "match_action" => "filter_action",
+            _ => step,
+        };
+        let inner = outer.inner.get(step).or(outer.inner.get(other));
+        *inner.unwrap_or(&number)
     }
 
-    /// Where a key begins in the value to which a path leads.
-    pub(crate) fn key_in(&self, path: &[Step], key: &str) -> Option<Position> {
-        let outer = self.values.get(self.number_of(path))?;
-        Some(self.values.get(*outer.members.get(key)?)?.key)
-    }
-
-    // The number of the value to which a path leads, or else of the last one on the way.
-    fn number_of(&self, path: &[Step]) -> usize {
-        let mut number = 0;
-        for step in path {
-            let Some(outer) = self.values.get(number) else {
-                break;
-            };
-            let inner = match step {
-                Step::Key(name) => outer.member(name.as_str()),
-                Step::Item(item) => outer.items.get(*item),
-            };
-            match inner {
-                Some(inner) => number = *inner,
-                None => break,
-            }
+    /// Where a diagnostic of the value of this number is found.
+    pub(crate) fn position_of(&self, number: usize, place: Place) -> Option<Position> {
+        match (place, self.values.get(number)) {
+            (Place::At(position), _) => position,
+            (Place::Value, Some(value)) => Some(value.begins),
+            (Place::Key, Some(value)) => Some(value.key),
+            (_, None) => None,
         }
-        number
     }
 
     // Takes the next piece of the text: a string is a key if it stands in an object and behind no other.
@@ -122,10 +111,8 @@ impl Outline {
         self.at.column = begins.column.saturating_add(piece.len());
         match piece {
             [b'\n', ..] => {
-                self.at = Position {
-                    line: begins.line.saturating_add(1),
-                    column: 1,
-                };
+                self.at.line = begins.line.saturating_add(1);
+                self.at.column = 1;
             }
             [] | [b':' | b' ' | b'\t' | b'\r', ..] => {}
             [b'}' | b']', ..] => drop(self.open.pop()),
@@ -150,24 +137,24 @@ impl Outline {
         let number = self.values.len();
         let mut key = begins;
         if let Some(open) = self.open.last() {
+            let step = match &open.key {
+                None => format!(in alloc; "[{}]", open.place),
+                Some((place, name)) => {
+                    key = *place;
+                    String::from_str(alloc, name.as_str())
+                }
+            }?;
             if let Some(outer) = self.values.get_mut(open.number) {
-                match &open.key {
-                    None => outer.items.push(number)?,
-                    Some((place, name)) => {
-                        key = *place;
-                        let earlier = outer.members.insert(name.clone()?, number)?;
-                        if earlier.is_some() && self.repeated.is_none() {
-                            self.repeated = Some((self.way(alloc), key));
-                        }
-                    }
+                let earlier = outer.inner.insert(step, number)?;
+                if earlier.is_some() && self.repeated.is_none() {
+                    self.repeated = Some((self.path(alloc), key));
                 }
             }
         }
         self.values.push(Located {
             begins,
             key,
-            members: BTreeMap::new(alloc),
-            items: Vec::new(alloc),
+            inner: BTreeMap::new(alloc),
         })?;
         if matches!(first, b'{' | b'[') {
             self.open.push(Open {
@@ -180,16 +167,16 @@ impl Outline {
         Ok(())
     }
 
-    // The way to what is read of the arrays and objects around.
-    fn way(&self, alloc: Global) -> Path {
-        let mut way = Path::new(alloc);
+    // The path of what is read of the arrays and objects around.
+    fn path(&self, alloc: Global) -> Text {
+        let mut path = Text::new(alloc);
         for open in &self.open {
-            match &open.key {
-                Some((_, name)) => way.key(name.as_str()),
-                None => way.step(Step::Item(open.place)),
-            }
+            path.push_format(match &open.key {
+                None => format!(in alloc; "[{}]", open.place),
+                Some((_, name)) => format!(in alloc; ".{name}"),
+            });
         }
-        way
+        path
     }
 }
 
@@ -197,32 +184,14 @@ impl Outline {
 fn piece_len(text: &[u8]) -> usize
     ensures { result ≤ length text.now }
 {
-    if let [b'"', ..] = text {
-        return string_end(text);
-    }
-    for place in 1..text.len() {
-        if is_mark(text[0]) || is_mark(text[place]) {
-            return place;
-        }
-    }
-    text.len()
-}
-
-// Whether a byte is a mark or white space.
-fn is_mark(byte: u8) -> bool {
-    matches!(byte, b'{' | b'}' | b'[' | b']' | b',' | b':' | b'"') || byte.is_ascii_whitespace()
-}
-
-// Where the string ends that a text begins with.
-fn string_end(text: &[u8]) -> usize
-    ensures { result ≤ length text.now }
-{
     let mut is_escaped = false;
     for place in 1..text.len() {
-        match text[place] {
-            _ if is_escaped => is_escaped = false,
-            b'\\' => is_escaped = true,
-            b'"' => return place + 1,
+        match (text[0], text[place]) {
+            (b'"', _) if is_escaped => is_escaped = false,
+            (b'"', b'\\') => is_escaped = true,
+            (b'"', b'"') => return place + 1,
+            (b'"', _) => {}
+            (first, next) if MARKS.contains(&first) || MARKS.contains(&next) => return place,
             _ => {}
         }
     }
@@ -231,10 +200,9 @@ fn string_end(text: &[u8]) -> usize
 
 // What a key says.
 fn name_in(alloc: Global, key: &[u8]) -> Result<String, AllocError> {
-    let value = match Value::from_slice(alloc, key) {
-        Ok(value) => value,
-        Err(error) if error.is_memory() => return Err(AllocError),
-        Err(_) => Value::Null,
-    };
-    String::from_str(alloc, value.as_str().unwrap_or(""))
+    match Value::from_slice(alloc, key) {
+        Ok(value) => String::from_str(alloc, value.as_str().unwrap_or("")),
+        Err(error) if error.is_memory() => Err(AllocError),
+        Err(_error) => Ok(String::new(alloc)),
+    }
 }

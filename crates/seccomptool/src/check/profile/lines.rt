@@ -1,27 +1,34 @@
 // What is said of the warnings of a profile.
 
-use crate::check::diagnostic::{Diagnostic, Path, Place};
 use crate::check::format::Lines;
+use crate::check::outline::Place;
 use crate::check::profile::{CheckedProfile, ProfilePart, ProfileWarning, code_of};
 use crate::explain::search::word_at;
 use crate::findings::lines::{Example, Shown};
-use crate::findings::parts::name_of;
 use crate::json::call_name;
 use crate::record::call_number;
-use seccomp_check::Step;
-use seccomp_oci::{Container, Profile, applies};
+use seccomp_oci::{Container, Profile, concerns_call};
 use seccomp_profile_checks::Doubt;
-use seccomp_warnings::{Code, Subject, said_text};
+use seccomp_warnings::{Code, Comparison, Subject, said_text};
 use seccompiler::TargetArch;
 use std::alloc::{AllocError, Global};
 use std::collections::BTreeMap;
 
-// Of what warnings are told.
+// What a line is about: the entry, or none of the profile itself; where the line stands among those of the entry or the profile; the
+// part of it; and the number of the call, if it is one of several.
+type Spot<'a> = (Option<usize>, (usize, usize), Part<'a>, Option<u32>);
+
+// A part of a profile or of an entry.
 #[derive(Clone, Copy)]
-struct Told<'a> {
-    target: TargetArch,
-    container: &'a Container,
-    profile: &'a Profile,
+enum Part<'a> {
+    // All of it.
+    Whole,
+    // What is under this key.
+    Under(&'a str),
+    // This key, which is passed over.
+    Key(&'a str),
+    // The condition at this place.
+    Condition(usize),
 }
 
 /// What is said of the warnings of a profile, in the order of their places: once for each code of a place, and for each pair of
@@ -32,194 +39,150 @@ pub(crate) fn profile_text(
     container: &Container,
     checked: &CheckedProfile,
 ) -> Result<Vec<u8>, AllocError> {
-    let told = Told {
-        target,
-        container,
-        profile: &checked.profile,
-    };
-    let mut ordered = BTreeMap::new(lines.text.alloc());
+    let alloc = lines.text.alloc();
+    let mut ordered = BTreeMap::new(alloc);
     for (nth, warning) in checked.warnings.iter().enumerate() {
-        let spot = spot_of(target, warning, nth);
-        let order = (spot.entry, spot.rank, code_of(warning).name());
-        ordered.entry(order)?.or_insert((warning, spot));
+        let (entry, rank, part, number) = spot_of(target, warning, nth);
+        let order = (entry, rank, code_of(warning).name());
+        ordered.entry(order)?.or_insert((warning, part, number));
     }
-    for (_, (warning, spot)) in ordered {
-        push_warning(&mut lines, told, warning, spot);
+    for ((entry, _, code), (warning, part, number)) in ordered {
+        if let Some(entry) = entry {
+            lines.key("syscalls");
+            lines.item(entry);
+        }
+        go_to(&mut lines, part, code_of(warning));
+        lines.call = call_name(target, number).0;
+        match said_of(alloc, target, container, &checked.profile, warning) {
+            Ok(said) => lines.push("warning", code, said.as_str()),
+            Err(_) => lines.text.fail(),
+        }
     }
     lines.text.finish()
 }
 
-// What a line is about.
-#[derive(Clone, Copy)]
-struct Spot<'a> {
-    // The entry; none of the profile itself.
-    entry: Option<usize>,
-    // Where the line stands among those of the entry, or of the profile.
-    rank: (usize, usize),
-    // The key of the entry or of the profile.
-    key: Option<&'a str>,
-    // The place of the condition.
-    condition: Option<usize>,
-    // The number of the call, if it is one of several.
-    number: Option<u32>,
-}
-
-fn about<'a>(
-    entry: Option<usize>,
-    rank: (usize, usize),
-    key: Option<&'a str>,
-    number: Option<u32>,
-) -> Spot<'a> {
-    Spot {
-        entry,
-        rank,
-        key,
-        condition: None,
-        number,
+// Goes on to a part, and to the one in it that a code is about.
+fn go_to(lines: &mut Lines<'_>, part: Part<'_>, code: Code) {
+    match part {
+        Part::Whole => {}
+        Part::Under(key) => lines.key(key),
+        Part::Key(key) => {
+            lines.key(key);
+            lines.place = Place::Key;
+        }
+        Part::Condition(place) => {
+            lines.key("args");
+            lines.item(place);
+            if let Code::ValueOutsideMask = code {
+                lines.key("valueTwo");
+            }
+        }
     }
 }
 
 // What a warning is about, which is the one at this place among all.
 fn spot_of(target: TargetArch, warning: &ProfileWarning, nth: usize) -> Spot<'_> {
+    let (default, action) = (Part::Under("defaultAction"), Part::Under("action"));
     match warning {
         ProfileWarning::Doubtful(doubt) => match *doubt {
-            Doubt::LargeDefaultErrno => about(None, (0, 0), Some("defaultAction"), None),
+            Doubt::LargeDefaultErrno => (None, (0, 0), default, None),
             Doubt::EqualsDefault { place } | Doubt::LargeErrno { place } => {
-                about(Some(place), (0, 0), Some("action"), None)
+                (Some(place), (0, 0), action, None)
             }
             Doubt::Behind { place, number } => {
-                about(Some(place), (1, number as usize), None, Some(number))
+                (Some(place), (1, number as usize), Part::Whole, Some(number))
             }
-            Doubt::ManyConditions { place } => about(Some(place), (2, 0), Some("args"), None),
+            Doubt::ManyConditions { place } => (Some(place), (2, 0), Part::Under("args"), None),
             Doubt::SameConditions {
                 first,
                 second,
                 number,
-            } => about(Some(second), (3, first), None, Some(number)),
+            } => (Some(second), (3, first), Part::Whole, Some(number)),
             Doubt::OpenOrder {
                 first,
                 second,
                 call,
-            } => about(Some(second), (3, first), None, Some(word_at(&call, 0))),
+            } => {
+                let number = word_at(&call, 0);
+                (Some(second), (3, first), Part::Whole, Some(number))
+            }
         },
-        ProfileWarning::Flags => about(None, (2, 0), Some("flags"), None),
-        ProfileWarning::UnknownKey(name) => about(None, (3, nth), Some(name.as_str()), None),
-        ProfileWarning::OfEntries(warning, part) => spot_of_part(target, warning.subject, *part),
+        ProfileWarning::Flags => (None, (2, 0), Part::Under("flags"), None),
+        ProfileWarning::UnknownKey(name) => (None, (3, nth), Part::Key(name.as_str()), None),
+        ProfileWarning::OfEntries(warning, part) => spot_in(target, *part, warning.subject),
     }
 }
 
 // What a warning of a filter is about, in the profile.
-fn spot_of_part<'a>(target: TargetArch, subject: Subject, part: ProfilePart) -> Spot<'a> {
-    let origin = match (part, subject) {
+fn spot_in(target: TargetArch, part: ProfilePart, subject: Subject) -> Spot<'static> {
+    let default = Part::Under("defaultAction");
+    match (part, subject) {
         (ProfilePart::Default, Subject::MismatchCall(call)) => {
             let number = call_number(target, call.name());
-            return about(None, (1, call as usize), Some("defaultAction"), number);
+            (None, (1, call as usize), default, number)
         }
-        (ProfilePart::Default, _) => return about(None, (0, 0), Some("defaultAction"), None),
-        (ProfilePart::Action(place), _) => return about(Some(place), (0, 0), Some("action"), None),
-        (ProfilePart::Rule(origin), _) => origin,
-    };
-    let condition = match subject {
-        Subject::Condition(comparison) => Some(origin.condition.unwrap_or(comparison.place)),
-        _ => origin.condition,
-    };
-    let (entry, number) = (Some(origin.entry), origin.number);
-    match condition {
-        Some(place) => Spot {
-            condition,
-            ..about(entry, (2, place), Some("args"), None)
+        (ProfilePart::Default, _) => (None, (0, 0), default, None),
+        (ProfilePart::Action(place), _) => (Some(place), (0, 0), Part::Under("action"), None),
+        (ProfilePart::Rule(origin), subject) => match (origin.condition, subject) {
+            (Some(place), _) | (None, Subject::Condition(Comparison { place, .. })) => {
+                (Some(origin.entry), (2, place), Part::Condition(place), None)
+            }
+            (None, _) => {
+                let number = origin.number;
+                (
+                    Some(origin.entry),
+                    (1, number as usize),
+                    Part::Whole,
+                    Some(number),
+                )
+            }
         },
-        None => about(entry, (1, number as usize), None, Some(number)),
     }
 }
 
-// Adds what is said of a warning that is about this.
-fn push_warning(lines: &mut Lines<'_>, told: Told<'_>, warning: &ProfileWarning, spot: Spot<'_>) {
-    let (alloc, code) = (lines.text.alloc(), code_of(warning));
-    let said = match warning {
-        ProfileWarning::Doubtful(doubt) => said_of_doubt(alloc, told, *doubt),
-        ProfileWarning::Flags => String::from_str(
-            alloc,
-            "crun sets them, and runc 1.1 starts no container with them; leave them out for runc",
-        ),
-        ProfileWarning::UnknownKey(_) => String::from_str(
-            alloc,
-            "the key is passed over; leave it out, or correct it, also its letter case",
-        ),
-        ProfileWarning::OfEntries(_, _) => String::from_str(alloc, said_of_entries(code)),
-    };
-    let Ok(said) = said else {
-        return lines.text.fail();
-    };
-    let mut diagnostic = Diagnostic::new("warning", code.name(), said.as_str());
-    diagnostic.call = call_name(told.target, spot.number).0;
-    if let ProfileWarning::UnknownKey(_) = warning {
-        diagnostic.place = Place::Key;
-    }
-    let mut path = Path::new(alloc);
-    if let Some(entry) = spot.entry {
-        path.key("syscalls");
-        path.step(Step::Item(entry));
-    }
-    if let Some(key) = spot.key {
-        path.key(key);
-    }
-    if let Some(condition) = spot.condition {
-        path.step(Step::Item(condition));
-        if let Code::ValueOutsideMask = code {
-            path.key("valueTwo");
-        }
-    }
-    lines.push_at(path, diagnostic);
-}
-
-// What is doubtful, and what to write instead.
-fn said_of_doubt(alloc: Global, told: Told<'_>, doubt: Doubt) -> Result<String, AllocError> {
-    match doubt {
-        Doubt::EqualsDefault { .. } => String::from_str(
-            alloc,
-            "it is the default action, so runtimes pass over the entry; leave the entry out",
-        ),
-        Doubt::Behind { number, .. } => {
-            let place = settling(told, number);
+// What is doubtful or so, and what to write instead.
+fn said_of(
+    alloc: Global,
+    target: TargetArch,
+    container: &Container,
+    profile: &Profile,
+    warning: &ProfileWarning,
+) -> Result<String, AllocError> {
+    match warning {
+        ProfileWarning::Doubtful(Doubt::Behind { number, .. }) => {
+            let place = settling(target, container, profile, *number);
             format!(in alloc;
                 "syscalls[{place}] decides each of these calls, since it has no args; leave the call out here, or correct that entry"
             )
         }
-        Doubt::OpenOrder { first, call, .. } => {
+        ProfileWarning::Doubtful(Doubt::OpenOrder { first, call, .. }) => {
             let shown = Shown {
-                target: told.target,
+                target,
                 pointer: false,
             };
-            let call = Example { shown, call };
+            let call = Example { shown, call: *call };
             format!(in alloc;
                 "syscalls[{first}] matches {call} too and has another action, and the profile doesn't say which counts; write args that exclude each other"
             )
         }
-        Doubt::SameConditions { first, .. } => {
+        ProfileWarning::Doubtful(Doubt::SameConditions { first, .. }) => {
             format!(in alloc;
                 "syscalls[{first}] has the same args and another action, so no container starts; leave the call out of one of them"
             )
         }
-        Doubt::LargeErrno { .. } | Doubt::LargeDefaultErrno => String::from_str(
+        ProfileWarning::Flags => String::from_str(
             alloc,
-            "an errno of 4095 or more is rejected, so no container starts; write one from 1 to 4094",
+            "crun sets them, and runc 1.1 starts no container with them; leave them out for runc",
         ),
-        Doubt::ManyConditions { .. } => String::from_str(
-            alloc,
-            "crun takes 6 conditions of an entry, and runc all; write at most 6",
-        ),
+        other => String::from_str(alloc, said_of_code(code_of(other))),
     }
 }
 
 // The place of the entry that settles the calls of a number, if one does.
-fn settling(told: Told<'_>, number: u32) -> usize {
-    let (name, profile) = (name_of(told.target, number).unwrap_or(""), told.profile);
+fn settling(target: TargetArch, container: &Container, profile: &Profile, number: u32) -> usize {
     for (place, entry) in profile.entries.iter().enumerate() {
         if entry.args.is_empty()
-            && entry.action != profile.default
-            && entry.names.iter().any(|own| own.as_str() == name)
-            && applies(told.target, told.container, entry)
+            && concerns_call(target, container, profile.default, number, entry)
         {
             return place;
         }
@@ -227,9 +190,21 @@ fn settling(told: Told<'_>, number: u32) -> usize {
     0
 }
 
-// What is so of an entry, and what to write instead: of a code whose words for a policy don't fit, in words for a profile.
-fn said_of_entries(code: Code) -> &'static str {
+// What is so if a warning has this code, and what to write instead: of a code that has no words for a policy, or whose words don't
+// fit, in words for a profile.
+fn said_of_code(code: Code) -> &'static str {
     match code {
+        Code::NoEffect => {
+            "it is the default action, so runtimes pass over the entry; leave the entry out"
+        }
+        Code::RefusedByLibseccomp => {
+            "an errno of 4095 or more is rejected, so no container starts; write one from 1 to 4094"
+        }
+        Code::RuntimesDiffer =>
+            "crun takes 6 conditions of an entry, and runc all; write at most 6",
+        Code::UnknownKey => {
+            "the key is passed over; leave it out, or correct it, also its letter case"
+        }
         Code::FakeSuccess => {
             "the call isn't made, and returns 0 as if it had succeeded; write an errno from 1 to 4094"
         }

@@ -10,7 +10,7 @@ ghost use Rattle.seccomptool.specs.declared.findings.Verdict.TheVariants.{Same};
 use crate::chosen::chosen_name;
 use crate::error::ToolError;
 use crate::findings::Verdict;
-use crate::learn::notes::{first_strange, learned_json, notes_of};
+use crate::learn::notes::{has, learned_json, notes_of, strange_text};
 use crate::made::Made;
 use crate::record::call_number;
 use crate::words::Inputs;
@@ -76,13 +76,14 @@ pub(crate) fn learn_made(
 ) -> Result<Made, ToolError>
     ensures { IfOk result (λ made. IsLesson learning.now policy.now × (made.verdict ≡ Same)) }
 {
-    let arch = learning.arch;
-    let mut trace = read_trace(alloc, arch, given)?;
+    let mut trace = read_trace(alloc, learning.arch, given)?;
     if learning.strict && trace.strange > 0 {
-        return Err(ToolError::Fault(first_strange(alloc, &trace)?));
+        let told = strange_text(alloc, trace.strange, trace.first_strange, true);
+        drop(trace);
+        return Err(ToolError::Fault(told?));
     }
     if learning.runnable {
-        let observed = start_and_exit(alloc, arch)?;
+        let observed = start_and_exit(alloc, learning.arch)?;
         trace.observed.extend_from_slice(&observed)?;
     }
     let wanted = wanted_in(alloc, learning, &trace.observed)?;
@@ -90,7 +91,10 @@ pub(crate) fn learn_made(
         Ok(learned) => learned,
         Err(error) => return Err(ToolError::in_second(alloc, error)?),
     };
-    let (text, notes) = views_of(alloc, learning, inputs, &trace, &wanted, &learned)?;
+    let views = views_of(alloc, learning, inputs, &trace, &wanted, &learned);
+    // Here, so that no branch has to.
+    drop((trace, wanted, learned));
+    let (text, notes) = views?;
     Ok(Made::noting(text, Verdict::Same, notes))
 }
 
@@ -104,24 +108,19 @@ fn views_of(
     learned: &Named<Lesson>,
 ) -> Result<(Vec<u8>, Vec<u8>), ToolError> {
     let (name, lesson, others) = learned;
-    let (filter, path) = (&lesson.learned.json, inputs.first.unwrap_or("-"));
-    let notes = notes_of(alloc, learning, path, trace, wanted, &lesson.kept)?;
-    let mut text = if learning.as_profile {
+    let (filter, kept) = (&lesson.learned.json, &lesson.kept);
+    let text = if learning.as_profile {
         profile_text(alloc, learning.arch, filter)?
     } else {
         written_policy(alloc, others, name.as_str(), filter)?
     };
-    if inputs.json {
-        text = learned_json(
-            alloc,
-            learning,
-            &trace.observed,
-            &lesson.kept,
-            &notes,
-            &text,
-        )?;
+    let path = inputs.first.unwrap_or("-");
+    let notes = notes_of(alloc, learning, path, trace, wanted, kept)?;
+    if !inputs.json {
+        return Ok((text, notes.into_bytes()));
     }
-    Ok((text, notes))
+    let json = learned_json(alloc, learning, trace, kept, notes.as_str(), &text)?;
+    Ok((json, notes.into_bytes()))
 }
 
 // The filter that allows the observed calls, with the values of the arguments that are wanted, and what it is added to.
@@ -188,8 +187,7 @@ fn wanted_in(
             return Err(ToolError::UnknownCall(String::from_str(alloc, asked.call)?, arch));
         };
         for index in 0..6u8 {
-            let is_this = |each: &Kept| each.number == number && each.arg_index == index;
-            if asked.indices[index as usize] && !wanted.iter().any(is_this) {
+            if asked.indices[index as usize] && !has(&wanted, number, Some(index)) {
                 wanted.push(asked_kept(observed, number, index))?;
             }
         }

@@ -6,7 +6,7 @@ use crate::json::{List, Object, call_name};
 use crate::notes::note;
 use crate::text::Text;
 use seccomp_learn::{Kept, Observation, Trace};
-use seccompiler::SeccompCmpArgLen;
+use seccompiler::{SeccompCmpArgLen, TargetArch};
 use std::alloc::{AllocError, Global};
 
 // The notes on a trace of this path, and on what is learned from it.
@@ -17,19 +17,16 @@ pub(super) fn notes_of(
     trace: &Trace,
     wanted: &[Kept],
     kept: &[Kept],
-) -> Result<Vec<u8>, AllocError> {
+) -> Result<String, AllocError> {
     let (arch, most) = (learning.arch, learning.most);
     let mut notes = Text::new(alloc);
     note_strange(&mut notes, path, trace.strange, trace.first_strange);
     if trace.foreign > 0 {
-        note(
-            &mut notes,
-            path,
-            match trace.foreign {
-                1 => String::from_str(alloc, "1 call is of another architecture"),
-                count => format!(in alloc; "{count} calls are of other architectures"),
-            },
-        );
+        let told = match trace.foreign {
+            1 => String::from_str(alloc, "1 call is of another architecture"),
+            count => format!(in alloc; "{count} calls are of other architectures"),
+        };
+        note(&mut notes, path, told);
     }
     if !trace.unnamed.is_empty() {
         let names = trace.unnamed.join(alloc, ", ")?;
@@ -40,7 +37,7 @@ pub(super) fn notes_of(
     let mut before = None;
     for each in wanted {
         let number = each.number;
-        if before != Some(number) && !kept.iter().any(|one| one.number == number) {
+        if before != Some(number) && !has(kept, number, None) {
             before = Some(number);
             let name = name_of(arch, number).unwrap_or("a call");
             let told = format!(in alloc;
@@ -49,34 +46,43 @@ pub(super) fn notes_of(
             note(&mut notes, path, told);
         }
     }
-    notes.finish()
+    notes.finish_string()
+}
+
+// Whether this argument of a call is among these, or any of the call's.
+pub(super) fn has(all: &[Kept], number: u32, index: Option<u8>) -> bool {
+    for each in all {
+        if each.number == number && index.unwrap_or(each.arg_index) == each.arg_index {
+            return true;
+        }
+    }
+    false
 }
 
 // Adds the note on lines that aren't understood, if there are some: how many, and the first.
 pub(crate) fn note_strange(notes: &mut Text, path: &str, strange: usize, first: Option<usize>) {
     if strange > 0 {
-        let told = strange_text(notes.alloc(), strange, first);
+        let told = strange_text(notes.alloc(), strange, first, false);
         note(notes, path, told);
     }
 }
 
-// That so many lines aren't understood, and the first of them; or that so many bytes follow the last record.
-fn strange_text(alloc: Global, strange: usize, first: Option<usize>) -> Result<String, AllocError> {
-    match first {
-        Some(line) if strange == 1 => format!(in alloc; "1 line isn't understood: line {line}"),
-        Some(line) => format!(in alloc;
+// That so many lines aren't understood, and the first of them, or that the first alone isn't; or that so many bytes follow the last
+// record.
+pub(super) fn strange_text(
+    alloc: Global,
+    strange: usize,
+    first: Option<usize>,
+    alone: bool,
+) -> Result<String, AllocError> {
+    match (first, strange) {
+        (Some(line), _) if alone => format!(in alloc; "line {line} isn't understood"),
+        (Some(line), 1) => format!(in alloc; "1 line isn't understood: line {line}"),
+        (Some(line), _) => format!(in alloc;
             "{strange} lines aren't understood, the first is line {line}"
         ),
-        None if strange == 1 => String::from_str(alloc, "1 byte follows the last record"),
-        None => format!(in alloc; "{strange} bytes follow the last record"),
-    }
-}
-
-// That the first line that isn't understood isn't; or that so many bytes follow the last record.
-pub(super) fn first_strange(alloc: Global, trace: &Trace) -> Result<String, AllocError> {
-    match trace.first_strange {
-        Some(line) => format!(in alloc; "line {line} isn't understood"),
-        None => strange_text(alloc, trace.strange, None),
+        (None, 1) => String::from_str(alloc, "1 byte follows the last record"),
+        (None, _) => format!(in alloc; "{strange} bytes follow the last record"),
     }
 }
 
@@ -85,33 +91,20 @@ pub(super) fn first_strange(alloc: Global, trace: &Trace) -> Result<String, Allo
 pub(super) fn learned_json(
     alloc: Global,
     learning: &Learning<'_>,
-    observed: &[Observation],
+    trace: &Trace,
     all: &[Kept],
-    notes: &[u8],
+    notes: &str,
     text: &[u8],
 ) -> Result<Vec<u8>, AllocError> {
-    let (mut kept, mut lines) = (List::new(alloc), List::new(alloc));
-    for each in all {
-        let (number, index) = (each.number, each.arg_index);
-        if observed.iter().any(|call| call.number == number) {
-            let length = match each.arg_len {
-                SeccompCmpArgLen::Dword => "dword",
-                SeccompCmpArgLen::Qword => "qword",
-            };
-            let mut argument = Object::new(alloc);
-            argument.field("call", call_name(learning.arch, Some(number)));
-            argument.field("number", number);
-            argument.field("index", index);
-            argument.field("type", length);
-            kept.item(argument);
-        }
-    }
-    // They are UTF-8, since they are made of texts.
-    for line in str::from_utf8(notes).unwrap_or_default().lines() {
+    let mut object = Object::new(alloc);
+    object.field(
+        "kept",
+        kept_list(alloc, learning.arch, &trace.observed, all),
+    );
+    let mut lines = List::new(alloc);
+    for line in notes.lines() {
         lines.item(line);
     }
-    let mut object = Object::new(alloc);
-    object.field("kept", kept);
     object.field("notes", lines);
     let mut json = Text::new(alloc);
     json.push_object(object);
@@ -125,4 +118,30 @@ pub(super) fn learned_json(
     json.push_bytes(text.trim_ascii_end());
     json.push_str("}\n");
     json.finish()
+}
+
+// The arguments of observed calls.
+fn kept_list(alloc: Global, arch: TargetArch, observed: &[Observation], all: &[Kept]) -> List {
+    let mut list = List::new(alloc);
+    for kept in all {
+        let number = kept.number;
+        for call in observed {
+            if call.number == number {
+                let mut argument = Object::new(alloc);
+                argument.field("call", call_name(arch, Some(number)));
+                argument.field("number", number);
+                argument.field("index", kept.arg_index);
+                argument.field(
+                    "type",
+                    match kept.arg_len {
+                        SeccompCmpArgLen::Dword => "dword",
+                        SeccompCmpArgLen::Qword => "qword",
+                    },
+                );
+                list.item(argument);
+                break;
+            }
+        }
+    }
+    list
 }

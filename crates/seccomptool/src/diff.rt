@@ -15,7 +15,7 @@ use crate::progress::Progress;
 use crate::sides::{Side, ruled_by};
 use seccomp_tree::fitting_bpf;
 use seccompiler::bpf::LOAD;
-use seccompiler::{BpfProgramRef, JsonCompiler, SeccompFilter, sock_filter};
+use seccompiler::{BpfProgramRef, JsonCompiler, SeccompFilter};
 use std::alloc::Global;
 use std::collections::BTreeMap;
 
@@ -33,9 +33,7 @@ pub enum Found {
 /// A name, and what is found under it.
 #[derive(Drop)]
 pub struct NamedFound {
-    /// The name.
     pub name: String,
-    /// What is found.
     pub found: Found,
 }
 
@@ -48,25 +46,20 @@ pub enum Scope {
     All,
 }
 
-/// What is found of a pair of sides.
+/// What is found of a pair of sides, and the names of their programs.
 #[derive(Drop)]
 pub struct Pair {
-    /// The name of the old side's program.
     pub old_name: String,
-    /// The name of the new side's program.
     pub new_name: String,
     /// Whether one of the programs loads the instruction pointer, on which what it decides may depend then.
     pub loads_pointer: bool,
-    /// What is found of the programs.
     pub found: Compared,
 }
 
-/// What is found of two programs.
+/// What is found of two programs: on the calls of the architecture, and on those of the others.
 #[derive(Drop)]
 pub struct Compared {
-    /// What is found on the calls of the architecture.
     pub own: Vec<Finding>,
-    /// What is found on the calls of the others.
     pub others: Vec<Finding>,
 }
 
@@ -102,8 +95,7 @@ pub fn diff_of<G: Progress>(
     ensures { IfOk result (IsDiff terms.target terms.relation old.entry new.entry) }
 {
     if is_whole(old) && is_whole(new) {
-        let all = diff_policies(alloc, terms, old.given, new.given, progress)?;
-        return Ok(Diff::ByName(all));
+        return Ok(Diff::ByName(diff_policies(alloc, terms, old.given, new.given, progress)?));
     }
     Ok(Diff::OfPair(diff_pair(alloc, terms, old, new, progress)?))
 }
@@ -194,8 +186,7 @@ fn diff_pair<G: Progress>(
 // Whether a program loads a word of the instruction pointer.
 fn loads_pointer(program: BpfProgramRef<'_>) -> bool {
     for instruction in program {
-        let sock_filter { code, k, .. } = *instruction;
-        if code == LOAD && (k == 8 || k == 12) {
+        if instruction.code == LOAD && (instruction.k == 8 || instruction.k == 12) {
             return true;
         }
     }

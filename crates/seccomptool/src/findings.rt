@@ -34,24 +34,11 @@ pub struct Terms {
 #[derive(Clone, Copy)]
 pub enum Part {
     /// The calls of a number of the architecture that has a name.
-    Named {
-        /// The number.
-        number: u32,
-    },
-    /// The calls of numbers of the architecture that have no name.
-    Unnamed {
-        /// The least of these numbers.
-        least: u32,
-        /// The greatest of these numbers.
-        greatest: u32,
-    },
-    /// The calls of other architectures.
-    Elsewhere {
-        /// The least of their `AUDIT_ARCH_*` values.
-        least: u32,
-        /// The greatest of their `AUDIT_ARCH_*` values.
-        greatest: u32,
-    },
+    Named { number: u32 },
+    /// The calls of these numbers of the architecture, none of which has a name.
+    Unnamed { least: u32, greatest: u32 },
+    /// The calls of other architectures, by their `AUDIT_ARCH_*` values.
+    Elsewhere { least: u32, greatest: u32 },
 }
 
 /// What a comparison finds on a part.
@@ -59,15 +46,8 @@ pub enum Part {
 pub enum Answer {
     /// The relation holds for every call of the part.
     Holds,
-    /// It doesn't for this one.
-    Fails {
-        /// The record of the call.
-        call: [u8; 64],
-        /// The old value for it.
-        old: u32,
-        /// The new value for it.
-        new: u32,
-    },
+    /// It doesn't for the call of this record, for which the sides have these values.
+    Fails { call: [u8; 64], old: u32, new: u32 },
     /// As many sets of records were looked at as was allowed, and neither was found.
     Undecided,
 }
@@ -75,9 +55,7 @@ pub enum Answer {
 /// A part, and what a comparison finds on it.
 #[derive(Clone, Copy)]
 pub struct Finding {
-    /// The part.
     pub part: Part,
-    /// What is found.
     pub answer: Answer,
 }
 

@@ -54,9 +54,7 @@ impl<R: Eprint + Clock> Progress for Watch<'_, R> {
 
     fn looked_at(&mut self, target: TargetArch, part: Part, sets: usize) {
         self.sets = self.sets.saturating_add(sets);
-        let Some(start) = self.start else {
-            return;
-        };
+        let Some(start) = self.start else { return };
         if matches!(start.elapsed(self.rt), Ok(time) if time.as_secs() >= SECONDS) {
             self.written = true;
             // A short name, so that the line fits a terminal.

@@ -96,8 +96,9 @@ impl Reader {
     fn take(&mut self, piece: &[u8]) -> Result<(), ToolError> {
         let first = piece.first().copied().unwrap_or(b' ');
         if first.is_ascii_whitespace() || (first == b'/' && piece.len() > 1) {
-            let breaks = piece.iter().filter(|byte| **byte == b'\n').count();
-            self.line = self.line.saturating_add(breaks);
+            for byte in piece {
+                self.line = self.line.saturating_add((*byte == b'\n') as usize);
+            }
             return Ok(());
         }
         self.next = match (self.next, first) {

@@ -118,12 +118,7 @@ fn amiss(instruction: sock_filter, place: usize, length: usize) -> Amiss
     requires { CantStand instruction place length }
     ensures { IsAmiss instruction place length result }
 {
-    let sock_filter {
-        code,
-        jt: _,
-        jf: _,
-        k,
-    } = instruction;
+    let sock_filter { code, k, .. } = instruction;
     match code {
         LOAD if k % 4 != 0 || k > LAST_WORD => Amiss::Load,
         LOAD | MASK | RETURN => Amiss::End,

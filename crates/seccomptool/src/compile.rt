@@ -48,7 +48,7 @@ pub(crate) fn too_large(
             program.len()
         )),
         Err(FilterError::FilterTooLarge(_) | FilterError::TreeTooLarge) => {}
-        Err(_) => return Err(AllocError),
+        Err(_) => told.fail(),
     }
     Ok(ToolError::Fault(told.finish_string()?))
 }
@@ -74,28 +74,26 @@ pub(crate) fn program_text(
     name: &str,
     program: BpfProgramRef<'_>,
 ) -> Result<Vec<u8>, AllocError> {
+    let mut text = Text::new(alloc);
     match format {
-        ProgramFormat::Raw => bytes_of(alloc, program),
+        ProgramFormat::Raw => return bytes_of(alloc, program),
         ProgramFormat::Listing => {
-            let mut text = Vec::new(alloc);
-            push_listing(&mut text, name, program)?;
-            Ok(text)
+            let mut listing = Vec::new(alloc);
+            push_listing(&mut listing, name, program)?;
+            return Ok(listing);
         }
         ProgramFormat::C => {
-            let mut text = Text::new(alloc);
             for instruction in program {
                 let sock_filter { code, jt, jf, k } = *instruction;
                 text.push_format(format!(in alloc; "{{ 0x{code:x}, {jt}, {jf}, 0x{k:08x} }},\n"));
             }
-            text.finish()
         }
         ProgramFormat::Json => {
-            let mut text = Text::new(alloc);
             text.push_object(program_value(alloc, name, program, &[]));
             text.push_str("\n");
-            text.finish()
         }
     }
+    text.finish()
 }
 
 // A program as JSON, with notes on its instructions if there are any.

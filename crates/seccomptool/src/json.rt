@@ -92,23 +92,23 @@ impl ToValue for List {
     }
 }
 
-/// A text, or null if there is none.
+/// A part, or null if there is none.
 #[derive(Clone, Copy)]
-pub(crate) struct OrNull<'a>(pub Option<&'a str>);
+pub(crate) struct OrNull<T>(pub Option<T>);
 
-impl ToValue for OrNull<'_> {
-    ghost gives = { λ text value. ⊤ };
+impl<T: ToValue> ToValue for OrNull<T> {
+    ghost gives = { λ part value. ⊤ };
 
     fn to_value(self, alloc: Global) -> Result<Value, AllocError> {
         match self.0 {
-            Some(text) => Value::try_from_str(alloc, text),
+            Some(part) => part.to_value(alloc),
             None => Ok(Value::Null),
         }
     }
 }
 
 // A text, or null if it is empty.
-pub(crate) fn or_null(text: &str) -> OrNull<'_> {
+pub(crate) fn or_null(text: &str) -> OrNull<&str> {
     if text.is_empty() {
         return OrNull(None);
     }
@@ -116,7 +116,7 @@ pub(crate) fn or_null(text: &str) -> OrNull<'_> {
 }
 
 // The name of the call of a number, or null if it has none, or there is no number.
-pub(crate) fn call_name(target: TargetArch, number: Option<u32>) -> OrNull<'static> {
+pub(crate) fn call_name(target: TargetArch, number: Option<u32>) -> OrNull<&'static str> {
     match number {
         Some(number) => OrNull(name_of(target, number)),
         None => OrNull(None),

@@ -73,23 +73,14 @@ pub(crate) fn program_text(
         return text.finish();
     }
     for (place, (instruction, note)) in program.iter().zip(&notes).enumerate() {
-        text.push_format(line(alloc, place, instruction, note.as_str()));
+        let words = words(alloc, place, instruction)?;
+        text.push_format(if note.is_empty() {
+            format!(in alloc; "{place:4}  {words}\n")
+        } else {
+            format!(in alloc; "{place:4}  {words:28}; {note}\n")
+        });
     }
     text.finish()
-}
-
-// The line of an instruction that stands at this place, with the note on it.
-fn line(
-    alloc: Global,
-    place: usize,
-    instruction: &sock_filter,
-    note: &str,
-) -> Result<String, AllocError> {
-    let words = words(alloc, place, instruction)?;
-    if note.is_empty() {
-        return format!(in alloc; "{place:4}  {words}\n");
-    }
-    format!(in alloc; "{place:4}  {words:28}; {note}\n")
 }
 
 // An instruction that stands at this place, in the words of bpf_asm. Jumps tell the places that they lead to.

@@ -14,10 +14,9 @@ use std::alloc::{AllocError, Global};
 
 // What is found of the calls of an architecture, or of all others.
 #[derive(Clone, Copy)]
-struct Compared<'a> {
+struct Section<'a> {
     // The name of the old side, and of the new one; none if the other one alone has it.
     names: [Option<&'a str>; 2],
-    // The architecture.
     arch: Option<&'a str>,
     // Whether what is found may depend on the instruction pointer.
     pointer: bool,
@@ -43,9 +42,9 @@ pub(crate) fn diff_text(
             }
         }
         Diff::OfPair(pair) => {
-            let kinds = [old.kind, new.kind];
+            let kinds = (old.kind, new.kind);
             push_pair(&mut text, terms, json, kinds, pair, false);
-            if matches!(old.kind, Subject::Program) || matches!(new.kind, Subject::Program) {
+            if matches!(kinds, (Subject::Program, _) | (_, Subject::Program)) {
                 push_pair(&mut text, terms, json, kinds, pair, true);
             }
         }
@@ -65,14 +64,14 @@ fn push_named(text: &mut Text, terms: Terms, json: bool, named: &NamedFound) {
     if !json {
         push_filter(text, named.name.as_str());
     }
-    let found = Compared {
+    let section = Section {
         names,
         arch: Some(terms.target.name()),
         pointer: false,
         verdict: verdict_found(&named.found),
         findings,
     };
-    push_compared(text, terms, json, &[None], found);
+    push_compared(text, terms, json, &[None], section);
 }
 
 // Adds what is found of a pair of sides, on the calls of the architecture or on those of others. The title is what is compared: a
@@ -81,24 +80,22 @@ fn push_pair(
     text: &mut Text,
     terms: Terms,
     json: bool,
-    kinds: [Subject<'_>; 2],
+    kinds: (Subject<'_>, Subject<'_>),
     pair: &Pair,
     others: bool,
 ) {
     let (old, new) = (pair.old_name.as_str(), pair.new_name.as_str());
-    let of_policy = matches!(kinds[1], Subject::Policy);
-    match kinds[0] {
+    match kinds {
         _ if json => {}
         _ if others => text.push_str("other architectures"),
-        Subject::Policy => {
+        (Subject::Policy, Subject::Policy) if old != new => {
             push_filter(text, old);
-            if of_policy && old != new {
-                text.push_str(" -> ");
-                text.push_readable(new, TextKind::Name);
-            }
+            text.push_str(" -> ");
+            text.push_readable(new, TextKind::Name);
         }
-        _ if of_policy => push_filter(text, new),
-        Subject::Program if matches!(kinds[1], Subject::Program) => text.push_str("program"),
+        (Subject::Policy, _) => push_filter(text, old),
+        (_, Subject::Policy) => push_filter(text, new),
+        (Subject::Program, Subject::Program) => text.push_str("program"),
         _ => text.push_str("profile"),
     }
     let (arch, findings) = if others {
@@ -106,7 +103,7 @@ fn push_pair(
     } else {
         (Some(terms.target.name()), &pair.found.own)
     };
-    let found = Compared {
+    let section = Section {
         names: [Some(old), Some(new)],
         arch,
         pointer: pair.loads_pointer,
@@ -114,7 +111,7 @@ fn push_pair(
         findings,
     };
     // Calls that have a name, and then those that have none.
-    push_compared(text, terms, json, &[Some(true), Some(false)], found);
+    push_compared(text, terms, json, &[Some(true), Some(false)], section);
 }
 
 // Adds what is found: as JSON an item, else behind a title the verdict and the lines of findings, in turn of calls that have a name or
@@ -124,15 +121,15 @@ fn push_compared(
     terms: Terms,
     json: bool,
     turns: &[Option<bool>],
-    found: Compared<'_>,
+    section: Section<'_>,
 ) {
     let target = terms.target;
     if json {
-        return text.push_item(object_of(text.alloc(), target, found));
+        return text.push_item(object_of(text.alloc(), target, section));
     }
-    let [old, new] = found.names;
+    let [old, new] = section.names;
     let alike = matches!(terms.relation, Relation::Alike);
-    text.push_str(match found.verdict {
+    text.push_str(match section.verdict {
         _ if new.is_none() => ": only in OLD\n",
         _ if old.is_none() => ": only in NEW\n",
         Verdict::Same if alike => ": same\n",
@@ -141,9 +138,9 @@ fn push_compared(
         Verdict::Different => ": more permissive\n",
         Verdict::Undecided => ": undecided\n",
     });
-    let pointer = found.pointer;
+    let pointer = section.pointer;
     for of_named in turns {
-        for finding in found.findings {
+        for finding in section.findings {
             let is_named = matches!(finding.part, Part::Named { .. });
             if of_named.unwrap_or(is_named) == is_named {
                 push_finding(text, Shown { target, pointer }, *finding);
@@ -153,19 +150,19 @@ fn push_compared(
 }
 
 // What is found, as an object: no part on which the relation holds.
-fn object_of(alloc: Global, target: TargetArch, found: Compared<'_>) -> Object {
+fn object_of(alloc: Global, target: TargetArch, section: Section<'_>) -> Object {
     let mut parts = List::new(alloc);
-    for finding in found.findings {
+    for finding in section.findings {
         if !matches!(finding.answer, Answer::Holds) {
             parts.item(part_value(alloc, target, *finding));
         }
     }
-    let [old, new] = found.names;
+    let [old, new] = section.names;
     let mut object = Object::new(alloc);
     object.field("old", OrNull(old));
     object.field("new", OrNull(new));
-    object.field("architecture", OrNull(found.arch));
-    object.field("verdict", verdict_name(found.verdict));
+    object.field("architecture", OrNull(section.arch));
+    object.field("verdict", verdict_name(section.verdict));
     object.field("parts", parts);
     object
 }

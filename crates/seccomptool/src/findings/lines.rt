@@ -14,6 +14,7 @@ use seccomp_names::error_name;
 use seccompiler::TargetArch;
 use serde_json::{ToValue, Value};
 use std::alloc::{AllocError, Global};
+use std::cmp::Ordering;
 use std::fmt;
 
 /// How findings are shown.
@@ -60,13 +61,10 @@ pub(crate) fn push_finding(text: &mut Text, shown: Shown, finding: Finding) {
 
 // Whether the new value permits more than the old one.
 fn kind_of(old: u32, new: u32) -> &'static str {
-    let (old, new) = (rank(old), rank(new));
-    if old < new {
-        "more"
-    } else if new < old {
-        "less"
-    } else {
-        "otherwise"
+    match rank(old).cmp(&rank(new)) {
+        Ordering::Less => "more",
+        Ordering::Greater => "less",
+        Ordering::Equal => "otherwise",
     }
 }
 
@@ -177,24 +175,26 @@ pub(crate) fn part_value(alloc: Global, target: TargetArch, finding: Finding) ->
             (None, least, greatest)
         }
     };
+    let (verdict, old, new, change, example) = match finding.answer {
+        Answer::Fails { call, old, new } => (
+            Verdict::Different,
+            Some(Word(old)),
+            Some(Word(new)),
+            Some(kind_of(old, new)),
+            Some(record_value(alloc, &call)),
+        ),
+        _ => (Verdict::Undecided, None, None, None, None),
+    };
     let mut part = Object::new(alloc);
     part.field("call", call_name(target, number));
     part.field("number", number);
     part.field("least", least);
     part.field("greatest", greatest);
-    if let Answer::Fails { call, old, new } = finding.answer {
-        part.field("verdict", verdict_name(Verdict::Different));
-        part.field("old", Word(old));
-        part.field("new", Word(new));
-        part.field("change", kind_of(old, new));
-        part.field("example", record_value(alloc, &call));
-    } else {
-        part.field("verdict", verdict_name(Verdict::Undecided));
-        part.field("old", Value::Null);
-        part.field("new", Value::Null);
-        part.field("change", Value::Null);
-        part.field("example", Value::Null);
-    }
+    part.field("verdict", verdict_name(verdict));
+    part.field("old", OrNull(old));
+    part.field("new", OrNull(new));
+    part.field("change", OrNull(change));
+    part.field("example", OrNull(example));
     part
 }
 

@@ -213,8 +213,8 @@ class Policy:
         (self.folder / "row.json").write_text(json.dumps({"a": self.filter}))
         (self.folder / "row.bin").write_bytes(b"".join(records))
         ran = run(f"./seccompc run {self.arch} row.json a < row.bin", self.folder)[1].splitlines()
-        told = run(f"./seccomptool explain -a {self.arch} --format word --records row.bin row.json", self.folder)
-        decided = [line.split()[0] for line in told[1].splitlines()]
+        told = run(f"./seccomptool explain -a {self.arch} --json --records row.bin row.json", self.folder)
+        decided = [f"{it['action']['value']:08x}" for it in json.loads(told[1] or '{"decisions": []}')["decisions"]]
         if not len(ran) == len(decided) == len(records):
             return [f"{len(ran)} lines of run and {len(decided)} of explain"] * len(records)
         trees = [outcome_of(tree, it) for it in records] if not isinstance(tree, str) else [None] * len(records)

@@ -14,7 +14,8 @@ from .forms import FULL, INPUT, LOGS, MISSING, OUTPUT, TOOL, Case, as_list, as_o
 from .hostile import HOSTILE
 from .learn import entry as entry_of
 from .learn import FIRST_STRANGE, MORE, OF_MANY, OF_NAMED, OF_RAW, OF_RAW_AS_PROFILE, filtered, learned
-from .logs import ON_DENIED
+from .logs import ON_DENIED, ON_TRACED
+from .oci import EXAMPLE_LINES
 from .program_diffs import READS, WRITES, others
 from .programs import EXPLAINED, JUMP, JUMP_AT_LEAST, JUMP_EQUAL, JUMP_GREATER, JUMP_IF_SET, LOAD, MASK, OF_READ, RETURN
 from .records import X86_64, numbers_on, record_of
@@ -178,9 +179,15 @@ OF_DECISIONS = [
     Case("explain --json explained-logs.json", 2, decisions(*TWO_LINES.splitlines()), INPUT + SHORT, TWO_RECORDS + bytes(1)),
     writes("explain --json reads-profile.json read", "", decisions("allow: syscalls[0] of read (0)")),
     writes("explain --json logged-profile.json write", "", decisions("trap: defaultAction of write (1)")),
+    writes("explain --oci --json reads-profile.json --records examples/records.bin", "", decisions(*EXAMPLE_LINES.splitlines())),
     writes("explain --json read.bpf --records calls.bin", "", decisions(*EXPLAINED.splitlines(), steps=3)),
+    writes("explain --json read.bpf read", "", decisions("allow: read (0)", steps=3)),
+    writes("explain read.c 1 --json", "", decisions("errno 1 (EPERM): write (1)", steps=3)),
+    writes("explain --json set.bpf 3221225472", "", decisions("errno 1 (EPERM): call 3221225472", steps=3)),
+    writes("explain --json longest.bpf 0", "", decisions("allow: read (0)", steps=4096)),
     writes("explain --json returns-7fff0001.bpf read", "", decisions("0x7fff0001: read (0)", steps=1)),
     writes("explain --json logged.json --log denied.log", "", decisions(*ON_DENIED.splitlines())),
+    writes("explain --json logged.json --log traced.trace", "", decisions(*ON_TRACED.splitlines())),
     writes("explain --json logs.json --log -", filtered(0, "\x1b\u202e", 5), as_list("decisions", [
         {**decision("log: no entry of read (0)"), "program": "\x1b\u202e", "process": "5"}])),
     Case("explain --json logs.json --log -", 0, decisions("log: no entry of getpid (39)"), INPUT + "1 line isn't understood: line 2\n",
@@ -233,7 +240,6 @@ OF_ERRORS = [
         "compile -q --json logs.json", "show --json logs.json", "explain --json logs.json read", "diff --json logs.json logs.json",
         "learn --json short.trace", "call --json read", "check --list --json")],
     *[misused(f"compile --json --format {it} logs.json", BOTH) for it in ("raw", "listing", "c")],
-    *[misused(f"explain --json --format {it} logs.json read", BOTH) for it in ("path", "word")],
     *[misused(f"check --list --json --format {it}", BOTH) for it in ("gcc", "json")],
     misused("call --json --record read", "error: the argument '--json' cannot be used with '--record'\n.."),
     misused("show --json=yes logs.json", "error: .."),

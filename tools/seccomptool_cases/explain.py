@@ -76,19 +76,6 @@ NEAR_LINES = [
     (3, (2, 0, 0), r"trap: no match: n\x07.filter[3].args[0] of close (3) does not hold" "\n"),
 ]
 
-# The same of the first policy in numbers, for scripts.
-WORD_LINES = [
-    "7fff0000 entry 0, rule 0 of call 288\n",
-    "7fff0000 entry 1, rule 0 of call 72\n",
-    "7fff0000 entry 2, rule 1 of call 72\n",
-    "7fff0000 entry 5, rule 2 of call 72\n",
-    "00050001 no match among 3 entries of call 72\n",
-    "7fff0000 entry 3, rule 0 of call 3\n",
-    "7fff0000 entry 4, rule 1 of call 3\n",
-    "00050001 no entry of call 0\n",
-    "00050001 no entry of call 4294967295\n",
-]
-
 ANOTHER = "kill_process: another architecture\n"
 TWO_RECORDS = record_of(1, X86_64) + record_of(72, 0)
 TWO_LINES = "log: no entry of write (1)\n" + ANOTHER
@@ -107,12 +94,6 @@ CASES = [
       for number, arguments, line in NEAR_LINES],
     *[writes(f"explain explained.json {number} {' '.join(map(str, arguments))}", "", line)
       for number, arguments, line in LINES],
-    *[writes("explain --format word explained.json", record_of(number, X86_64, *arguments), line)
-      for (number, arguments, _), line in zip(LINES, WORD_LINES, strict=True)],
-    writes("explain explained.json --format=word fcntl 9 2 1", "", WORD_LINES[1]),
-    writes("explain --format path explained.json fcntl 9 2 1", "", LINES[1][2]),
-    writes("explain --format word explained.json", record_of(72, AARCH64, 9, 2, 1), "80000000 another architecture\n"),
-    writes("explain --format word near.json", record_of(72, X86_64, 9, 1, 0), "7ff00002 entry 0, rule 0 of call 72\n"),
     writes("explain explained.json fcntl 9 2 1", "", LINES[1][2]),
     writes("explain explained.json close -a x86_64 -f a -- -1", "", LINES[5][2]),
     writes("explain - close 2", POLICY, LINES[6][2]),

@@ -91,7 +91,7 @@ CASES = [
     *[rewritten(words, f"rewritten-{k}") for k, words in enumerate([*subjects(), "longest.bpf"])],
     # Each command takes them, as it takes bytes.
     writes("explain read.c read", "", "allow: read (0)\n"),
-    writes("explain --format word read.c 1", "", "00050001 3\n"),
+    writes("explain read.c 1", "", "errno 1 (EPERM): write (1)\n"),
     writes("explain read.c --records -", RECORDS, EXPLAINED),
     writes("explain - read", LINES, "allow: read (0)\n"),
     writes("show --stats read.c", "", "program: 4 instructions, at most 3 steps, 3 passing\n"),

@@ -46,11 +46,6 @@ allow: a.filter[2] of fcntl (72)
 trap: no match: a.filter[1].args[0] of fcntl (72) does not hold, the nearest of 3 entries
 allow: a.filter[3] of close (3)
 """
-WORDS_OF_TRACED = """7fff0000 entry 0, rule 0 of call 288
-7fff0000 entry 2, rule 1 of call 72
-00030000 no match among 3 entries of call 72
-7fff0000 entry 3, rule 0 of call 3
-"""
 
 ON_AARCH64 = """call[1234]: trap: no match: a.filter[1].args[0] of fcntl (25) does not hold, the nearest of 3 entries
 x[1]: kill_process: another architecture
@@ -83,7 +78,6 @@ CASES = [
     explains("--log denied.log -", ON_DENIED, POLICY),
     explains("logged.json --log audited.log", ON_AUDITED),
     explains("logged.json --log traced.trace", ON_TRACED),
-    explains("logged.json --log traced.trace --format word", WORDS_OF_TRACED),
     explains("logged.json --log fronts.trace", "".join(f"trap: no entry of {it}\n" for it in OF_FRONTS)),
     explains("logged.json --log -", ""),
     explains("logged.json --log -", ON_TRACED + ON_AUDITED + ON_DENIED, TRACED + AUDITED + DENIED),

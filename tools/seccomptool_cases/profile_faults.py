@@ -226,7 +226,7 @@ FILES = {"config.json": CONFIG, "wrong-profile.json": WRONG}
 # What each command has of a profile that it reads, and the exit status.
 COMMANDS = [
     ("compile --oci {}", 2), ("compile --oci --strict {}", 2), ("compile --oci -a riscv64 --cap CAP_KILL --kernel 6.1 {}", 2),
-    ("compile --oci --format listing -q {}", 2), ("explain --oci {} read", 2), ("explain --oci --format word {} read", 2),
+    ("compile --oci --format listing -q {}", 2), ("explain --oci {} read", 2), ("explain --oci --json {} read", 2),
     ("explain --oci {} < examples/records.bin", 2), ("diff --oci {} reads-profile.json", 2), ("diff --oci reads-profile.json {}", 2),
     ("diff --oci --only-more --most 0 {} reads-profile.json", 2), ("show --stats --oci {}", 2),
     ("show --stats --oci -a riscv64 --cap CAP_KILL --kernel 6.1 {}", 2),

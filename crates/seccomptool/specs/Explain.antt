@@ -36,7 +36,7 @@ abbrev pub action_of : JsonFilter → Reason → SeccompAction
 action_of j AnotherArchitecture = KillProcess
 action_of j (NoEntry number) = j.mismatch_action
 action_of j (NoMatch count number nearest) = j.mismatch_action
-action_of j (Entry place rule number) = j.match_action
+action_of j (Entry place number) = j.match_action
 
 -- The filter decides this on the record, for the only reason that there is, and so does its policy.
 pub record IsExplainedBy (target : TargetArch) (j : JsonFilter) (r : List ℕ) (e : Explained) : Type 0 where

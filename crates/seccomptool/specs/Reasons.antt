@@ -61,11 +61,13 @@ pub record IsNearest (entries : List JsonRule) (r : List ℕ) (indices : List �
   pub before : All (FailsBelow entries r miss.condition) front
   pub behind : All (FailsBelow entries r (miss.condition + 1)) back
 
--- Of the entries with these indices, the first that matches has the index at `place`, and so many stand in front of it.
-pub record IsFirstMatch (entries : List JsonRule) (r : List ℕ) (indices : List ℕ) (place rule : ℕ) : Type 0 where
-  pub there : slice_get indices rule ≡ Some place
+-- Of the entries with these indices, the first that matches has this index: it does, and none of those in front does.
+pub record IsFirstMatch (entries : List JsonRule) (r : List ℕ) (indices : List ℕ) (place : ℕ) : Type 0 where
+  pub front : List ℕ
+  pub back : List ℕ
+  pub whole : indices ≡ front ++ place ∷ back
   pub matches : OfEntry (λ entry. EntryHolds entry r) entries place
-  pub before : All (OfEntry (λ entry. EntryHolds entry r → ⊥) entries) (take rule indices)
+  pub before : All (OfEntry (λ entry. EntryHolds entry r → ⊥) entries) front
 
 -- This is why a filter of these entries decides a record of its own architecture as it does, if those of the record's
 -- call are the entries with these indices.
@@ -74,7 +76,7 @@ IsReasonAmong entries r indices AnotherArchitecture = ⊥
 IsReasonAmong entries r indices (NoEntry number) = (number ≡ word_at r 0) × (indices ≡ [])
 IsReasonAmong entries r indices (NoMatch count number nearest) =
     (number ≡ word_at r 0) × (count ≡ length indices) × IsNearest entries r indices nearest
-IsReasonAmong entries r indices (Entry place rule number) = (number ≡ word_at r 0) × IsFirstMatch entries r indices place rule
+IsReasonAmong entries r indices (Entry place number) = (number ≡ word_at r 0) × IsFirstMatch entries r indices place
 
 -- The same, and the indices are those of the entries of the record's call.
 abbrev pub IsReasonOfCall : TargetArch → List JsonRule → List ℕ → Reason → Type 0

@@ -70,9 +70,7 @@ fn made_by<G: Progress>(
         Command::Show(asked) => show_made(alloc, asked, inputs.json, first),
         Command::Check(asked) => check_made(alloc, asked, path, first),
         Command::Codes => codes_made(alloc, inputs.json),
-        Command::Explain(asked) => {
-            explain_made(alloc, asked, inputs.second.unwrap_or("-"), first, second)
-        }
+        Command::Explain(asked) => explain_made(alloc, asked, inputs, first, second),
         Command::Call(asked) => call_made(alloc, asked, inputs.json),
         Command::Diff(asked) => diff_made(alloc, asked, inputs, first, second, progress),
         Command::Learn(asked) => learn_made(alloc, asked, inputs, first, second),

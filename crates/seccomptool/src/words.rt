@@ -7,7 +7,6 @@ mod values;
 use crate::check::format::CheckFormat;
 use crate::compile::ProgramFormat;
 use crate::diff::Scope;
-use crate::explain::lines::LineFormat;
 use crate::findings::Terms;
 use crate::kind::Reading;
 use crate::learn::Learning;
@@ -88,8 +87,6 @@ pub struct Explaining<'a> {
     pub reading: Reading,
     /// The filter's name; the policy's only filter if there is none.
     pub filter: Option<&'a str>,
-    /// How a line is written.
-    pub format: LineFormat,
     /// The calls that it is asked about.
     pub calls: Calls<'a>,
 }
@@ -149,7 +146,7 @@ pub struct Inputs<'a> {
     pub first: Option<&'a str>,
     /// Records or a log; of two that are compared the new one; the policy that a trace's calls are added to.
     pub second: Option<&'a str>,
-    /// Whether that is written as JSON; `check`, `compile` and `explain` have formats for it.
+    /// Whether that is written as JSON; `check` and `compile` have formats for it.
     pub json: bool,
 }
 

@@ -1,5 +1,5 @@
--- For `explain_each`: the policy of a JSON filter decides what the reason says.
-use Rattle.std.proofs.Common.{◌≡◌, ℕ, pos, ◌∷◌, [], List, map, Option, Some, None, refl, sym, subst, ap, ◌∙◌}
+-- For `explain_policy`: the policy of a JSON filter decides what the reason says.
+use Rattle.std.proofs.Common.{◌≡◌, ℕ, pos, ◌∷◌, [], List, length, map, Option, Some, None, refl, sym, subst, ap, ◌∙◌}
 use Rattle.std.specs.Prelude.{◌↔◌, All, Any}
 use Rattle.std.proofs.lemmas.List.Elements.{All-contains, All-map, All-nil, All-same, All-cons, All-head, All-tail}
 use Rattle.std.proofs.lemmas.Option.{get_or_from_slice_get, slice_get_within, slice_get-get_or}
@@ -61,10 +61,11 @@ module _ (target : TargetArch) (r : List ℕ) (j : JsonFilter) (f : Filter) (pol
           fails.2 (subst (λ e. EntryHolds e r) same (entry_holds r entry meets.conditions))
 
   -- Where one of the call's entries matches, the policy does.
-  one_matches : (indices : List ℕ) → AreIndicesFor target j.rules (pos (word_at r 0)) indices → (place rule : ℕ)
-      → IsFirstMatch j.rules r indices place rule → Matches f r
-  one_matches indices are place rule is =
-      let entry = (are.exactly place).0 (contained indices rule place is.there) in
+  one_matches : (indices : List ℕ) → AreIndicesFor target j.rules (pos (word_at r 0)) indices → (place : ℕ)
+      → IsFirstMatch j.rules r indices place → Matches f r
+  one_matches indices are place is =
+      let there = search.stands_first j.rules r indices place is in
+      let entry = (are.exactly place).0 (contained indices (length is.front) place there) in
       let both : Some is.matches.0 ≡ Some entry.0 = sym is.matches.1 ∙ entry.1 in
       let same : is.matches.0 ≡ entry.0 = cc in
       met.1 (
@@ -87,8 +88,8 @@ module _ (target : TargetArch) (r : List ℕ) (j : JsonFilter) (f : Filter) (pol
   decided_among indices are same (NoMatch count n miss) why =
       policy_differs same (none_matches indices are (search.none_matches j.rules r indices (Some miss) why.2))
       (ap word_of (sym policy.mismatch_action))
-  decided_among indices are same (Entry place rule n) why =
-      policy_matches same (one_matches indices are place rule why.1) (ap word_of (sym policy.match_action))
+  decided_among indices are same (Entry place n) why =
+      policy_matches same (one_matches indices are place why.1) (ap word_of (sym policy.match_action))
 
   -- It decides the word of the reason's action.
   pub reason_decides : (reason : Reason) → IsReason target j.rules r reason → IsDecision f r (word_of (action_of j reason))

@@ -49,6 +49,14 @@ seam : {X : Type 0} (front : List X) (x : X) (back : List X) → slice_get (fron
 seam [] x back = refl
 seam (y ∷ front) x back = seam front x back
 
+stands_behind : {X : Type 0} (front : List X) (x : X) (back xs : List X) → xs ≡ front ++ x ∷ back → slice_get xs (length front) ≡ Some x
+stands_behind front x back xs whole = subst (λ ys. slice_get ys (length front) ≡ Some x) (sym whole) (seam front x back)
+
+-- What holds of the front holds of the first items.
+holds_before : {X : Type 0} (P : X → Type 0) (front back xs : List X) → xs ≡ front ++ back → All P front → All P (take (length front) xs)
+holds_before P front back xs whole all =
+    All-same P (take (length front) xs) front (ap (take (length front)) whole ∙ take-append_seam front back) all
+
 -- The item at a place is one of the list.
 pub contained : {X : Type 0} (xs : List X) (i : ℕ) (x : X) → slice_get xs i ≡ Some x → Contains xs x
 contained xs i x there = (i, slice_get_within xs i x there, get_or_from_slice_get xs i x x there)
@@ -183,26 +191,28 @@ module _ (entries : List JsonRule) (r : List ℕ) where
 
   -- The first that matches stands behind them.
   pub first_match : (indices done rest : List ℕ) (place : ℕ) (so_far : Option Miss) → indices ≡ done ++ place ∷ rest
-      → IsNearestOf done so_far → OfEntry (λ entry. EntryHolds entry r) entries place → IsFirstMatch entries r indices place (length done)
+      → IsNearestOf done so_far → OfEntry (λ entry. EntryHolds entry r) entries place → IsFirstMatch entries r indices place
   first_match indices done rest place so_far whole nearest holds = record {
-    there = subst (λ xs. slice_get xs (length done) ≡ Some place) (sym whole) (seam done place rest);
+    front = done;
+    back = rest;
+    whole = whole;
     matches = holds;
-    before = All-same (OfEntry (λ entry. EntryHolds entry r → ⊥) entries) (take (length done) indices) done
-        (ap (take (length done)) whole ∙ take-append_seam done (place ∷ rest)) (none_matches done so_far nearest);
+    before = none_matches done so_far nearest;
   }
 
   -- ---- one reason
 
   -- The index of the nearest miss stands at a place, and the entries in front of that fail below it.
   stands : (indices : List ℕ) (miss : Miss) (is : IsNearest entries r indices miss) → slice_get indices (length is.front) ≡ Some miss.entry
-  stands indices miss is = subst (λ xs. slice_get xs (length is.front) ≡ Some miss.entry) (sym is.whole) (seam is.front miss.entry is.back)
+  stands indices miss is = stands_behind is.front miss.entry is.back indices is.whole
 
   lower : (indices : List ℕ) (miss : Miss) (is : IsNearest entries r indices miss)
       → All (FailsBelow entries r miss.condition) (take (length is.front) indices)
-  lower indices miss is =
-      let same : take (length is.front) indices ≡ is.front = ap (take (length is.front)) is.whole
-      ∙ take-append_seam is.front (miss.entry ∷ is.back) in
-      All-same (FailsBelow entries r miss.condition) (take (length is.front) indices) is.front same is.before
+  lower indices miss is = holds_before (FailsBelow entries r miss.condition) is.front (miss.entry ∷ is.back) indices is.whole is.before
+
+  -- So does the index of the first match, and the entries in front of that don't match.
+  pub stands_first : (indices : List ℕ) (place : ℕ) (is : IsFirstMatch entries r indices place) → slice_get indices (length is.front) ≡ Some place
+  stands_first indices place is = stands_behind is.front place is.back indices is.whole
 
   -- No nearest miss stands in front of another.
   miss_not_before : (indices : List ℕ) (m n : Miss) (a : IsNearest entries r indices m) (b : IsNearest entries r indices n)
@@ -229,16 +239,19 @@ module _ (entries : List JsonRule) (r : List ℕ) where
       ap (λ k. miss k m.condition) entry ∙ ap (λ k. miss n.entry k) condition
 
   -- Of two first matches neither stands in front of the other.
-  match_not_before : (indices : List ℕ) (p q s t : ℕ) → IsFirstMatch entries r indices p s → IsFirstMatch entries r indices q t → s < t → ⊥
-  match_not_before indices p q s t a b less =
-      let fails = in_front (OfEntry (λ entry. EntryHolds entry r → ⊥) entries) indices s t p less a.there b.before in
+  match_not_before : (indices : List ℕ) (p q : ℕ) (a : IsFirstMatch entries r indices p) (b : IsFirstMatch entries r indices q)
+      → length a.front < length b.front → ⊥
+  match_not_before indices p q a b less =
+      let P = OfEntry (λ entry. EntryHolds entry r → ⊥) entries in
+      let none = holds_before P b.front (q ∷ b.back) indices b.whole b.before in
+      let fails = in_front P indices (length a.front) (length b.front) p less (stands_first indices p a) none in
       fails.2 (subst (λ e. EntryHolds e r) (one_entry p a.matches.0 fails.0 a.matches.1 fails.1) a.matches.2)
 
   -- Where none matches there is no first match.
-  no_first : (indices : List ℕ) (p s : ℕ) → IsFirstMatch entries r indices p s
+  no_first : (indices : List ℕ) (p : ℕ) → IsFirstMatch entries r indices p
       → All (OfEntry (λ entry. EntryHolds entry r → ⊥) entries) indices → ⊥
-  no_first indices p s a none =
-      let fails = at_place (OfEntry (λ entry. EntryHolds entry r → ⊥) entries) indices s p a.there none in
+  no_first indices p a none =
+      let fails = at_place (OfEntry (λ entry. EntryHolds entry r → ⊥) entries) indices (length a.front) p (stands_first indices p a) none in
       fails.2 (subst (λ e. EntryHolds e r) (one_entry p a.matches.0 fails.0 a.matches.1 fails.1) a.matches.2)
 
   -- Where there are no entries there is no nearest miss.
@@ -252,19 +265,20 @@ module _ (entries : List JsonRule) (r : List ℕ) where
   one_among indices a AnotherArchitecture is too = absurd too
   one_among indices (NoEntry n) (NoEntry m) is too = ap NoEntry (is.0 ∙ sym too.0)
   one_among indices (NoEntry n) (NoMatch k m miss) is too = absurd (none_nearest indices miss is.1 too.2)
-  one_among indices (NoEntry n) (Entry p s m) is too = absurd (no_first indices p s too.1 (none_matches indices None is.1))
+  one_among indices (NoEntry n) (Entry p m) is too = absurd (no_first indices p too.1 (none_matches indices None is.1))
   one_among indices (NoMatch k n miss) (NoEntry m) is too = absurd (none_nearest indices miss too.1 is.2)
   one_among indices (NoMatch k n miss) (NoMatch l m other) is too =
       let number : n ≡ m = is.0 ∙ sym too.0 in
       let count : k ≡ l = is.1 ∙ sym too.1 in
       let same = one_miss indices miss other is.2 too.2 in
       cc
-  one_among indices (NoMatch k n miss) (Entry p s m) is too = absurd (no_first indices p s too.1 (none_matches indices (Some miss) is.2))
-  one_among indices (Entry p s n) (NoEntry m) is too = absurd (no_first indices p s is.1 (none_matches indices None too.1))
-  one_among indices (Entry p s n) (NoMatch l m miss) is too = absurd (no_first indices p s is.1 (none_matches indices (Some miss) too.2))
-  one_among indices (Entry p s n) (Entry q t m) is too =
-      let rule = neither s t (match_not_before indices p q s t is.1 too.1) (match_not_before indices q p t s too.1 is.1) in
-      let both : Some p ≡ Some q = sym is.1.there ∙ ap (slice_get indices) rule ∙ too.1.there in
+  one_among indices (NoMatch k n miss) (Entry p m) is too = absurd (no_first indices p too.1 (none_matches indices (Some miss) is.2))
+  one_among indices (Entry p n) (NoEntry m) is too = absurd (no_first indices p is.1 (none_matches indices None too.1))
+  one_among indices (Entry p n) (NoMatch l m miss) is too = absurd (no_first indices p is.1 (none_matches indices (Some miss) too.2))
+  one_among indices (Entry p n) (Entry q m) is too =
+      let at = neither (length is.1.front) (length too.1.front) (match_not_before indices p q is.1 too.1)
+      (match_not_before indices q p too.1 is.1) in
+      let both : Some p ≡ Some q = sym (stands_first indices p is.1) ∙ ap (slice_get indices) at ∙ stands_first indices q too.1 in
       let place : p ≡ q = cc in
       let number : n ≡ m = is.0 ∙ sym too.0 in
       cc

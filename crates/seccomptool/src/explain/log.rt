@@ -1,38 +1,19 @@
 // The calls that lines of a log or of a trace are about.
 
 use crate::text::Text;
+use memchr::memchr_iter;
 use seccomp_learn::{Line, Told, line_of, told_number};
 use seccompiler::TargetArch;
-use std::alloc::{AllocError, Global};
+use std::alloc::Global;
 
-/// Who made a call: no bytes of what its line doesn't say.
-#[derive(Clone, Copy, Default)]
-pub(crate) struct Caller<'a> {
-    /// The program's name.
-    pub program: &'a str,
-    /// The number of the process.
-    pub process: &'a str,
-}
-
-/// Adds who made a call, with what stands between that and the decision.
-pub(super) fn push_caller(text: &mut Text, caller: Caller<'_>) {
-    if caller.program.is_empty() {
-        return;
-    }
-    text.push_str(caller.program);
-    if !caller.process.is_empty() {
-        text.push_str("[");
-        text.push_str(caller.process);
-        text.push_str("]");
-    }
-    text.push_str(": ");
-}
+/// Who made a call: the program's name and the number of the process, no bytes of what the line doesn't say.
+pub(crate) type Caller<'a> = (&'a str, &'a str);
 
 /// The calls that lines are about.
 #[derive(Drop)]
 pub(super) struct Log<'a> {
     /// The records of the calls, one after the other.
-    pub records: Vec<u8>,
+    pub records: Text,
     /// Who made each.
     pub callers: Vec<Caller<'a>>,
     /// How many lines aren't understood.
@@ -42,20 +23,17 @@ pub(super) struct Log<'a> {
 }
 
 // The calls that these lines are about; a call whose name no call of the architecture has is not understood.
-pub(super) fn log_of<'a>(
-    alloc: Global,
-    arch: TargetArch,
-    text: &'a [u8],
-) -> Result<Log<'a>, AllocError> {
+pub(super) fn log_of<'a>(alloc: Global, arch: TargetArch, text: &'a [u8]) -> Log<'a> {
     let mut log = Log {
-        records: Vec::new(alloc),
+        records: Text::new(alloc),
         callers: Vec::new(alloc),
         strange: 0,
         first_strange: None,
     };
-    for (index, line) in text.split(|byte| *byte == b'\n').enumerate() {
-        let understood = match line_of(arch, line) {
-            Line::Call(told) => push_call(arch, &mut log, &told)?,
+    let mut start = 0usize;
+    for (index, end) in memchr_iter(b'\n', text).chain([text.len()]).enumerate() {
+        let understood = match line_of(arch, text.get(start..end).unwrap_or(&[])) {
+            Line::Call(told) => push_call(arch, &mut log, &told),
             Line::Passed => true,
             Line::Strange => false,
         };
@@ -63,26 +41,25 @@ pub(super) fn log_of<'a>(
             log.strange = log.strange.saturating_add(1);
             log.first_strange = log.first_strange.or(Some(index.saturating_add(1)));
         }
+        start = end.saturating_add(1);
     }
-    Ok(log)
+    log
 }
 
 // Adds a call, if its number is known. Answers whether it is.
-fn push_call<'a>(arch: TargetArch, log: &mut Log<'a>, told: &Told<'a>) -> Result<bool, AllocError> {
+fn push_call<'a>(arch: TargetArch, log: &mut Log<'a>, told: &Told<'a>) -> bool {
     let Some(number) = told_number(arch, told.call) else {
-        return Ok(false);
+        return false;
     };
-    log.callers.push(Caller {
-        program: told.program,
-        process: told.process,
-    })?;
+    if log.callers.push((told.program, told.process)).is_err() {
+        log.records.fail();
+    }
     // The instruction pointer has two words.
     for word in [number, told.arch_word, 0, 0] {
-        log.records.extend_from_slice(&word.to_le_bytes())?;
+        log.records.push_bytes(&word.to_le_bytes());
     }
     for argument in told.arguments {
-        log.records
-            .extend_from_slice(&argument.unwrap_or(0).to_le_bytes())?;
+        log.records.push_bytes(&argument.unwrap_or(0).to_le_bytes());
     }
-    Ok(true)
+    true
 }

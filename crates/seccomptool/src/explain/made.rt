@@ -16,30 +16,32 @@ use crate::made::Made;
 use crate::record::called_record;
 use crate::run::explain_program;
 use crate::text::Text;
-use crate::words::{Calls, Explaining};
+use crate::words::{Calls, Explaining, Inputs};
 use std::alloc::Global;
 
 pub(crate) fn explain_made(
     alloc: Global,
     asked: &Explaining<'_>,
-    path: &str,
+    inputs: Inputs<'_>,
     given: &[u8],
     bytes: &[u8],
 ) -> Result<Made, ToolError>
     ensures { IfOk result (λ made. OnRecords asked.now.arch asked.now.calls bytes.now (IsExplained asked.now given.now) × (made.verdict ≡ Same)) }
 {
+    let json = inputs.json;
     match asked.calls {
         Calls::One(call) => {
             let record = called_record(alloc, asked.arch, call.name, &call.arguments)?;
-            explain_records(alloc, asked, given, &record, &[])
+            explain_records(alloc, asked, json, given, &record, &[])
         }
-        Calls::Records => explain_records(alloc, asked, given, bytes, &[]),
+        Calls::Records => explain_records(alloc, asked, json, given, bytes, &[]),
         // Each line comes after who made the call.
         Calls::Log => {
-            let log = log_of(alloc, asked.arch, bytes)?;
-            let made = explain_records(alloc, asked, given, &log.records, &log.callers)?;
-            let mut notes = Text::new(alloc);
+            let (mut notes, path) = (Text::new(alloc), inputs.second.unwrap_or("-"));
+            let log = log_of(alloc, asked.arch, bytes);
             note_strange(&mut notes, path, log.strange, log.first_strange);
+            let (records, callers) = (log.records.finish()?, log.callers);
+            let made = explain_records(alloc, asked, json, given, &records, &callers)?;
             Ok(Made::noting(made.text, made.verdict, notes.finish()?))
         }
     }
@@ -48,6 +50,7 @@ pub(crate) fn explain_made(
 fn explain_records(
     alloc: Global,
     asked: &Explaining<'_>,
+    json: bool,
     given: &[u8],
     records: &[u8],
     callers: &[Caller<'_>],
@@ -68,7 +71,7 @@ fn explain_records(
             explain_program(alloc, arch, given, records)?
         }
     };
-    let text = explained_text(alloc, arch, asked.format, &explanation, callers)?;
+    let text = explained_text(alloc, arch, json, &explanation, callers)?;
     Ok(Made {
         text,
         rest: rest.len(),

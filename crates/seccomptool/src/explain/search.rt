@@ -40,8 +40,6 @@ pub enum Reason {
     Entry {
         /// How many entries are in front of it.
         place: usize,
-        /// How many of these are for the call.
-        rule: usize,
         /// The call's number.
         number: u32,
     },
@@ -56,24 +54,20 @@ pub(crate) fn reason_of(target: TargetArch, entries: &[JsonRule], call: &[u8; 64
         return Reason::AnotherArchitecture;
     }
     let number = word_at(call, 0);
-    let (mut rule, mut nearest) = (0, None);
+    let (mut count, mut nearest) = (0, None);
     for (place, entry) in entries.iter().enumerate() {
         if is_for(target, entry, number) {
             let Some(condition) = failing(entry, call) else {
-                return Reason::Entry {
-                    place,
-                    rule,
-                    number,
-                };
+                return Reason::Entry { place, number };
             };
             let entry = place;
             nearest = Some(nearer(nearest, Miss { entry, condition }));
-            rule += 1;
+            count += 1;
         }
     }
     match nearest {
         Some(nearest) => Reason::NoMatch {
-            entries: rule,
+            entries: count,
             number,
             nearest,
         },

@@ -14,7 +14,6 @@ use super::{
 use crate::check::format::CheckFormat;
 use crate::compile::ProgramFormat;
 use crate::diff::Scope;
-use crate::explain::lines::LineFormat;
 use crate::findings::Terms;
 use crate::learn::{Learning, Start};
 use crate::text::Text;
@@ -135,11 +134,6 @@ fn explain_in<'a>(found: &ArgMatches<'a>, wrong: &mut Text) -> Asked<'a> {
         arch: arch_in(found),
         reading: reading_in(found, wrong),
         filter: found.get_str("filter"),
-        format: match format_in(found) {
-            "word" => LineFormat::Word,
-            "json" => LineFormat::Json,
-            _ => LineFormat::Path,
-        },
         calls,
     });
     on(found, wrong, command, &[subject], second)

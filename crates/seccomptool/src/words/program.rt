@@ -63,7 +63,6 @@ SUBJECT=-: The file of a policy, profile or program, or - for standard input";
 const EXPLAIN: &str = "\
 explain: Print what is decided for calls, and why
 --filter -f FILTER: The name of the filter; optional if the policy has only one
---format FORMAT=path !json: How a line is written: with places in the policy, or in numbers for scripts
 --json: Write the answer as one JSON object
 --records FILE !CALL !log: Without CALL, read call records from FILE instead of standard input
 --log FILE !CALL: Explain the calls that lines of a log or of strace in FILE are about
@@ -208,7 +207,6 @@ fn values_of<'a>(command: &str, option: &str, codes: &'a [&'a str]) -> &'a [&'a 
         ("allow", _) => codes,
         ("format", "check") => &["text", "gcc", "json"],
         ("format", "compile") => &["raw", "listing", "c"],
-        ("format", _) => &["path", "word"],
         _ => &[],
     }
 }

@@ -4,7 +4,6 @@ use Rattle.std.proofs.lemmas.List.{take_all}
 use Rattle.std.proofs.lemmas.Option.{slice_get-get_or}
 use Rattle.seccompiler.specs.JsonPolicyOf.{is_for}
 use Rattle.seccompiler.specs.JsonTypes.{JsonRule}
-use Rattle.seccomptool.specs.Reasons.{IsFirstMatch}
 use Rattle.seccomptool.specs.declared.explain.search.Miss.{Miss}
 use Rattle.seccomptool.proofs.explain.EntrySearches.{IsNearestOf, first_match, one_nearer}
 use Rattle.seccomptool.proofs.explain.Places.{place_if, place_within, places, places_more, reason_among}
@@ -27,16 +26,16 @@ loop-place-preserved c =
           let longer = more ∙ ap (λ b. front ++ place_if b l.place) (sym c.is_for.ensures ∙ w.if-is_for.true) in
           let near = one_nearer entries call front l.nearest miss l.invariant.nearest (entry, there, w.in-Some.ensures.fails) in
           record {
-            counted = omega (arith, w.rule-is, l.invariant.counted, ap length longer, length-append front (l.place ∷ []));
-            few = omega (arith, w.rule-is, l.invariant.few);
+            counted = omega (arith, w.count-is, l.invariant.counted, ap length longer, length-append front (l.place ∷ []));
+            few = omega (arith, w.count-is, l.invariant.few);
             nearest = subst (λ done. IsNearestOf entries call done c.if-is_for.nearest) (sym longer)
                 (subst (IsNearestOf entries call (front ++ l.place ∷ [])) (sym (w.nearest-is ∙ ap Some w.nearer.ensures)) near);
           }
       | else-is_for w ↦
           let same = more ∙ ap (λ b. front ++ place_if b l.place) (sym c.is_for.ensures ∙ w.if-is_for.false) ∙ append-nil front in
           record {
-            counted = w.rule-is ∙ l.invariant.counted ∙ ap length (sym same);
-            few = omega (arith, w.rule-is, l.invariant.few);
+            counted = w.count-is ∙ l.invariant.counted ∙ ap length (sym same);
+            few = omega (arith, w.count-is, l.invariant.few);
             nearest = subst (λ done. IsNearestOf entries call done c.if-is_for.nearest) (sym same)
                 (subst (IsNearestOf entries call front) (sym w.nearest-is) l.invariant.nearest);
           }
@@ -56,7 +55,7 @@ returns-in_default c =
     (entry, there, c.in_default.ensures.holds) in
     reason_among c.args.target entries c.args.call.now c.word_at-number.result _
     (sym c.word_at.ensures ∙ c.if-word_at-get_audit_value.false ∙ c.get_audit_value.ensures) c.word_at-number.ensures
-    (c.word_at-number.ensures, subst (IsFirstMatch entries c.args.call.now (places own 0 entries) l.place) (sym l.invariant.counted) first)
+    (c.word_at-number.ensures, first)
 
 pub returns-in-Some-nearest : goal.returns-in-Some-nearest
 returns-in-Some-nearest c =

@@ -5,12 +5,10 @@ pub(crate) mod log;
 pub(crate) mod made;
 pub mod search;
 
-ghost use Rattle.std.specs.Prelude.{◌≡◌, All, IfOk, OnOk, option_map};
-ghost use Rattle.std.specs.List.{AllZip};
-ghost use Rattle.seccompiler.specs.JsonPolicyOf.{IsFineEntry};
+ghost use Rattle.std.specs.Prelude.{◌≡◌, IfOk, OnOk, option_map};
 ghost use Rattle.seccomp_oci.specs.Types.{AllOnArguments};
 ghost use Rattle.seccomptool.specs.Explain as spec;
-ghost use Rattle.seccomptool.specs.Explain.{AreMatched, HavePolicies, IsExplainedBy, IsExplainedByProfile, IsOfPolicy, IsOfProfile};
+ghost use Rattle.seccomptool.specs.Explain.{HavePolicies, IsExplainedByProfile, IsOfPolicy, IsOfProfile};
 
 use crate::chosen::chosen_name;
 use crate::error::ToolError;
@@ -20,7 +18,7 @@ use seccomp_oci::{
 };
 use seccompiler::json::filters_of;
 use seccompiler::{JsonCompiler, JsonFilter, JsonFilterMap, SeccompAction, TargetArch};
-use std::alloc::{AllocError, Global};
+use std::alloc::Global;
 
 /// Why a record is decided as it is.
 #[derive(Clone, Copy)]
@@ -94,8 +92,15 @@ pub fn explain_policy(
     let Some(filter) = filters.0.remove(name.as_str()) else {
         return Err(ToolError::NoFilter(name));
     };
-    let records = explain_each(alloc, target, &filter, records)?;
-    Ok(Explanation { name, records })
+    let (filter, mut all) = (&filter, Vec::new(alloc));
+    for call in records {
+        let reason = reason_of(target, filter.rules.as_slice(), call);
+        all.push(Explained {
+            word: u32::from(action_of(filter, reason)),
+            why: Why::Filter(reason),
+        })?;
+    }
+    Ok(Explanation { name, records: all })
 }
 
 // That each of these filters has a policy, and none of their programs is too long.
@@ -115,28 +120,6 @@ fn check_filters(
         policy.compiled_len()?;
     }
     Ok(())
-}
-
-// What a filter decides on each record, and why.
-fn explain_each(
-    alloc: Global,
-    target: TargetArch,
-    filter: &JsonFilter,
-    records: &[[u8; 64]],
-) -> Result<Vec<Explained>, AllocError>
-    requires fine { All (IsFineEntry target) filter.now.rules }
-    requires matched { AreMatched target filter.now }
-    ensures { IfOk result (λ all. AllZip (IsExplainedBy target filter.now) records.now all.items) }
-{
-    let mut all = Vec::new(alloc);
-    for call in records {
-        let reason = reason_of(target, filter.rules.as_slice(), call);
-        all.push(Explained {
-            word: u32::from(action_of(filter, reason)),
-            why: Why::Filter(reason),
-        })?;
-    }
-    Ok(all)
 }
 
 // The action of a filter for a reason.
@@ -169,27 +152,14 @@ pub fn explain_profile(
         Err(ProfileError::OutOfMemory) => return Err(ToolError::OutOfMemory),
         Err(fault) => return Err(ToolError::Profile(CompileError::Profile(fault))),
     };
-    let records = explain_each_by(alloc, target, container, &profile, records)?;
-    let name = String::new(alloc);
-    Ok(Explanation { name, records })
-}
-
-// What a profile decides on each record, and by which of its entries.
-fn explain_each_by(
-    alloc: Global,
-    target: TargetArch,
-    container: &Container,
-    profile: &Profile,
-    records: &[[u8; 64]],
-) -> Result<Vec<Explained>, AllocError>
-    requires { AllOnArguments profile.now.entries }
-    ensures { IfOk result (λ all. AllZip (IsExplainedByProfile target container.now profile.now) records.now all.items) }
-{
-    let mut all = Vec::new(alloc);
+    let (profile, mut all) = (&profile, Vec::new(alloc));
     for call in records {
         all.push(explained_by_profile(target, container, profile, call))?;
     }
-    Ok(all)
+    Ok(Explanation {
+        name: String::new(alloc),
+        records: all,
+    })
 }
 
 // What a profile decides on a record, and by which of its entries.

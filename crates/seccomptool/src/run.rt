@@ -52,19 +52,11 @@ pub fn returned(
 {
     let mut all = Vec::new(alloc);
     for call in records {
-        all.push(returned_for(target, program, call))?;
+        let Outcome { word, steps } = machine::run(program, call);
+        let is_own = word_at(call, 4) == target.get_audit_value();
+        let number = is_own.then_some(word_at(call, 0));
+        let why = Why::Program { number, steps };
+        all.push(Explained { word, why })?;
     }
     Ok(all)
-}
-
-// What a program returns for a record.
-fn returned_for(target: TargetArch, program: BpfProgramRef<'_>, call: &[u8; 64]) -> Explained
-    requires { IsChecked program.now }
-    ensures { IsReturned program.now call.now result }
-{
-    let Outcome { word, steps } = machine::run(program, call);
-    let is_own = word_at(call, 4) == target.get_audit_value();
-    let number = is_own.then_some(word_at(call, 0));
-    let why = Why::Program { number, steps };
-    Explained { word, why }
 }

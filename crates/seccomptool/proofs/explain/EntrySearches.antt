@@ -211,7 +211,8 @@ module _ (entries : List JsonRule) (r : List ℕ) where
   lower indices miss is = holds_before (FailsBelow entries r miss.condition) is.front (miss.entry ∷ is.back) indices is.whole is.before
 
   -- So does the index of the first match, and the entries in front of that don't match.
-  pub stands_first : (indices : List ℕ) (place : ℕ) (is : IsFirstMatch entries r indices place) → slice_get indices (length is.front) ≡ Some place
+  pub stands_first : (indices : List ℕ) (place : ℕ) (is : IsFirstMatch entries r indices place)
+      → slice_get indices (length is.front) ≡ Some place
   stands_first indices place is = stands_behind is.front place is.back indices is.whole
 
   -- No nearest miss stands in front of another.

@@ -1,7 +1,7 @@
 use Rattle.std.proofs.Common.{take}
 use Rattle.std.specs.List.{AllZip}
 use Rattle.seccomptool.specs.Explain.{IsExplainedByProfile}
-use Rattle.seccomptool.proofs.explain.explain_each_by.Given as goal
+use Rattle.seccomptool.proofs.explain.explain_profile.Given as goal
 
 -- the records so far are explained
 abbrev pub invariant-loop-call : goal.invariant-loop-call

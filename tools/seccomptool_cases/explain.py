@@ -108,11 +108,12 @@ CASES = [
     writes("explain explained-logs.json", TWO_RECORDS, TWO_LINES),
     Case("explain explained-logs.json", 2, TWO_LINES, INPUT + SHORT, TWO_RECORDS + bytes(1)),
     ("explain logs.json --records 65-bytes", 2, ANOTHER, TOOL + "65-bytes: " + SHORT),
-    # `explain` tells the first fault; the records' are the last.
-    rejects("explain -f b list.json", FAILING_RECORDS, NO_OBJECT, TOOL + "list.json: "),
-    rejects("explain -f b -a aarch64 opens.json", FAILING_RECORDS,
+    # That a file can't be read comes first, and then what is wrong with SUBJECT.
+    rejects("explain -f b list.json", FAILING_RECORDS, RESET),
+    rejects("explain -f b list.json", bytes(64), NO_OBJECT, TOOL + "list.json: "),
+    rejects("explain -f b -a aarch64 opens.json", bytes(64),
             FRONTEND + "Invalid syscall name: open for given arch: aarch64.\n", TOOL + "opens.json: "),
-    rejects("explain -f b explained-logs.json", FAILING_RECORDS, NO_FILTER, TOOL + "explained-logs.json: "),
+    rejects("explain -f b explained-logs.json", bytes(64), NO_FILTER, TOOL + "explained-logs.json: "),
     rejects("explain explained-logs.json", FAILING_RECORDS, RESET),
     rejects("explain -f b logs.json --records 63-bytes", "", NO_FILTER, TOOL + "logs.json: "),
     rejects("explain missing.json", "", MISSING, TOOL + "missing.json: "),

@@ -156,7 +156,7 @@ fn diff_pair<G: Progress>(
     let by_old = ruled_by(alloc, terms.target, old)?;
     let by_new = match ruled_by(alloc, terms.target, new) {
         Ok(by_new) => by_new,
-        Err(error) => return Err(ToolError::in_second(alloc, error)?),
+        Err(error) => return Err(ToolError::in_second(alloc, error)),
     };
     let new: BpfProgramRef<'_> = &by_new.program;
     let old: BpfProgramRef<'_> = &by_old.program;
@@ -206,7 +206,7 @@ fn diff_policies<G: Progress>(
     let old = compiler.policies_of(alloc, old)?;
     let new = match compiler.policies_of(alloc, new) {
         Ok(new) => new,
-        Err(error) => return Err(ToolError::in_second(alloc, error.into())?),
+        Err(error) => return Err(ToolError::in_second(alloc, error.into())),
     };
     found_by_name(alloc, terms, &old, &new, progress)
 }
@@ -255,7 +255,7 @@ fn found_of<G: Progress>(
     let old = fitting_bpf(alloc, old)?;
     let new = match fitting_bpf(alloc, new) {
         Ok(new) => new,
-        Err(error) => return Err(ToolError::in_second(alloc, error.into())?),
+        Err(error) => return Err(ToolError::in_second(alloc, error.into())),
     };
     Ok(Found::Both(findings_of(alloc, terms, &new, &old, progress)?))
 }

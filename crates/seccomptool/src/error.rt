@@ -45,36 +45,36 @@ pub enum ToolError {
 
 impl ToolError {
     // An error of the second one of what is read.
-    pub(crate) fn in_second(alloc: Global, error: ToolError) -> Result<ToolError, AllocError> {
-        match error {
-            ToolError::OutOfMemory => Err(AllocError),
-            error => {
-                let told = error.to_string(alloc);
-                // Here, so that no branch below has to.
-                drop(error);
-                Ok(ToolError::Second(told?))
-            }
+    pub(crate) fn in_second(alloc: Global, error: ToolError) -> ToolError {
+        if let ToolError::OutOfMemory = error {
+            return error;
+        }
+        let told = error.to_string(alloc);
+        // Here, so that no branch below has to.
+        drop(error);
+        match told {
+            Ok(told) => ToolError::Second(told),
+            Err(error) => error.into(),
         }
     }
 
     // That what is at a path can't be opened, read or written.
-    pub(crate) fn of_io(
-        alloc: Global,
-        path: &str,
-        error: io::Error,
-    ) -> Result<ToolError, AllocError> {
-        match error.kind() {
-            ErrorKind::OutOfMemory => Err(AllocError),
-            _ => ToolError::of_path(alloc, path, error.to_string(alloc)?.as_str()),
+    pub(crate) fn of_io(alloc: Global, path: &str, error: io::Error) -> ToolError {
+        match (error.kind(), error.to_string(alloc)) {
+            (ErrorKind::OutOfMemory, _) | (_, Err(_)) => ToolError::OutOfMemory,
+            (_, Ok(told)) => ToolError::of_path(alloc, path, told.as_str()),
         }
     }
 
     // What is wrong with what is at a path.
-    pub(crate) fn of_path(alloc: Global, path: &str, told: &str) -> Result<ToolError, AllocError> {
+    pub(crate) fn of_path(alloc: Global, path: &str, told: &str) -> ToolError {
         let mut text = Text::new(alloc);
         push_front(&mut text, path);
         text.push_str(told);
-        Ok(ToolError::Told(text.finish_string()?))
+        match text.finish_string() {
+            Ok(text) => ToolError::Told(text),
+            Err(error) => error.into(),
+        }
     }
 }
 

@@ -3,6 +3,7 @@
 ghost use Rattle.std.specs.Prelude.{◌≡◌, IfOk, IfSome};
 
 use crate::error::ToolError;
+use crate::text::Text;
 use std::alloc::Global;
 use std::collections::VecDeque;
 use std::fs::File;
@@ -41,7 +42,7 @@ pub(crate) fn open<R: Files + Input + AllocGlobal>(
         Some("-") => Ok(Source::Input(rt.reader())),
         Some(path) => match fs::open(rt, path) {
             Ok(file) => Ok(Source::File(file)),
-            Err(error) => Err(ToolError::of_io(rt.alloc(), path, error)?),
+            Err(error) => Err(ToolError::of_io(rt.alloc(), path, error)),
         },
     }
 }
@@ -57,21 +58,22 @@ pub(crate) fn text_of<R: Read + Drop>(
     let mut text = Vec::new(alloc);
     match reader.read_to_end(&mut text) {
         Ok(_) => Ok(text),
-        Err(error) => Err(ToolError::of_io(alloc, path.unwrap_or("-"), error)?),
+        Err(error) => Err(ToolError::of_io(alloc, path.unwrap_or("-"), error)),
     }
 }
 
 // Adds what stands at a path. A text that doesn't end with a line feed gets one, unless a byte of it is 0, as in records.
 pub(crate) fn push_whole(
     rt: &(impl Files + Input + AllocGlobal),
-    bytes: &mut Vec<u8>,
+    bytes: &mut Text,
     path: &str,
 ) -> Result<(), ToolError> {
-    let text = text_of(rt.alloc(), Some(path), open(rt, Some(path))?)?;
-    bytes.extend_from_slice(&text)?;
+    let source = open(rt, Some(path))?;
+    let text = text_of(rt.alloc(), Some(path), source)?;
+    bytes.push_bytes(&text);
     let is_cut = matches!(text.last(), Some(byte) if *byte != b'\n');
     if is_cut && !text.contains(&0) {
-        bytes.push(b'\n')?;
+        bytes.push_str("\n");
     }
     Ok(())
 }

@@ -89,7 +89,7 @@ pub(crate) fn learn_made(
     let wanted = wanted_in(alloc, learning, &trace.observed)?;
     let learned = match learned_of(alloc, learning, &trace.observed, &wanted, policy) {
         Ok(learned) => learned,
-        Err(error) => return Err(ToolError::in_second(alloc, error)?),
+        Err(error) => return Err(ToolError::in_second(alloc, error)),
     };
     let views = views_of(alloc, learning, inputs, &trace, &wanted, &learned);
     // Here, so that no branch has to.

@@ -13,8 +13,8 @@ use crate::error::ToolError;
 use crate::findings::Verdict;
 use crate::json::{Object, written};
 use crate::kind::{Subject, subject_of};
-use crate::notes::counted;
-use crate::profile::{compiled_of, profile_notes, uncompiled};
+use crate::notes::push_counted;
+use crate::profile::{compiled_of, push_profile_notes, uncompiled};
 use crate::progress::Progress;
 use crate::record::{called_record, calls_text, known_calls};
 use crate::run::program::program_of;
@@ -108,8 +108,9 @@ fn policy_made(
         Err(cause) => return Err(too_large(alloc, chosen, name.as_str(), cause)?),
     };
     let text = program_text(alloc, asked.format, name.as_str(), &program)?;
-    let notes = counted(alloc, asked.quiet, arch, path, policy)?;
-    Ok(Made::noting(text, Verdict::Same, notes))
+    let mut notes = Text::new(alloc);
+    push_counted(&mut notes, asked.quiet, arch, path, policy);
+    Ok(Made::noting(text, Verdict::Same, notes.finish()?))
 }
 
 fn profile_made(
@@ -126,21 +127,20 @@ fn profile_made(
         Ok(compiled) => compiled,
         Err(error) => return Err(uncompiled(alloc, arch, error)?),
     };
-    let notes = if asked.quiet {
-        Vec::new(alloc)
-    } else {
-        let listed = asked.reading.listed;
-        profile_notes(
-            alloc,
+    let mut notes = Text::new(alloc);
+    if !asked.quiet {
+        let (left_out, flags) = (&compiled.left_out, &compiled.flags);
+        push_profile_notes(
+            &mut notes,
             arch,
             path,
-            listed,
-            &compiled.left_out,
-            &compiled.flags,
-        )?
-    };
+            asked.reading.listed,
+            left_out,
+            flags,
+        );
+    }
     let text = program_text(alloc, asked.format, "profile", &compiled.program)?;
-    Ok(Made::noting(text, Verdict::Same, notes))
+    Ok(Made::noting(text, Verdict::Same, notes.finish()?))
 }
 
 pub(crate) fn show_made(
@@ -198,7 +198,10 @@ fn shown_text(
         push_measure(&mut text, json, name, None, measure);
         return Ok(text.finish()?);
     }
-    Ok(show::program_text(alloc, json, name, arch, &one.program)?)
+    let text = show::program_text(alloc, json, name, arch, &one.program);
+    // Here, so that no branch below has to.
+    drop(one);
+    Ok(text?)
 }
 
 // A line for each code of a warning, in the order of `Code::all`: its name, `: `, and what is so if a warning has the code. As JSON
@@ -264,16 +267,20 @@ pub(crate) fn diff_made<G: Progress>(
         filter: asked.new,
         given: new,
     };
-    let mut notes = Vec::new(alloc);
-    for (side, path) in [(old, inputs.first), (new, inputs.second)] {
-        if matches!(side.kind, Subject::Policy) {
-            let path = path.unwrap_or("-");
-            notes.extend_from_slice(&counted(alloc, asked.quiet, terms.target, path, side.given)?)?;
-        }
-    }
     let found = diff_of(alloc, terms, old, new, progress);
     progress.end();
     let found = found?;
-    let text = diff_text(alloc, terms, inputs.json, old, new, &found)?;
-    Ok(Made::noting(text, found.verdict(asked.scope), notes))
+    let text = diff_text(alloc, terms, inputs.json, old, new, &found);
+    let verdict = found.verdict(asked.scope);
+    // Here, so that no branch below has to.
+    drop(found);
+    let text = text?;
+    let mut notes = Text::new(alloc);
+    for (side, path) in [(old, inputs.first), (new, inputs.second)] {
+        if let Subject::Policy = side.kind {
+            let path = path.unwrap_or("-");
+            push_counted(&mut notes, asked.quiet, terms.target, path, side.given);
+        }
+    }
+    Ok(Made::noting(text, verdict, notes.finish()?))
 }

@@ -1,6 +1,6 @@
 // What the program tells on standard error: failures, and notes on what stands at a path.
 
-use crate::check::warnings_in;
+use crate::check::{CheckedPolicy, warnings_in};
 use crate::error::ToolError;
 use crate::text::Text;
 use crate::words::Inputs;
@@ -71,33 +71,34 @@ pub(crate) fn readable(alloc: Global, text: &[u8], kind: TextKind) -> Result<Str
     readable_text(alloc, text.as_str(), kind)
 }
 
-// The note on how many warnings `check` has for the policy of this path, with this text, unless it isn't to be told. There is none
-// where it has no warning, and where a filter is refused, which is for the command to report.
-pub(crate) fn counted(
-    alloc: Global,
+// Adds the note on how many warnings `check` has for the policy of this path, with this text, unless it isn't to be told. There is
+// none where it has no warning, and where a filter is refused, which is for the command to report.
+pub(crate) fn push_counted(
+    notes: &mut Text,
     quiet: bool,
     arch: TargetArch,
     path: &str,
     text: &[u8],
-) -> Result<Vec<u8>, AllocError> {
+) {
     if quiet {
-        return Ok(Vec::new(alloc));
+        return;
     }
+    let alloc = notes.alloc();
     let checked = match filters_of(alloc, text) {
         Ok(filters) => warnings_in(alloc, arch, &[], &filters),
         Err(error) => Err(error),
     };
-    let count = match &checked {
-        Ok(checked) => checked.count,
-        Err(JsonFrontendError::OutOfMemory) => return Err(AllocError),
-        Err(_) => 0,
-    };
-    let told = match count {
-        0 => return Ok(Vec::new(alloc)),
-        1 => String::from_str(alloc, "1 warning; seccomptool check prints it"),
-        _ => format!(in alloc; "{count} warnings; seccomptool check prints them"),
-    };
-    let mut notes = Text::new(alloc);
-    note(&mut notes, path, told);
-    notes.finish()
+    match checked {
+        Ok(CheckedPolicy { count: 0, .. }) => {}
+        Ok(CheckedPolicy { count: 1, .. }) => {
+            let told = String::from_str(alloc, "1 warning; seccomptool check prints it");
+            note(notes, path, told);
+        }
+        Ok(CheckedPolicy { count, .. }) => {
+            let told = format!(in alloc; "{count} warnings; seccomptool check prints them");
+            note(notes, path, told);
+        }
+        Err(JsonFrontendError::OutOfMemory) => notes.fail(),
+        Err(_) => {}
+    }
 }

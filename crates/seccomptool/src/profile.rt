@@ -31,25 +31,27 @@ pub(crate) fn compiled_of(
     }
 }
 
-/// The notes on the profile of a path: how many names are left out, each counted once, and the names in the profile's order if they
-/// are to be listed; and which flags are to be set when the program is installed.
-pub(crate) fn profile_notes(
-    alloc: Global,
+/// Adds the notes on the profile of a path: how many names are left out, each counted once, and the names in the profile's order if
+/// they are to be listed; and which flags are to be set when the program is installed.
+pub(crate) fn push_profile_notes(
+    notes: &mut Text,
     arch: TargetArch,
     path: &str,
     listed: bool,
     left_out: &[String],
     flags: &[Flag],
-) -> Result<Vec<u8>, AllocError> {
-    let mut notes = Text::new(alloc);
-    let (count, names) = each_once(alloc, left_out)?;
+) {
+    let alloc = notes.alloc();
+    let Ok((count, names)) = each_once(alloc, left_out) else {
+        return notes.fail();
+    };
     let names = if listed { names.as_str() } else { "" };
     if count > 0 {
         let told = match count {
             1 => format!(in alloc; "1 name that {arch} has no call for is left out{names}"),
             _ => format!(in alloc; "{count} names that {arch} has no call for are left out{names}"),
         };
-        note(&mut notes, path, told);
+        note(notes, path, told);
     }
     if !flags.is_empty() {
         let (mut told, mut front) = (Text::new(alloc), ": ");
@@ -66,9 +68,8 @@ pub(crate) fn profile_notes(
             });
             front = ", ";
         }
-        note(&mut notes, path, told.finish_string());
+        note(notes, path, told.finish_string());
     }
-    notes.finish()
 }
 
 /// Why a profile isn't compiled: the error, or the names that no call of the architecture has.

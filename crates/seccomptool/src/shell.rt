@@ -16,6 +16,7 @@ use crate::made::Made;
 use crate::notes::{tell, tell_notes};
 use crate::perform::perform;
 use crate::progress::Progress;
+use crate::text::Text;
 use crate::words::{Asked, Command, Inputs, read};
 use clap::error::ErrorKind;
 use std::collections::VecDeque;
@@ -240,7 +241,7 @@ fn refuse_output(
         }
         _ => return Ok(()),
     };
-    Err(ToolError::of_path(rt.alloc(), asked.output.unwrap_or(OUTPUT), told)?)
+    Err(ToolError::of_path(rt.alloc(), asked.output.unwrap_or(OUTPUT), told))
 }
 
 // Writes a file whole, or standard output.
@@ -255,7 +256,7 @@ fn write(
     };
     match written {
         Ok(()) => Ok(()),
-        Err(error) => Err(ToolError::of_io(rt.alloc(), output.unwrap_or(OUTPUT), error)?),
+        Err(error) => Err(ToolError::of_io(rt.alloc(), output.unwrap_or(OUTPUT), error)),
     }
 }
 
@@ -267,12 +268,12 @@ fn first_of<R: Files + Input + AllocGlobal>(
 ) -> Result<Source<R::File, R::Reader>, ToolError> {
     match command {
         Command::Learn(learning) if !learning.further.is_empty() => {
-            let mut traces = Vec::new(rt.alloc());
+            let mut traces = Text::new(rt.alloc());
             push_whole(rt, &mut traces, inputs.first.unwrap_or("-"))?;
             for path in &learning.further {
                 push_whole(rt, &mut traces, path)?;
             }
-            Ok(Source::Bytes(VecDeque::from(traces)))
+            Ok(Source::Bytes(VecDeque::from(traces.finish()?)))
         }
         _ => open(rt, inputs.first),
     }

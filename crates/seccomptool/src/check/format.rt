@@ -88,45 +88,74 @@ impl Lines<'_> {
     /// Adds a diagnostic of what the path leads to: of all of the text, if it has no steps. A line of gcc is
     /// `FILE:LINE:COLUMN: SEVERITY: PATH: MESSAGE [CODE]`, without a place or path that there isn't; standard input is `-`.
     pub(crate) fn push(&mut self, severity: &str, code: &str, message: &str) {
-        let (alloc, text) = (self.text.alloc(), &mut self.text);
-        let position = self.outline.position_of(self.number, self.place);
+        let alloc = self.text.alloc();
         let path = mem::replace(&mut self.path, Text::new(alloc));
         let Ok(path) = path.finish_string() else {
-            return text.fail();
+            return self.text.fail();
         };
-        let subject = path.as_str().strip_prefix('.').unwrap_or(path.as_str());
-        match self.format {
-            CheckFormat::Text => {
-                push_front(text, self.file);
-                push_subject(text, subject, self.place, self.call);
-                text.push_format(format!(in alloc; ": warning [{code}]: {message}\n"));
-            }
-            CheckFormat::Gcc => {
-                text.push_readable(self.file, TextKind::Name);
-                if let Some(Position { line, column }) = position {
-                    text.push_format(format!(in alloc; ":{line}:{column}"));
-                }
-                text.push_format(format!(in alloc; ": {severity}: "));
-                push_subject(text, subject, self.place, self.call);
-                text.push_str(if path.is_empty() { "" } else { ": " });
-                text.push_readable(message, TextKind::Line);
-                text.push_format(format!(in alloc; " [{code}]\n"));
-            }
-            CheckFormat::Json => {
-                let mut object = place_object(alloc, self.file, position);
-                object.field("path", subject);
-                object.field("call", OrNull(self.call));
-                object.field("code", code);
-                object.field("severity", severity);
-                object.field("message", message);
-                object.field("suggestion", OrNull(self.suggestion));
-                text.push_item(object);
-            }
+        let path = path.as_str().strip_prefix('.').unwrap_or(path.as_str());
+        let position = self.outline.position_of(self.number, self.place);
+        if let CheckFormat::Json = self.format {
+            self.push_object(path, position, severity, code, message);
+        } else {
+            self.push_line(path, position, severity, code, message);
         }
         self.number = 0;
         self.place = Place::Value;
         self.call = None;
         self.suggestion = None;
+    }
+
+    // Adds the line of a diagnostic, for people or as gcc's.
+    fn push_line(
+        &mut self,
+        path: &str,
+        position: Option<Position>,
+        severity: &str,
+        code: &str,
+        message: &str,
+    ) {
+        let (alloc, text) = (self.text.alloc(), &mut self.text);
+        if let CheckFormat::Text = self.format {
+            push_front(text, self.file);
+            push_subject(text, path, self.place, self.call);
+            return text.push_format(format!(in alloc; ": warning [{code}]: {message}\n"));
+        }
+        text.push_readable(self.file, TextKind::Name);
+        if let Some(Position { line, column }) = position {
+            text.push_format(format!(in alloc; ":{line}:{column}"));
+        }
+        text.push_format(format!(in alloc; ": {severity}: "));
+        push_subject(text, path, self.place, self.call);
+        text.push_str(if path.is_empty() { "" } else { ": " });
+        text.push_readable(message, TextKind::Line);
+        text.push_format(format!(in alloc; " [{code}]\n"));
+    }
+
+    // Adds a diagnostic as JSON.
+    fn push_object(
+        &mut self,
+        path: &str,
+        position: Option<Position>,
+        severity: &str,
+        code: &str,
+        message: &str,
+    ) {
+        let (line, column) = match position {
+            Some(Position { line, column }) => (Some(line), Some(column)),
+            None => (None, None),
+        };
+        let mut object = Object::new(self.text.alloc());
+        object.field("file", self.file);
+        object.field("line", line);
+        object.field("column", column);
+        object.field("path", path);
+        object.field("call", OrNull(self.call));
+        object.field("code", code);
+        object.field("severity", severity);
+        object.field("message", message);
+        object.field("suggestion", OrNull(self.suggestion));
+        self.text.push_item(object);
     }
 }
 
@@ -142,17 +171,4 @@ fn push_subject(text: &mut Text, path: &str, place: Place, call: Option<&str>) {
     if let Some(call) = call {
         text.push_format(format!(in text.alloc(); " ({call})"));
     }
-}
-
-// The place of a diagnostic as JSON, to which the rest is added.
-fn place_object(alloc: Global, file: &str, position: Option<Position>) -> Object {
-    let (line, column) = match position {
-        Some(Position { line, column }) => (Some(line), Some(column)),
-        None => (None, None),
-    };
-    let mut object = Object::new(alloc);
-    object.field("file", file);
-    object.field("line", line);
-    object.field("column", column);
-    object
 }

@@ -15,8 +15,9 @@ use crate::findings::Verdict;
 use crate::kind::{Subject, subject_of};
 use crate::made::Made;
 use crate::notes::failure;
-use crate::profile::profile_notes;
+use crate::profile::push_profile_notes;
 use crate::run::program::program_of;
+use crate::text::Text;
 use crate::words::Checking;
 use std::alloc::{AllocError, Global};
 
@@ -64,11 +65,12 @@ fn accepted(
         Subject::Profile(container) => {
             let checked = profile_checked(alloc, arch, container, &asked.allowed, given)?;
             let (listed, left_out) = (asked.reading.listed, &checked.compiled.left_out);
-            let notes = profile_notes(alloc, arch, path, listed, left_out, &[])?;
+            let mut notes = Text::new(alloc);
+            push_profile_notes(&mut notes, arch, path, listed, left_out, &[]);
             let lines = Lines::new(alloc, asked.format, path, given)?;
             let text = profile_text(lines, arch, container, &checked)?;
             let verdict = verdict_where(denied, checked.warnings.len());
-            Ok(Made::noting(text, verdict, notes))
+            Ok(Made::noting(text, verdict, notes.finish()?))
         }
         Subject::Program => {
             let _program = program_of(alloc, given)?;

@@ -16,5 +16,5 @@ returns g c =
       of_new = record { kind = c.in_ok-subject_of-2.ensures; filter_is = refl; given_is = refl };
       found = c.in_ok-found.found;
       is = IfOk-at_ok (IsDiff asked.terms.target asked.terms.relation old new) c.in_ok-found.was c.diff_of-found.ensures;
-      verdict = c.noting.ensures ∙ c.verdict.ensures;
+      verdict = c.noting.ensures ∙ c.verdict-verdict.ensures;
     }

@@ -1,4 +1,4 @@
 use Rattle.seccomptool.proofs.shell.carried_out.Goals as goal
 
-pub returns-in-0 : goal.returns-in-0
-returns-in-0 g c = let is = c.in_ok-made.ensures in (is.0, is.2.0, is.2.2)
+pub returns : goal.returns
+returns g c = let is = c.in_ok-made.ensures in (is.0, is.2.0, is.2.2)

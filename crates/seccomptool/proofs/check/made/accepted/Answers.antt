@@ -15,8 +15,8 @@ returns-in_ok-text-in-Policy-clause-accepted c =
       c.noting.ensures ∙ c.verdict_where-verdict.ensures,
     )
 
-pub returns-in_ok-text-in-Profile-clause-accepted : goal.returns-in_ok-text-in-Profile-clause-accepted
-returns-in_ok-text-in-Profile-clause-accepted c =
+pub returns-in_ok-finish-in-Profile-clause-accepted : goal.returns-in_ok-finish-in-Profile-clause-accepted
+returns-in_ok-finish-in-Profile-clause-accepted c =
     let asked = c.args.asked.now in
     let checked = c.in_ok-checked-in-Profile.checked in
     subst (λ k. IsAccepted asked k c.args.given.now c.noting-in-Profile.result.verdict) (sym c.in-Profile.is) (

@@ -112,13 +112,15 @@ fn check_filters(
     ensures { OnOk result (HavePolicies target filters.now.0.entries) }
 {
     let compiler = JsonCompiler::new(target);
-    let mut policies = Vec::new(alloc);
+    // That a filter has no policy is reported before that another is too long.
+    let mut fitting = Ok(0);
     'filters: for (_name, filter) in &filters.0 {
-        policies.push(compiler.make_seccomp_filter(alloc, filter)?)?;
+        let policy = compiler.make_seccomp_filter(alloc, filter)?;
+        if fitting.is_ok() {
+            fitting = policy.compiled_len();
+        }
     }
-    for policy in &policies {
-        policy.compiled_len()?;
-    }
+    fitting?;
     Ok(())
 }
 

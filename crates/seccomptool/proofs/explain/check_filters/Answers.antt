@@ -25,12 +25,12 @@ filters-preserved c =
     let done : Entries = so_far.done in
     let e : String Global × JsonFilter = (c.in-Some._name.now, c.in-Some.filter.now) in
     let left : Entries = c.next.new.self in
-    let policy = c.in_ok-make_seccomp_filter.field-0 in
+    let policy = c.in_ok-policy.policy in
     record {
       done = done ++ e ∷ [];
       whole = so_far.whole ∙ ap (λ (es : Entries). done ++ es) c.in-Some.ensures.steps ∙ sym (append_assoc done (e ∷ []) left);
       each = All-push (Named target) done e so_far.each (subst (λ t. HasPolicy t e.1) c.new-compiler.ensures
-          ((policy, c.in_ok-make_seccomp_filter.ensures.policy), c.in_ok-make_seccomp_filter.ensures.entries e.1));
+          ((policy, c.in_ok-policy.ensures.policy), c.in_ok-policy.ensures.entries e.1));
     }
 
 pub returns : goal.returns

@@ -1,4 +1,3 @@
-use Rattle.std.specs.Prelude.{⊤}
 use Rattle.std.proofs.Common.{◌≡◌, ◌++◌, List, String, Global}
 use Rattle.seccompiler.specs.JsonTypes.{JsonFilter}
 use Rattle.seccomptool.specs.Explain.{HavePolicies}
@@ -11,6 +10,3 @@ invariant-filters l = record {
   whole : l.fn.filters.0.entries ≡ done ++ l._name-iterator;
   each : HavePolicies l.fn.target done;
 }
-
-abbrev pub invariant-loop-policy : goal.invariant-loop-policy
-invariant-loop-policy l = ⊤

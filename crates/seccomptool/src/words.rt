@@ -11,13 +11,19 @@ use crate::findings::Terms;
 use crate::kind::Reading;
 use crate::learn::Learning;
 use crate::text::Text;
-use crate::words::matches::asked_in;
-use crate::words::program::program;
+use crate::words::matches::{
+    call_in, check_in, compile_in, diff_in, explain_in, learn_in, on, show_in,
+};
+use crate::words::program::{CALL, CHECK, COMPILE, DIFF, EXPLAIN, LEARN, SHOW, program};
+use clap::ArgMatches;
 use clap::error::ErrorKind;
 use seccomp_tree::Layout;
 use seccomp_warnings::Code;
 use seccompiler::TargetArch;
 use std::alloc::Global;
+
+// The tables of the commands, in the order of the help.
+const TABLES: [&str; 7] = [CHECK, COMPILE, SHOW, EXPLAIN, DIFF, LEARN, CALL];
 
 /// A command of the program, with its options.
 #[derive(Drop)]
@@ -178,7 +184,7 @@ pub(crate) fn read<'a>(
     for code in Code::all() {
         codes.push(code.name())?;
     }
-    let mut program = program(alloc, codes)?;
+    let mut program = program(alloc, &TABLES, codes)?;
     asked_of(alloc, &mut program, words)
 }
 
@@ -201,5 +207,20 @@ fn asked_of<'a>(
             let first = lines.as_str().lines().next().unwrap_or("");
             Err(program.error(ErrorKind::ValueValidation, first)?)
         }
+    }
+}
+
+// What the matches of a subcommand ask for. clap lets no words pass without one.
+fn asked_in<'a>(matches: &ArgMatches<'a>, wrong: &mut Text) -> Asked<'a> {
+    let (name, found) = matches.subcommand().unwrap_or(("", matches));
+    match name {
+        "check" if found.get_flag("list") => on(found, wrong, Command::Codes, &[], None),
+        "check" => check_in(found, wrong),
+        "compile" => compile_in(found, wrong),
+        "show" => show_in(found, wrong),
+        "explain" => explain_in(found, wrong),
+        "diff" => diff_in(found, wrong),
+        "learn" => learn_in(found, wrong),
+        _ => call_in(found, wrong),
     }
 }

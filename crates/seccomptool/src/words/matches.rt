@@ -21,24 +21,9 @@ use clap::ArgMatches;
 use seccomp_compare::Relation;
 use seccomp_warnings::Code;
 
-// What the matches of a subcommand ask for. clap lets no words pass without one.
-pub(super) fn asked_in<'a>(matches: &ArgMatches<'a>, wrong: &mut Text) -> Asked<'a> {
-    let (name, found) = matches.subcommand().unwrap_or(("", matches));
-    match name {
-        "check" if found.get_flag("list") => on(found, wrong, Command::Codes, &[], None),
-        "check" => check_in(found, wrong),
-        "compile" => compile_in(found, wrong),
-        "show" => show_in(found, wrong),
-        "explain" => explain_in(found, wrong),
-        "diff" => diff_in(found, wrong),
-        "learn" => learn_in(found, wrong),
-        _ => call_in(found, wrong),
-    }
-}
-
 // A command that is carried out on what it reads first, one after the other, and second; once if it reads nothing first. It
 // writes standard output where the file is `-`.
-fn on<'a>(
+pub(super) fn on<'a>(
     found: &ArgMatches<'a>,
     wrong: &mut Text,
     command: Command<'a>,
@@ -65,7 +50,7 @@ fn on<'a>(
     }
 }
 
-fn check_in<'a>(found: &ArgMatches<'a>, wrong: &mut Text) -> Asked<'a> {
+pub(super) fn check_in<'a>(found: &ArgMatches<'a>, wrong: &mut Text) -> Asked<'a> {
     let mut allowed = Vec::new(wrong.alloc());
     for name in found.get_strs("allow").unwrap_or(&[]) {
         if let Some(code) = Code::by_name(name) {
@@ -87,7 +72,7 @@ fn check_in<'a>(found: &ArgMatches<'a>, wrong: &mut Text) -> Asked<'a> {
     on(found, wrong, command, subjects, None)
 }
 
-fn compile_in<'a>(found: &ArgMatches<'a>, wrong: &mut Text) -> Asked<'a> {
+pub(super) fn compile_in<'a>(found: &ArgMatches<'a>, wrong: &mut Text) -> Asked<'a> {
     let command = Command::Compile(Compiling {
         arch: arch_in(found),
         reading: reading_in(found, wrong),
@@ -105,7 +90,7 @@ fn compile_in<'a>(found: &ArgMatches<'a>, wrong: &mut Text) -> Asked<'a> {
     on(found, wrong, command, &[path_in(found, "SUBJECT")], None)
 }
 
-fn show_in<'a>(found: &ArgMatches<'a>, wrong: &mut Text) -> Asked<'a> {
+pub(super) fn show_in<'a>(found: &ArgMatches<'a>, wrong: &mut Text) -> Asked<'a> {
     let command = Command::Show(Showing {
         arch: arch_in(found),
         reading: reading_in(found, wrong),
@@ -116,7 +101,7 @@ fn show_in<'a>(found: &ArgMatches<'a>, wrong: &mut Text) -> Asked<'a> {
     on(found, wrong, command, &[path_in(found, "SUBJECT")], None)
 }
 
-fn explain_in<'a>(found: &ArgMatches<'a>, wrong: &mut Text) -> Asked<'a> {
+pub(super) fn explain_in<'a>(found: &ArgMatches<'a>, wrong: &mut Text) -> Asked<'a> {
     let subject = path_in(found, "SUBJECT");
     let arguments = arguments_in(found, wrong);
     let log = found.get_str("log");
@@ -139,7 +124,7 @@ fn explain_in<'a>(found: &ArgMatches<'a>, wrong: &mut Text) -> Asked<'a> {
     on(found, wrong, command, &[subject], second)
 }
 
-fn diff_in<'a>(found: &ArgMatches<'a>, wrong: &mut Text) -> Asked<'a> {
+pub(super) fn diff_in<'a>(found: &ArgMatches<'a>, wrong: &mut Text) -> Asked<'a> {
     let (old, of_old) = named_in(path_in(found, "OLD"));
     let (new, of_new) = named_in(path_in(found, "NEW"));
     if old == "-" && new == "-" {
@@ -177,7 +162,7 @@ fn named_in(text: &str) -> (&str, Option<&str>) {
     }
 }
 
-fn learn_in<'a>(found: &ArgMatches<'a>, wrong: &mut Text) -> Asked<'a> {
+pub(super) fn learn_in<'a>(found: &ArgMatches<'a>, wrong: &mut Text) -> Asked<'a> {
     let traces = found.get_strs("TRACE").unwrap_or(&[]);
     let into = found.get_str("into");
     if into == Some("-") && traces.contains(&"-") {
@@ -210,7 +195,7 @@ fn learn_in<'a>(found: &ArgMatches<'a>, wrong: &mut Text) -> Asked<'a> {
     on(found, wrong, command, &[path_in(found, "TRACE")], into)
 }
 
-fn call_in<'a>(found: &ArgMatches<'a>, wrong: &mut Text) -> Asked<'a> {
+pub(super) fn call_in<'a>(found: &ArgMatches<'a>, wrong: &mut Text) -> Asked<'a> {
     let command = Command::Call(Calling {
         arch: match found.get_str("arch") {
             Some(_) => Some(arch_in(found)),

@@ -30,7 +30,7 @@ const COMMON: &str = "\
 --kernel KERNEL: The kernel version for a profile, such as 6.1; without it, newer than any
 --runtime RUNTIME=crun: The runtime of a profile's container";
 
-const CHECK: &str = "\
+pub(super) const CHECK: &str = "\
 check: Print the first error of a policy or a profile with its place, or else its warnings
 --deny-warnings: End with exit status 1 if there is a warning
 --allow CODE..: Don't print the warnings of this code
@@ -40,7 +40,7 @@ check: Print the first error of a policy or a profile with its place, or else it
 --verbose -v: List the names of a profile that are left out
 SUBJECT..=-: The files, or - for standard input";
 
-const COMPILE: &str = "\
+pub(super) const COMPILE: &str = "\
 compile: Write the program of a filter or of a profile
 --filter -f FILTER: The name of the filter; optional if the policy has only one
 --layout LAYOUT=tree: How a program finds a call's rules: one call after the other, or by a tree of tests
@@ -52,7 +52,7 @@ compile: Write the program of a filter or of a profile
 --strict: Reject a profile that names calls which the architecture doesn't have
 SUBJECT=-: The file of a policy, profile or program, or - for standard input";
 
-const SHOW: &str = "\
+pub(super) const SHOW: &str = "\
 show: Print programs, with notes on their instructions
 --filter -f FILTER: The name of the filter to show; without it all filters are shown
 --layout LAYOUT=tree: How a program finds a call's rules: one call after the other, or by a tree of tests
@@ -60,7 +60,7 @@ show: Print programs, with notes on their instructions
 --json: Write the answer as one JSON object
 SUBJECT=-: The file of a policy, profile or program, or - for standard input";
 
-const EXPLAIN: &str = "\
+pub(super) const EXPLAIN: &str = "\
 explain: Print what is decided for calls, and why
 --filter -f FILTER: The name of the filter; optional if the policy has only one
 --json: Write the answer as one JSON object
@@ -70,7 +70,7 @@ SUBJECT: The file of a policy, profile or program, or - for standard input
 CALL?: The call's name or number
 ARG*: The call's arguments; those that aren't given are 0";
 
-const DIFF: &str = "\
+pub(super) const DIFF: &str = "\
 diff: Print the calls that OLD and NEW decide differently
 --only-more: Report only calls of which NEW permits more than OLD
 --all: Count other architectures for the exit status too, if a program is compared
@@ -80,7 +80,7 @@ diff: Print the calls that OLD and NEW decide differently
 OLD: The old file, or - for standard input; append :FILTER to name a filter
 NEW: The new file, or - for standard input; append :FILTER to name a filter";
 
-const LEARN: &str = "\
+pub(super) const LEARN: &str = "\
 learn: Print a policy of the calls that a trace has
 --arch -a ARCH=x86_64: The architecture
 --name NAME: The name of the filter; `main`, or with --into the policy's only one
@@ -95,7 +95,7 @@ learn: Print a policy of the calls that a trace has
 --output -o FILE: Write to FILE instead of standard output
 TRACE..=-: What strace, the kernel's log or audit wrote, or call records; - for standard input";
 
-const CALL: &str = "\
+pub(super) const CALL: &str = "\
 call: Print the name and the number of a call, or write its struct seccomp_data
 --arch -a ARCH: The architecture
 --json: Write the answer as one JSON object
@@ -104,12 +104,16 @@ call: Print the name and the number of a call, or write its struct seccomp_data
 CALL: The call's name or number
 ARG*: The call's arguments; those that aren't given are 0";
 
-/// The subcommands and their arguments, with these codes of warnings. The arguments that it reads are those after the program's own
-/// name.
-pub(super) fn program<'a>(alloc: Global, codes: &'a [&'a str]) -> Result<Command<'a>, AllocError> {
+/// The program with the commands of these tables, whose options take these codes of warnings. The arguments that it reads are those
+/// after the program's own name.
+pub(super) fn program<'a>(
+    alloc: Global,
+    tables: &[&'a str],
+    codes: &'a [&'a str],
+) -> Result<Command<'a>, AllocError> {
     let mut commands = Vec::new(alloc);
-    for command in [CHECK, COMPILE, SHOW, EXPLAIN, DIFF, LEARN, CALL] {
-        commands.push(subcommand(alloc, command, codes)?)?;
+    for table in tables {
+        commands.push(subcommand(alloc, *table, codes)?)?;
     }
     Command::new(alloc, "seccomptool")
         .version(VERSION)

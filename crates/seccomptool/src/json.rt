@@ -5,7 +5,7 @@ ghost use Rattle.std.specs.Prelude.{⊤};
 use crate::findings::parts::name_of;
 use crate::text::Text;
 use seccompiler::TargetArch;
-use serde_json::{Map, ToValue, Value};
+use serde_json::{Map, ToValue, Value, put};
 use std::alloc::{AllocError, Global};
 
 /// An object to which members are added. If memory runs out, a member is missing, and its value can't be made.
@@ -28,12 +28,8 @@ impl Object {
 
     /// Adds a member.
     pub(crate) fn field<T: ToValue>(&mut self, key: &str, part: T) {
-        let Ok(part) = part.to_value(self.alloc) else {
-            self.is_missing = true;
-            return;
-        };
-        match String::from_str(self.alloc, key) {
-            Ok(key) => self.is_missing |= self.members.insert(key, part).is_err(),
+        match part.to_value(self.alloc) {
+            Ok(part) => self.is_missing |= put(&mut self.members, self.alloc, key, part).is_err(),
             Err(_) => self.is_missing = true,
         }
     }
@@ -117,10 +113,10 @@ pub(crate) fn or_null(text: &str) -> OrNull<&str> {
 
 // The name of the call of a number, or null if it has none, or there is no number.
 pub(crate) fn call_name(target: TargetArch, number: Option<u32>) -> OrNull<&'static str> {
-    match number {
-        Some(number) => OrNull(name_of(target, number)),
-        None => OrNull(None),
-    }
+    OrNull(match number {
+        Some(number) => name_of(target, number),
+        None => None,
+    })
 }
 
 // What is written of items: as JSON the object of their list, else their lines as they are.

@@ -15,7 +15,6 @@ use Rattle.seccomp_warnings.specs.declared.code.Code.TheVariants as code
 use Rattle.seccomp_warnings.specs.declared.judgement.Judgement.{Judgement}
 use Rattle.seccomp_warnings.specs.declared.warning.Warning.{Warning}
 use Rattle.seccomptool.specs.declared.check.profile.CheckedProfile.{CheckedProfile}
-use Rattle.seccomptool.specs.declared.check.profile.ProfilePart.{ProfilePart}
 use Rattle.seccomptool.specs.declared.check.profile.ProfileWarning.{ProfileWarning}
 use Rattle.seccomptool.specs.declared.check.profile.ProfileWarning.TheVariants.{Doubtful, Flags, UnknownKey, OfEntries}
 use Rattle.seccomptool.specs.declared.error.ToolError.{ToolError}
@@ -36,7 +35,7 @@ abbrev pub code_of : ProfileWarning → Code
 code_of (Doubtful d) = doubt_code d
 code_of Flags = code.RuntimesDiffer
 code_of (UnknownKey key) = code.UnknownKey
-code_of (OfEntries w part) = w.code
+code_of (OfEntries w origin) = w.code
 
 -- ---- warnings
 
@@ -44,17 +43,17 @@ code_of (OfEntries w part) = w.code
 abbrev pub IsTrueOfSome : TargetArch → Warning → Type 0
 IsTrueOfSome arch w = (j : JsonFilter) × (judgements : List Judgement) × AreJudgements arch j judgements × IsSo judgements j w
 
--- So is each of these, whatever part of a profile it is about.
-abbrev pub AreOfEntries : TargetArch → List (Warning × ProfilePart) → Type 0
-AreOfEntries arch all = All (λ (each : Warning × ProfilePart). IsTrueOfSome arch each.0) all
-
 -- What the warning says of a profile is so; or it is true of some filter. That this is one of the profile's entries is tested, and
 -- so is that the profile has the key.
 abbrev pub IsSoOfProfile : TargetArch → Container → Profile → ProfileWarning → Type 0
 IsSoOfProfile arch container p (Doubtful d) = IsDoubt arch container p d
 IsSoOfProfile arch container p Flags = p.flags ≢ []
 IsSoOfProfile arch container p (UnknownKey key) = ⊤
-IsSoOfProfile arch container p (OfEntries w part) = IsTrueOfSome arch w
+IsSoOfProfile arch container p (OfEntries w origin) = IsTrueOfSome arch w
+
+-- If all that is told so far is so, it all is when more is told.
+abbrev pub AreStillSo : TargetArch → Container → Profile → (old new : List ProfileWarning) → Type 0
+AreStillSo arch container p old new = All (IsSoOfProfile arch container p) old → All (IsSoOfProfile arch container p) new
 
 -- It is so, and its code isn't allowed.
 pub record IsTold (arch : TargetArch) (container : Container) (p : Profile) (allowed : List Code) (w : ProfileWarning) : Type 0 where

@@ -9,13 +9,13 @@ pub mod profile;
 
 ghost use Rattle.std.specs.Prelude.{◌≡◌, IfErr, IfOk};
 ghost use Rattle.seccomptool.specs.Check as spec;
-ghost use Rattle.seccomptool.specs.Check.{AreWarningsIn, AreWarningsOf, IsCheckOf, IsRefusal};
+ghost use Rattle.seccomptool.specs.Check.{AreWarningsIn, IsCheckOf, IsRefusal};
 
 use crate::error::ToolError;
 use crate::findings::Verdict;
 use seccomp_check::{Rejection, check};
 use seccomp_warnings::{Code, Judgement, Warning, judgements_of, warnings_of};
-use seccompiler::{JsonFilter, JsonFilterMap, JsonFrontendError, TargetArch};
+use seccompiler::{JsonFilterMap, JsonFrontendError, TargetArch};
 use std::alloc::Global;
 
 /// A filter's name, and its warnings.
@@ -86,36 +86,22 @@ pub(crate) fn warnings_in(
     let mut all = Vec::new(alloc);
     let mut count: usize = 0;
     for (name, filter) in &filters.0 {
-        let own = warnings_in_filter(alloc, target, allowed, name, filter)?;
-        let Some(sum) = count.checked_add(own.warnings.len()) else {
+        let judgements = judgements_of(alloc, target, filter)?;
+        let warnings = warnings_of(alloc, filter, &judgements, allowed)?;
+        let Some(sum) = count.checked_add(warnings.len()) else {
             return Err(JsonFrontendError::OutOfMemory);
         };
         count = sum;
-        all.push(own)?;
+        let name = name.clone()?;
+        all.push(FilterWarnings {
+            name,
+            judgements,
+            warnings,
+        })?;
     }
     Ok(CheckedPolicy {
         filters: all,
         count,
-    })
-}
-
-// The warnings of a filter.
-fn warnings_in_filter(
-    alloc: Global,
-    target: TargetArch,
-    allowed: &[Code],
-    name: &String,
-    filter: &JsonFilter,
-) -> Result<FilterWarnings, JsonFrontendError>
-    ensures { IfOk result (AreWarningsOf target allowed.now (name.now, filter.now)) }
-{
-    let judgements = judgements_of(alloc, target, filter)?;
-    let warnings = warnings_of(alloc, filter, &judgements, allowed)?;
-    let name = name.clone()?;
-    Ok(FilterWarnings {
-        name,
-        judgements,
-        warnings,
     })
 }
 

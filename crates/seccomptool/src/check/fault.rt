@@ -1,27 +1,33 @@
 // What is said of the error for which a text is rejected.
 
-use crate::check::format::Lines;
+use crate::check::format::{CheckFormat, Lines};
 use crate::check::outline::{Place, Position};
 use crate::error::ToolError;
+use crate::notes::failure;
 use seccomp_check::{Expected, Fault, Problem, Step, push_problem};
 use seccomp_oci::{CompileError, ProfileError};
 use seccompiler::{Error, JsonFrontendError};
-use std::alloc::AllocError;
 
-/// What is said of an error. A text that is no JSON and ends early has its fault behind its last byte.
-pub(crate) fn error_text(mut lines: Lines<'_>, error: &ToolError) -> Result<Vec<u8>, AllocError> {
+/// Adds what is said of an error: for people on standard error. A text that is no JSON and ends early has its fault behind its last
+/// byte.
+pub(crate) fn push_error(lines: &mut Lines<'_>, error: &ToolError) {
+    let alloc = lines.text.alloc();
+    if let CheckFormat::Text = lines.format {
+        return lines
+            .notes
+            .push_format(failure(alloc, Some(lines.file), error));
+    }
     match error {
-        ToolError::Placed(_, fault) => push_fault(&mut lines, fault),
-        error => match format!(in lines.text.alloc(); "{error}") {
-            Ok(told) => push_error(&mut lines, error, told.as_str()),
+        ToolError::Placed(_, fault) => push_fault(lines, fault),
+        error => match format!(in alloc; "{error}") {
+            Ok(told) => push_unplaced(lines, error, told.as_str()),
             Err(_) => lines.text.fail(),
         },
     }
-    lines.text.finish()
 }
 
-// Adds what is said of an error of this text.
-fn push_error(lines: &mut Lines<'_>, error: &ToolError, told: &str) {
+// Adds what is said of an error of this text, which has no place of its own.
+fn push_unplaced(lines: &mut Lines<'_>, error: &ToolError, told: &str) {
     let mut message = told;
     lines.place = Place::At(None);
     let code = match error {

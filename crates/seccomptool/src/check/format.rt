@@ -23,12 +23,16 @@ pub enum CheckFormat {
 /// comma behind it. What is noted of the next diagnostic is forgotten once it is added.
 #[derive(Drop)]
 pub(crate) struct Lines<'a> {
-    format: CheckFormat,
-    file: &'a str,
+    /// How it is written.
+    pub format: CheckFormat,
+    /// The path of what has the text.
+    pub file: &'a str,
     /// Where the values of the text stand.
     pub outline: Outline,
     /// What is said so far.
     pub text: Text,
+    /// What is noted so far on standard error.
+    pub notes: Text,
     /// The path of what the next diagnostic is about, with a point in front of each key.
     pub path: Text,
     /// The number of the value there, or else of the last one on the way.
@@ -39,6 +43,16 @@ pub(crate) struct Lines<'a> {
     pub call: Option<&'static str>,
     /// What may have been meant by the value there.
     pub suggestion: Option<&'static str>,
+}
+
+// A diagnostic of what a path leads to.
+#[derive(Clone, Copy)]
+struct Diagnostic<'a> {
+    path: &'a str,
+    position: Option<Position>,
+    severity: &'a str,
+    code: &'a str,
+    message: &'a str,
 }
 
 impl Lines<'_> {
@@ -59,6 +73,7 @@ impl Lines<'_> {
             file,
             outline,
             text: Text::new(alloc),
+            notes: Text::new(alloc),
             path: Text::new(alloc),
             number: 0,
             place: Place::Value,
@@ -93,12 +108,16 @@ impl Lines<'_> {
         let Ok(path) = path.finish_string() else {
             return self.text.fail();
         };
-        let path = path.as_str().strip_prefix('.').unwrap_or(path.as_str());
-        let position = self.outline.position_of(self.number, self.place);
-        if let CheckFormat::Json = self.format {
-            self.push_object(path, position, severity, code, message);
-        } else {
-            self.push_line(path, position, severity, code, message);
+        let diagnostic = Diagnostic {
+            path: path.as_str().strip_prefix('.').unwrap_or(path.as_str()),
+            position: self.outline.position_of(self.number, self.place),
+            severity,
+            code,
+            message,
+        };
+        match self.format {
+            CheckFormat::Json => self.push_object(diagnostic),
+            _ => self.push_line(diagnostic),
         }
         self.number = 0;
         self.place = Place::Value;
@@ -107,25 +126,19 @@ impl Lines<'_> {
     }
 
     // Adds the line of a diagnostic, for people or as gcc's.
-    fn push_line(
-        &mut self,
-        path: &str,
-        position: Option<Position>,
-        severity: &str,
-        code: &str,
-        message: &str,
-    ) {
+    fn push_line(&mut self, diagnostic: Diagnostic<'_>) {
         let (alloc, text) = (self.text.alloc(), &mut self.text);
+        let (path, code, message) = (diagnostic.path, diagnostic.code, diagnostic.message);
         if let CheckFormat::Text = self.format {
             push_front(text, self.file);
             push_subject(text, path, self.place, self.call);
             return text.push_format(format!(in alloc; ": warning [{code}]: {message}\n"));
         }
         text.push_readable(self.file, TextKind::Name);
-        if let Some(Position { line, column }) = position {
+        if let Some(Position { line, column }) = diagnostic.position {
             text.push_format(format!(in alloc; ":{line}:{column}"));
         }
-        text.push_format(format!(in alloc; ": {severity}: "));
+        text.push_format(format!(in alloc; ": {}: ", diagnostic.severity));
         push_subject(text, path, self.place, self.call);
         text.push_str(if path.is_empty() { "" } else { ": " });
         text.push_readable(message, TextKind::Line);
@@ -133,15 +146,8 @@ impl Lines<'_> {
     }
 
     // Adds a diagnostic as JSON.
-    fn push_object(
-        &mut self,
-        path: &str,
-        position: Option<Position>,
-        severity: &str,
-        code: &str,
-        message: &str,
-    ) {
-        let (line, column) = match position {
+    fn push_object(&mut self, diagnostic: Diagnostic<'_>) {
+        let (line, column) = match diagnostic.position {
             Some(Position { line, column }) => (Some(line), Some(column)),
             None => (None, None),
         };
@@ -149,11 +155,11 @@ impl Lines<'_> {
         object.field("file", self.file);
         object.field("line", line);
         object.field("column", column);
-        object.field("path", path);
+        object.field("path", diagnostic.path);
         object.field("call", OrNull(self.call));
-        object.field("code", code);
-        object.field("severity", severity);
-        object.field("message", message);
+        object.field("code", diagnostic.code);
+        object.field("severity", diagnostic.severity);
+        object.field("message", diagnostic.message);
         object.field("suggestion", OrNull(self.suggestion));
         self.text.push_item(object);
     }

@@ -1,25 +1,22 @@
 // What `check` makes of the text that it is given.
 
-ghost use Rattle.std.specs.Prelude.{◌≡◌, IfErr, IfOk};
-ghost use Rattle.seccomptool.specs.Commands.{IsAccepted, IsCheck, IsRejectedFor};
-ghost use Rattle.seccomptool.specs.declared.findings.Verdict.TheVariants.{Different};
+ghost use Rattle.std.specs.Prelude.{IfErr, IfOk};
+ghost use Rattle.seccomptool.specs.Commands.{IsAccepted, IsCheck, IsJudged, IsRejectedFor};
 
-use crate::check::fault::error_text;
-use crate::check::format::{CheckFormat, Lines};
-use crate::check::policy::policy_text;
-use crate::check::profile::lines::profile_text;
+use crate::check::fault::push_error;
+use crate::check::format::Lines;
+use crate::check::policy::push_warnings;
+use crate::check::profile::lines::push_profile_warnings;
 use crate::check::profile::profile_checked;
 use crate::check::{checked, verdict_where};
 use crate::error::ToolError;
 use crate::findings::Verdict;
 use crate::kind::{Subject, subject_of};
 use crate::made::Made;
-use crate::notes::failure;
 use crate::profile::push_profile_notes;
 use crate::run::program::program_of;
-use crate::text::Text;
 use crate::words::Checking;
-use std::alloc::{AllocError, Global};
+use std::alloc::Global;
 
 pub(crate) fn check_made(
     alloc: Global,
@@ -30,70 +27,59 @@ pub(crate) fn check_made(
     ensures { IfOk result (λ made. IsCheck asked.now given.now made.verdict) }
 {
     let subject = subject_of(alloc, &asked.reading, given)?;
-    match accepted(alloc, asked, subject, path, given) {
-        Ok(made) => Ok(made),
+    let mut lines = Lines::new(alloc, asked.format, path, given)?;
+    let verdict = judged(&mut lines, asked, subject, given)?;
+    Ok(Made::noting(lines.text.finish()?, verdict, lines.notes.finish()?))
+}
+
+// What is found of a subject, of which the lines are to say why it is rejected, or else its warnings.
+fn judged(
+    lines: &mut Lines<'_>,
+    asked: &Checking,
+    subject: Subject<'_>,
+    given: &[u8],
+) -> Result<Verdict, ToolError>
+    ensures { IfOk result (IsJudged asked.now subject.entry given.now) }
+{
+    match accepted(lines, asked, subject, given) {
+        Ok(verdict) => Ok(verdict),
         Err(ToolError::OutOfMemory) => Err(ToolError::OutOfMemory),
-        Err(fault) => {
-            let rejected = rejected(alloc, asked.format, path, given, &fault);
-            // Here, so that no branch below has to.
-            drop(fault);
-            Ok(rejected?)
+        Err(error) => {
+            push_error(lines, &error);
+            // By one call, and not variant by variant.
+            drop(error);
+            Ok(Verdict::Different)
         }
     }
 }
 
-// What `check` makes of what is accepted.
+// What is found of a subject that is accepted.
 fn accepted(
-    alloc: Global,
+    lines: &mut Lines<'_>,
     asked: &Checking,
     subject: Subject<'_>,
-    path: &str,
     given: &[u8],
-) -> Result<Made, ToolError>
-    ensures accepted { IfOk result (λ made. IsAccepted asked.now subject.entry given.now made.verdict) }
+) -> Result<Verdict, ToolError>
+    ensures accepted { IfOk result (IsAccepted asked.now subject.entry given.now) }
     ensures rejected { IfErr result (IsRejectedFor asked.now.arch subject.entry given.now) }
 {
-    let (arch, denied) = (asked.arch, asked.denied);
+    let (alloc, arch, denied) = (lines.text.alloc(), asked.arch, asked.denied);
     match subject {
         Subject::Policy => {
             let checked = checked(alloc, arch, &asked.allowed, given)?;
-            let lines = Lines::new(alloc, asked.format, path, given)?;
-            let text = policy_text(lines, &checked.filters)?;
-            let verdict = verdict_where(denied, checked.count);
-            Ok(Made::noting(text, verdict, Vec::new(alloc)))
+            push_warnings(lines, &checked.filters);
+            Ok(verdict_where(denied, checked.count))
         }
         Subject::Profile(container) => {
             let checked = profile_checked(alloc, arch, container, &asked.allowed, given)?;
             let (listed, left_out) = (asked.reading.listed, &checked.compiled.left_out);
-            let mut notes = Text::new(alloc);
-            push_profile_notes(&mut notes, arch, path, listed, left_out, &[]);
-            let lines = Lines::new(alloc, asked.format, path, given)?;
-            let text = profile_text(lines, arch, container, &checked)?;
-            let verdict = verdict_where(denied, checked.warnings.len());
-            Ok(Made::noting(text, verdict, notes.finish()?))
+            push_profile_notes(&mut lines.notes, arch, lines.file, listed, left_out, &[]);
+            push_profile_warnings(lines, arch, container, &checked)?;
+            Ok(verdict_where(denied, checked.warnings.len()))
         }
         Subject::Program => {
             let _program = program_of(alloc, given)?;
-            Ok(Made::plain(alloc, Vec::new(alloc)))
+            Ok(Verdict::Same)
         }
     }
-}
-
-// What `check` makes of what is rejected for this error: a line on standard error, or what its form has for it.
-fn rejected(
-    alloc: Global,
-    format: CheckFormat,
-    path: &str,
-    given: &[u8],
-    error: &ToolError,
-) -> Result<Made, AllocError>
-    ensures { IfOk result (λ made. made.verdict ≡ Different) }
-{
-    if let CheckFormat::Text = format {
-        let notes = failure(alloc, Some(path), error)?.into_bytes();
-        return Ok(Made::noting(Vec::new(alloc), Verdict::Different, notes));
-    }
-    let lines = Lines::new(alloc, format, path, given)?;
-    let text = error_text(lines, error)?;
-    Ok(Made::noting(text, Verdict::Different, Vec::new(alloc)))
 }

@@ -3,19 +3,14 @@
 use crate::check::FilterWarnings;
 use crate::check::format::Lines;
 use seccomp_warnings::{Code, Subject, Warning, part_of, said_text};
-use std::alloc::AllocError;
 
-/// What is said of the warnings of all filters.
-pub(crate) fn policy_text(
-    mut lines: Lines<'_>,
-    all: &[FilterWarnings],
-) -> Result<Vec<u8>, AllocError> {
+/// Adds what is said of the warnings of all filters.
+pub(crate) fn push_warnings(lines: &mut Lines<'_>, all: &[FilterWarnings]) {
     for own in all {
         for warning in &own.warnings {
-            push_warning(&mut lines, own, *warning);
+            push_warning(lines, own, *warning);
         }
     }
-    lines.text.finish()
 }
 
 // Adds what is said of a warning of a filter.

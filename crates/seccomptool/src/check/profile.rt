@@ -4,7 +4,7 @@ pub(crate) mod lines;
 
 ghost use Rattle.std.specs.Prelude.{◌≡◌, All, IfErr, IfOk, OnOk, false};
 ghost use Rattle.seccomp_oci.specs.Types.{AllOnArguments};
-ghost use Rattle.seccomptool.specs.CheckProfile.{AreOfEntries, IsProfileCheckOf, IsRefusedProfile, IsSoOfProfile, code_of};
+ghost use Rattle.seccomptool.specs.CheckProfile.{AreStillSo, IsProfileCheckOf, IsRefusedProfile, IsSoOfProfile, code_of};
 
 use crate::error::ToolError;
 use crate::profile::compiled_of;
@@ -37,19 +37,8 @@ pub enum ProfileWarning {
     Flags,
     /// It has this key, which is passed over.
     UnknownKey(String),
-    /// This is true of a filter that its entries make, and about this part of the profile.
-    OfEntries(Warning, ProfilePart),
-}
-
-/// What a warning of a filter is about in the profile.
-#[derive(Clone, Copy)]
-pub enum ProfilePart {
-    /// The default action.
-    Default,
-    /// The action of the entry at this place.
-    Action(usize),
-    /// The entry that a rule is from, or a condition of it.
-    Rule(Origin),
+    /// This is true of a filter that its entries make: of the default action, or of a rule that is from here.
+    OfEntries(Warning, Option<Origin>),
 }
 
 // The keys that a profile has for Docker, Podman or a runtime, and two that say nothing.
@@ -125,9 +114,7 @@ fn warnings_in(
     if !profile.flags.is_empty() {
         all.push(ProfileWarning::Flags)?;
     }
-    for (warning, part) in &warnings_of_entries(alloc, target, container, profile)? {
-        all.push(ProfileWarning::OfEntries(*warning, *part))?;
-    }
+    push_of_entries(&mut all, alloc, target, container, profile)?;
     Ok(all)
 }
 
@@ -140,7 +127,9 @@ pub(crate) fn code_of(warning: &ProfileWarning) -> Code
             Doubt::EqualsDefault { .. } | Doubt::Behind { .. } => Code::NoEffect,
             Doubt::OpenOrder { .. } => Code::OpenOrder,
             Doubt::ManyConditions { .. } => Code::RuntimesDiffer,
-            _ => Code::RefusedByLibseccomp,
+            Doubt::SameConditions { .. } | Doubt::LargeErrno { .. } | Doubt::LargeDefaultErrno => {
+                Code::RefusedByLibseccomp
+            }
         },
         ProfileWarning::Flags => Code::RuntimesDiffer,
         ProfileWarning::UnknownKey(_) => Code::UnknownKey,
@@ -162,14 +151,15 @@ fn unknown_keys(alloc: Global, text: &[u8]) -> Result<Vec<String>, AllocError> {
     Ok(keys)
 }
 
-// What is true of the filters of a profile's entries, and of which parts of the profile.
-fn warnings_of_entries(
+// Adds what is true of the filters of a profile's entries.
+fn push_of_entries(
+    all: &mut Vec<ProfileWarning>,
     alloc: Global,
     target: TargetArch,
     container: &Container,
     profile: &Profile,
-) -> Result<Vec<(Warning, ProfilePart)>, AllocError>
-    ensures { IfOk result (λ all. AreOfEntries target all.items) }
+) -> Result<(), AllocError>
+    ensures { OnOk result (AreStillSo target container.now profile.now all.old.items all.new.items) }
 {
     let filters = entry_filters_of(alloc, target, container, profile)?;
     let mut denied = false;
@@ -177,13 +167,12 @@ fn warnings_of_entries(
         denied |= denies_each(&filter.filter, "clone3");
     }
     let has_base = !matches!(profile.default, SeccompAction::Allow);
-    let mut all = Vec::new(alloc);
     for (place, filter) in filters.iter().enumerate() {
         let is_base = has_base && place + 1 == filters.len();
         let left_out = left_out_of(alloc, denied, profile.default, is_base)?;
-        push_of_filter(&mut all, alloc, target, &left_out, filter)?;
+        push_of_filter(all, alloc, target, &left_out, filter)?;
     }
-    Ok(all)
+    Ok(())
 }
 
 // The codes of which nothing is said of a filter: of the one with the default action, or of another.
@@ -215,46 +204,33 @@ fn left_out_of(
     Ok(codes)
 }
 
-// Adds the warnings of a filter.
+// Adds the warnings of a filter: of its second action one for each rule.
 fn push_of_filter(
-    all: &mut Vec<(Warning, ProfilePart)>,
+    all: &mut Vec<ProfileWarning>,
     alloc: Global,
     target: TargetArch,
     left_out: &[Code],
     filter: &EntryFilter,
 ) -> Result<(), AllocError>
-    ensures { OnOk result (AreOfEntries target all.old.items → AreOfEntries target all.new.items) }
+    ensures { OnOk result ((c : Container) (p : Profile) → AreStillSo target c p all.old.items all.new.items) }
 {
     let Ok(judgements) = judgements_of(alloc, target, &filter.filter) else {
         return Err(AllocError);
     };
     for warning in &warnings_of(alloc, &filter.filter, &judgements, left_out)? {
-        for part in &parts_of(alloc, filter, warning.subject)? {
-            all.push((*warning, *part))?;
-        }
+        let rule = match warning.subject {
+            Subject::MatchAction(_) => {
+                for origin in &filter.origins {
+                    all.push(ProfileWarning::OfEntries(*warning, Some(*origin)))?;
+                }
+                continue;
+            }
+            Subject::MismatchAction(_) | Subject::MismatchCall(_) => None,
+            Subject::Entry(entry) | Subject::Condition(Comparison { entry, .. }) => {
+                filter.origins.get(entry).copied()
+            }
+        };
+        all.push(ProfileWarning::OfEntries(*warning, rule))?;
     }
     Ok(())
-}
-
-// The parts of the profile that a warning of a filter is about.
-fn parts_of(
-    alloc: Global,
-    filter: &EntryFilter,
-    subject: Subject,
-) -> Result<Vec<ProfilePart>, AllocError> {
-    let mut parts = Vec::new(alloc);
-    match subject {
-        Subject::MismatchAction(_) | Subject::MismatchCall(_) => parts.push(ProfilePart::Default)?,
-        Subject::MatchAction(_) => {
-            for origin in &filter.origins {
-                parts.push(ProfilePart::Action(origin.entry))?;
-            }
-        }
-        Subject::Entry(entry) | Subject::Condition(Comparison { entry, .. }) => {
-            if let Some(origin) = filter.origins.get(entry) {
-                parts.push(ProfilePart::Rule(*origin))?;
-            }
-        }
-    }
-    Ok(parts)
 }

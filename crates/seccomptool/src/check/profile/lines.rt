@@ -2,21 +2,25 @@
 
 use crate::check::format::Lines;
 use crate::check::outline::Place;
-use crate::check::profile::{CheckedProfile, ProfilePart, ProfileWarning, code_of};
+use crate::check::profile::{CheckedProfile, ProfileWarning, code_of};
 use crate::explain::search::word_at;
 use crate::findings::lines::{Example, Shown};
-use crate::json::call_name;
-use crate::record::call_number;
+use crate::findings::parts::name_of;
 use seccomp_oci::{Container, Profile, concerns_call};
-use seccomp_profile_checks::Doubt;
+use seccomp_profile_checks::{Doubt, Origin};
 use seccomp_warnings::{Code, Comparison, Subject, said_text};
 use seccompiler::TargetArch;
 use std::alloc::{AllocError, Global};
 use std::collections::BTreeMap;
 
 // What a line is about: the entry, or none of the profile itself; where the line stands among those of the entry or the profile; the
-// part of it; and the number of the call, if it is one of several.
-type Spot<'a> = (Option<usize>, (usize, usize), Part<'a>, Option<u32>);
+// part of it; and the name of the call, if it is one of several.
+type Spot<'a> = (
+    Option<usize>,
+    (usize, usize),
+    Part<'a>,
+    Option<&'static str>,
+);
 
 // A part of a profile or of an entry.
 #[derive(Clone, Copy)]
@@ -31,34 +35,34 @@ enum Part<'a> {
     Condition(usize),
 }
 
-/// What is said of the warnings of a profile, in the order of their places: once for each code of a place, and for each pair of
+/// Adds what is said of the warnings of a profile, in the order of their places: once for each code of a place, and for each pair of
 /// entries.
-pub(crate) fn profile_text(
-    mut lines: Lines<'_>,
+pub(crate) fn push_profile_warnings(
+    lines: &mut Lines<'_>,
     target: TargetArch,
     container: &Container,
     checked: &CheckedProfile,
-) -> Result<Vec<u8>, AllocError> {
+) -> Result<(), AllocError> {
     let alloc = lines.text.alloc();
     let mut ordered = BTreeMap::new(alloc);
     for (nth, warning) in checked.warnings.iter().enumerate() {
-        let (entry, rank, part, number) = spot_of(target, warning, nth);
+        let (entry, rank, part, call) = spot_of(target, warning, nth);
         let order = (entry, rank, code_of(warning).name());
-        ordered.entry(order)?.or_insert((warning, part, number));
+        ordered.entry(order)?.or_insert((warning, part, call));
     }
-    for ((entry, _, code), (warning, part, number)) in ordered {
+    for ((entry, _, code), (warning, part, call)) in ordered {
         if let Some(entry) = entry {
             lines.key("syscalls");
             lines.item(entry);
         }
-        go_to(&mut lines, part, code_of(warning));
-        lines.call = call_name(target, number).0;
+        go_to(lines, part, code_of(warning));
+        lines.call = call;
         match said_of(alloc, target, container, &checked.profile, warning) {
             Ok(said) => lines.push("warning", code, said.as_str()),
             Err(_) => lines.text.fail(),
         }
     }
-    lines.text.finish()
+    Ok(())
 }
 
 // Goes on to a part, and to the one in it that a code is about.
@@ -90,50 +94,55 @@ fn spot_of(target: TargetArch, warning: &ProfileWarning, nth: usize) -> Spot<'_>
                 (Some(place), (0, 0), action, None)
             }
             Doubt::Behind { place, number } => {
-                (Some(place), (1, number as usize), Part::Whole, Some(number))
+                let call = name_of(target, number);
+                (Some(place), (1, number as usize), Part::Whole, call)
             }
             Doubt::ManyConditions { place } => (Some(place), (2, 0), Part::Under("args"), None),
             Doubt::SameConditions {
                 first,
                 second,
                 number,
-            } => (Some(second), (3, first), Part::Whole, Some(number)),
+            } => {
+                let call = name_of(target, number);
+                (Some(second), (3, first), Part::Whole, call)
+            }
             Doubt::OpenOrder {
                 first,
                 second,
                 call,
             } => {
-                let number = word_at(&call, 0);
-                (Some(second), (3, first), Part::Whole, Some(number))
+                let call = name_of(target, word_at(&call, 0));
+                (Some(second), (3, first), Part::Whole, call)
             }
         },
         ProfileWarning::Flags => (None, (2, 0), Part::Under("flags"), None),
         ProfileWarning::UnknownKey(name) => (None, (3, nth), Part::Key(name.as_str()), None),
-        ProfileWarning::OfEntries(warning, part) => spot_in(target, *part, warning.subject),
+        ProfileWarning::OfEntries(warning, origin) => spot_in(target, *origin, warning.subject),
     }
 }
 
-// What a warning of a filter is about, in the profile.
-fn spot_in(target: TargetArch, part: ProfilePart, subject: Subject) -> Spot<'static> {
+// What a warning of a filter is about: the default action, or a rule that is from here.
+fn spot_in(target: TargetArch, origin: Option<Origin>, subject: Subject) -> Spot<'static> {
     let default = Part::Under("defaultAction");
-    match (part, subject) {
-        (ProfilePart::Default, Subject::MismatchCall(call)) => {
-            let number = call_number(target, call.name());
-            (None, (1, call as usize), default, number)
+    match (origin, subject) {
+        (None, Subject::MismatchCall(call)) => {
+            (None, (1, call as usize), default, Some(call.name()))
         }
-        (ProfilePart::Default, _) => (None, (0, 0), default, None),
-        (ProfilePart::Action(place), _) => (Some(place), (0, 0), Part::Under("action"), None),
-        (ProfilePart::Rule(origin), subject) => match (origin.condition, subject) {
+        (None, _) => (None, (0, 0), default, None),
+        (Some(origin), Subject::MatchAction(_)) => {
+            (Some(origin.entry), (0, 0), Part::Under("action"), None)
+        }
+        (Some(origin), subject) => match (origin.condition, subject) {
             (Some(place), _) | (None, Subject::Condition(Comparison { place, .. })) => {
                 (Some(origin.entry), (2, place), Part::Condition(place), None)
             }
             (None, _) => {
-                let number = origin.number;
+                let call = name_of(target, origin.number);
                 (
                     Some(origin.entry),
-                    (1, number as usize),
+                    (1, origin.number as usize),
                     Part::Whole,
-                    Some(number),
+                    call,
                 )
             }
         },

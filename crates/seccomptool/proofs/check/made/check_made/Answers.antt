@@ -1,11 +1,10 @@
-use Rattle.std.proofs.Common.{rules}
-use Rattle.seccomptool.specs.Commands.{rejected}
+use Rattle.std.proofs.Common.{subst, sym}
+use Rattle.seccomptool.specs.Commands.{IsJudged}
 use Rattle.seccomptool.proofs.check.made.check_made.Goals as goal
 
-pub returns-in_ok-rejected-in-Err : goal.returns-in_ok-rejected-in-Err
-returns-in_ok-rejected-in-Err c = (
+pub returns : goal.returns
+returns c = (
   c.in_ok-subject.subject,
   c.in_ok-subject.ensures,
-  rejected c.in-Err.fault c.in-Err.ensures.rejected (search rules)
-      c.in_ok-rejected-in-Err.ensures,
+  subst (IsJudged c.args.asked.now c.in_ok-subject.subject c.args.given.now) (sym c.noting.ensures) c.in_ok-verdict.ensures,
 )

@@ -8,6 +8,3 @@ invariant-loop-doubt l = All (IsSoOfProfile l.fn.target l.fn.container l.fn.prof
 
 abbrev pub invariant-loop-key : goal.invariant-loop-key
 invariant-loop-key l = All (IsSoOfProfile l.fn.target l.fn.container l.fn.profile) l.all.items
-
-abbrev pub invariant-loop-warning : goal.invariant-loop-warning
-invariant-loop-warning l = All (IsSoOfProfile l.fn.target l.fn.container l.fn.profile) l.all.items

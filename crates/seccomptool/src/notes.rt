@@ -88,17 +88,16 @@ pub(crate) fn push_counted(
         Ok(filters) => warnings_in(alloc, arch, &[], &filters),
         Err(error) => Err(error),
     };
-    match checked {
-        Ok(CheckedPolicy { count: 0, .. }) => {}
+    let told = match checked {
+        Ok(CheckedPolicy { count: 0, .. }) => return,
         Ok(CheckedPolicy { count: 1, .. }) => {
-            let told = String::from_str(alloc, "1 warning; seccomptool check prints it");
-            note(notes, path, told);
+            String::from_str(alloc, "1 warning; seccomptool check prints it")
         }
         Ok(CheckedPolicy { count, .. }) => {
-            let told = format!(in alloc; "{count} warnings; seccomptool check prints them");
-            note(notes, path, told);
+            format!(in alloc; "{count} warnings; seccomptool check prints them")
         }
-        Err(JsonFrontendError::OutOfMemory) => notes.fail(),
-        Err(_) => {}
-    }
+        Err(JsonFrontendError::OutOfMemory) => return notes.fail(),
+        Err(_) => return,
+    };
+    note(notes, path, told);
 }

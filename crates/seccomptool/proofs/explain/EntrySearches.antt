@@ -1,29 +1,25 @@
--- For `first_failing` and `reason_of`: what a search among the entries of a call has shown, and that there is
--- one reason.
-use Rattle.std.proofs.Common.{◌≡◌, ℕ, ℤ, pos, ◌+◌, ◌<◌, ◌≤◌, List, [], ◌∷◌, ◌++◌, length, take, Option, Some, None}
-use Rattle.std.proofs.Common.{true, nat_le, refl, sym, subst, ap, ◌∙◌, inl, inr, append_assoc, length-append, length-take-le}
-use Rattle.std.proofs.Common.{arith}
-use Rattle.std.specs.Prelude.{All, Contains, IfSome, slice_get}
-use Rattle.std.proofs.Math.Seq.{take-append_seam}
+-- For `first_failing` and `reason_of`: what a search among entries has shown, and that there is one reason.
+use Rattle.std.proofs.Common.{◌≡◌, ℕ, ℤ, ◌+◌, ◌<◌, ◌≤◌, List, [], ◌∷◌, length, map, take, Option, Some, None}
+use Rattle.std.proofs.Common.{true, nat_le, refl, sym, subst, ap, ◌∙◌, inl, inr, length-take-le, arith}
+use Rattle.std.specs.Prelude.{All, slice_get}
 use Rattle.std.proofs.lemmas.Bool.{true≢false, cases_Bool, cases_lt}
 use Rattle.std.proofs.lemmas.Bool.Decides.{Decides-int_eq, nat_tests}
 use Rattle.std.proofs.lemmas.List.{take_all, get_or-take}
-use Rattle.std.proofs.lemmas.List.Elements.{All-append, All-cons, All-nil, All-push, All-same}
-use Rattle.std.proofs.lemmas.List.Elements.{All-weaker}
+use Rattle.std.proofs.lemmas.List.Elements.{All-cons, All-head, All-more, All-nil, All-same, All-tail, All-weaker}
 use Rattle.std.proofs.lemmas.Option.{get_or_from_slice_get, slice_get_within}
 use Rattle.seccompiler.specs.declared.backend.TargetArch.{TargetArch}
 use Rattle.seccompiler.specs.declared.json.types.JsonCondition.{JsonCondition}
-use Rattle.seccompiler.specs.JsonPolicyOf.{is_for, is_number, IsFor}
+use Rattle.seccompiler.specs.JsonEntries.{ConditionsHold}
+use Rattle.seccompiler.specs.JsonPolicyOf.{condition_of, is_for, is_number, IsFor}
 use Rattle.seccompiler.specs.JsonTypes.{JsonRule}
-use Rattle.seccompiler.specs.Machine.{word_at}
 use Rattle.seccompiler.specs.Architecture.{table_of}
+use Rattle.seccompiler.specs.Policy.{Condition, Holds, RuleHolds}
 use Rattle.seccompiler.specs.SyscallTable.{number_of}
 use Rattle.seccomptool.specs.declared.explain.search.Miss.{Miss}
 use Rattle.seccomptool.specs.declared.explain.search.Reason.{Reason}
 use Rattle.seccomptool.specs.declared.explain.search.Reason.TheVariants.{AnotherArchitecture, NoEntry, NoMatch, Entry}
-use Rattle.seccomptool.specs.Reasons.{ConditionHolds, EntryHolds, EntryFails, FirstFails, OfEntry, FailsBelow, IsNearest, IsFirstMatch}
-use Rattle.seccomptool.specs.Reasons.{IsReasonAmong, IsReason, of_another, of_call, nearer}
-use Rattle.seccomptool.proofs.explain.Ascending.{same_indices}
+use Rattle.seccomptool.specs.Reasons.{ConditionHolds, EntryHolds, EntryFails, FirstFails, IsOwn, Differs, FailsBelow, IsMiss, IsFirstMatch}
+use Rattle.seccomptool.specs.Reasons.{IsReasonOfCall, IsReason, of_another, of_call, nearer}
 
 -- ---- lists
 
@@ -33,7 +29,7 @@ module _ {X : Type 0} (P : X → Type 0) (xs : List X) where
   whole i long so_far = All-same P xs (take i xs) (sym (take_all i xs long)) so_far
 
   -- What holds of each item holds of the one at a place.
-  pub at_place : (i : ℕ) (x : X) → slice_get xs i ≡ Some x → All P xs → P x
+  at_place : (i : ℕ) (x : X) → slice_get xs i ≡ Some x → All P xs → P x
   at_place i x there all = subst P (get_or_from_slice_get xs i x x there) (all i x (slice_get_within xs i x there))
 
   -- What holds of the first items holds of the one at a place among them.
@@ -44,22 +40,10 @@ module _ {X : Type 0} (P : X → Type 0) (xs : List X) where
         (all i x (omega (arith, less, length-take-le n xs room)))
   ]
 
--- An item stands behind its front.
-seam : {X : Type 0} (front : List X) (x : X) (back : List X) → slice_get (front ++ x ∷ back) (length front) ≡ Some x
-seam [] x back = refl
-seam (y ∷ front) x back = seam front x back
-
-stands_behind : {X : Type 0} (front : List X) (x : X) (back xs : List X) → xs ≡ front ++ x ∷ back → slice_get xs (length front) ≡ Some x
-stands_behind front x back xs whole = subst (λ ys. slice_get ys (length front) ≡ Some x) (sym whole) (seam front x back)
-
--- What holds of the front holds of the first items.
-holds_before : {X : Type 0} (P : X → Type 0) (front back xs : List X) → xs ≡ front ++ back → All P front → All P (take (length front) xs)
-holds_before P front back xs whole all =
-    All-same P (take (length front) xs) front (ap (take (length front)) whole ∙ take-append_seam front back) all
-
--- The item at a place is one of the list.
-pub contained : {X : Type 0} (xs : List X) (i : ℕ) (x : X) → slice_get xs i ≡ Some x → Contains xs x
-contained xs i x there = (i, slice_get_within xs i x there, get_or_from_slice_get xs i x x there)
+  -- What holds of the first items and of the one behind them.
+  one_more : (i : ℕ) (x : X) → slice_get xs i ≡ Some x → All P (take i xs) → P x → All P (take (i + 1) xs)
+  one_more i x there so_far own =
+      All-more P xs i x (slice_get_within xs i x there) so_far (subst P (sym (get_or_from_slice_get xs i x x there)) own)
 
 -- Of two numbers neither of which is less, each is the other.
 neither : (k l : ℕ) → (k < l → ⊥) → (l < k → ⊥) → k ≡ l
@@ -68,11 +52,7 @@ neither k l low high = elim (cases_lt k l) [
   | inr above ↦ elim (cases_lt l k) [ inl more ↦ absurd (high more) | inr below ↦ omega (arith, above, below) ]
 ]
 
--- The miss of these two.
-abbrev miss : ℕ → ℕ → Miss
-miss entry condition = record { entry = entry; condition = condition }
-
--- ---- entries
+-- ---- an entry
 
 module _ (target : TargetArch) (number : ℤ) (entry : JsonRule) where
   -- An entry that is for the number passes the test.
@@ -87,15 +67,18 @@ module _ (target : TargetArch) (number : ℤ) (entry : JsonRule) where
       by None h = absurd (true≢false (sym h))
       by (Some other) h = ap Some (sym ((Decides-int_eq number other).0 h))
 
-module _ (entries : List JsonRule) (r : List ℕ) where
-  -- An entry with an index is the only one.
-  one_entry : (index : ℕ) (a b : JsonRule) → slice_get entries index ≡ Some a → slice_get entries index ≡ Some b → a ≡ b
-  one_entry index a b first second = let both : Some a ≡ Some b = sym first ∙ second in cc
+module _ (r : List ℕ) where
+  -- Conditions hold where the rule that they stand for does.
+  conditions_hold : (conditions : List JsonCondition) → RuleHolds (map condition_of conditions) r → All (ConditionHolds r) conditions
+  conditions_hold [] all = All-nil (ConditionHolds r)
+  conditions_hold (c ∷ cs) all =
+      All-cons (ConditionHolds r) c cs (All-head (λ (c : Condition). Holds c r) (condition_of c) (map condition_of cs) all)
+      (conditions_hold cs (All-tail (λ (c : Condition). Holds c r) (condition_of c) (map condition_of cs) all))
 
   -- An entry of which a condition fails doesn't match.
   fails_not_holds : (entry : JsonRule) (k : ℕ) → EntryFails entry r k → EntryHolds entry r → ⊥
   fails_not_holds entry k (conditions, some, first) holds =
-      let all : All (ConditionHolds r) conditions = subst (λ o. IfSome o (λ cs. All (ConditionHolds r) cs)) some holds in
+      let all = conditions_hold conditions (subst (ConditionsHold r) some holds) in
       first.fails (at_place (ConditionHolds r) conditions k first.condition first.there all)
 
   -- Of two first conditions that fail neither stands in front of the other.
@@ -110,186 +93,148 @@ module _ (entries : List JsonRule) (r : List ℕ) where
       let a' = subst (λ es. FirstFails es r k) same a in
       neither k l (not_before ds k l a' b) (not_before ds l k b a')
 
-  -- ---- the nearest miss
+-- ---- the entries so far
+
+-- The miss of these two.
+abbrev miss : ℕ → ℕ → Miss
+miss entry condition = record { entry = entry; condition = condition }
+
+module _ (target : TargetArch) (entries : List JsonRule) (r : List ℕ) where
+  abbrev IsOther : JsonRule → Type 0
+  IsOther entry = IsOwn target r entry → ⊥
+
+  abbrev Below : ℕ → JsonRule → Type 0
+  Below = FailsBelow target r
 
   -- What fails below a bound fails below a greater one.
-  below_more : (a b : ℕ) → a ≤ b → (index : ℕ) → FailsBelow entries r a index → FailsBelow entries r b index
-  below_more a b le index (entry, there, (k, fails, less)) = (entry, there, (k, fails, omega (arith, less, le)))
+  below_more : (a b : ℕ) → a ≤ b → (seen : List JsonRule) → All (Below a) seen → All (Below b) seen
+  below_more a b le = All-weaker (Below a) (Below b) (λ entry below own.
+      let at = below own in (at.0, at.1, omega (arith, at.2, le)))
 
-  -- Where the entry with an index fails at a place, that place is below each bound of it.
-  bounded : (index k bound : ℕ) → OfEntry (λ entry. EntryFails entry r k) entries index → FailsBelow entries r bound index → k < bound
-  bounded index k bound (entry, there, fails) (other, also, (l, fails', less)) =
-      let same = one_entry index other entry also there in
-      let place = one_failure entry k l fails (subst (λ e. EntryFails e r l) same fails') in
-      omega (arith, place, less)
+  -- Where an entry for the call fails at a place, that place is below each bound of it.
+  bounded : (entry : JsonRule) (k bound : ℕ) → IsOwn target r entry → EntryFails entry r k → Below bound entry → k < bound
+  bounded entry k bound own fails below =
+      let at = below own in
+      let place = one_failure r entry k at.0 fails at.1 in
+      omega (arith, place, at.2)
 
-  -- None of the entries fails behind the nearest miss.
-  all_below : (indices : List ℕ) (miss : Miss) → IsNearest entries r indices miss → All (FailsBelow entries r (miss.condition + 1)) indices
-  all_below indices miss is =
-      let P = FailsBelow entries r (miss.condition + 1) in
-      let own : P miss.entry = (is.fails.0, is.fails.1, (miss.condition, is.fails.2, omega arith)) in
-      let front = All-weaker (FailsBelow entries r miss.condition) P (below_more miss.condition (miss.condition + 1) (omega arith))
-      is.front is.before in
-      All-same P indices (is.front ++ miss.entry ∷ is.back) is.whole
-      (All-append P is.front (miss.entry ∷ is.back) front (All-cons P miss.entry is.back own is.behind))
-
-  -- This is the nearest miss of the entries with these indices, if there are any, none of which matches.
-  abbrev pub IsNearestOf : List ℕ → Option Miss → Type 0
-  IsNearestOf done None = done ≡ []
-  IsNearestOf done (Some miss) = IsNearest entries r done miss
+  -- No entry seen so far is for the call; or none of those that are matches, and this is the nearest miss.
+  abbrev pub IsSoFar : List JsonRule → Option Miss → Type 0
+  IsSoFar seen None = All IsOther seen
+  IsSoFar seen (Some nearest) = IsMiss target entries r nearest × All (Below (nearest.condition + 1)) seen
 
   -- None of them matches.
-  pub none_matches : (done : List ℕ) (so_far : Option Miss) → IsNearestOf done so_far
-      → All (OfEntry (λ entry. EntryHolds entry r → ⊥) entries) done
-  none_matches done None none = All-same (OfEntry (λ entry. EntryHolds entry r → ⊥) entries) done [] none
-      (All-nil (OfEntry (λ entry. EntryHolds entry r → ⊥) entries))
-  none_matches done (Some miss) is =
-      All-weaker (FailsBelow entries r (miss.condition + 1)) (OfEntry (λ entry. EntryHolds entry r → ⊥) entries)
-      (λ index (entry, there, (k, fails, less)). (entry, there, fails_not_holds entry k fails)) done (all_below done miss is)
+  pub none_matches : (seen : List JsonRule) (so_far : Option Miss) → IsSoFar seen so_far → All (Differs target r) seen
+  none_matches seen None none = All-weaker IsOther (Differs target r) (λ entry other own holds. other own) seen none
+  none_matches seen (Some nearest) is =
+      All-weaker (Below (nearest.condition + 1)) (Differs target r) (λ entry below own holds.
+      let at = below own in fails_not_holds r entry at.0 at.1 holds) seen is.1
 
-  -- Behind them, an entry of which a condition fails.
-  pub one_nearer : (done : List ℕ) (so_far : Option Miss) (miss : Miss) → IsNearestOf done so_far
-      → OfEntry (λ entry. EntryFails entry r miss.condition) entries miss.entry
-      → IsNearest entries r (done ++ miss.entry ∷ []) (nearer so_far miss)
-  one_nearer done None miss none fails = record {
-    front = [];
-    back = [];
-    whole = ap (λ d. d ++ miss.entry ∷ []) none;
-    fails = fails;
-    before = All-nil (FailsBelow entries r miss.condition);
-    behind = All-nil (FailsBelow entries r (miss.condition + 1));
-  }
-  one_nearer done (Some nearest) miss is fails = elim (cases_Bool (nat_le miss.condition nearest.condition)) [
-    | inl low ↦ rw low (record {
-      front = is.front;
-      back = is.back ++ miss.entry ∷ [];
-      whole = ap (λ d. d ++ miss.entry ∷ []) is.whole ∙ append_assoc is.front (nearest.entry ∷ is.back) (miss.entry ∷ []);
-      fails = is.fails;
-      before = is.before;
-      behind = All-push (FailsBelow entries r (nearest.condition + 1)) is.back miss.entry is.behind (
-        fails.0,
-        fails.1,
-        (
-          miss.condition,
-          fails.2,
-          (let le : miss.condition ≤ nearest.condition = grind (arith, nat_tests, low) in omega (arith, le)),
-        ),
-      );
-    })
-    | inr high ↦ rw high (record {
-      front = done;
-      back = [];
-      whole = refl;
-      fails = fails;
-      before = All-weaker (FailsBelow entries r (nearest.condition + 1)) (FailsBelow entries r miss.condition)
-          (below_more (nearest.condition + 1) miss.condition
-          (let more : nearest.condition < miss.condition = grind (arith, nat_tests, high) in omega (arith, more))) done
-          (all_below done nearest is);
-      behind = All-nil (FailsBelow entries r (miss.condition + 1));
-    })
-  ]
+  module _ (place : ℕ) (entry : JsonRule) (there : slice_get entries place ≡ Some entry) where
+    -- Behind them, an entry that isn't for the call.
+    pub passed : (so_far : Option Miss) → IsOther entry → IsSoFar (take place entries) so_far → IsSoFar (take (place + 1) entries) so_far
+    passed None other none = one_more IsOther entries place entry there none other
+    passed (Some nearest) other is =
+        (is.0, one_more (Below (nearest.condition + 1)) entries place entry there is.1 (λ own. absurd (other own)))
 
-  -- The first that matches stands behind them.
-  pub first_match : (indices done rest : List ℕ) (place : ℕ) (so_far : Option Miss) → indices ≡ done ++ place ∷ rest
-      → IsNearestOf done so_far → OfEntry (λ entry. EntryHolds entry r) entries place → IsFirstMatch entries r indices place
-  first_match indices done rest place so_far whole nearest holds = record {
-    front = done;
-    back = rest;
-    whole = whole;
-    matches = holds;
-    before = none_matches done so_far nearest;
-  }
+    module _ (own : IsOwn target r entry) where
+      -- Behind them, one of which a condition fails, where those in front fail lower.
+      nearest_now : (condition : ℕ) → EntryFails entry r condition → All (Below condition) (take place entries)
+          → IsSoFar (take (place + 1) entries) (Some (miss place condition))
+      nearest_now condition fails before = (
+        record { entry = entry; there = there; own = own; fails = fails; before = before },
+        one_more (Below (condition + 1)) entries place entry there
+            (below_more condition (condition + 1) (omega arith) (take place entries) before)
+            (λ own. (condition, fails, omega arith)),
+      )
+
+      -- Behind them, one of which a condition fails.
+      pub one_nearer : (condition : ℕ) (so_far : Option Miss) → EntryFails entry r condition → IsSoFar (take place entries) so_far
+          → IsSoFar (take (place + 1) entries) (Some (nearer so_far (miss place condition)))
+      one_nearer condition None fails none =
+          nearest_now condition fails (All-weaker IsOther (Below condition) (λ entry other own. absurd (other own))
+          (take place entries) none)
+      one_nearer condition (Some nearest) fails is = elim (cases_Bool (nat_le condition nearest.condition)) [
+        | inl low ↦
+            let le : condition ≤ nearest.condition = grind (arith, nat_tests, low) in
+            rw low (
+              is.0,
+              one_more (Below (nearest.condition + 1)) entries place entry there is.1 (λ own.
+                  (condition, fails, omega (arith, le))),
+            )
+        | inr high ↦
+            let more : nearest.condition < condition = grind (arith, nat_tests, high) in
+            rw high (nearest_now condition fails
+            (below_more (nearest.condition + 1) condition (omega (arith, more)) (take place entries) is.1))
+      ]
+
+      -- Behind them, the first that matches.
+      pub first_match : (so_far : Option Miss) → EntryHolds entry r → IsSoFar (take place entries) so_far
+          → IsFirstMatch target entries r place
+      first_match so_far holds is = record {
+        entry = entry;
+        there = there;
+        own = own;
+        matches = holds;
+        before = none_matches (take place entries) so_far is;
+      }
 
   -- ---- one reason
 
-  -- The index of the nearest miss stands at a place, and the entries in front of that fail below it.
-  stands : (indices : List ℕ) (miss : Miss) (is : IsNearest entries r indices miss) → slice_get indices (length is.front) ≡ Some miss.entry
-  stands indices miss is = stands_behind is.front miss.entry is.back indices is.whole
+  -- Where no entry is for the call there is no miss, and where none matches no match.
+  no_miss : (m : Miss) → IsMiss target entries r m → All IsOther entries → ⊥
+  no_miss m is none = at_place IsOther entries m.entry is.entry is.there none is.own
 
-  lower : (indices : List ℕ) (miss : Miss) (is : IsNearest entries r indices miss)
-      → All (FailsBelow entries r miss.condition) (take (length is.front) indices)
-  lower indices miss is = holds_before (FailsBelow entries r miss.condition) is.front (miss.entry ∷ is.back) indices is.whole is.before
+  no_match : (p : ℕ) → IsFirstMatch target entries r p → All (Differs target r) entries → ⊥
+  no_match p is none = at_place (Differs target r) entries p is.entry is.there none is.own is.matches
 
-  -- So does the index of the first match, and the entries in front of that don't match.
-  pub stands_first : (indices : List ℕ) (place : ℕ) (is : IsFirstMatch entries r indices place)
-      → slice_get indices (length is.front) ≡ Some place
-  stands_first indices place is = stands_behind is.front place is.back indices is.whole
+  -- A miss stands no further than the nearest one.
+  no_further : (m n : Miss) → IsMiss target entries r m → All (Below (n.condition + 1)) entries → m.condition < n.condition + 1
+  no_further m n is all =
+      bounded is.entry m.condition (n.condition + 1) is.own is.fails
+      (at_place (Below (n.condition + 1)) entries m.entry is.entry is.there all)
 
-  -- No nearest miss stands in front of another.
-  miss_not_before : (indices : List ℕ) (m n : Miss) (a : IsNearest entries r indices m) (b : IsNearest entries r indices n)
-      → m.condition ≡ n.condition → length a.front < length b.front → ⊥
-  miss_not_before indices m n a b same less =
-      let low = in_front (FailsBelow entries r n.condition) indices (length a.front) (length b.front) m.entry less (stands indices m a)
-      (lower indices n b) in
-      omega (arith, same, bounded m.entry m.condition n.condition a.fails low)
+  -- Of two misses that stand as far neither entry is in front of the other, and of two first matches neither.
+  miss_not_before : (m n : Miss) → IsMiss target entries r m → IsMiss target entries r n → m.condition ≡ n.condition → m.entry < n.entry
+      → ⊥
+  miss_not_before m n a b same less =
+      let lower = bounded a.entry m.condition n.condition a.own a.fails
+      (in_front (Below n.condition) entries m.entry n.entry a.entry less a.there b.before) in
+      omega (arith, same, lower)
+
+  match_not_before : (p q : ℕ) → IsFirstMatch target entries r p → IsFirstMatch target entries r q → p < q → ⊥
+  match_not_before p q a b less = in_front (Differs target r) entries p q a.entry less a.there b.before a.own a.matches
 
   -- There is one nearest miss.
-  one_miss : (indices : List ℕ) (m n : Miss) → IsNearest entries r indices m → IsNearest entries r indices n → m ≡ n
-  one_miss indices m n a b =
-      let le = bounded n.entry n.condition (m.condition + 1) b.fails
-      (at_place (FailsBelow entries r (m.condition + 1)) indices (length b.front) n.entry (stands indices n b)
-      (all_below indices m a)) in
-      let ge = bounded m.entry m.condition (n.condition + 1) a.fails
-      (at_place (FailsBelow entries r (n.condition + 1)) indices (length a.front) m.entry (stands indices m a)
-      (all_below indices n b)) in
-      let condition : m.condition ≡ n.condition = omega (arith, le, ge) in
-      let at = neither (length a.front) (length b.front) (miss_not_before indices m n a b condition)
-      (miss_not_before indices n m b a (sym condition)) in
-      let both : Some m.entry ≡ Some n.entry = sym (stands indices m a) ∙ ap (slice_get indices) at ∙ stands indices n b in
-      let entry : m.entry ≡ n.entry = cc in
+  one_miss : (m n : Miss) → IsSoFar entries (Some m) → IsSoFar entries (Some n) → m ≡ n
+  one_miss m n a b =
+      let condition : m.condition ≡ n.condition = omega (arith, no_further m n a.0 b.1, no_further n m b.0 a.1) in
+      let entry = neither m.entry n.entry (miss_not_before m n a.0 b.0 condition) (miss_not_before n m b.0 a.0 (sym condition)) in
       ap (λ k. miss k m.condition) entry ∙ ap (λ k. miss n.entry k) condition
 
-  -- Of two first matches neither stands in front of the other.
-  match_not_before : (indices : List ℕ) (p q : ℕ) (a : IsFirstMatch entries r indices p) (b : IsFirstMatch entries r indices q)
-      → length a.front < length b.front → ⊥
-  match_not_before indices p q a b less =
-      let P = OfEntry (λ entry. EntryHolds entry r → ⊥) entries in
-      let none = holds_before P b.front (q ∷ b.back) indices b.whole b.before in
-      let fails = in_front P indices (length a.front) (length b.front) p less (stands_first indices p a) none in
-      fails.2 (subst (λ e. EntryHolds e r) (one_entry p a.matches.0 fails.0 a.matches.1 fails.1) a.matches.2)
-
-  -- Where none matches there is no first match.
-  no_first : (indices : List ℕ) (p : ℕ) → IsFirstMatch entries r indices p
-      → All (OfEntry (λ entry. EntryHolds entry r → ⊥) entries) indices → ⊥
-  no_first indices p a none =
-      let fails = at_place (OfEntry (λ entry. EntryHolds entry r → ⊥) entries) indices (length a.front) p (stands_first indices p a) none in
-      fails.2 (subst (λ e. EntryHolds e r) (one_entry p a.matches.0 fails.0 a.matches.1 fails.1) a.matches.2)
-
-  -- Where there are no entries there is no nearest miss.
-  none_nearest : (indices : List ℕ) (miss : Miss) → indices ≡ [] → IsNearest entries r indices miss → ⊥
-  none_nearest indices miss none is = let long = ap length is.whole
-      ∙ length-append is.front (miss.entry ∷ is.back) in let empty = ap length none in omega (arith, long, empty)
-
-  -- There is one reason among these entries.
-  one_among : (indices : List ℕ) (a b : Reason) → IsReasonAmong entries r indices a → IsReasonAmong entries r indices b → a ≡ b
-  one_among indices AnotherArchitecture b is too = absurd is
-  one_among indices a AnotherArchitecture is too = absurd too
-  one_among indices (NoEntry n) (NoEntry m) is too = ap NoEntry (is.0 ∙ sym too.0)
-  one_among indices (NoEntry n) (NoMatch k m miss) is too = absurd (none_nearest indices miss is.1 too.2)
-  one_among indices (NoEntry n) (Entry p m) is too = absurd (no_first indices p too.1 (none_matches indices None is.1))
-  one_among indices (NoMatch k n miss) (NoEntry m) is too = absurd (none_nearest indices miss too.1 is.2)
-  one_among indices (NoMatch k n miss) (NoMatch l m other) is too =
+  one_of_call : (a b : Reason) → IsReasonOfCall target entries r a → IsReasonOfCall target entries r b → a ≡ b
+  one_of_call AnotherArchitecture b is too = absurd is
+  one_of_call a AnotherArchitecture is too = absurd too
+  one_of_call (NoEntry n) (NoEntry m) is too = ap NoEntry (is.0 ∙ sym too.0)
+  one_of_call (NoEntry n) (NoMatch k m nearest) is too = absurd (no_miss nearest too.2 is.1)
+  one_of_call (NoEntry n) (Entry p m) is too = absurd (no_match p too.1 (none_matches entries None is.1))
+  one_of_call (NoMatch k n nearest) (NoEntry m) is too = absurd (no_miss nearest is.2 too.1)
+  one_of_call (NoMatch k n nearest) (NoMatch l m other) is too =
       let number : n ≡ m = is.0 ∙ sym too.0 in
       let count : k ≡ l = is.1 ∙ sym too.1 in
-      let same = one_miss indices miss other is.2 too.2 in
+      let same = one_miss nearest other (is.2, is.3) (too.2, too.3) in
       cc
-  one_among indices (NoMatch k n miss) (Entry p m) is too = absurd (no_first indices p too.1 (none_matches indices (Some miss) is.2))
-  one_among indices (Entry p n) (NoEntry m) is too = absurd (no_first indices p is.1 (none_matches indices None too.1))
-  one_among indices (Entry p n) (NoMatch l m miss) is too = absurd (no_first indices p is.1 (none_matches indices (Some miss) too.2))
-  one_among indices (Entry p n) (Entry q m) is too =
-      let at = neither (length is.1.front) (length too.1.front) (match_not_before indices p q is.1 too.1)
-      (match_not_before indices q p too.1 is.1) in
-      let both : Some p ≡ Some q = sym (stands_first indices p is.1) ∙ ap (slice_get indices) at ∙ stands_first indices q too.1 in
-      let place : p ≡ q = cc in
+  one_of_call (NoMatch k n nearest) (Entry p m) is too = absurd (no_match p too.1 (none_matches entries (Some nearest) (is.2, is.3)))
+  one_of_call (Entry p n) (NoEntry m) is too = absurd (no_match p is.1 (none_matches entries None too.1))
+  one_of_call (Entry p n) (NoMatch l m nearest) is too = absurd (no_match p is.1 (none_matches entries (Some nearest) (too.2, too.3)))
+  one_of_call (Entry p n) (Entry q m) is too =
+      let place = neither p q (match_not_before p q is.1 too.1) (match_not_before q p too.1 is.1) in
       let number : n ≡ m = is.0 ∙ sym too.0 in
       cc
 
-module _ (target : TargetArch) (entries : List JsonRule) (r : List ℕ) where
   -- There is one reason.
   pub one_reason : (a b : Reason) → IsReason target entries r a → IsReason target entries r b → a ≡ b
   one_reason a b (of_another differs is) (of_another also too) = is ∙ sym too
   one_reason a b (of_another differs is) (of_call same too) = absurd (differs same)
   one_reason a b (of_call same is) (of_another differs too) = absurd (differs same)
-  one_reason a b (of_call same (xs, are, is)) (of_call also (ys, too, is')) =
-      let one = same_indices target entries (pos (word_at r 0)) xs ys are too in
-      one_among entries r ys a b (subst (λ zs. IsReasonAmong entries r zs a) one is) is'
+  one_reason a b (of_call same is) (of_call also too) = one_of_call a b is too

@@ -1,8 +1,9 @@
 // The search for the reason of a decision.
 
-ghost use Rattle.std.specs.Prelude.{◌≡◌, ◌≤◌, ◌↔◌, pos, All, IfSome, IfNone, IsTrue};
-ghost use Rattle.seccompiler.specs.JsonPolicyOf.{IsFineEntry, AreFineArgs, is_for};
+ghost use Rattle.std.specs.Prelude.{◌≡◌, ◌≤◌, ◌↔◌, pos, All, IfSome, IfNone, IsTrue, map};
+ghost use Rattle.seccompiler.specs.JsonPolicyOf.{IsFineEntry, AreFineArgs, condition_of, is_for};
 ghost use Rattle.seccompiler.specs.Machine.{word_at};
+ghost use Rattle.seccompiler.specs.Policy.{RuleHolds};
 ghost use Rattle.seccomptool.specs.Reasons.{ConditionHolds, EntryHolds, EntryFails, FirstFails, IsReason, nearer};
 
 use seccompiler::{JsonCondition, JsonRule, SeccompCondition, SyscallTable, TargetArch};
@@ -111,7 +112,7 @@ fn failing(entry: &JsonRule, call: &[u8; 64]) -> Option<usize>
 fn first_failing(conditions: &[JsonCondition], call: &[u8; 64]) -> Option<usize>
     requires { All (λ c. c.arg_index ≤ 5) conditions.now }
     ensures fails { IfSome result (FirstFails conditions.now call.now) }
-    ensures holds { IfNone result (All (ConditionHolds call.now) conditions.now) }
+    ensures holds { IfNone result (RuleHolds (map condition_of conditions.now) call.now) }
 {
     for (place, condition) in conditions.iter().enumerate() {
         if !condition_holds(condition, call) {

@@ -37,35 +37,21 @@ pub(crate) fn explained_text(
     written(alloc, json, "decisions", text.finish()?)
 }
 
-// The kind of a reason, what a line has in front of its path and the call, and the entry and the condition of it that it is about.
-fn parts_of(why: Why) -> (&'static str, &'static str, Option<usize>, Option<usize>) {
+// The kind of a reason, what a line has in front of its path and the call, and the number of the call that it is about, if it is of
+// the architecture.
+fn parts_of(why: Why) -> (&'static str, &'static str, Option<u32>) {
     match why {
         Why::Elsewhere | Why::Filter(Reason::AnotherArchitecture) => {
-            ("another-architecture", "", None, None)
+            ("another-architecture", "", None)
         }
-        Why::Filter(Reason::NoEntry { .. }) => ("no-entry", "no entry of ", None, None),
-        Why::Filter(Reason::NoMatch { nearest, .. }) => {
-            let Miss { entry, condition } = nearest;
-            ("no-match", "no match: ", Some(entry), Some(condition))
-        }
-        Why::Filter(Reason::Entry { place, .. }) => ("entry", "", Some(place), None),
-        Why::Profile { entry: None, .. } => ("no-entry", "defaultAction of ", None, None),
-        Why::Profile { entry, .. } => ("entry", "", entry, None),
-        Why::Program { .. } => ("program", "", None, None),
-    }
-}
-
-// The number of the call that a reason is about, if it is of the architecture.
-fn number_of(why: Why) -> Option<u32> {
-    match why {
-        Why::Elsewhere | Why::Filter(Reason::AnotherArchitecture) => None,
-        Why::Filter(
-            Reason::NoEntry { number }
-            | Reason::NoMatch { number, .. }
-            | Reason::Entry { number, .. },
-        )
-        | Why::Profile { number, .. } => Some(number),
-        Why::Program { number, .. } => number,
+        Why::Filter(Reason::NoEntry { number }) => ("no-entry", "no entry of ", Some(number)),
+        Why::Filter(Reason::NoMatch { number, .. }) => ("no-match", "no match: ", Some(number)),
+        Why::Filter(Reason::Entry { number, .. }) => ("entry", "", Some(number)),
+        Why::Profile { number, entry } => match entry {
+            None => ("no-entry", "defaultAction of ", Some(number)),
+            Some(_) => ("entry", "", Some(number)),
+        },
+        Why::Program { number, .. } => ("program", "", number),
     }
 }
 
@@ -101,10 +87,10 @@ fn push_line(
     }
     text.push_display(&Word(word));
     text.push_str(": ");
-    let Some(number) = number_of(why) else {
+    let (_, front, Some(number)) = parts_of(why) else {
         return text.push_str("another architecture\n");
     };
-    text.push_str(parts_of(why).1);
+    text.push_str(front);
     if !path.is_empty() {
         text.push_readable(path, TextKind::Name);
         text.push_str(" of ");
@@ -131,11 +117,15 @@ fn value_of(
     explained: Explained,
 ) -> Object {
     let Explained { word, why } = explained;
-    let (reason, _, entry, condition) = parts_of(why);
-    let number = number_of(why);
-    let steps = match why {
-        Why::Program { steps, .. } => Some(steps),
-        _ => None,
+    let (reason, _, number) = parts_of(why);
+    let (entry, condition, steps) = match why {
+        Why::Filter(Reason::NoMatch { nearest, .. }) => {
+            (Some(nearest.entry), Some(nearest.condition), None)
+        }
+        Why::Filter(Reason::Entry { place, .. }) => (Some(place), None, None),
+        Why::Profile { entry, .. } => (entry, None, None),
+        Why::Program { steps, .. } => (None, None, Some(steps)),
+        _ => (None, None, None),
     };
     let mut object = Object::new(alloc);
     object.field("action", Word(word));

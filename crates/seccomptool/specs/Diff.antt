@@ -14,7 +14,6 @@ use Rattle.seccomptool.specs.declared.diff.Diff.TheVariants.{ByName, OfPair}
 use Rattle.seccomptool.specs.declared.diff.Found.{Found}
 use Rattle.seccomptool.specs.declared.diff.Found.TheVariants.{OnlyOld, OnlyNew, Both}
 use Rattle.seccomptool.specs.declared.diff.NamedFound.{NamedFound}
-use Rattle.seccomptool.specs.declared.diff.Compared.{Compared}
 use Rattle.seccomptool.specs.declared.diff.Pair.{Pair}
 use Rattle.seccomptool.specs.declared.diff.Scope.{Scope}
 use Rattle.seccomptool.specs.declared.diff.Scope.TheVariants as scope
@@ -80,18 +79,14 @@ pub record AreFoundElsewhere (target : TargetArch) (relation : Relation) (new ol
   pub are : AreFoundOn target relation (AreDecided target new old) (other_parts target) findings
   pub holds : verdict_of findings ≡ Same → HoldsElsewhere target relation (AreDecided target new old)
 
--- These are found of what the new and the old ruling decide on the calls of the architecture, and on those of others.
-pub record IsComparison (target : TargetArch) (relation : Relation) (new old : Ruling) (found : Compared) : Type 0 where
-  pub own : AreFindingsOf target relation new old found.own.items
-  pub others : AreFoundElsewhere target relation new old found.others.items
-
--- This is found of what both sides rule.
+-- This is found of what both sides rule, on the calls of the architecture and on those of others.
 pub record IsPairOf (target : TargetArch) (relation : Relation) (old_side new_side : Side) (pair : Pair) : Type 0 where
   pub old : Ruling
   pub new : Ruling
   pub of_old : IsRuling target old_side old
   pub of_new : IsRuling target new_side new
-  pub found : IsComparison target relation new old pair.found
+  pub own : AreFindingsOf target relation new old pair.own.items
+  pub others : AreFoundElsewhere target relation new old pair.others.items
 
 -- ---- both
 
@@ -127,5 +122,5 @@ verdict_all (named ∷ all) = worse (verdict_found named.found) (verdict_all all
 -- The verdict of what counts: of what is found on the architecture's calls, or on all. Of two policies that is the same.
 abbrev pub verdict_in : Scope → Diff → Verdict
 verdict_in counted (ByName all) = verdict_all all.items
-verdict_in scope.Named (OfPair pair) = verdict_of pair.found.own.items
-verdict_in scope.All (OfPair pair) = worse (verdict_of pair.found.own.items) (verdict_of pair.found.others.items)
+verdict_in scope.Named (OfPair pair) = verdict_of pair.own.items
+verdict_in scope.All (OfPair pair) = worse (verdict_of pair.own.items) (verdict_of pair.others.items)

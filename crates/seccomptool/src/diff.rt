@@ -53,12 +53,7 @@ pub struct Pair {
     pub new_name: String,
     /// Whether one of the programs loads the instruction pointer, on which what it decides may depend then.
     pub loads_pointer: bool,
-    pub found: Compared,
-}
-
-/// What is found of two programs: on the calls of the architecture, and on those of the others.
-#[derive(Drop)]
-pub struct Compared {
+    /// What is found on the calls of the architecture, and on those of others.
     pub own: Vec<Finding>,
     pub others: Vec<Finding>,
 }
@@ -124,10 +119,10 @@ impl Diff {
                 verdict
             }
             Diff::OfPair(pair) => {
-                let own = verdict_of(&pair.found.own);
+                let own = verdict_of(&pair.own);
                 match scope {
                     Scope::Named => own,
-                    Scope::All => own.worse(verdict_of(&pair.found.others)),
+                    Scope::All => own.worse(verdict_of(&pair.others)),
                 }
             }
         }
@@ -179,7 +174,8 @@ fn diff_pair<G: Progress>(
         old_name: by_old.name,
         new_name: by_new.name,
         loads_pointer,
-        found: Compared { own, others },
+        own,
+        others,
     })
 }
 

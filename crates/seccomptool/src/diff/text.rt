@@ -16,7 +16,8 @@ use std::alloc::{AllocError, Global};
 #[derive(Clone, Copy)]
 struct Section<'a> {
     // The name of the old side, and of the new one; none if the other one alone has it.
-    names: [Option<&'a str>; 2],
+    old: Option<&'a str>,
+    new: Option<&'a str>,
     arch: Option<&'a str>,
     // Whether what is found may depend on the instruction pointer.
     pointer: bool,
@@ -56,16 +57,17 @@ pub(crate) fn diff_text(
 fn push_named(text: &mut Text, terms: Terms, json: bool, named: &NamedFound) {
     let name = Some(named.name.as_str());
     let none: &[Finding] = &[];
-    let (names, findings) = match &named.found {
-        Found::OnlyOld => ([name, None], none),
-        Found::OnlyNew => ([None, name], none),
-        Found::Both(findings) => ([name, name], findings.as_slice()),
+    let (old, new, findings) = match &named.found {
+        Found::OnlyOld => (name, None, none),
+        Found::OnlyNew => (None, name, none),
+        Found::Both(findings) => (name, name, findings.as_slice()),
     };
     if !json {
         push_filter(text, named.name.as_str());
     }
     let section = Section {
-        names,
+        old,
+        new,
         arch: Some(terms.target.name()),
         pointer: false,
         verdict: verdict_found(&named.found),
@@ -99,12 +101,13 @@ fn push_pair(
         _ => text.push_str("profile"),
     }
     let (arch, findings) = if others {
-        (None, &pair.found.others)
+        (None, &pair.others)
     } else {
-        (Some(terms.target.name()), &pair.found.own)
+        (Some(terms.target.name()), &pair.own)
     };
     let section = Section {
-        names: [Some(old), Some(new)],
+        old: Some(old),
+        new: Some(new),
         arch,
         pointer: pair.loads_pointer,
         verdict: verdict_of(findings),
@@ -127,11 +130,10 @@ fn push_compared(
     if json {
         return text.push_item(object_of(text.alloc(), target, section));
     }
-    let [old, new] = section.names;
     let alike = matches!(terms.relation, Relation::Alike);
     text.push_str(match section.verdict {
-        _ if new.is_none() => ": only in OLD\n",
-        _ if old.is_none() => ": only in NEW\n",
+        _ if section.new.is_none() => ": only in OLD\n",
+        _ if section.old.is_none() => ": only in NEW\n",
         Verdict::Same if alike => ": same\n",
         Verdict::Same => ": nowhere more permissive\n",
         Verdict::Different if alike => ": different\n",
@@ -157,10 +159,9 @@ fn object_of(alloc: Global, target: TargetArch, section: Section<'_>) -> Object 
             parts.item(part_value(alloc, target, *finding));
         }
     }
-    let [old, new] = section.names;
     let mut object = Object::new(alloc);
-    object.field("old", OrNull(old));
-    object.field("new", OrNull(new));
+    object.field("old", OrNull(section.old));
+    object.field("new", OrNull(section.new));
     object.field("architecture", OrNull(section.arch));
     object.field("verdict", verdict_name(section.verdict));
     object.field("parts", parts);

@@ -26,8 +26,6 @@ returns g c =
       new = new.0;
       of_old = old.1;
       of_new = new.1;
-      found = record {
-        own = c.in_ok-own.ensures new.0 old.0 of_new of_old;
-        others = record { are = on; holds = others_covered target relation (AreDecided target new.0 old.0) others on };
-      };
+      own = c.in_ok-own.ensures new.0 old.0 of_new of_old;
+      others = record { are = on; holds = others_covered target relation (AreDecided target new.0 old.0) others on };
     }

@@ -52,9 +52,10 @@ pub(crate) fn ruled_by(
         }
         Subject::Profile(container) => {
             refuse_name(alloc, side.filter)?;
+            let name = String::from_str(alloc, "profile")?;
             let compiled = compiled_of(alloc, target, container, false, side.given)?;
             Ok(NamedProgram {
-                name: String::from_str(alloc, "profile")?,
+                name,
                 program: compiled.program,
             })
         }

@@ -25,8 +25,8 @@ returns-in_ok-program-in-Policy-clause-ruled c =
           c.in_ok-program-in-Policy.ensures.fitting,
     )
 
-pub returns-in_ok-from_str-in-Profile-clause-ruled : goal.returns-in_ok-from_str-in-Profile-clause-ruled
-returns-in_ok-from_str-in-Profile-clause-ruled c =
+pub returns-in_ok-compiled-in-Profile-clause-ruled : goal.returns-in_ok-compiled-in-Profile-clause-ruled
+returns-in_ok-compiled-in-Profile-clause-ruled c =
     let side = c.args.side in
     let compiled = c.in_ok-compiled-in-Profile.compiled in
     subst (λ k. IsProgramFor c.args.target k (text_of side.filter) side.given.now compiled.program.items) (sym c.in-Profile.is)
@@ -44,5 +44,5 @@ pub returns-in_ok-program-in-Policy-clause-checked : goal.returns-in_ok-program-
 returns-in_ok-program-in-Policy-clause-checked c =
     (fitting_stands c.args.target c.in_ok-name-in-Policy.chosen.now _ c.in_ok-program-in-Policy.ensures.fitting).checked
 
-pub returns-in_ok-from_str-in-Profile-clause-checked : goal.returns-in_ok-from_str-in-Profile-clause-checked
-returns-in_ok-from_str-in-Profile-clause-checked c = checked_of_seven _ c.in_ok-compiled-in-Profile.ensures.compiled.program.checked
+pub returns-in_ok-compiled-in-Profile-clause-checked : goal.returns-in_ok-compiled-in-Profile-clause-checked
+returns-in_ok-compiled-in-Profile-clause-checked c = checked_of_seven _ c.in_ok-compiled-in-Profile.ensures.compiled.program.checked

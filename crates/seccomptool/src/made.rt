@@ -1,6 +1,6 @@
 // What each command makes of the bytes that it is given: an answer, and a view of it.
 
-ghost use Rattle.std.specs.Prelude.{◌≡◌, IfOk, false};
+ghost use Rattle.std.specs.Prelude.{◌≡◌, IfOk, OnOk, false};
 ghost use Rattle.seccomptool.specs.Commands.{IsCalled, IsCompared, IsCompiled, IsCompiledAs, IsProfileCompiled, IsShown, IsShownOrMeasured};
 ghost use Rattle.seccomptool.specs.declared.findings.Verdict.TheVariants.{Same};
 ghost use Rattle.seccomptool.specs.declared.kind.Subject.TheVariants.{Policy};
@@ -18,18 +18,15 @@ use crate::profile::{compiled_of, push_profile_notes, uncompiled};
 use crate::progress::Progress;
 use crate::record::{called_record, calls_text, known_calls};
 use crate::run::program::program_of;
-use crate::show;
-use crate::show::programs_in;
+use crate::show::{programs_in, push_program, push_programs};
 use crate::sides::{Side, ruled_by};
-use crate::stats::{filters_text, measure_of, push_measure, stats_of};
+use crate::stats::{measure_of, push_measure, push_stats, stats_of};
 use crate::text::Text;
 use crate::words::{Calling, Comparing, Compiling, Inputs, Showing};
-use seccomp_check::policies_in;
 use seccomp_oci::Container;
 use seccomp_tree::to_bpf_in;
 use seccomp_warnings::Code;
-use seccompiler::TargetArch;
-use seccompiler::json::filters_of;
+use seccompiler::{JsonCompiler, TargetArch};
 use std::alloc::Global;
 
 /// What a command makes of the texts that it is given.
@@ -100,8 +97,7 @@ fn policy_made(
     ensures { IfOk result (λ made. IsCompiledAs asked.now Policy policy.now × (made.verdict ≡ Same)) }
 {
     let arch = asked.arch;
-    let filters = filters_of(alloc, policy)?;
-    let policies = policies_in(alloc, arch, &filters)?;
+    let policies = JsonCompiler::new(arch).policies_of(alloc, policy)?;
     let (name, chosen) = chosen_of(alloc, asked.filter, &policies)?;
     let program = match to_bpf_in(alloc, chosen, asked.layout) {
         Ok(program) => program,
@@ -129,15 +125,8 @@ fn profile_made(
     };
     let mut notes = Text::new(alloc);
     if !asked.quiet {
-        let (left_out, flags) = (&compiled.left_out, &compiled.flags);
-        push_profile_notes(
-            &mut notes,
-            arch,
-            path,
-            asked.reading.listed,
-            left_out,
-            flags,
-        );
+        let (listed, left_out) = (asked.reading.listed, &compiled.left_out);
+        push_profile_notes(&mut notes, arch, path, listed, left_out, &compiled.flags);
     }
     let text = program_text(alloc, asked.format, "profile", &compiled.program)?;
     Ok(Made::noting(text, Verdict::Same, notes.finish()?))
@@ -152,7 +141,9 @@ pub(crate) fn show_made(
     ensures { IfOk result (λ made. IsShown asked.now given.now × (made.verdict ≡ Same)) }
 {
     let subject = subject_of(alloc, &asked.reading, given)?;
-    let text = shown_text(alloc, asked, json, subject, given)?;
+    let mut text = Text::new(alloc);
+    push_shown(&mut text, asked, json, subject, given)?;
+    let text = text.finish()?;
     if text.is_empty() {
         refuse_name(alloc, asked.filter)?;
     }
@@ -165,25 +156,26 @@ pub(crate) fn show_made(
     Ok(Made::plain(alloc, text))
 }
 
-// The programs of what is given, or how long they are and how many steps they take: of a policy those of all filters, or of the one
-// that is asked for, and nothing if there is none.
-fn shown_text(
-    alloc: Global,
+// Adds the programs of what is given, or how long they are and how many steps they take: of a policy those of all filters, or of the
+// one that is asked for, and nothing if there is none.
+fn push_shown(
+    text: &mut Text,
     asked: &Showing<'_>,
     json: bool,
     subject: Subject<'_>,
     given: &[u8],
-) -> Result<Vec<u8>, ToolError>
-    ensures { IfOk result (λ text. IsShownOrMeasured asked.now.measured asked.now.arch subject.entry asked.now.layout given.now) }
+) -> Result<(), ToolError>
+    ensures { OnOk result (IsShownOrMeasured asked.now.measured asked.now.arch subject.entry asked.now.layout given.now) }
 {
-    let (arch, filter) = (asked.arch, asked.filter);
+    let (alloc, arch, filter) = (text.alloc(), asked.arch, asked.filter);
     if let Subject::Policy = subject {
         if asked.measured {
-            let all = stats_of(alloc, arch, given)?;
-            return Ok(filters_text(alloc, json, filter, &all)?);
+            push_stats(text, json, filter, &stats_of(alloc, arch, given)?);
+            return Ok(());
         }
         let programs = programs_in(alloc, arch, asked.layout, given)?;
-        return Ok(show::programs_text(alloc, arch, json, filter, &programs)?);
+        push_programs(text, arch, json, filter, &programs);
+        return Ok(());
     }
     let side = Side {
         kind: subject,
@@ -194,14 +186,11 @@ fn shown_text(
     let name = one.name.as_str();
     if asked.measured {
         let measure = measure_of(alloc, arch, &one.program)?;
-        let mut text = Text::new(alloc);
-        push_measure(&mut text, json, name, None, measure);
-        return Ok(text.finish()?);
+        push_measure(text, json, name, None, measure);
+        return Ok(());
     }
-    let text = show::program_text(alloc, json, name, arch, &one.program);
-    // Here, so that no branch below has to.
-    drop(one);
-    Ok(text?)
+    push_program(text, arch, json, name, &one.program);
+    Ok(())
 }
 
 // A line for each code of a warning, in the order of `Code::all`: its name, `: `, and what is so if a warning has the code. As JSON

@@ -34,53 +34,50 @@ pub fn programs_in(
     Ok(programs)
 }
 
-/// The text of the programs of a policy's filters, each after a line `filter LENGTH NAME`; as JSON the items of their list.
-pub(crate) fn programs_text(
-    alloc: Global,
+/// Adds the programs of a policy's filters, each after a line `filter LENGTH NAME`; as JSON the items of their list.
+pub(crate) fn push_programs(
+    text: &mut Text,
     target: TargetArch,
     json: bool,
     asked: Option<&str>,
     programs: &[NamedProgram],
-) -> Result<Vec<u8>, AllocError> {
-    let mut text = Text::new(alloc);
+) {
     for NamedProgram { name, program } in programs {
         let name = name.as_str();
         if asked.unwrap_or(name) == name {
             if !json {
-                text.push_format(format!(in alloc; "filter {} ", program.len()));
+                text.push_format(format!(in text.alloc(); "filter {} ", program.len()));
                 text.push_readable(name, TextKind::Name);
                 text.push_str("\n");
             }
-            text.push_bytes(&program_text(alloc, json, name, target, program)?);
+            push_program(text, target, json, name, program);
         }
     }
-    text.finish()
 }
 
-/// The lines of a program, one for each instruction: its place, the instruction as `bpf_asm` has it, and the note on it. Calls
+/// Adds the lines of a program, one for each instruction: its place, the instruction as `bpf_asm` has it, and the note on it. Calls
 /// have their names on the architecture that it tests for, and on this one if it tests for none. As JSON an item, with this name.
-pub(crate) fn program_text(
-    alloc: Global,
+pub(crate) fn push_program(
+    text: &mut Text,
+    target: TargetArch,
     json: bool,
     name: &str,
-    target: TargetArch,
     program: BpfProgramRef<'_>,
-) -> Result<Vec<u8>, AllocError> {
-    let notes = notes::notes(alloc, target, program)?;
-    let mut text = Text::new(alloc);
+) {
+    let alloc = text.alloc();
+    let Ok(notes) = notes::notes(alloc, target, program) else {
+        return text.fail();
+    };
     if json {
-        text.push_item(program_value(alloc, name, program, &notes));
-        return text.finish();
+        return text.push_item(program_value(alloc, name, program, &notes));
     }
     for (place, (instruction, note)) in program.iter().zip(&notes).enumerate() {
-        let words = words(alloc, place, instruction)?;
-        text.push_format(if note.is_empty() {
-            format!(in alloc; "{place:4}  {words}\n")
-        } else {
-            format!(in alloc; "{place:4}  {words:28}; {note}\n")
+        text.push_format(match words(alloc, place, instruction) {
+            Ok(words) if note.is_empty() => format!(in alloc; "{place:4}  {words}\n"),
+            Ok(words) => format!(in alloc; "{place:4}  {words:28}; {note}\n"),
+            Err(error) => Err(error),
         });
     }
-    text.finish()
 }
 
 // An instruction that stands at this place, in the words of bpf_asm. Jumps tell the places that they lead to.

@@ -138,26 +138,19 @@ fn passing_record(target: TargetArch) -> [u8; 64]
     record
 }
 
-/// The lines of filters' numbers, three for each filter; as JSON an item for each program.
-pub(crate) fn filters_text(
-    alloc: Global,
-    json: bool,
-    asked: Option<&str>,
-    all: &[FilterStats],
-) -> Result<Vec<u8>, AllocError> {
-    let mut text = Text::new(alloc);
+/// Adds the lines of filters' numbers, three for each filter; as JSON an item for each program.
+pub(crate) fn push_stats(text: &mut Text, json: bool, asked: Option<&str>, all: &[FilterStats]) {
     for FilterStats { name, linear, tree } in all {
         let name = name.as_str();
         if asked.unwrap_or(name) == name {
             if !json {
-                push_filter(&mut text, name);
+                push_filter(text, name);
                 text.push_str("\n");
             }
-            push_measure(&mut text, json, name, Some("linear"), *linear);
-            push_measure(&mut text, json, name, Some("tree"), *tree);
+            push_measure(text, json, name, Some("linear"), *linear);
+            push_measure(text, json, name, Some("tree"), *tree);
         }
     }
-    text.finish()
 }
 
 /// Adds the line of the numbers of one program, after its layout, or after its name if it has none; as JSON an item.

@@ -1,4 +1,4 @@
--- For `diff_pair` and `shown_text`: the program of a side stands for what it rules, and may be run.
+-- For `diff_pair` and `push_shown`: the program of a side stands for what it rules, and may be run.
 use Rattle.std.proofs.Common.{◌≡◌, ℕ, List, Option, refl, subst, sym}
 use Rattle.seccompiler.specs.declared.backend.TargetArch.{TargetArch}
 use Rattle.seccompiler.specs.declared.bpf.sock_filter.{sock_filter}

@@ -3,7 +3,7 @@ use Rattle.seccomptool.specs.Chosen.{text_of}
 use Rattle.seccomptool.specs.Commands.{IsShownOrMeasured}
 use Rattle.seccomptool.specs.Stats.{IsMeasureOf}
 use Rattle.seccomptool.proofs.sides.Profiles.{is_measured, is_shown}
-use Rattle.seccomptool.proofs.made.shown_text.Goals as goal
+use Rattle.seccomptool.proofs.made.push_shown.Goals as goal
 
 pub returns-then-asked-2 : goal.returns-then-asked-2
 returns-then-asked-2 c =

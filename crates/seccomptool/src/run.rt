@@ -7,37 +7,16 @@ pub(crate) mod program;
 ghost use Rattle.std.specs.Prelude.{IfOk};
 ghost use Rattle.std.specs.List.{AllZip};
 ghost use Rattle.seccomp_compare.specs.Machine.{IsChecked};
-ghost use Rattle.seccomptool.specs.Explain.{IsOfProgram, IsReturned};
+ghost use Rattle.seccomptool.specs.Explain.{IsReturned};
 
-use crate::error::ToolError;
 use crate::explain::search::word_at;
-use crate::explain::{Explained, Explanation, Why};
-use crate::run::program::program_of;
+use crate::explain::{Explained, Why};
 use seccomp_compare::machine;
 use seccompiler::machine::Outcome;
 use seccompiler::{BpfProgramRef, TargetArch};
 use std::alloc::{AllocError, Global};
 
-/// Explains what the program that is given decides: the values that it returns, and in how many steps.
-///
-/// # Errors
-///
-/// Those of [`program_of`].
-pub(crate) fn explain_program(
-    alloc: Global,
-    target: TargetArch,
-    given: &[u8],
-    records: &[[u8; 64]],
-) -> Result<Explanation, ToolError>
-    ensures { IfOk result (IsOfProgram given.now records.now) }
-{
-    let program = program_of(alloc, given)?;
-    let records = returned(alloc, target, &program, records)?;
-    let name = String::new(alloc);
-    Ok(Explanation { name, records })
-}
-
-/// What a program returns for records, one for each, in order.
+/// What a program returns for records, and in how many steps, one for each, in order.
 ///
 /// The program may be of any compiler, if `machine::check` of `seccomp_compare` passes it; that takes fewer instructions than
 /// a kernel does.

@@ -6,7 +6,7 @@ ghost use Rattle.seccomptool.specs.declared.findings.Verdict.TheVariants.{Same};
 
 use super::lines::explained_text;
 use super::log::{Caller, log_of};
-use super::{explain_policy, explain_profile};
+use super::{Explanation, explain_policy, explain_profile};
 use crate::chosen::refuse_name;
 use crate::error::ToolError;
 use crate::findings::Verdict;
@@ -14,7 +14,8 @@ use crate::kind::{Subject, subject_of};
 use crate::learn::notes::note_strange;
 use crate::made::Made;
 use crate::record::called_record;
-use crate::run::explain_program;
+use crate::run::program::program_of;
+use crate::run::returned;
 use crate::text::Text;
 use crate::words::{Calls, Explaining, Inputs};
 use std::alloc::Global;
@@ -59,16 +60,20 @@ fn explain_records(
 {
     let (arch, filter) = (asked.arch, asked.filter);
     let subject = subject_of(alloc, &asked.reading, given)?;
+    if !matches!(subject, Subject::Policy) {
+        refuse_name(alloc, filter)?;
+    }
     let (records, rest) = records.as_chunks::<64>();
     let explanation = match subject {
         Subject::Policy => explain_policy(alloc, arch, filter, given, records)?,
-        Subject::Profile(container) => {
-            refuse_name(alloc, filter)?;
-            explain_profile(alloc, arch, container, given, records)?
-        }
+        Subject::Profile(container) => explain_profile(alloc, arch, container, given, records)?,
         Subject::Program => {
-            refuse_name(alloc, filter)?;
-            explain_program(alloc, arch, given, records)?
+            let program = program_of(alloc, given)?;
+            let records = returned(alloc, arch, &program, records)?;
+            Explanation {
+                name: String::new(alloc),
+                records,
+            }
         }
     };
     let text = explained_text(alloc, arch, json, &explanation, callers)?;

@@ -60,8 +60,9 @@ pub fn compile_from_json<R: Read + Drop>(
     ensures memory { IfErr result IsNoMemoryInside }
 {
     let text = text_of(alloc, reader)?;
-    let (_value, programs) = listed_programs(alloc, text.as_slice(), arch)?;
+    let listed = listed_programs(alloc, text.as_slice(), arch);
     drop(text);
+    let (_value, programs) = listed?;
     match programs.into_iter().collect(alloc) {
         Ok(programs) => Ok(programs),
         Err(_) => Err(Error::OutOfMemory),
@@ -116,8 +117,10 @@ fn listed_programs(
         return Err(Error::OutOfMemory);
     };
     for (name, policy) in policies {
-        let program = policy.to_bpf(alloc)?;
-        programs.push_reserved((name, program));
+        match policy.to_bpf(alloc) {
+            Ok(program) => programs.push_reserved((name, program)),
+            Err(error) => return Err(Error::from(error)),
+        }
     }
     Ok((value, programs))
 }

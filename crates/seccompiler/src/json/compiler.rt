@@ -208,8 +208,9 @@ impl JsonCompiler {
         ensures memory { IfErr result IsNoMemoryInFrontend }
     {
         let text = text_of(alloc, reader)?;
-        let (_value, policies) = read_policies(alloc, self.arch, text.as_slice())?;
+        let read = read_policies(alloc, self.arch, text.as_slice());
         drop(text);
+        let (_value, policies) = read?;
         match policies.into_iter().collect(alloc) {
             Ok(filters) => Ok(filters),
             Err(_) => Err(JsonFrontendError::OutOfMemory),
@@ -236,8 +237,10 @@ pub(crate) fn read_policies(
         return Err(JsonFrontendError::OutOfMemory);
     };
     for (name, filter) in filters {
-        let policy = lent_seccomp_filter(alloc, arch, &filter)?;
-        policies.push_reserved((name, policy));
+        match lent_seccomp_filter(alloc, arch, &filter) {
+            Ok(policy) => policies.push_reserved((name, policy)),
+            Err(error) => return Err(error),
+        }
     }
     Ok((value, policies))
 }

@@ -77,9 +77,10 @@ pub fn lent_filters(
         let Ok(name) = key.clone() else {
             return Err(JsonFrontendError::OutOfMemory);
         };
-        match read_filter(alloc, member)? {
-            Some(filter) => found.push_reserved((name, filter)),
-            None => return Err(JsonFrontendError::Shape(name)),
+        match read_filter(alloc, member) {
+            Ok(Some(filter)) => found.push_reserved((name, filter)),
+            Ok(None) => return Err(JsonFrontendError::Shape(name)),
+            Err(_) => return Err(JsonFrontendError::OutOfMemory),
         }
     }
     Ok(found)

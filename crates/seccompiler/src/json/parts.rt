@@ -114,17 +114,14 @@ fn read_condition(value: &Value) -> Option<JsonCondition>
     ensures { MatchOption result ((c : JsonCondition) → IsCondition (view value.now) c → ⊥) (IsCondition (view value.now)) }
 {
     let names = ("index", "type", "op", "val", "comment");
-    let Some((index, arg_len, operator, value, comment)) = members_under(value, names, 5) else {
+    let Some((Some(index), Some(arg_len), Some(operator), Some(value), comment)) = members_under(
+        value, names, 5,
+    ) else {
         return None;
     };
     if !is_comment(comment) {
         return None;
     }
-    let (Some(index), Some(arg_len), Some(operator), Some(value)) = (
-        index, arg_len, operator, value,
-    ) else {
-        return None;
-    };
     let parts = (
         whole_number(index, GREATEST_INDEX),
         read_arg_len(arg_len),
@@ -142,27 +139,6 @@ fn read_condition(value: &Value) -> Option<JsonCondition>
     })
 }
 
-fn read_conditions(
-    alloc: Global,
-    items: &Vec<Value>,
-) -> Result<Option<Vec<JsonCondition>>, AllocError>
-    ensures found { IfOk result
-        (λ o. IfSome o (λ all. OneByOne IsCondition (items_view items.now.items) all.items)) }
-    ensures none { IfOk result (λ o. IfNone o
-        ((all : List JsonCondition) → OneByOne IsCondition (items_view items.now.items) all → ⊥)) }
-{
-    let Ok(mut found) = Vec::with_capacity(alloc, items.len()) else {
-        return Err(AllocError);
-    };
-    for item in items {
-        match read_condition(item) {
-            Some(condition) => found.push_reserved(condition),
-            None => return Ok(None),
-        }
-    }
-    Ok(Some(found))
-}
-
 // What stands under `args`: no conditions where it is absent or null.
 fn read_args(
     alloc: Global,
@@ -172,14 +148,24 @@ fn read_args(
         ((c : Option (List JsonCondition)) → IsArgs (option_map (λ v. view v.now) args.entry) c → ⊥)
         (λ c. IsArgs (option_map (λ v. view v.now) args.entry) (option_map (λ v. v.items) c))) }
 {
-    match args {
-        None | Some(Value::Null) => Ok(Some(None)),
-        Some(Value::Array(items)) => match read_conditions(alloc, items)? {
-            Some(conditions) => Ok(Some(Some(conditions))),
-            None => Ok(None),
-        },
-        Some(_) => Ok(None),
+    let Some(value) = args else {
+        return Ok(Some(None));
+    };
+    let items = match value {
+        Value::Array(items) => items,
+        Value::Null => return Ok(Some(None)),
+        _ => return Ok(None),
+    };
+    let Ok(mut found) = Vec::with_capacity(alloc, items.len()) else {
+        return Err(AllocError);
+    };
+    for item in items {
+        match read_condition(item) {
+            Some(condition) => found.push_reserved(condition),
+            None => return Ok(None),
+        }
     }
+    Ok(Some(Some(found)))
 }
 
 fn read_entry(alloc: Global, value: &Value) -> Result<Option<LentRule<'_>>, AllocError>
@@ -187,19 +173,21 @@ fn read_entry(alloc: Global, value: &Value) -> Result<Option<LentRule<'_>>, Allo
 {
     // An entry has the first three.
     let names = ("syscall", "args", "comment", "op", "val");
-    let Some((syscall, args, comment, _, _)) = members_under(value, names, 3) else {
+    let Some((Some(Value::String(syscall)), args, comment, _, _)) = members_under(value, names, 3)
+    else {
         return Ok(None);
     };
-    let (Some(Value::String(syscall)), true) = (syscall, is_comment(comment)) else {
+    if !is_comment(comment) {
         return Ok(None);
-    };
-    let Some(conditions) = read_args(alloc, args)? else {
-        return Ok(None);
-    };
-    Ok(Some(LentRule {
-        syscall: syscall.as_str(),
-        conditions,
-    }))
+    }
+    match read_args(alloc, args) {
+        Ok(Some(conditions)) => Ok(Some(LentRule {
+            syscall: syscall.as_str(),
+            conditions,
+        })),
+        Ok(None) => Ok(None),
+        Err(error) => Err(error),
+    }
 }
 
 fn read_rules(alloc: Global, value: &Value) -> Result<Option<Vec<LentRule<'_>>>, AllocError>
@@ -214,9 +202,10 @@ fn read_rules(alloc: Global, value: &Value) -> Result<Option<Vec<LentRule<'_>>>,
         return Err(AllocError);
     };
     for item in items {
-        match read_entry(alloc, item)? {
-            Some(rule) => found.push_reserved(rule),
-            None => return Ok(None),
+        match read_entry(alloc, item) {
+            Ok(Some(rule)) => found.push_reserved(rule),
+            Ok(None) => return Ok(None),
+            Err(error) => return Err(error),
         }
     }
     Ok(Some(found))
@@ -244,20 +233,23 @@ pub fn read_filter(alloc: Global, value: &Value) -> Result<Option<LentFilter<'_>
         "filter_action",
         "filter",
     );
-    let Some((mismatch, default, matched, filter, rules)) = members_under(value, names, 5) else {
+    let Some((mismatch, default, matched, filter, Some(rules))) = members_under(value, names, 5)
+    else {
         return Ok(None);
     };
-    let mismatch = read_one_action(mismatch, default);
-    let matched = read_one_action(matched, filter);
-    let (Some(mismatch_action), Some(match_action), Some(rules)) = (mismatch, matched, rules) else {
+    let Some(mismatch_action) = read_one_action(mismatch, default) else {
         return Ok(None);
     };
-    let Some(rules) = read_rules(alloc, rules)? else {
+    let Some(match_action) = read_one_action(matched, filter) else {
         return Ok(None);
     };
-    Ok(Some(LentFilter {
-        mismatch_action,
-        match_action,
-        rules,
-    }))
+    match read_rules(alloc, rules) {
+        Ok(Some(rules)) => Ok(Some(LentFilter {
+            mismatch_action,
+            match_action,
+            rules,
+        })),
+        Ok(None) => Ok(None),
+        Err(error) => Err(error),
+    }
 }

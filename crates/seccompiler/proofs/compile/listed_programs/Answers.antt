@@ -18,20 +18,20 @@ loop-name-init c = making_none _ _ _ _ refl (search rules) (search (rules, arith
 pub loop-name-preserved : goal.loop-name-preserved
 loop-name-preserved c =
     let e : String Global × Filter = (c.in-Some.name, c.in-Some.policy) in
-    let entry : String Global × Vec sock_filter Global = (c.in-Some.name, c.in_ok-program.program) in
-    let of = c.in_ok-program.ensures in
+    let entry : String Global × Vec sock_filter Global = (c.in-Some.name, c.in-Ok-to_bpf.program) in
+    let of = c.in-Ok-to_bpf.ensures in
     making_more Compiles c.loop-name.invariant e entry _ _ c.in-Some.ensures.steps.0 c.push_reserved.ensures.items
     c.push_reserved.ensures.len c.push_reserved.ensures.capacity refl (record { compilable = of.compilable; compiled = of.compiled })
 
-pub returns-in_err-program : goal.returns-in_err-program
-returns-in_err-program c = let p = err_from_is_err_and c.from_residual-in_err-program.result c.from_residual-in_err-program.ensures.1 in
+pub returns-in-Err : goal.returns-in-Err
+returns-in-Err c =
     let so_far = c.loop-name.invariant in
     let read = c.in_ok-value.ensures.1 in
     let e : String Global × Filter = (c.in-Some.name, c.in-Some.policy) in
     let all = sym c.into_iter-name-iterator.ensures.into_iter_gives.0 ∙ at_next Compiles so_far e _ c.in-Some.ensures.steps.0 in
     let first = refusal_of c.args.arch read.0 c.in_ok-value.policies.items read.2 so_far.done e _ all c.in_ok-value.ensures.0
-    c.loop-name.programs.items so_far.made c.args.text.now read.1 c.in_err-program.field-0.0 c.in_err-program.ensures.refused in
-    rw (p.1, p.2) (record { programs = first; memory = none_in_refusal c.in_err-program.field-0.0 })
+    c.loop-name.programs.items so_far.made c.args.text.now read.1 c.in-Err.error c.in-Err.ensures.refused in
+    rw c.from.ensures (record { programs = first; memory = none_in_refusal c.in-Err.error })
 
 pub returns : goal.returns
 returns c =

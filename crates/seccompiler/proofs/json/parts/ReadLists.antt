@@ -1,4 +1,4 @@
--- For `read_conditions` and `read_rules`: how far a loop has read the values of an array, one by one.
+-- For `read_args` and `read_rules`: how far a loop has read the values of an array, one by one.
 use Rattle.std.proofs.Common.{◌≡◌, ℕ, ◌+◌, ◌<◌, ◌≤◌, List, [], ◌∷◌, ◌++◌, length, get_or, drop, sym, subst, append_assoc, arith}
 use Rattle.std.proofs.lemmas.List.{append-nil, drop_all, drop_more}
 use Rattle.serde_json.specs.Data.{Data, Items, item}

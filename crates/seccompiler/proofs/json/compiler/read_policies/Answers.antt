@@ -24,12 +24,12 @@ loop-name-init c = making_none _ _ _ _ refl (search rules) (search (rules, arith
 pub loop-name-preserved : goal.loop-name-preserved
 loop-name-preserved c =
     let e : String Global × JsonFilter = (c.in-Some.name, c.in-Some.filter) in
-    let entry : String Global × Filter = (c.in-Some.name, c.in_ok-policy.policy) in
+    let entry : String Global × Filter = (c.in-Some.name, c.in-Ok-lent_seccomp_filter.policy) in
     making_more (IsPolicyOf c.args.arch) c.loop-name.invariant e entry _ _ c.in-Some.ensures.steps.0 c.push_reserved.ensures.items
-    c.push_reserved.ensures.len c.push_reserved.ensures.capacity refl c.in_ok-policy.ensures
+    c.push_reserved.ensures.len c.push_reserved.ensures.capacity refl c.in-Ok-lent_seccomp_filter.ensures
 
-pub returns-in_err-policy : goal.returns-in_err-policy
-returns-in_err-policy c = let p = err_from_is_err_and c.from_residual-in_err-policy.result c.from_residual-in_err-policy.ensures.1 in
+pub returns-in-Err : goal.returns-in-Err
+returns-in-Err c =
     let so_far = c.loop-name.invariant in
     let arch = c.args.arch in
     let d = view c.in_ok-value.value in
@@ -38,8 +38,8 @@ returns-in_err-policy c = let p = err_from_is_err_and c.from_residual-in_err-pol
     let all = at_next (IsPolicyOf arch) so_far e _ c.in-Some.ensures.steps.0 in
     let refused = tells_more (IsFirstFault arch e.1) (λ fault. IsLeastRefused arch fault d)
     (least_refused arch d _ c.in_ok-filters.ensures.1 so_far.done e _ (sym gives ∙ all) c.in_ok-filters.ensures.0
-    c.loop-name.policies.items so_far.made) c.in_err-policy.field-0.0 c.in_err-policy.ensures in
-    rw (p.1, p.2) (refused_told arch d c.args.text.now c.in_ok-value.ensures c.in_err-policy.field-0.0 refused)
+    c.loop-name.policies.items so_far.made) c.in-Err.error c.in-Err.ensures in
+    refused_told arch d c.args.text.now c.in_ok-value.ensures c.in-Err.error refused
 
 pub returns : goal.returns
 returns c =

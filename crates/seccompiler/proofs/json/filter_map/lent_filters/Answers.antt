@@ -11,12 +11,12 @@ loop-key-init c = making_none IsRead _ _ _ refl (search rules) (search (rules, a
 pub loop-key-preserved : goal.loop-key-preserved
 loop-key-preserved c =
     let e : Entry = (c.in-Some.key.now, c.in-Some.member.now) in
-    let made : String Global × JsonFilter = (c.in-Ok-clone.name, c.in-Some-2.filter) in
+    let made : String Global × JsonFilter = (c.in-Ok-clone.name, c.in-Ok-Some.filter) in
     making_more IsRead c.loop-key.invariant e made _ _ c.in-Some.ensures.steps c.push_reserved.ensures.items
-    c.push_reserved.ensures.len c.push_reserved.ensures.capacity c.in-Ok-clone.ensures.cases (rw c.in-Some-2.is at c.in_ok-filter.ensures)
+    c.push_reserved.ensures.len c.push_reserved.ensures.capacity c.in-Ok-clone.ensures.cases (rw c.in-Ok-Some.field-0-is at c.in-Ok-Some.ensures)
 
-pub returns-in-None-2 : goal.returns-in-None-2
-returns-in-None-2 c =
+pub returns-in-Ok-None : goal.returns-in-Ok-None
+returns-in-Ok-None c =
     let so_far = c.loop-key.invariant in
     let e : Entry = (c.in-Some.key.now, c.in-Some.member.now) in
     let rest = c.next.new.self in
@@ -25,7 +25,7 @@ returns-in-None-2 c =
     ∙ at_next IsRead so_far e rest c.in-Some.ensures.steps in
     rw (c.in-Object.is, view-Object c.in-Object.members, all, c.in-Ok-clone.ensures.cases) (least_fault so_far.done e rest
     c.loop-key.found.items (rw all at c.iter-key-items.ensures.ordered)
-    so_far.made (rw c.in-None-2.is at c.in_ok-filter.ensures))
+    so_far.made (rw c.in-Ok-None.field-0-is at c.in-Ok-None.ensures))
 
 pub returns : goal.returns
 returns c =

@@ -1,3 +1,4 @@
+mod FoundMembers
 -- Lemmas for the functions of `json::parts`.
 pub mod ReadLists
 pub mod OneFilter

@@ -173,13 +173,18 @@ fn read_entry(alloc: Global, value: &Value) -> Result<Option<LentRule<'_>>, Allo
 {
     // An entry has the first three.
     let names = ("syscall", "args", "comment", "op", "val");
-    let Some((Some(Value::String(syscall)), args, comment, _, _)) = members_under(value, names, 3)
-    else {
+    let Some((syscall, args, comment, _, _)) = members_under(value, names, 3) else {
         return Ok(None);
     };
     if !is_comment(comment) {
         return Ok(None);
     }
+    let Some(syscall) = syscall else {
+        return Ok(None);
+    };
+    let Value::String(syscall) = syscall else {
+        return Ok(None);
+    };
     match read_args(alloc, args) {
         Ok(Some(conditions)) => Ok(Some(LentRule {
             syscall: syscall.as_str(),
@@ -233,8 +238,10 @@ pub fn read_filter(alloc: Global, value: &Value) -> Result<Option<LentFilter<'_>
         "filter_action",
         "filter",
     );
-    let Some((mismatch, default, matched, filter, Some(rules))) = members_under(value, names, 5)
-    else {
+    let Some((mismatch, default, matched, filter, rules)) = members_under(value, names, 5) else {
+        return Ok(None);
+    };
+    let Some(rules) = rules else {
         return Ok(None);
     };
     let Some(mismatch_action) = read_one_action(mismatch, default) else {

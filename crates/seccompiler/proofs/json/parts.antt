@@ -1,4 +1,3 @@
-mod FoundMembers
 -- Lemmas for the functions of `json::parts`.
 pub mod ReadLists
 pub mod OneFilter

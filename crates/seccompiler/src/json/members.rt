@@ -1,11 +1,12 @@
 // What the readers of a JSON object share: its members, its numbers and its comment.
 
-ghost use Rattle.std.specs.Prelude.{◌≡◌, ◌↔◌, ◌≤◌, ℕ, [], ◌∷◌, false, codes, IsTrue, IsSome, IfSome, IfNone, take, option_map};
+ghost use Rattle.std.specs.Prelude.{◌≡◌, ◌↔◌, ◌≤◌, ℕ, [], ◌∷◌, false, codes, IsTrue, IsSome, IfSome, IfNone, List, MatchOption, take, option_map};
 ghost use Rattle.std.specs.List.{AllZip, list_any, position_or_len};
 ghost use Rattle.std.specs.Str.{bytes_eq};
+ghost use Rattle.serde_json.specs.Data.{Data};
 ghost use Rattle.serde_json.specs.Find.{get};
 ghost use Rattle.serde_json.specs.View.{view};
-ghost use Rattle.seccompiler.specs.JsonShape.{AreApart, HasOnly, IsWhole, IsNumbered, IsComment};
+ghost use Rattle.seccompiler.specs.JsonShape.{AreApart, HasOnly, IsWhole, IsNumbered, IsComment, Under};
 
 use serde_json::Value;
 
@@ -70,13 +71,18 @@ pub fn is_comment(found: Option<&Value>) -> bool
     }
 }
 
-/// The number that the value is, if serde_json holds it as a whole one, at most `most`.
-pub fn whole_number(value: &Value, most: u64) -> Option<u64>
-    ensures found { IfSome result (IsWhole most (view value.now)) }
-    ensures none { IfNone result ((n : ℕ) → IsWhole most (view value.now) n → ⊥) }
+/// The number that was found under a name, if serde_json holds it as a whole one, at most `most`.
+pub fn whole_number(found: Option<&Value>, most: u64) -> Option<u64>
+    ensures { (d : Data) (name : List ℕ) → option_map (λ v. view v.now) found.entry ≡ get name d
+        → MatchOption result ((n : ℕ) → Under d name (λ v. IsWhole most v n) → ⊥) (λ n. Under d name (λ v. IsWhole most v n)) }
 {
-    let number = value.as_u64()?;
-    (number <= most).then_some(number)
+    let Some(value) = found else {
+        return None;
+    };
+    match value.as_u64() {
+        Some(number) if number <= most => Some(number),
+        _ => None,
+    }
 }
 
 /// The number of an object of this one name, if serde_json holds it as a whole one, at most `most`.
@@ -90,5 +96,5 @@ pub fn number_alone(value: &Value, name: &str, most: u64) -> Option<u64>
     if members.len() != 1 {
         return None;
     }
-    whole_number(value.get(name)?, most)
+    whole_number(value.get(name), most)
 }

@@ -114,21 +114,28 @@ fn read_condition(value: &Value) -> Option<JsonCondition>
     ensures { MatchOption result ((c : JsonCondition) → IsCondition (view value.now) c → ⊥) (IsCondition (view value.now)) }
 {
     let names = ("index", "type", "op", "val", "comment");
-    let Some((Some(index), Some(arg_len), Some(operator), Some(value), comment)) = members_under(
-        value, names, 5,
-    ) else {
+    let Some((index, arg_len, operator, value, comment)) = members_under(value, names, 5) else {
         return None;
     };
     if !is_comment(comment) {
         return None;
     }
-    let parts = (
-        whole_number(index, GREATEST_INDEX),
-        read_arg_len(arg_len),
-        read_operator(operator),
-        whole_number(value, u64::MAX),
-    );
-    let (Some(arg_index), Some(arg_len), Some(operator), Some(value)) = parts else {
+    let Some(arg_index) = whole_number(index, GREATEST_INDEX) else {
+        return None;
+    };
+    let Some(arg_len) = arg_len else {
+        return None;
+    };
+    let Some(arg_len) = read_arg_len(arg_len) else {
+        return None;
+    };
+    let Some(operator) = operator else {
+        return None;
+    };
+    let Some(operator) = read_operator(operator) else {
+        return None;
+    };
+    let Some(value) = whole_number(value, u64::MAX) else {
         return None;
     };
     Some(JsonCondition {

@@ -1,7 +1,10 @@
 -- For `JsonCompiler::make_seccomp_filter`, `JsonCompiler::widened` and
 -- `widened_numbers`: the entries of a JSON filter: nothing is wrong with any, or one fault is the first.
-use Rattle.std.proofs.Common.{◌≡◌, ℕ, ℤ, List, [], ◌∷◌, ◌++◌, Option, Some, None, All, refl, sym, ap, ◌∙◌, subst, ◌⊎◌, inl, inr, arith}
+use Rattle.std.proofs.Common.{◌≡◌, ◌≢◌, Bool, true, false, ℕ, ℤ, List, [], ◌∷◌, ◌++◌, Option, Some, None, All, refl, sym, ap, ◌∙◌, subst, ◌⊎◌, inl, inr, arith}
+use Rattle.std.proofs.lemmas.Bool.{true≢false}
 use Rattle.std.proofs.lemmas.List.Elements.{All-nil, All-cons, All-head, All-tail, All-contains, Contains-append_right}
+use Rattle.seccompiler.specs.contracts.backend.SeccompActionEqualByParts.TheImpl.Laws as laws
+use Rattle.seccompiler.specs.declared.backend.SeccompAction.{SeccompAction}
 use Rattle.seccompiler.specs.declared.backend.TargetArch.{TargetArch}
 use Rattle.seccompiler.specs.declared.json.error.JsonFrontendError.{JsonFrontendError}
 use Rattle.seccompiler.specs.declared.json.types.JsonCondition.{JsonCondition}
@@ -108,3 +111,11 @@ module _ (arch : TargetArch) where
   pub one_first : (entries : List JsonRule) (a b : Fault) → IsFirstOf arch entries a → IsFirstOf arch entries b → a ≡ b
   one_first entries a b first second = same_first first.front second.front first.entry second.entry first.back second.back a b
       (sym first.whole ∙ second.whole) first.fine second.fine first.wrong second.wrong
+
+-- Actions are equal if it can't be that they differ.
+decided : {P : Type 0} (b : Bool) → (b ≡ true → P) → (P → b ≡ true) → ((P → ⊥) → false ≡ true) → P
+decided true is told apart = is refl
+decided false is told apart = absurd (true≢false (sym (apart (λ same. true≢false (sym (told same))))))
+
+pub same_actions : (x y : SeccompAction) → (x ≢ y → false ≡ true) → x ≡ y
+same_actions x y apart = let test = laws.decides-law x y in decided _ test.0 test.1 apart

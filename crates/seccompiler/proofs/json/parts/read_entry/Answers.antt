@@ -1,7 +1,7 @@
 use Rattle.std.proofs.Common.{codes, arith, sym, refl}
 use Rattle.serde_json.specs.declared.value.Value.{the_lemmas}
 use Rattle.serde_json.specs.View.{view}
-use Rattle.seccompiler.proofs.json.parts.FoundMembers.{none_found}
+use Rattle.seccompiler.proofs.json.members.FoundMembers.{none_found}
 use Rattle.seccompiler.proofs.json.parts.read_entry.Goals as goal
 
 pub returns-in_default : goal.returns-in_default

@@ -1,7 +1,7 @@
 use Rattle.std.proofs.Common.{codes, sym, refl}
 use Rattle.serde_json.specs.View.{view}
 use Rattle.seccompiler.specs.JsonShape.{IsEntry, IsListOf}
-use Rattle.seccompiler.proofs.json.parts.FoundMembers.{own_found, none_found}
+use Rattle.seccompiler.proofs.json.members.FoundMembers.{own_found, none_found}
 use Rattle.seccompiler.proofs.json.parts.read_filter.Goals as goal
 
 pub returns-in_default : goal.returns-in_default

@@ -1,10 +1,12 @@
 use Rattle.std.proofs.Common.{◌≡◌, ◌≢◌, ◌&&◌, Bool, pos, ap, ◌∙◌, sym, subst, rules, refl, arith, length, All, List}
 use Rattle.std.specs.Option.{is_some}
 use Rattle.std.proofs.lemmas.Bool.{true≢false}
+use Rattle.std.proofs.lemmas.Result.{err_from_is_err_and}
 use Rattle.seccompiler.specs.contracts.backend.SeccompActionEqualByParts.TheImpl.Laws as laws
 use Rattle.seccompiler.specs.JsonGathered.{rules_at}
-use Rattle.seccompiler.specs.JsonPolicyOf.{IsFineEntry}
-use Rattle.seccompiler.specs.JsonTypes.{JsonRule}
+use Rattle.seccompiler.specs.JsonPolicyOf.{IsFineEntry, IsFirstFault, IsFirstOf, in_actions, in_entries}
+use Rattle.seccompiler.specs.JsonTypes.{JsonFilter, JsonRule}
+use Rattle.seccompiler.proofs.json.policy.EntryFaults.{tells_more}
 use Rattle.seccompiler.proofs.json.policy.EntryChains.{some_held}
 use Rattle.seccompiler.proofs.json.policy.ToldNumbers.{signed, told_all, none_listed, next_listed, next_not_listed}
 use Rattle.seccompiler.proofs.json.policy.WidenedNumbers.{both_gathered}
@@ -47,3 +49,17 @@ returns-clause-faultless c = let these : c.as_slice.result.now ≡ c.args.filter
     let apart : c.args.filter.now.mismatch_action ≢ c.args.filter.now.match_action =
     rw (← c.filter.view_is) (λ same. true≢false (sym ((laws.decides-law _ _).1 same) ∙ sym c.eq.ensures ∙ c.if-eq.false)) in
     (subst (λ (entries : List JsonRule). All (IsFineEntry c.args.arch) entries) these c.in_ok-gathered.ensures.0, apart)
+
+pub returns-in_err-gathered-clause-refused : goal.returns-in_err-gathered-clause-refused
+returns-in_err-gathered-clause-refused c = let p = err_from_is_err_and c.from_residual.result c.from_residual.ensures.1 in
+    let these = c.as_slice.ensures.value ∙ ap (λ (f : JsonFilter). f.rules) (c.lent-2.view_is ∙ c.in-Ok.ensures) in
+    rw (p.1, p.2) (tells_more (IsFirstOf c.args.arch c.args.filter.now.rules) (IsFirstFault c.args.arch c.args.filter.now)
+    (λ fault first. in_entries first) c.in_err-gathered.field-0.0 (rw these at c.in_err-gathered.ensures))
+
+pub returns-then-eq-clause-refused : goal.returns-then-eq-clause-refused
+returns-then-eq-clause-refused c =
+    let these = c.as_slice.ensures.value ∙ ap (λ (f : JsonFilter). f.rules) (c.lent-2.view_is ∙ c.in-Ok.ensures) in
+    let fine = subst (λ (es : List JsonRule). All (IsFineEntry c.args.arch) es) these c.in_ok-gathered.ensures.0 in
+    let same = subst (λ (f : JsonFilter). f.mismatch_action ≡ f.match_action) c.filter.view_is
+    ((laws.decides-law _ _).0 (sym c.eq.ensures ∙ c.if-eq.true)) in
+    (in_actions fine same refl, λ same. cc)

@@ -1,4 +1,4 @@
--- For `read_filter` and `read_entry`: what an object has under a name, if something was found there, or nothing.
+-- For `whole_number`, `read_condition`, `read_entry` and `read_filter`: what an object has under a name, if something was found there, or nothing.
 use Rattle.std.proofs.Common.{◌≡◌, ℕ, List, Some, None, sym, ◌∙◌, subst}
 use Rattle.serde_json.specs.Data.{Data}
 use Rattle.serde_json.specs.Find.{get}

@@ -42,19 +42,21 @@ pub fn read_action(value: &Value) -> Option<SeccompAction>
     ensures found { IfSome result (IsAction (view value.now)) }
     ensures none { IfNone result ((a : SeccompAction) → IsAction (view value.now) a → ⊥) }
 {
-    match value {
-        Value::String(text) => match text.as_str() {
-            "allow" => Some(SeccompAction::Allow),
-            "kill_thread" => Some(SeccompAction::KillThread),
-            "kill_process" => Some(SeccompAction::KillProcess),
-            "log" => Some(SeccompAction::Log),
-            "trap" => Some(SeccompAction::Trap),
-            _ => None,
-        },
-        Value::Object(_) => match number_alone(value, "errno", GREATEST_DATA) {
-            Some(number) => Some(SeccompAction::Errno(number as u32)),
-            None => Some(SeccompAction::Trace(number_alone(value, "trace", GREATEST_DATA)? as u32)),
-        },
+    let Value::String(text) = value else {
+        if let Some(number) = number_alone(value, "errno", GREATEST_DATA) {
+            return Some(SeccompAction::Errno(number as u32));
+        }
+        if let Some(number) = number_alone(value, "trace", GREATEST_DATA) {
+            return Some(SeccompAction::Trace(number as u32));
+        }
+        return None;
+    };
+    match text.as_str() {
+        "allow" => Some(SeccompAction::Allow),
+        "kill_thread" => Some(SeccompAction::KillThread),
+        "kill_process" => Some(SeccompAction::KillProcess),
+        "log" => Some(SeccompAction::Log),
+        "trap" => Some(SeccompAction::Trap),
         _ => None,
     }
 }
@@ -91,21 +93,19 @@ pub fn read_operator(value: &Value) -> Option<SeccompCmpOp>
     ensures found { IfSome result (IsOperator (view value.now)) }
     ensures none { IfNone result ((op : SeccompCmpOp) → IsOperator (view value.now) op → ⊥) }
 {
-    match value {
-        Value::String(text) => match text.as_str() {
-            "eq" => Some(SeccompCmpOp::Eq),
-            "ge" => Some(SeccompCmpOp::Ge),
-            "gt" => Some(SeccompCmpOp::Gt),
-            "le" => Some(SeccompCmpOp::Le),
-            "lt" => Some(SeccompCmpOp::Lt),
-            "ne" => Some(SeccompCmpOp::Ne),
-            _ => None,
-        },
-        Value::Object(_) => Some(SeccompCmpOp::MaskedEq(number_alone(
-            value,
-            "masked_eq",
-            u64::MAX,
-        )?)),
+    let Value::String(text) = value else {
+        let Some(mask) = number_alone(value, "masked_eq", u64::MAX) else {
+            return None;
+        };
+        return Some(SeccompCmpOp::MaskedEq(mask));
+    };
+    match text.as_str() {
+        "eq" => Some(SeccompCmpOp::Eq),
+        "ge" => Some(SeccompCmpOp::Ge),
+        "gt" => Some(SeccompCmpOp::Gt),
+        "le" => Some(SeccompCmpOp::Le),
+        "lt" => Some(SeccompCmpOp::Lt),
+        "ne" => Some(SeccompCmpOp::Ne),
         _ => None,
     }
 }

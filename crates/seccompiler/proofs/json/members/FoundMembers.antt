@@ -1,7 +1,10 @@
--- For `whole_number`, `read_condition`, `read_entry` and `read_filter`: what an object has under a name, if something was found there, or nothing.
-use Rattle.std.proofs.Common.{◌≡◌, ℕ, List, Some, None, sym, ◌∙◌, subst}
-use Rattle.serde_json.specs.Data.{Data}
+-- For `whole_number` and the readers of parts: what an object has under a name, if something was found there, or nothing; and texts.
+use Rattle.std.proofs.Common.{◌≡◌, ℕ, List, Some, None, String, Global, string_bytes, sym, ◌∙◌, subst, arith}
+use Rattle.serde_json.specs.Data.{Data, string}
 use Rattle.serde_json.specs.Find.{get}
+use Rattle.serde_json.specs.View.{view}
+use Rattle.serde_json.specs.declared.value.Value.{Value, the_lemmas}
+use Rattle.serde_json.specs.declared.value.Value.TheVariants as v
 use Rattle.seccompiler.specs.JsonShape.{Under}
 
 -- What was found is all that is there.
@@ -14,3 +17,17 @@ own_found P d v name found is =
 -- Nothing is there where nothing was found.
 pub none_found : (P : Data → Type 0) (d : Data) (name : List ℕ) → None ≡ get name d → Under d name P → ⊥
 none_found P d name none is = let both : None ≡ Some is.0 = none ∙ is.1 in cc
+
+-- What a text is as data, and what no text is.
+pub view_text : (text : String Global) → view (v.String text) ≡ string (string_bytes text)
+view_text text = grind (arith, the_lemmas)
+
+pub no_text : (value : Value) → ((text : String Global) → value ≡ v.String text → ⊥) → (bytes : List ℕ) → view value ≡ string bytes → ⊥
+no_text value other bytes is = grind (arith, the_lemmas)
+
+-- A text is no other text.
+pub other_text : (d : Data) (text name : List ℕ) → d ≡ string text → (text ≡ name → ⊥) → d ≡ string name → ⊥
+other_text d text name is other h =
+    let both : string text ≡ string name = sym is ∙ h in
+    let same : text ≡ name = cc in
+    other same

@@ -1,7 +1,7 @@
-use Rattle.std.proofs.Common.{codes, arith, sym, refl}
-use Rattle.serde_json.specs.declared.value.Value.{the_lemmas}
+use Rattle.std.proofs.Common.{codes, sym, refl, ap, ◌∙◌}
+use Rattle.serde_json.specs.Data.{string}
 use Rattle.serde_json.specs.View.{view}
-use Rattle.seccompiler.proofs.json.members.FoundMembers.{none_found}
+use Rattle.seccompiler.proofs.json.members.FoundMembers.{none_found, view_text}
 use Rattle.seccompiler.proofs.json.parts.read_entry.Goals as goal
 
 pub returns-in_default : goal.returns-in_default
@@ -22,7 +22,7 @@ returns-in-Ok-Some c =
       syscall = (
         view c.in-Some-syscall.syscall.now,
         sym (rw c.in-Some-syscall.is at found.0),
-        rw (c.in-String.is, c.as_str.ensures.value) (grind (arith, the_lemmas)),
+        ap view c.in-String.is ∙ view_text c.in-String.syscall ∙ ap string (sym c.as_str.ensures.value),
       );
       conditions = rw (c.in-Ok-Some.field-0-is, found.1.0) at c.in-Ok-Some.ensures;
     }

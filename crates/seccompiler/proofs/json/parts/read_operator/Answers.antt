@@ -1,19 +1,42 @@
-use Rattle.std.proofs.Common.{◌≡◌, ℕ, ◌^◌, ◌-◌, codes, sym, ap, ◌∙◌}
-use Rattle.serde_json.specs.Data.{Data, object, Members}
+use Rattle.std.proofs.Common.{◌≡◌, ℕ, ◌^◌, ◌-◌, List, String, Global, codes, sym, ap, ◌∙◌}
+use Rattle.serde_json.specs.Data.{Data, string}
 use Rattle.serde_json.specs.View.{view}
-use Rattle.serde_json.proofs.Views.{view-Object}
+use Rattle.serde_json.specs.declared.value.Value.{Value}
+use Rattle.serde_json.specs.declared.value.Value.TheVariants as v
 use Rattle.seccompiler.specs.declared.backend.SeccompCmpOp.{SeccompCmpOp}
-use Rattle.seccompiler.specs.declared.backend.SeccompCmpOp.TheVariants.{MaskedEq}
+use Rattle.seccompiler.specs.declared.backend.SeccompCmpOp.TheVariants.{Eq, Ge, Gt, Le, Lt, MaskedEq, Ne}
 use Rattle.seccompiler.specs.JsonShape.{IsNumbered, IsOperator}
+use Rattle.seccompiler.proofs.json.members.FoundMembers.{view_text, no_text, other_text}
 use Rattle.seccompiler.proofs.json.parts.read_operator.Goals as goal
 
--- An object that has no mask alone is no operator.
-no_operator : (d : Data) (members : Members) → d ≡ object members
-    → ((mask : ℕ) → IsNumbered (2 ^ 64 - 1) (codes "masked_eq") d mask → ⊥) → (op : SeccompCmpOp) → IsOperator d op → ⊥
-no_operator d given is masked (MaskedEq mask) h = masked mask h
-no_operator d given is masked op h = let e = sym is ∙ h in cc
+-- What is no text, and has no mask alone, is no operator.
+no_operator : (value : Value) → ((text : String Global) → value ≡ v.String text → ⊥)
+    → ((mask : ℕ) → IsNumbered (2 ^ 64 - 1) (codes "masked_eq") (view value) mask → ⊥)
+    → (op : SeccompCmpOp) → IsOperator (view value) op → ⊥
+no_operator value other masked (MaskedEq mask) h = masked mask h
+no_operator value other masked op h = no_text value other _ h
 
-pub returns-in_err-number_alone-in-Object-clause-none : goal.returns-in_err-number_alone-in-Object-clause-none
-returns-in_err-number_alone-in-Object-clause-none c =
-    let is = ap view c.in-Object.is ∙ view-Object c.in-Object.field-0 in
-    rw c.from_residual.ensures (no_operator _ _ is c.in_err-number_alone-in-Object.ensures.none)
+-- A text is an operator only if it is one's name.
+module _ (d : Data) (text : List ℕ) (is : d ≡ string text) where
+  no_name : (text ≡ codes "eq" → ⊥) → (text ≡ codes "ge" → ⊥) → (text ≡ codes "gt" → ⊥) → (text ≡ codes "le" → ⊥)
+      → (text ≡ codes "lt" → ⊥) → (text ≡ codes "ne" → ⊥) → (op : SeccompCmpOp) → IsOperator d op → ⊥
+  no_name eq ge gt le lt ne Eq h = other_text d text _ is eq h
+  no_name eq ge gt le lt ne Ge h = other_text d text _ is ge h
+  no_name eq ge gt le lt ne Gt h = other_text d text _ is gt h
+  no_name eq ge gt le lt ne Le h = other_text d text _ is le h
+  no_name eq ge gt le lt ne Lt h = other_text d text _ is lt h
+  no_name eq ge gt le lt ne (MaskedEq mask) h = let both = sym is ∙ h.names.is_object.1 in cc
+  no_name eq ge gt le lt ne Ne h = other_text d text _ is ne h
+
+pub returns-in_default-number_alone : goal.returns-in_default-number_alone
+returns-in_default-number_alone c = record {
+  found = tt;
+  none = no_operator c.args.value.now c.in_default.not-String c.in_default-number_alone.ensures.none;
+}
+
+pub returns-in_default-as_str-clause-none : goal.returns-in_default-as_str-clause-none
+returns-in_default-as_str-clause-none c =
+    let other = c.in_default-as_str in
+    no_name (view c.args.value.now) c.as_str.result.now
+    (ap view c.in-String.is ∙ view_text c.in-String.text ∙ ap string (sym c.as_str.ensures.value))
+    other.not-eq other.not-ge other.not-gt other.not-le other.not-lt other.not-ne

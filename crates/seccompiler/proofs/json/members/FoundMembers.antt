@@ -1,5 +1,5 @@
 -- For `whole_number` and the readers of parts: what an object has under a name, if something was found there, or nothing; and texts.
-use Rattle.std.proofs.Common.{◌≡◌, ℕ, List, Some, None, String, Global, string_bytes, sym, ◌∙◌, subst, arith}
+use Rattle.std.proofs.Common.{◌≡◌, ℕ, List, Some, None, String, Global, string_bytes, ap, sym, ◌∙◌, subst, arith}
 use Rattle.serde_json.specs.Data.{Data, string}
 use Rattle.serde_json.specs.Find.{get}
 use Rattle.serde_json.specs.View.{view}
@@ -31,3 +31,8 @@ other_text d text name is other h =
     let both : string text ≡ string name = sym is ∙ h in
     let same : text ≡ name = cc in
     other same
+
+-- A text that has these bytes is this text.
+pub text_found : (value : Value) (text : String Global) (bytes name : List ℕ) → value ≡ v.String text
+    → bytes ≡ string_bytes text → bytes ≡ name → view value ≡ string name
+text_found value text bytes name is held same = ap view is ∙ view_text text ∙ ap string (sym held ∙ same)

@@ -6,7 +6,7 @@ use Rattle.serde_json.specs.declared.value.Value.TheVariants as v
 use Rattle.seccompiler.specs.declared.backend.SeccompAction.{SeccompAction}
 use Rattle.seccompiler.specs.declared.backend.SeccompAction.TheVariants.{Allow, Errno, KillThread, KillProcess, Log, Trace, Trap}
 use Rattle.seccompiler.specs.JsonShape.{IsNumbered, IsAction}
-use Rattle.seccompiler.proofs.json.members.FoundMembers.{view_text, no_text, other_text}
+use Rattle.seccompiler.proofs.json.members.FoundMembers.{view_text, no_text, other_text, text_found}
 use Rattle.seccompiler.proofs.json.parts.read_action.Goals as goal
 
 -- What is no text, and has no number under either name alone, is no action.
@@ -43,3 +43,18 @@ returns-in_default-as_str-clause-none c =
     no_name (view c.args.value.now) c.as_str.result.now
     (ap view c.in-String.is ∙ view_text c.in-String.text ∙ ap string (sym c.as_str.ensures.value))
     other.not-allow other.not-kill_thread other.not-kill_process other.not-log other.not-trap
+
+pub returns-in-allow : goal.returns-in-allow
+returns-in-allow c = record { found = text_found _ _ _ _ c.in-String.is c.as_str.ensures.value c.in-allow.is; none = tt }
+
+pub returns-in-kill_thread : goal.returns-in-kill_thread
+returns-in-kill_thread c = record { found = text_found _ _ _ _ c.in-String.is c.as_str.ensures.value c.in-kill_thread.is; none = tt }
+
+pub returns-in-kill_process : goal.returns-in-kill_process
+returns-in-kill_process c = record { found = text_found _ _ _ _ c.in-String.is c.as_str.ensures.value c.in-kill_process.is; none = tt }
+
+pub returns-in-log : goal.returns-in-log
+returns-in-log c = record { found = text_found _ _ _ _ c.in-String.is c.as_str.ensures.value c.in-log.is; none = tt }
+
+pub returns-in-trap : goal.returns-in-trap
+returns-in-trap c = record { found = text_found _ _ _ _ c.in-String.is c.as_str.ensures.value c.in-trap.is; none = tt }

@@ -6,7 +6,7 @@ use Rattle.serde_json.specs.declared.value.Value.TheVariants as v
 use Rattle.seccompiler.specs.declared.backend.SeccompCmpOp.{SeccompCmpOp}
 use Rattle.seccompiler.specs.declared.backend.SeccompCmpOp.TheVariants.{Eq, Ge, Gt, Le, Lt, MaskedEq, Ne}
 use Rattle.seccompiler.specs.JsonShape.{IsNumbered, IsOperator}
-use Rattle.seccompiler.proofs.json.members.FoundMembers.{view_text, no_text, other_text}
+use Rattle.seccompiler.proofs.json.members.FoundMembers.{view_text, no_text, other_text, text_found}
 use Rattle.seccompiler.proofs.json.parts.read_operator.Goals as goal
 
 -- What is no text, and has no mask alone, is no operator.
@@ -40,3 +40,21 @@ returns-in_default-as_str-clause-none c =
     no_name (view c.args.value.now) c.as_str.result.now
     (ap view c.in-String.is ∙ view_text c.in-String.text ∙ ap string (sym c.as_str.ensures.value))
     other.not-eq other.not-ge other.not-gt other.not-le other.not-lt other.not-ne
+
+pub returns-in-eq : goal.returns-in-eq
+returns-in-eq c = record { found = text_found _ _ _ _ c.in-String.is c.as_str.ensures.value c.in-eq.is; none = tt }
+
+pub returns-in-ge : goal.returns-in-ge
+returns-in-ge c = record { found = text_found _ _ _ _ c.in-String.is c.as_str.ensures.value c.in-ge.is; none = tt }
+
+pub returns-in-gt : goal.returns-in-gt
+returns-in-gt c = record { found = text_found _ _ _ _ c.in-String.is c.as_str.ensures.value c.in-gt.is; none = tt }
+
+pub returns-in-le : goal.returns-in-le
+returns-in-le c = record { found = text_found _ _ _ _ c.in-String.is c.as_str.ensures.value c.in-le.is; none = tt }
+
+pub returns-in-lt : goal.returns-in-lt
+returns-in-lt c = record { found = text_found _ _ _ _ c.in-String.is c.as_str.ensures.value c.in-lt.is; none = tt }
+
+pub returns-in-ne : goal.returns-in-ne
+returns-in-ne c = record { found = text_found _ _ _ _ c.in-String.is c.as_str.ensures.value c.in-ne.is; none = tt }

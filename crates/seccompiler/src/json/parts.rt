@@ -68,7 +68,10 @@ pub fn read_arg_len(value: &Value) -> Option<SeccompCmpArgLen>
     ensures found { IfSome result (IsArgLen (view value.now)) }
     ensures none { IfNone result ((l : SeccompCmpArgLen) → IsArgLen (view value.now) l → ⊥) }
 {
-    match value.as_str()? {
+    let Value::String(text) = value else {
+        return None;
+    };
+    match text.as_str() {
         "dword" => Some(SeccompCmpArgLen::Dword),
         "qword" => Some(SeccompCmpArgLen::Qword),
         _ => None,

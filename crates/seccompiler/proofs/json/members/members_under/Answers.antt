@@ -1,4 +1,4 @@
-use Rattle.std.proofs.Common.{refl, ◌∙◌}
+use Rattle.std.proofs.Common.{ℕ, ◌<◌, ◌≤◌, refl, ◌∙◌, arith}
 use Rattle.serde_json.proofs.Views.{view-Object}
 use Rattle.seccompiler.proofs.json.members.ObjectNames.{one_more, another, at_end, found_at, five}
 use Rattle.seccompiler.proofs.json.members.members_under.Goals as goal
@@ -25,3 +25,15 @@ returns c =
     c.index-found-4.result c.index-found-0.array_long in
     let end = at_end _ _ _ _ _ c.in-None.ensures.steps.0 (rw all at c.loop-name.invariant) in
     record { names = λ given. end.0; found = end.1; none = tt }
+
+below : (place count most : ℕ) → place < count → count ≤ most → place < most
+below place count most small few = omega arith
+
+pub bounds-found-place : goal.bounds-found-place
+bounds-found-place c = below _ _ _ c.if-place-count.false c.requires.count
+
+pub bounds-found-place-in-loop-name : goal.bounds-found-place-in-loop-name
+bounds-found-place-in-loop-name c = below _ _ _ c.if-place-count.false c.requires.count
+
+pub listed : goal.listed
+listed c = rw c.if-place-count.array_long (below _ _ _ c.if-place-count.false c.requires.count)

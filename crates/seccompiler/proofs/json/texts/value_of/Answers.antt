@@ -13,3 +13,12 @@ returns-in-Err-2 c = (
   tt,
   λ memory. true≢false (sym (c.if-is_memory.ensures.1 memory)),
 )
+
+pub returns-in-Ok-2 : goal.returns-in-Ok-2
+returns-in-Ok-2 c = let (utf8, value) = c.in-Ok.ensures.ok in record {
+  is_read = record { utf8 = utf8; value = value };
+  no_repeat = λ found. true≢false (sym (c.if-repeats_key.ensures.repeats.1 found));
+}
+
+pub returns-in-Err : goal.returns-in-Err
+returns-in-Err c = (λ arch. tt, tt, tt, tt)

@@ -1,5 +1,6 @@
-use Rattle.std.proofs.Common.{string_eq, rules, sym, subst}
+use Rattle.std.proofs.Common.{◌∙◌, string_eq, rules, sym, subst}
 use Rattle.std.specs.HashMap.{IsFromIterResult, get_by_text}
+use Rattle.std.proofs.lemmas.Iterator.Adapters.{fact_from_collect, YieldsList-from_vec}
 use Rattle.std.proofs.lemmas.Result.{err_from_is_err_and}
 use Rattle.seccompiler.specs.JsonAnswers.{OfValue, ArePoliciesOf, TellsFrontendFault}
 use Rattle.seccompiler.proofs.ByName.{hashed}
@@ -24,7 +25,8 @@ returns-in-Ok g c =
     let arch = c.self.inside.arch in
     let text = c.in_ok-text.text.items in
     let m = c.in-Ok.filters in
-    let made : IsFromIterResult string_eq c.in_ok-_value.policies.items m = search rules in
+    let made : IsFromIterResult string_eq c.in_ok-_value.policies.items m = rw c.in-Ok.is at (fact_from_collect (IsFromIterResult string_eq)
+    c.collect.result c.collect.ensures.ran (YieldsList-from_vec {s = c.into_iter.result} _ c.into_iter.ensures.rest (c.into_iter.ensures.len ∙ c.in_ok-_value.policies.ok.0))) in
     let same = hashed _ m c.in_ok-_value.ensures.0 made in
     let read = subst (λ find. OfValue text (ArePoliciesOf arch find)) (λ i q. sym (same q) i)
     (rw c.as_slice.ensures.value at c.in_ok-_value.ensures.1) in

@@ -1,16 +1,22 @@
--- Look-ups by name in lists of values, in order or not, and what is made of such a list value by value.
+-- Look-ups by name in lists of values, in order or not, and what is made of such a list value by value, or collected of it.
 use Rattle.std.proofs.Common.{◌≡◌, ℕ, ◌++◌, List, [], ◌∷◌, true, false, cond, Option, Some, None, String, Global, Less, string_bytes, Vec}
 use Rattle.std.proofs.Common.{string_cmp, string_eq, bytes_eq, refl, sym, ap, ◌∙◌, subst, append_assoc, append-nil, arith, length, ◌+◌, ◌≤◌}
+use Rattle.std.proofs.Common.{Result, IfOk}
 use Rattle.std.specs.BTreeMap.{BTreeMap, is_at}
 use Rattle.std.specs.BTreeMap as tree
 use Rattle.std.specs.HashMap.{HashMap}
 use Rattle.std.specs.HashMap as hash
 use Rattle.std.specs.List.{AllByRecursion, AllZip, IsDistinct}
+use Rattle.std.specs.Bool.{⊤}
+use Rattle.std.specs.Iterator.{DrainsIf}
 use Rattle.std.specs.List.Sorted.{IsStrictlySortedBy}
 use Rattle.std.specs.Map.{keys_of, lookup}
 use Rattle.std.specs.Option.{MatchOption}
 use Rattle.std.specs.Ordering.{eq_by_cmp}
 use Rattle.std.specs.String.{string_eq_equiv, string_cmp_total}
+use Rattle.std.specs.Vec.Iter.{into_iter_items, into_iter_len, into_iter_steps}
+use Rattle.std.specs.declared.vec.IntoIter.{IntoIter}
+use Rattle.std.proofs.lemmas.Iterator.Adapters.{fact_from_collect, YieldsList-from_vec}
 use Rattle.std.proofs.lemmas.List.Elements.{Contains-append_right}
 use Rattle.std.proofs.lemmas.List.{nil_from_length}
 use Rattle.std.proofs.lemmas.Map.{lookup-none}
@@ -159,3 +165,9 @@ module _ {X Y : Type 0} (R : X → Y → Type 0) where
       (λ t. MatchOption (cond t (Some a.1) (under xs q)) (cond t (Some b.1) (under ys q) ≡ None)
       (λ x. (y : Y) × (cond t (Some b.1) (under ys q) ≡ Some y) × R x y)) [ true ↦ (b.1, refl, h.0.1) | false ↦ made_under xs ys h.1 q ])
   made_under _ _ h q = absurd h
+
+-- What is collected of a vector's items is so of all of them.
+pub collected_of : {A V E : Type 0} (Q : List A → V → Type 0) (v : Vec A Global) (it : IntoIter A Global) (r : Result V E)
+    → into_iter_items it ≡ v.items → into_iter_len it ≡ v.len
+    → IfOk r (λ made. (xs : List A) × DrainsIf (into_iter_steps {X = A} {Z = Global}) ⊤ it xs × Q xs made) → IfOk r (Q v.items)
+collected_of Q v it r items long ran = fact_from_collect Q r ran (YieldsList-from_vec {s = it} v.items items (long ∙ v.ok.0))

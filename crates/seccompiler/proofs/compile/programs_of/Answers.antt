@@ -1,17 +1,16 @@
-use Rattle.std.proofs.Common.{◌∙◌, string_cmp, sym, subst}
+use Rattle.std.proofs.Common.{string_cmp, sym, subst}
 use Rattle.std.specs.BTreeMap.{IsFromIterResult, get_by_text}
-use Rattle.std.proofs.lemmas.Iterator.Adapters.{fact_from_collect, YieldsList-from_vec}
 use Rattle.seccompiler.specs.JsonAnswers.{OfValue}
 use Rattle.seccompiler.specs.JsonPrograms.{AreProgramsOf}
-use Rattle.seccompiler.proofs.ByName.{ordered}
+use Rattle.seccompiler.proofs.ByName.{collected_of, ordered}
 use Rattle.seccompiler.proofs.compile.TextPrograms.{all_checked}
 use Rattle.seccompiler.proofs.compile.programs_of.Goals as goal
 
 pub returns-in-Ok : goal.returns-in-Ok
 returns-in-Ok c =
     let m = c.in-Ok.programs in
-    let made : IsFromIterResult string_cmp c.in_ok-_value.programs.items m = rw c.in-Ok.is at (fact_from_collect (IsFromIterResult string_cmp)
-    c.collect.result c.collect.ensures.ran (YieldsList-from_vec {s = c.into_iter.result} _ c.into_iter.ensures.rest (c.into_iter.ensures.len ∙ c.in_ok-_value.programs.ok.0))) in
+    let made : IsFromIterResult string_cmp c.in_ok-_value.programs.items m = rw c.in-Ok.is at (collected_of (IsFromIterResult string_cmp)
+    c.in_ok-_value.programs _ _ c.into_iter.ensures.rest c.into_iter.ensures.len c.collect.ensures.ran) in
     let same = ordered _ m c.in_ok-_value.ensures.programs.0 made in
     let are = subst (λ find. OfValue c.args.text.now (AreProgramsOf c.args.arch find)) (λ i q. sym (same q) i)
     c.in_ok-_value.ensures.programs.1 in

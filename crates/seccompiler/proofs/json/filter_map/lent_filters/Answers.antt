@@ -13,7 +13,8 @@ loop-key-preserved c =
     let e : Entry = (c.in-Some.key.now, c.in-Some.member.now) in
     let made : String Global × JsonFilter = (c.in-Ok-clone.name, c.in-Ok-Some.filter) in
     making_more IsRead c.loop-key.invariant e made _ _ c.in-Some.ensures.steps c.push_reserved.ensures.items
-    c.push_reserved.ensures.len c.push_reserved.ensures.capacity c.in-Ok-clone.ensures.cases (rw c.in-Ok-Some.field-0-is at c.in-Ok-Some.ensures)
+    c.push_reserved.ensures.len c.push_reserved.ensures.capacity c.in-Ok-clone.ensures.cases
+    (rw c.in-Ok-Some.field-0-is at c.in-Ok-Some.ensures)
 
 pub returns-in-Ok-None : goal.returns-in-Ok-None
 returns-in-Ok-None c =

@@ -11,7 +11,8 @@ pub returns-then-not-is_comment : goal.returns-then-not-is_comment
 returns-then-not-is_comment c r is = let told = (rw c.in-Some.ensures.found.1.1.0 at c.if-not-is_comment.ensures).1 is.comment in cc
 
 pub returns-in_default-syscall : goal.returns-in_default-syscall
-returns-in_default-syscall c r is = none_found _ (view c.args.value.now) (codes "syscall") (rw c.in_default-syscall.is at c.in-Some.ensures.found.0) is.syscall
+returns-in_default-syscall c r is = none_found _ (view c.args.value.now) (codes "syscall")
+    (rw c.in_default-syscall.is at c.in-Some.ensures.found.0) is.syscall
 
 pub returns-in-Ok-Some : goal.returns-in-Ok-Some
 returns-in-Ok-Some c =

@@ -8,7 +8,8 @@ pub returns-in_default : goal.returns-in_default
 returns-in_default c f is = c.in_default.ensures.none is.names
 
 pub returns-in_default-rules : goal.returns-in_default-rules
-returns-in_default-rules c f is = none_found _ (view c.args.value.now) (codes "filter") (rw c.in_default-rules.is at c.in-Some.ensures.found.1.1.1.1.0) is.rules
+returns-in_default-rules c f is = none_found _ (view c.args.value.now) (codes "filter")
+    (rw c.in_default-rules.is at c.in-Some.ensures.found.1.1.1.1.0) is.rules
 
 pub returns-in_default-read_one_action : goal.returns-in_default-read_one_action
 returns-in_default-read_one_action c f is = let found = c.in-Some.ensures.found in
@@ -34,4 +35,5 @@ returns-in-Ok-Some c =
 
 pub returns-in-Ok-None : goal.returns-in-Ok-None
 returns-in-Ok-None c f is = rw c.in-Ok-None.field-0-is at c.in-Ok-None.ensures f.rules
-    (own_found (λ value. IsListOf IsEntry value f.rules) (view c.args.value.now) _ (codes "filter") (rw c.in-Some-rules.is at c.in-Some.ensures.found.1.1.1.1.0) is.rules)
+    (own_found (λ value. IsListOf IsEntry value f.rules) (view c.args.value.now) _ (codes "filter")
+    (rw c.in-Some-rules.is at c.in-Some.ensures.found.1.1.1.1.0) is.rules)

@@ -1,8 +1,8 @@
 use Rattle.std.proofs.Common.{rules, ◌≡◌, sym, ap, ◌∙◌, length, arith}
 use Rattle.std.specs.BTreeMap.{IsFromIterResult}
 use Rattle.std.specs.Ordering.{int_cmp}
-use Rattle.std.proofs.lemmas.Iterator.Adapters.{fact_from_collect, YieldsList-from_vec}
 use Rattle.seccompiler.specs.JsonGathered.{chain_of, rules_at}
+use Rattle.seccompiler.proofs.ByName.{collected_of}
 use Rattle.seccompiler.proofs.json.policy.EntryChains.{made_at, made_found, made_of_rules}
 use Rattle.seccompiler.proofs.json.policy.ToldNumbers.{told_all, told_start}
 use Rattle.seccompiler.proofs.json.policy.chains_of_numbers.Goals as goal
@@ -17,9 +17,8 @@ pub returns : goal.returns
 returns c =
     let told = c.args.gathered.always in
     let m = c.in_ok-collect.field-0 in
-    let made : IsFromIterResult int_cmp c.loop-number.found.items m = rw c.in_ok-collect.was at (fact_from_collect (IsFromIterResult int_cmp)
-    c.collect-2.result c.collect-2.ensures.ran (YieldsList-from_vec {s = c.into_iter-2.result} _ c.into_iter-2.ensures.rest
-    (c.into_iter-2.ensures.len ∙ c.loop-number.found.ok.0))) in
+    let made : IsFromIterResult int_cmp c.loop-number.found.items m = rw c.in_ok-collect.was at (collected_of (IsFromIterResult int_cmp)
+    c.loop-number.found _ _ c.into_iter-2.ensures.rest c.into_iter-2.ensures.len c.collect-2.ensures.ran) in
     let long : length told ≡ 463 = search rules in
     record {
       each = λ q. made_found c.loop-number.found.items m made q ∙ c.loop-number.invariant q

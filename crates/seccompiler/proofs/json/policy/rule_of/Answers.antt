@@ -1,4 +1,5 @@
-use Rattle.std.proofs.Common.{◌≡◌, ℕ, zero, suc, true, false, ◌<◌, ◌≤◌, ◌++◌, ◌∷◌, [], map, take, ap, sym, ◌∙◌, refl, subst, All, Any, length, arith}
+use Rattle.std.proofs.Common.{◌≡◌, ℕ, zero, suc, true, false, ◌<◌, ◌≤◌, ◌++◌, ◌∷◌, [], map, take, ap, sym, ◌∙◌, refl, subst}
+use Rattle.std.proofs.Common.{All, Any, length, arith}
 use Rattle.std.proofs.lemmas.Bool.{true≢false}
 use Rattle.std.proofs.lemmas.List.{map_more, length-map, nil_from_length, take_all}
 use Rattle.std.proofs.lemmas.List.Elements.{All-more, Contains-get_or}

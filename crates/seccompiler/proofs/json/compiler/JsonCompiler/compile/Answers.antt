@@ -1,9 +1,8 @@
-use Rattle.std.proofs.Common.{◌∙◌, string_eq, rules, sym, subst}
+use Rattle.std.proofs.Common.{string_eq, sym, subst}
 use Rattle.std.specs.HashMap.{IsFromIterResult, get_by_text}
-use Rattle.std.proofs.lemmas.Iterator.Adapters.{fact_from_collect, YieldsList-from_vec}
 use Rattle.std.proofs.lemmas.Result.{err_from_is_err_and}
 use Rattle.seccompiler.specs.JsonAnswers.{OfValue, ArePoliciesOf, TellsFrontendFault}
-use Rattle.seccompiler.proofs.ByName.{hashed}
+use Rattle.seccompiler.proofs.ByName.{collected_of, hashed}
 use Rattle.seccompiler.proofs.TextFilters.{reads_some, reads_this}
 use Rattle.seccompiler.proofs.json.compiler.TextPolicies.{have_table_numbers}
 use Rattle.seccompiler.proofs.json.compiler.JsonCompiler.compile.Goals as goal
@@ -25,8 +24,8 @@ returns-in-Ok g c =
     let arch = c.self.inside.arch in
     let text = c.in_ok-text.text.items in
     let m = c.in-Ok.filters in
-    let made : IsFromIterResult string_eq c.in_ok-_value.policies.items m = rw c.in-Ok.is at (fact_from_collect (IsFromIterResult string_eq)
-    c.collect.result c.collect.ensures.ran (YieldsList-from_vec {s = c.into_iter.result} _ c.into_iter.ensures.rest (c.into_iter.ensures.len ∙ c.in_ok-_value.policies.ok.0))) in
+    let made : IsFromIterResult string_eq c.in_ok-_value.policies.items m = rw c.in-Ok.is at (collected_of (IsFromIterResult string_eq)
+    c.in_ok-_value.policies _ _ c.into_iter.ensures.rest c.into_iter.ensures.len c.collect.ensures.ran) in
     let same = hashed _ m c.in_ok-_value.ensures.0 made in
     let read = subst (λ find. OfValue text (ArePoliciesOf arch find)) (λ i q. sym (same q) i)
     (rw c.as_slice.ensures.value at c.in_ok-_value.ensures.1) in

@@ -1,8 +1,7 @@
-use Rattle.std.proofs.Common.{◌∙◌, string_cmp, sym, subst}
+use Rattle.std.proofs.Common.{string_cmp, sym, subst}
 use Rattle.std.specs.BTreeMap.{IsFromIterResult, get_by_text}
-use Rattle.std.proofs.lemmas.Iterator.Adapters.{fact_from_collect, YieldsList-from_vec}
 use Rattle.seccompiler.specs.JsonAnswers.{OfValue, ArePoliciesOf}
-use Rattle.seccompiler.proofs.ByName.{ordered}
+use Rattle.seccompiler.proofs.ByName.{collected_of, ordered}
 use Rattle.seccompiler.proofs.json.compiler.TextPolicies.{have_table_numbers}
 use Rattle.seccompiler.proofs.json.compiler.JsonCompiler.policies_of.Goals as goal
 
@@ -10,8 +9,8 @@ pub returns-in-Ok : goal.returns-in-Ok
 returns-in-Ok c =
     let arch = c.self.inside.arch in
     let m = c.in-Ok.filters in
-    let collected : IsFromIterResult string_cmp c.in_ok-_value.policies.items m = rw c.in-Ok.is at (fact_from_collect (IsFromIterResult string_cmp)
-    c.collect.result c.collect.ensures.ran (YieldsList-from_vec {s = c.into_iter.result} _ c.into_iter.ensures.rest (c.into_iter.ensures.len ∙ c.in_ok-_value.policies.ok.0))) in
+    let collected : IsFromIterResult string_cmp c.in_ok-_value.policies.items m = rw c.in-Ok.is at
+    (collected_of (IsFromIterResult string_cmp) c.in_ok-_value.policies _ _ c.into_iter.ensures.rest c.into_iter.ensures.len c.collect.ensures.ran) in
     let same = ordered _ m c.in_ok-_value.ensures.0 collected in
     let read = subst (λ find. OfValue c.args.text.now (ArePoliciesOf arch find)) (λ i q. sym (same q) i) c.in_ok-_value.ensures.1 in
     let numbers = have_table_numbers arch read.0 (get_by_text m) read.2 in

@@ -1,4 +1,4 @@
-use Rattle.std.proofs.Common.{String, Global, Vec, rules, refl, sym, ◌∙◌, arith}
+use Rattle.std.proofs.Common.{ap, length, String, Global, Vec, rules, refl, sym, ◌∙◌, arith}
 use Rattle.std.proofs.lemmas.Result.{err_from_is_err_and}
 use Rattle.seccompiler.specs.Policy.{Filter}
 use Rattle.seccompiler.specs.declared.bpf.sock_filter.{sock_filter}
@@ -13,7 +13,14 @@ returns-in_err-value c = let p = err_from_is_err_and c.from_residual.result c.fr
     rw (p.1, p.2) (record { programs = told; memory = none_inside e c.in_err-value.ensures.2 })
 
 pub loop-name-init : goal.loop-name-init
-loop-name-init c = making_none _ _ _ _ refl (search rules) (search (rules, arith))
+loop-name-init c = making_none _ _ _ _ refl c.in-Ok.ensures.items (omega (
+  arith,
+  c.in-Ok.ensures.len,
+  c.in-Ok.ensures.capacity,
+  c.len.ensures,
+  c.in_ok-value.policies.ok.0,
+  ap (λ es. length es) c.into_iter-name-iterator.ensures.into_iter_gives.0,
+))
 
 pub loop-name-preserved : goal.loop-name-preserved
 loop-name-preserved c =

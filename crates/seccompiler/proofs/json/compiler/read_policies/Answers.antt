@@ -1,4 +1,4 @@
-use Rattle.std.proofs.Common.{String, Global, rules, refl, sym, ◌∙◌, arith}
+use Rattle.std.proofs.Common.{ap, length, String, Global, rules, refl, sym, ◌∙◌, arith}
 use Rattle.std.proofs.lemmas.Result.{err_from_is_err_and}
 use Rattle.serde_json.specs.View.{view}
 use Rattle.seccompiler.specs.JsonAnswers.{IsLeastRefused}
@@ -19,7 +19,14 @@ returns-in_err-filters c = let p = err_from_is_err_and c.from_residual-in_err-fi
     rw (p.1, p.2) (shape_told c.args.arch _ c.args.text.now c.in_ok-value.ensures c.in_err-filters.field-0.0 c.in_err-filters.ensures)
 
 pub loop-name-init : goal.loop-name-init
-loop-name-init c = making_none _ _ _ _ refl (search rules) (search (rules, arith))
+loop-name-init c = making_none _ _ _ _ refl c.in-Ok.ensures.items (omega (
+  arith,
+  c.in-Ok.ensures.len,
+  c.in-Ok.ensures.capacity,
+  c.len.ensures,
+  c.in_ok-filters.filters.ok.0,
+  ap (λ es. length es) c.into_iter-name-iterator.ensures.into_iter_gives.0,
+))
 
 pub loop-name-preserved : goal.loop-name-preserved
 loop-name-preserved c =

@@ -40,12 +40,14 @@ returns-clause-numbers c =
     let gathered = c.in_ok-gathered.gathered in
     let told = gathered.always in
     let long : length told ≡ 463 = search rules in
-    both_gathered c.args.arch c.args.filter.now c.as_slice.result.now gathered _ (search rules) c.in_ok-gathered.ensures.1
+    let these = c.as_slice.ensures.value ∙ ap (λ (f : JsonFilter). f.rules) (c.lent-2.view_is ∙ c.in-Ok.ensures) in
+    both_gathered c.args.arch c.args.filter.now c.as_slice.result.now gathered _ these c.in_ok-gathered.ensures.1
     (λ q. c.loop-number.invariant.listed q ∙ ap (λ (b : Bool). b && is_some (rules_at gathered q))
     (told_all told _ q (omega (arith, long, c.loop-number-test.false))))
 
 pub returns-clause-faultless : goal.returns-clause-faultless
-returns-clause-faultless c = let these : c.as_slice.result.now ≡ c.args.filter.now.rules = search rules in
+returns-clause-faultless c =
+    let these = c.as_slice.ensures.value ∙ ap (λ (f : JsonFilter). f.rules) (c.lent-2.view_is ∙ c.in-Ok.ensures) in
     let apart : c.args.filter.now.mismatch_action ≢ c.args.filter.now.match_action =
     rw (← c.filter.view_is) (λ same. true≢false (sym ((laws.decides-law _ _).1 same) ∙ sym c.eq.ensures ∙ c.if-eq.false)) in
     (subst (λ (entries : List JsonRule). All (IsFineEntry c.args.arch) entries) these c.in_ok-gathered.ensures.0, apart)

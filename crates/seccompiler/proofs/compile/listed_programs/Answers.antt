@@ -1,4 +1,4 @@
-use Rattle.std.proofs.Common.{ap, length, String, Global, Vec, rules, refl, sym, ◌∙◌, arith}
+use Rattle.std.proofs.Common.{ap, length, String, Global, Vec, refl, sym, ◌∙◌, arith}
 use Rattle.std.proofs.lemmas.Result.{err_from_is_err_and}
 use Rattle.seccompiler.specs.Policy.{Filter}
 use Rattle.seccompiler.specs.declared.bpf.sock_filter.{sock_filter}

@@ -1,4 +1,4 @@
-use Rattle.std.proofs.Common.{ap, length, String, Global, rules, refl, sym, ◌∙◌, arith}
+use Rattle.std.proofs.Common.{ap, length, String, Global, refl, sym, ◌∙◌, arith}
 use Rattle.std.proofs.lemmas.Result.{err_from_is_err_and}
 use Rattle.serde_json.specs.View.{view}
 use Rattle.seccompiler.specs.JsonAnswers.{IsLeastRefused}

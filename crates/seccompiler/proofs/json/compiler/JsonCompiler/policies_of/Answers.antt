@@ -10,7 +10,8 @@ returns-in-Ok c =
     let arch = c.self.inside.arch in
     let m = c.in-Ok.filters in
     let collected : IsFromIterResult string_cmp c.in_ok-_value.policies.items m = rw c.in-Ok.is at
-    (collected_of (IsFromIterResult string_cmp) c.in_ok-_value.policies _ _ c.into_iter.ensures.rest c.into_iter.ensures.len c.collect.ensures.ran) in
+    (collected_of (IsFromIterResult string_cmp) c.in_ok-_value.policies _ _
+    c.into_iter.ensures.rest c.into_iter.ensures.len c.collect.ensures.ran) in
     let same = ordered _ m c.in_ok-_value.ensures.0 collected in
     let read = subst (λ find. OfValue c.args.text.now (ArePoliciesOf arch find)) (λ i q. sym (same q) i) c.in_ok-_value.ensures.1 in
     let numbers = have_table_numbers arch read.0 (get_by_text m) read.2 in

@@ -2,10 +2,9 @@
 //
 // What each reader gives is what the value is, and where it gives nothing, the value is no such part.
 
-ghost use Rattle.std.specs.Prelude.{List, [], ◌∷◌, Option, option_map, codes, IfOk, IfSome, IfNone, IsSome, MatchOption};
-ghost use Rattle.serde_json.specs.Find.{get};
-ghost use Rattle.serde_json.specs.View.{view, items_view};
-ghost use Rattle.seccompiler.specs.JsonShape.{HasOnly, IsAction, IsOperator, IsArgLen, IsCondition, OneByOne, IsListOf, IsArgs, IsEntry, IsOneAction, IsFilter};
+ghost use Rattle.std.specs.Prelude.{List, Option, option_map, IfOk, IfSome, IfNone, MatchOption};
+ghost use Rattle.serde_json.specs.View.{view};
+ghost use Rattle.seccompiler.specs.JsonShape.{IsAction, IsOperator, IsArgLen, IsCondition, IsListOf, IsArgs, IsEntry, IsOneAction, IsFilter};
 ghost use Rattle.seccompiler.specs.declared.backend.SeccompAction.{SeccompAction};
 ghost use Rattle.seccompiler.specs.declared.backend.SeccompCmpOp.{SeccompCmpOp};
 ghost use Rattle.seccompiler.specs.declared.backend.SeccompCmpArgLen.{SeccompCmpArgLen};

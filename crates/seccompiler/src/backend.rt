@@ -266,26 +266,27 @@ impl fmt::Display for BackendError {
     ghost output = { λ error. Some (backend_text error) };
 
     fn fmt<W: fmt::Write>(&self, f: &mut fmt::Formatter<W>) -> fmt::Result {
-        match self {
-            BackendError::EmptyRule => {
-                f.write_str("The condition vector of a rule cannot be empty.")
+        let text = match self {
+            BackendError::EmptyRule => "The condition vector of a rule cannot be empty.",
+            BackendError::FilterTooLarge(length) => {
+                return write!(
+                    f,
+                    "The seccomp filter contains too many BPF instructions: {length}. Max length is 4096."
+                );
             }
-            BackendError::FilterTooLarge(length) => write!(
-                f,
-                "The seccomp filter contains too many BPF instructions: {length}. Max length is 4096."
-            ),
-            BackendError::IdenticalActions => {
-                f.write_str("`match_action` and `mismatch_action` are equal.")
+            BackendError::IdenticalActions => "`match_action` and `mismatch_action` are equal.",
+            BackendError::InvalidArgumentNumber => {
+                "The seccomp rule contains an invalid argument index. Maximum index value: 5"
             }
-            BackendError::InvalidArgumentNumber => f.write_str(
-                "The seccomp rule contains an invalid argument index. Maximum index value: 5",
-            ),
-            BackendError::InvalidTargetArch(text) => write!(f, "Invalid target arch: {text}."),
+            BackendError::InvalidTargetArch(text) => {
+                return write!(f, "Invalid target arch: {text}.");
+            }
             BackendError::InvalidSyscallNumber(number) => {
-                write!(f, "Invalid syscall number: {number}.")
+                return write!(f, "Invalid syscall number: {number}.");
             }
-            BackendError::OutOfMemory => f.write_str("Out of memory."),
-        }
+            BackendError::OutOfMemory => "Out of memory.",
+        };
+        f.write_str(text)
     }
 }
 

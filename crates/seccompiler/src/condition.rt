@@ -203,7 +203,7 @@ impl SeccompCondition {
         ensures code { part.new ≡ condition_code self.now offset }
         ensures meets { IsConditionCode self.now offset part.new }
     {
-        let (_, low) = self.get_data_offsets();
+        let low = u32::from(self.get_data_offsets().1);
         match self.arg_len {
             SeccompCmpArgLen::Dword => write_dword(part, self.operator, low, self.value, offset),
             SeccompCmpArgLen::Qword => write_qword(part, self.operator, low, self.value, offset),
@@ -219,13 +219,13 @@ ghost use Rattle.seccompiler.specs.ConditionCode.{comparison_code, test_code};
 ghost use Rattle.seccompiler.specs.Policy.{part_of, operator_part, Compares, size_by};
 
 // The code that compares the low half, which lies at byte `low` of a record.
-fn write_dword(part: &mut [sock_filter], operator: SeccompCmpOp, low: u8, value: u64, offset: u8)
+fn write_dword(part: &mut [sock_filter], operator: SeccompCmpOp, low: u32, value: u64, offset: u8)
     requires room { length part.old ≡ size_by Dword operator }
     ensures code { part.new ≡ comparison_code Dword operator low value offset }
     ensures ranges { AreInRange part.new }
 {
     let test = low_test(operator, value, offset);
-    let load = bpf_stmt(LOAD, u32::from(low));
+    let load = bpf_stmt(LOAD, low);
     match operator {
         SeccompCmpOp::MaskedEq(mask) => {
             part.copy_from_slice(&[load, bpf_stmt(MASK, low_half(mask)), test]);
@@ -235,15 +235,16 @@ fn write_dword(part: &mut [sock_filter], operator: SeccompCmpOp, low: u8, value:
 }
 
 // The code that compares the high half, and then the low half where that is still needed.
-fn write_qword(part: &mut [sock_filter], operator: SeccompCmpOp, low: u8, value: u64, offset: u8)
+fn write_qword(part: &mut [sock_filter], operator: SeccompCmpOp, low: u32, value: u64, offset: u8)
     requires room { length part.old ≡ size_by Qword operator }
+    requires within { low ≤ 56 }
     requires few { offset ≤ greatest_offset }
     ensures code { part.new ≡ comparison_code Qword operator low value offset }
     ensures ranges { AreInRange part.new }
 {
     let test = low_test(operator, value, offset);
-    let high = bpf_stmt(LOAD, u32::from(low) + 4);
-    let low = bpf_stmt(LOAD, u32::from(low));
+    let high = bpf_stmt(LOAD, low + 4);
+    let low = bpf_stmt(LOAD, low);
     let high_value = (value >> 32) as u32;
     let equal_or_fail = bpf_jump(JUMP_EQUAL, high_value, 0, offset + 2);
     let equal_or_done = bpf_jump(JUMP_EQUAL, high_value, 0, 2);

@@ -20,13 +20,17 @@ pub(crate) fn unfit_number(rules: &BTreeMap<i64, Vec<SeccompRule>>) -> Option<i6
     ensures unfit { IfSome result (IsLeastUnfit (keys rules.now)) }
     ensures fit { IsNone result ↔ AreCallNumbers (keys rules.now) }
 {
-    let (least, _) = rules.first_key_value()?;
+    let Some((least, _)) = rules.first_key_value() else {
+        return None;
+    };
     if *least < 0 {
         return Some(*least);
     }
-    let mut large = rules.range(FIRST_LARGE..);
-    let (number, _) = large.next()?;
-    Some(*number)
+    let large = rules.range(FIRST_LARGE..).next();
+    match large {
+        Some((number, _)) => Some(*number),
+        None => None,
+    }
 }
 
 /// The call number as a record has it.

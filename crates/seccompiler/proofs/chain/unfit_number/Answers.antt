@@ -13,28 +13,28 @@ some_unfit : {numbers : List ℤ} {n : ℤ} → IsLeastUnfit numbers n
     → (true ≡ false → AreCallNumbers numbers) × (AreCallNumbers numbers → true ≡ false)
 some_unfit {numbers} {n} h = (λ e. absurd (true≢false e), λ fit. absurd (h.unfit (All-contains IsCallNumber numbers n fit h.among)))
 
-pub returns-in_err-number-clause-fit : goal.returns-in_err-number-clause-fit
-returns-in_err-number-clause-fit c = (
-  λ none. all_fit c.args.rules.now c.in_ok-least.least.now c.in_ok-least.ensures.all_from (search rules)
-      (λ q large. (c.range-large.ensures.in_range tt).5 c.in_err-number.ensures.steps.0 q (large, tt)),
-  λ fit. rw c.from_residual-in_err-number.ensures refl,
+pub returns-in-None-clause-fit : goal.returns-in-None-clause-fit
+returns-in-None-clause-fit c = (
+  λ none. all_fit c.args.rules.now c.in-Some.least.now c.in-Some.ensures.all_from (search rules)
+      (λ q large. (c.range.ensures.in_range tt).5 c.in-None.ensures.steps.0 q (large, tt)),
+  λ fit. refl,
 )
 
-pub returns-clause-unfit : goal.returns-clause-unfit
-returns-clause-unfit c =
-    let number = c.in_ok-number.number.now in let fits : SFits w64 number = search rules in
-    let range = c.range-large.ensures.in_range tt in
-    let own = rw c.in_ok-number.ensures.steps at range.1 in
-    rw (to_z-of_z w64 number fits) (least_large c.args.rules.now c.in_ok-least.least.now c.in_ok-least.ensures.all_from (search rules)
-    number own.0.0 (rw own.1 refl) (λ q large some. rw c.in_ok-number.ensures.steps at range.2 q (large, tt) some))
+pub returns-in-Some-large-clause-unfit : goal.returns-in-Some-large-clause-unfit
+returns-in-Some-large-clause-unfit c =
+    let number = c.in-Some-large.number.now in let fits : SFits w64 number = search rules in
+    let range = c.range.ensures.in_range tt in
+    let own = rw c.in-Some-large.ensures.steps at range.1 in
+    rw (to_z-of_z w64 number fits) (least_large c.args.rules.now c.in-Some.least.now c.in-Some.ensures.all_from (search rules)
+    number own.0.0 (rw own.1 refl) (λ q large some. rw c.in-Some-large.ensures.steps at range.2 q (large, tt) some))
 
-pub returns-clause-fit : goal.returns-clause-fit
-returns-clause-fit c = some_unfit (returns-clause-unfit c)
+pub returns-in-Some-large-clause-fit : goal.returns-in-Some-large-clause-fit
+returns-in-Some-large-clause-fit c = some_unfit (returns-in-Some-large-clause-unfit c)
 
 pub returns-then-least-lt0-clause-unfit : goal.returns-then-least-lt0-clause-unfit
 returns-then-least-lt0-clause-unfit c =
-    let least = c.in_ok-least.least.now in let fits : SFits w64 least = search rules in rw (to_z-of_z w64 least fits)
-    (negative c.args.rules.now least _ c.in_ok-least.ensures.all_from c.in_ok-least.ensures.value (search rules))
+    let least = c.in-Some.least.now in let fits : SFits w64 least = search rules in rw (to_z-of_z w64 least fits)
+    (negative c.args.rules.now least _ c.in-Some.ensures.all_from c.in-Some.ensures.value (search rules))
 
 pub returns-then-least-lt0-clause-fit : goal.returns-then-least-lt0-clause-fit
 returns-then-least-lt0-clause-fit c = some_unfit (returns-then-least-lt0-clause-unfit c)

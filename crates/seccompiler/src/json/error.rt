@@ -45,22 +45,25 @@ impl fmt::Display for JsonFrontendError {
         ensures writes { DisplaysOnOk W.write_str_gives f.old result (json_text self.now) f.new }
         ensures text { WritesOne W.write_str_gives (IsJsonText self.now) f.old result f.new }
     {
-        match self {
-            JsonFrontendError::Backend(error) => fmt::Display::fmt(error, f),
+        let text = match self {
+            JsonFrontendError::Backend(error) => return fmt::Display::fmt(error, f),
             JsonFrontendError::SerdeJson(error) => {
                 // They are put aside first, since no contract says what they leave of what a formatter has.
                 let words = InlineText::<WORDS_CAPACITY>::of(error);
-                write!(f, "Error parsing Json: {}", words.as_str())
+                return write!(f, "Error parsing Json: {}", words.as_str());
             }
             JsonFrontendError::SyscallName(name, arch) => {
-                write!(f, "Invalid syscall name: {name} for given arch: {arch}.")
+                return write!(f, "Invalid syscall name: {name} for given arch: {arch}.");
             }
-            JsonFrontendError::Read(_) => f.write_str("Error reading Json."),
-            JsonFrontendError::RepeatedKey => f.write_str("Repeated key in Json."),
-            JsonFrontendError::NotAnObject => f.write_str("Json is not an object of filters."),
-            JsonFrontendError::Shape(name) => write!(f, "Json filter has a wrong shape: {name}."),
-            JsonFrontendError::OutOfMemory => f.write_str("Out of memory."),
-        }
+            JsonFrontendError::Read(_) => "Error reading Json.",
+            JsonFrontendError::RepeatedKey => "Repeated key in Json.",
+            JsonFrontendError::NotAnObject => "Json is not an object of filters.",
+            JsonFrontendError::Shape(name) => {
+                return write!(f, "Json filter has a wrong shape: {name}.");
+            }
+            JsonFrontendError::OutOfMemory => "Out of memory.",
+        };
+        f.write_str(text)
     }
 }
 

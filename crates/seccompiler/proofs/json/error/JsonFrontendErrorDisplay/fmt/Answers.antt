@@ -1,4 +1,6 @@
-use Rattle.std.proofs.Common.{ℕ, List, ◌++◌, append_assoc, codes, refl}
+use Rattle.std.proofs.Common.{◌≡◌, ℕ, List, Some, ◌++◌, append_assoc, codes, refl, sym, ap}
+use Rattle.seccompiler.specs.Texts.{json_text, IsJsonText}
+use Rattle.seccompiler.proofs.json.error.JsonFrontendErrorDisplay.fmt.Goals.{in-Read, in-RepeatedKey, in-NotAnObject, in-OutOfMemory}
 use Rattle.seccompiler.proofs.json.error.JsonFrontendErrorDisplay.fmt.Goals as goal
 
 pub returns-in-SyscallName-clause-writes : goal.returns-in-SyscallName-clause-writes
@@ -15,20 +17,16 @@ returns-in-SerdeJson-clause-text g c plain ok = let words : List ℕ = c.as_str.
 pub returns-in-Backend : goal.returns-in-Backend
 returns-in-Backend g c = let w = c.fmt.ensures.writes in rw c.in-Backend.is (record { writes = w; text = λ p ok. (_, refl, w p ok) })
 
-pub returns-in-Read : goal.returns-in-Read
-returns-in-Read g c = let w = c.write_str.ensures.writes in rw c.in-Read.is (record { writes = w; text = λ p ok. (_, refl, w p ok) })
-
-pub returns-in-RepeatedKey : goal.returns-in-RepeatedKey
-returns-in-RepeatedKey g c = let w = c.write_str-in-RepeatedKey.ensures.writes in
-    rw c.in-RepeatedKey.is (record { writes = w; text = λ p ok. (_, refl, w p ok) })
-
-pub returns-in-NotAnObject : goal.returns-in-NotAnObject
-returns-in-NotAnObject g c = let w = c.write_str-in-NotAnObject.ensures.writes in
-    rw c.in-NotAnObject.is (record { writes = w; text = λ p ok. (_, refl, w p ok) })
-
 pub returns-in-Shape : goal.returns-in-Shape
 returns-in-Shape g c = let w = c.write-in-Shape.ensures.writes in rw c.in-Shape.is (record { writes = w; text = λ p ok. (_, refl, w p ok) })
 
-pub returns-in-OutOfMemory : goal.returns-in-OutOfMemory
-returns-in-OutOfMemory g c = let w = c.write_str-in-OutOfMemory.ensures.writes in
-    rw c.in-OutOfMemory.is (record { writes = w; text = λ p ok. (_, refl, w p ok) })
+pub returns : goal.returns
+returns g c =
+    let is : (json_text c.args.self.now ≡ Some c.match-self.text.now) × IsJsonText c.args.self.now c.match-self.text.now =
+    elim c.match-self.branch [
+      | in-Read w ↦ let same = ap (λ text. Some text.now) (sym w.text-is) in rw w.in-Read.is (same, same)
+      | in-RepeatedKey w ↦ let same = ap (λ text. Some text.now) (sym w.text-is) in rw w.in-RepeatedKey.is (same, same)
+      | in-NotAnObject w ↦ let same = ap (λ text. Some text.now) (sym w.text-is) in rw w.in-NotAnObject.is (same, same)
+      | in-OutOfMemory w ↦ let same = ap (λ text. Some text.now) (sym w.text-is) in rw w.in-OutOfMemory.is (same, same)
+    ] in let writes = c.write_str.ensures.writes in
+    record { writes = rw is.0 writes; text = λ plain ok. (c.match-self.text.now, is.1, writes plain ok) }

@@ -64,8 +64,3 @@ headed front (x ∷ y ∷ v ∷ w ∷ xs) ys a b c d z is long = let first = a �
     ∙ same_len_mid 4 (last - 4) first ys (count ∙ sym (length-part 4 last first (omega arith) (omega arith))) in
     rw is (sym (take_all (last + 1) whole (omega arith)) ∙ take-written 4 last first ys z (omega arith) (omega arith) count)
 headed front _ ys a b c d z is long = absurd (omega arith)
-
--- up to an element that is set behind what was written in front, a list has what was written and that element
-pub front-written : {X : Type 0} (n : ℕ) (xs ys : List X) (x : X) → length ys ≡ n → n < length xs
-    → take (n + 1) (set (ys ++ drop n xs) n x) ≡ ys ++ x ∷ []
-front-written n xs ys x long within = grind (arith, length-append, length-drop, take-suc-set, take_at)

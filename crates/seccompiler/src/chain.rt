@@ -1,10 +1,10 @@
 // The rules of one call number, and their code.
 
-ghost use Rattle.std.specs.Prelude.{◌≡◌, ◌≤◌, ◌+◌, ◌↔◌, [], ◌∷◌, pos, length, take, IsNone, IfOk, IfSome, IsOkUnless};
+ghost use Rattle.std.specs.Prelude.{◌≡◌, ◌≤◌, ◌↔◌, pos, length, take, IsNone, IfSome};
 ghost use Rattle.std.specs.BTreeMap.{keys};
 ghost use Rattle.seccompiler.specs.Machine.{greatest_length};
 ghost use Rattle.seccompiler.specs.Policy.{IsCallNumber};
-ghost use Rattle.seccompiler.specs.Layout.{rule_length, rules_length};
+ghost use Rattle.seccompiler.specs.Layout.{rules_length};
 ghost use Rattle.seccompiler.specs.Compiled.{AreCallNumbers, IsLeastUnfit};
 ghost use Rattle.seccompiler.specs.ChainCode.{IsRulesCode};
 
@@ -50,20 +50,10 @@ pub(crate) fn write_rules(part: &mut [sock_filter], chain: &[SeccompRule], match
 {
     let mut start = 0;
     for rule in chain {
-        start += write_rule(&mut part[start..], rule, matched);
+        let end = start + rule.code_len();
+        rule.write(&mut part[start..end]);
+        part[end] = bpf_stmt(RETURN, matched);
+        start = end + 1;
     }
     start
-}
-
-// Fills the front of the part with a rule and its return, and gives their length.
-fn write_rule(part: &mut [sock_filter], rule: &SeccompRule, matched: u32) -> usize
-    requires room { rule_length rule.now + 1 ≤ length part.old }
-    requires short { length part.old ≤ greatest_length }
-    ensures length { result ≡ rule_length rule.now + 1 }
-    ensures code { IsRulesCode (rule.now ∷ []) matched (take result part.new) }
-{
-    let end = rule.code_len();
-    rule.write(&mut part[..end]);
-    part[end] = bpf_stmt(RETURN, matched);
-    end + 1
 }

@@ -1,12 +1,13 @@
-use Rattle.std.proofs.Common.{◌≡◌, ℕ, ◌+◌, ◌-◌, ◌<◌, ◌≤◌, List, length, take, get_or, sym, ◌∙◌, arith}
+use Rattle.std.proofs.Common.{◌≡◌, ℕ, ◌+◌, ◌-◌, ◌<◌, ◌≤◌, List, [], ◌∷◌, ◌++◌, length, take, get_or, sym, ◌∙◌, arith}
+use Rattle.std.proofs.Math.ListN.{length-set}
 use lib.Seq.{length-take-le}
-use borrow.Rule.Slice.PartMut.{same_len_mid}
+use borrow.Rule.Slice.PartMut.{put_mid, same_len_mid}
 use Rattle.seccompiler.specs.declared.bpf.sock_filter.{sock_filter}
 use Rattle.seccompiler.specs.Policy.{Rule, Chain}
 use Rattle.seccompiler.specs.Layout.{rule_length, rules_length}
 use Rattle.seccompiler.specs.ChainCode.{IsRulesCode}
-use Rattle.seccompiler.proofs.Parts.{take-front, length-part}
-use Rattle.seccompiler.proofs.chain.RulesCode.{rules_empty, rules_step, rules_all, rules_room}
+use Rattle.seccompiler.proofs.Parts.{take-written, length-part}
+use Rattle.seccompiler.proofs.chain.RulesCode.{with_return, rules_empty, rules_step, rules_all, rules_room}
 use Rattle.seccompiler.proofs.chain.write_rules.Goals as goal
 
 -- there is room for a further rule and its return
@@ -21,20 +22,20 @@ pub loop-rule-init : goal.loop-rule-init
 loop-rule-init c = record { code = rules_empty c.args.matched; within = omega arith }
 
 pub loop-rule-preserved : goal.loop-rule-preserved
-loop-rule-preserved c = let l = c.loop-rule in
-    let fits = room c.args.chain.now l.rule-index l.start c.args.matched l.part
-    c.rule-item.result c.loop-rule-test.true c.rule-item.is l.invariant.code l.invariant.within
-    (omega (arith, c.requires.room, l.auto.part)) in
-    let lent = length-part l.start (length l.part) l.part l.invariant.within (omega arith) in
-    let long : length c.write_rule-start.new.part ≡ length l.part - l.start = omega (arith, c.write_rule-start.auto.part, lent) in
-    let written = take-front l.start c.write_rule-start.result l.part c.write_rule-start.new.part l.invariant.within
-    (omega (arith, fits, c.write_rule-start.ensures.length, long)) in
-    let kept = same_len_mid l.start (length l.part - l.start) l.part c.write_rule-start.new.part (long ∙ sym lent) in
+loop-rule-preserved c = let l = c.loop-rule in let q = c.rule-item.result in let own = c.write.new.part in
+    let end = l.start + c.code_len.result in
+    let fits = room c.args.chain.now l.rule-index l.start c.args.matched l.part q c.loop-rule-test.true c.rule-item.is
+    l.invariant.code l.invariant.within (omega (arith, c.requires.room, l.auto.part)) in
+    let count : c.code_len.result ≡ rule_length q = omega (arith, c.code_len.ensures.length, fits, c.requires.short, l.auto.part) in
+    let long : length own ≡ end - l.start = omega (arith, c.write.ensures.code.long, count) in
+    let written = take-written l.start end l.part own c.bpf_stmt.result (omega arith) (omega (arith, fits, count)) long in
+    let kept = same_len_mid l.start (end - l.start) l.part own
+    (long ∙ sym (length-part l.start end l.part (omega arith) (omega (arith, fits, count)))) in
     record {
-      code = rules_step c.args.chain.now l.rule-index c.args.matched c.rule-item.result (take l.start l.part)
-          (take c.write_rule-start.result c.write_rule-start.new.part) _ c.loop-rule-test.true
-          c.rule-item.is c.write_rule-start.ensures.code written l.invariant.code;
-      within = omega (arith, fits, c.write_rule-start.ensures.length, kept);
+      code = rules_step c.args.chain.now l.rule-index c.args.matched q (take l.start l.part) (own ++ c.bpf_stmt.result ∷ []) _
+          c.loop-rule-test.true c.rule-item.is
+          (rw c.bpf_stmt.ensures (with_return q c.args.matched own (omega arith) c.write.ensures.code)) written l.invariant.code;
+      within = omega (arith, fits, count, kept, length-set (put_mid l.start (end - l.start) l.part own) end c.bpf_stmt.result);
     }
 
 pub returns : goal.returns

@@ -45,7 +45,7 @@ returns-then-is_empty-clause-code c = let none : length c.args.chain.now ≡ 0 =
     let last = c.bpf_stmt-then-is_empty-3.ensures in
     chain_without c.args.number c.args.mismatch c.args.matched (omega arith) (omega arith) (omega arith) c.args.chain.now _ none
     (take_at c.copy_from_slice.new.self (drop 5 c.args.part.now) 5 (ap length c.copy_from_slice.ensures.after)
-    ∙ cc (c.copy_from_slice.ensures.after, c.bpf_jump.ensures, c.bpf_stmt.ensures, over, give, last))
+    ∙ c.copy_from_slice.ensures.after ∙ (λ i. c.bpf_jump.ensures i ∷ c.bpf_stmt.ensures i ∷ over i ∷ give i ∷ last i ∷ []))
 
 pub returns-clause-code : goal.returns-clause-code
 returns-clause-code c = let some : 0 < length c.args.chain.now = grind (arith, nat_tests) in

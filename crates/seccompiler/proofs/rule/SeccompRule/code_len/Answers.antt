@@ -1,4 +1,4 @@
-use Rattle.std.proofs.Common.{◌≡◌, ◌≤◌, ◌^◌, ◌-◌, ◌∙◌, ap, length, min, arith}
+use Rattle.std.proofs.Common.{◌≡◌, ◌+◌, ◌≤◌, ◌^◌, ◌-◌, ◌∙◌, ap, length, min, arith}
 use Rattle.seccompiler.specs.Policy.{size_of}
 use Rattle.seccompiler.specs.Layout.{rule_length}
 use Rattle.seccompiler.proofs.rule.GroupCuts.{groups_of-only, relays_small}
@@ -14,9 +14,9 @@ loop-condition-preserved c = let l = c.loop-condition in
     _ _ c.loop-condition-test.true c.condition-item.is
     (elim c.if-offset-gt-GREATEST_OFFSET.branch [
       | then-offset-gt-GREATEST_OFFSET w ↦ counted_relay _ c.condition-item.result l.length _ l.offset _ w.if-offset-gt-GREATEST_OFFSET.true
-          (sum ∙ cc (w.length-is, w.saturating_add-length.ensures, size)) (cc (w.offset-is, size)) l.invariant
+          (sum ∙ λ i. min ((w.length-is ∙ w.saturating_add-length.ensures) i + size i) (2 ^ 64 - 1)) (λ i. w.offset-is i + size i) l.invariant
       | else-offset-gt-GREATEST_OFFSET w ↦ counted_more _ c.condition-item.result l.length _ l.offset _ w.if-offset-gt-GREATEST_OFFSET.false
-          (sum ∙ cc (w.length-is, size)) (cc (w.offset-is, size)) l.invariant
+          (sum ∙ λ i. min (w.length-is i + size i) (2 ^ 64 - 1)) (λ i. w.offset-is i + size i) l.invariant
     ])
 
 pub returns : goal.returns

@@ -1,4 +1,5 @@
-use Rattle.std.proofs.Common.{◌≡◌, ◌+◌, ◌-◌, ◌≤◌, length, take, drop, ap, sym, ◌∙◌, subst, [], arith, length-append, ◌++◌}
+use Rattle.std.proofs.Common.{◌≡◌, ◌+◌, ◌-◌, ◌≤◌, length, take, drop, ap, sym, ◌∙◌, subst, [], arith, length-append, ◌++◌, ◌∷◌}
+use Rattle.seccompiler.specs.Code.{jump}
 use Rattle.std.proofs.lemmas.List.{drop_all}
 use lib.Seq.{length-take-le}
 use borrow.Rule.Slice.PartMut.{put_mid}
@@ -74,7 +75,7 @@ returns c = let l = c.loop-condition in
     let some : 1 ≤ length q = omega (arith, ap length c.deref-condition-items.ensures.value, c.self.invariant) in
     let all = built_all q l.condition-index (drop l.end l.part) l.offset c.loop-condition-test.false l.invariant.built in
     let entry : c.copy_from_slice.new.self ≡ entry_code l.offset = c.copy_from_slice.ensures.after
-    ∙ cc (c.bpf_stmt.ensures, c.bpf_stmt-2.ensures, c.from.ensures) in
+    ∙ (λ i. c.bpf_stmt.ensures i ∷ (c.bpf_stmt-2.ensures ∙ ap (λ o. jump (o + 1)) c.from.ensures) i ∷ []) in
     let code = built_rule q (drop l.end l.part) (c.copy_from_slice.new.self ++ drop l.end l.part) l.offset some all
     (ap (λ e. e ++ drop l.end l.part) entry) in
     record { code = rw (← c.self.view_is, ← c.deref-condition-items.ensures.value) code }

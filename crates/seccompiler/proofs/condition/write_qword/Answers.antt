@@ -3,6 +3,21 @@ use Rattle.seccompiler.specs.Machine.{AreInRange}
 use Rattle.seccompiler.proofs.Closed.{ranges_from}
 use Rattle.seccompiler.proofs.condition.write_qword.Goals as goal
 
+pub copy_from_slice-requires : goal.copy_from_slice-requires
+copy_from_slice-requires c = rw c.in-Eq.is at c.requires.room
+
+pub copy_from_slice-requires-in-Ne : goal.copy_from_slice-requires-in-Ne
+copy_from_slice-requires-in-Ne c = rw c.in-Ne.is at c.requires.room
+
+pub copy_from_slice-requires-in-Ge : goal.copy_from_slice-requires-in-Ge
+copy_from_slice-requires-in-Ge c = ⊎_elim (λ is. rw is at c.requires.room) (λ is. rw is at c.requires.room) c.in-Ge.is
+
+pub copy_from_slice-requires-in-Le : goal.copy_from_slice-requires-in-Le
+copy_from_slice-requires-in-Le c = ⊎_elim (λ is. rw is at c.requires.room) (λ is. rw is at c.requires.room) c.in-Le.is
+
+pub copy_from_slice-requires-in-MaskedEq : goal.copy_from_slice-requires-in-MaskedEq
+copy_from_slice-requires-in-MaskedEq c = rw c.in-MaskedEq.is at c.requires.room
+
 pub returns-in-Eq-clause-code : goal.returns-in-Eq-clause-code
 returns-in-Eq-clause-code c = let test = rw c.in-Eq.is at c.low_test-test.ensures.test in rw c.in-Eq.is
     (c.copy_from_slice.ensures.after ∙ λ i. c.bpf_stmt-high.ensures i ∷ c.bpf_jump-equal_or_fail.ensures i ∷ c.bpf_stmt-low.ensures i

@@ -27,7 +27,13 @@ does_shift i r base place a place' a' h = grind arith
 
 step_shift : (p piece : List sock_filter) (r : List ℕ) (base : ℕ) {place a place' a' : ℕ}
     → Stands p base piece → Step piece r place a place' a' → Step p r (base + place) a (base + place') a'
-step_shift p piece r base s h = grind (arith, does_shift)
+step_shift p piece r base {place} {a} {place'} {a'} s h = record {
+  instruction = h.instruction;
+  here = s.at place h.instruction h.here;
+  before = h.before;
+  after = h.after;
+  does = (does_shift h.instruction r base place a place' a' h.does).0;
+}
 
 -- the lemma on pieces
 pub goes_shift : (p piece : List sock_filter) (r : List ℕ) (base : ℕ) {place a n place' a' : ℕ}
@@ -69,7 +75,8 @@ leads_second a b r x s y h = record {
 
 -- the accumulator stays in its range
 pub stays_small : (p : List sock_filter) (r : List ℕ) {x a n y b : ℕ} → a < 2 ^ 32 → Goes p r x a n y b → b < 2 ^ 32
-stays_small p r small goes = grind arith
+stays_small p r small stays = small
+stays_small p r small (then_step g h) = h.after
 
 -- a run of the first piece is one of both
 pub goes_front : (a b : List sock_filter) (r : List ℕ) {x s n y t : ℕ} → Goes a r x s n y t → Goes (a ++ b) r x s n y t

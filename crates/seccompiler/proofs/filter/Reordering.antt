@@ -1,6 +1,6 @@
 -- For `SeccompFilter::decide`: what a decision does not depend on: the order of rules and conditions, and the instruction pointer.
-use Rattle.std.proofs.Common.{◌≡◌, ℕ, ℤ, zero, suc, pos, ◌+◌, ◌<◌, ◌≤◌, List, [], ◌∷◌, length, Option, Some, Bool, cond, refl, sym, ap, ◌∙◌}
-use Rattle.std.proofs.Common.{subst, arith, inl, inr}
+use Rattle.std.proofs.Common.{◌≡◌, ℕ, ℤ, zero, suc, pos, ◌+◌, ◌*◌, ◌<◌, ◌≤◌, List, [], ◌∷◌, length, Option, Some, Bool, true, false, cond}
+use Rattle.std.proofs.Common.{refl, sym, ap, ◌∙◌, subst, arith, inl, inr}
 use Rattle.std.specs.Prelude.{slice_index}
 use Rattle.std.specs.List.{AllZip}
 use Rattle.std.specs.List.Sorted.{IsPermutation}
@@ -11,7 +11,9 @@ use Rattle.std.proofs.lemmas.List.{nil_from_length}
 use Rattle.std.proofs.lemmas.List.Elements.{All-weaker, length_all_zip}
 use Rattle.std.proofs.lemmas.List.Sorted.{All-permutation, IsPermutation-sym, length_permutation}
 use Rattle.seccompiler.specs.Machine.{number_at, word_at}
+use Rattle.seccompiler.specs.Architecture.{audit_word}
 use Rattle.seccompiler.specs.Policy.{Condition, Holds, Rule, Chain, Filter, chain_under, RuleHolds, ChainMatches, Matches, IsDecision}
+use Rattle.seccompiler.specs.Policy.{operator_part, part_of, Compares, word_of, other_architecture, policy_matches, policy_differs}
 use Rattle.seccompiler.specs.Reorder.{IsReorderedChain, IsReorderedEntry, IsReordered, IsSameCall}
 use Rattle.seccompiler.proofs.Zipped.{Any-all_zip, all_zip_back}
 use Rattle.seccompiler.proofs.Searches.{Any-permutation}
@@ -33,7 +35,9 @@ same_call_back r s same = record { bytes = λ k outside. sym (same.bytes k outsi
 
 -- A condition reads its argument alone, so it holds on any record of the call.
 same_condition : (c : Condition) (r s : List ℕ) → IsSameCall r s → Holds c r → Holds c s
-same_condition c r s same holds = grind (arith, same_number)
+same_condition c r s same holds =
+    let argument = same_number r s (16 + 8 * c.arg_index) 8 (λ j low high. same.bytes j (inr (omega (arith, low)))) in
+    subst (λ x. Compares (operator_part c.arg_len c.operator) (part_of c.arg_len x) (part_of c.arg_len c.value)) argument holds
 
 -- A rule holds in any order of its conditions, on any record of the call.
 same_rule : (q q' : Rule) (r s : List ℕ) → IsPermutation q q' → IsSameCall r s → RuleHolds q r → RuleHolds q' s
@@ -72,7 +76,8 @@ chain_matches_back chain chain' r s order same matches =
 lookup_step : {X : Type 0} (S : X → X → Type 0) (b : Bool) (v v' : X) (rest rest' : Option X) (x : X) → S v v'
     → (rest ≡ Some x → (y : X) × (rest' ≡ Some y) × S x y) → cond b (Some v) rest ≡ Some x
     → (y : X) × (cond b (Some v') rest' ≡ Some y) × S x y
-lookup_step S b v v' rest rest' x pair more found = grind arith
+lookup_step S true v v' rest rest' x pair more found = let same : v ≡ x = cc in (v', refl, subst (λ y. S y v') same pair)
+lookup_step S false v v' rest rest' x pair more found = more found
 
 -- Where the entries of two lists, place by place, have one key and related values, look-ups find related values.
 lookup_all_zip : {K X : Type 0} (R : K × X → K × X → Type 0) (S : X → X → Type 0) (test : K → Bool) (es es' : List (K × X)) (x : X)
@@ -111,4 +116,11 @@ reordered_matches_back f g r s order same = matches_by_entries (λ e' e. IsReord
 
 -- The order of the rules in a chain and of the conditions in a rule does not change the decision, and neither does the instruction pointer.
 pub same_decision : (f g : Filter) (r s : List ℕ) (w : ℕ) → IsReordered f g → IsSameCall r s → IsDecision f r w → IsDecision g s w
-same_decision f g r s w order same h = grind (arith, same_word, reordered_matches, reordered_matches_back)
+same_decision f g r s w order same decision = let here = same_word r s 4 same (omega arith) in
+    let arch = ap audit_word order.target_arch in elim decision [
+      | other_architecture differs is ↦ other_architecture (λ e. differs (here ∙ e ∙ sym arch)) is
+      | policy_matches e matches is ↦ policy_matches (sym here ∙ e ∙ arch) (reordered_matches f g r s order same matches)
+          (is ∙ ap word_of order.match_action)
+      | policy_differs e differs is ↦ policy_differs (sym here ∙ e ∙ arch)
+          (λ matches. differs (reordered_matches_back f g r s order same matches)) (is ∙ ap word_of order.mismatch_action)
+    ]

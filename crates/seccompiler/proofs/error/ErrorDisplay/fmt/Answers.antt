@@ -1,4 +1,4 @@
-use Rattle.std.proofs.Common.{ℕ, List, ◌++◌, Option, Some, None, Result, Err, codes, rules, refl}
+use Rattle.std.proofs.Common.{ℕ, List, ◌++◌, Option, Some, None, Result, Err, codes, refl}
 use Rattle.std.proofs.Output.{has_written_append}
 use Rattle.std.proofs.lemmas.Bool.{false≢true}
 use Rattle.std.specs.Prelude.{option_map, ⊤}
@@ -46,10 +46,10 @@ returns-in-OutOfMemory g c = let w = c.write_str-in-OutOfMemory.ensures.writes i
 
 pub returns-in-Ok-clause-writes : goal.returns-in-Ok-clause-writes
 returns-in-Ok-clause-writes g c = rw c.in-JsonFrontend.is (prefixed g.W.Write.write_str_gives _ _ _ _ _ (json_text c.in-JsonFrontend.error)
-    (λ plain. c.write_str-in-JsonFrontend.ensures.writes plain (search rules)) c.fmt.ensures.writes)
+    (λ plain. c.write_str-in-JsonFrontend.ensures.writes plain (rw c.in-Ok.is refl)) c.fmt.ensures.writes)
 
 pub returns-in-Ok-clause-text : goal.returns-in-Ok-clause-text
-returns-in-Ok-clause-text g c plain ok = let began = c.write_str-in-JsonFrontend.ensures.writes plain (search rules) in
+returns-in-Ok-clause-text g c plain ok = let began = c.write_str-in-JsonFrontend.ensures.writes plain (rw c.in-Ok.is refl) in
     let inner = c.fmt.ensures.text began.plain ok in let whole = has_written_append _ _ _ _ _ _ began inner.2 in
     rw c.in-JsonFrontend.is (codes "Json Frontend error: " ++ inner.0, (inner.0, inner.1, refl), whole)
 

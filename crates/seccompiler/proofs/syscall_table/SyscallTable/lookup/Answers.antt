@@ -1,4 +1,5 @@
-use Rattle.std.proofs.Common.{◌≡◌, ◌+◌, ◌-◌, ◌/◌, length, drop, eqb-true, refl, sym, ◌∙◌, ap, subst, arith}
+use Rattle.std.proofs.lemmas.Bool.{eqb-false}
+use Rattle.std.proofs.Common.{◌≡◌, ◌+◌, ◌-◌, ◌/◌, ◌≤◌, List, Bool, false, nat_eq, length, drop, eqb-true, refl, sym, ◌∙◌, ap, subst, arith}
 use Rattle.std.proofs.lemmas.List.{take_all, length-take, length-drop, length-map}
 use Rattle.seccompiler.specs.Architecture.{table_of}
 use Rattle.seccompiler.specs.SyscallTable.{IsTableNumber, pairs_of}
@@ -8,6 +9,26 @@ use Rattle.seccompiler.proofs.syscall_table.Halving.{IsHalf, lower, upper, found
 use Rattle.seccompiler.proofs.syscall_table.Halving.{counted_here, counted_all, below_nine}
 use Rattle.seccompiler.proofs.syscall_table.HalvingOnly.{compares_only}
 use Rattle.seccompiler.proofs.syscall_table.SyscallTable.lookup.Goals as goal
+
+-- a part that is not empty has a pair
+some : {X : Type 0} (part : List X) {empty : Bool} → empty ≡ nat_eq (length part) 0 → empty ≡ false → 1 ≤ length part
+some part tested is = omega (arith, eqb-false (length part) 0 (sym tested ∙ is))
+
+pub bounds-part-middle : goal.bounds-part-middle
+bounds-part-middle c = omega (arith, some c.loop-part.part.now c.is_empty.ensures c.loop-part-test.true)
+
+pub loop-part-smaller-in-Less : goal.loop-part-smaller-in-Less
+loop-part-smaller-in-Less c = omega (
+  arith,
+  some c.loop-part.part.now c.is_empty.ensures c.loop-part-test.true,
+  length-take (length c.loop-part.part.now / 2) c.loop-part.part.now,
+)
+
+pub loop-part-smaller : goal.loop-part-smaller
+loop-part-smaller c = let part = c.loop-part.part.now in
+    let long = length-drop (length part / 2 + 1) part in
+    let whole = take_all (length part - (length part / 2 + 1)) (drop (length part / 2 + 1) part) (omega (arith, long)) in
+    omega (arith, long, ap length whole, some part c.is_empty.ensures c.loop-part-test.true)
 
 pub loop-part-init : goal.loop-part-init
 loop-part-init c =

@@ -1,11 +1,11 @@
 -- A list of which a part was written anew, and a list cut at an index.
 use Rattle.std.proofs.Common.{◌≡◌, ℕ, suc, ◌+◌, ◌-◌, ◌<◌, ◌≤◌, List, [], ◌∷◌, ◌++◌, length, get_or, set, take, drop, sym, ap, ◌∙◌, refl}
-use Rattle.std.proofs.Common.{length-append, length-drop, take-append-drop, append_assoc, arith}
+use Rattle.std.proofs.Common.{length-drop, take-append-drop, append_assoc, arith}
 use Rattle.std.proofs.Math.ListN.{length-set}
 use Rattle.std.proofs.Math.Seq.{drop-cons, take-suc-set, take-append-add}
 use Rattle.std.proofs.lemmas.List.{take_all, take-append-le}
 use Rattle.std.proofs.lemmas.Slice.{take-put_mid}
-use lib.Seq.{length-take-le, drop_at, take_at}
+use lib.Seq.{length-take-le, drop_at}
 use borrow.Rule.Slice.PartMut.{put_mid, Post-is, same_len_mid}
 
 -- from the start of the part on, it has what was written, and then what it had behind the part

@@ -71,15 +71,17 @@ fn rule_of(alloc: Global, conditions: &[JsonCondition]) -> Result<SeccompRule, J
     Ok(SeccompRule::new(found)?)
 }
 
-// Puts the rule at the end of the number's rules, of which there may be none yet.
+// Puts the rule of the conditions at the end of the number's rules, of which there may be none yet.
 fn add_rule(
     alloc: Global,
     rules: &mut BTreeMap<i64, Vec<SeccompRule>>,
     number: i64,
-    rule: SeccompRule,
-) -> Result<(), AllocError>
-    ensures { OnOk result ((q : ℤ) → chain_at (chains_of rules.new.entries) q ≡ added (if int_eq q number then rule ∷ [] else []) (chain_at (chains_of rules.old.entries) q)) }
+    conditions: &[JsonCondition],
+) -> Result<(), JsonFrontendError>
+    ensures { MatchResult result (λ _. AreFineArgs conditions.now × ((q : ℤ) → chain_at (chains_of rules.new.entries) q ≡ added (if int_eq q number then map condition_of conditions.now ∷ [] else []) (chain_at (chains_of rules.old.entries) q)))
+        (Tells (IsFaultIn conditions.now)) }
 {
+    let rule = rule_of(alloc, conditions)?;
     let chain = rules.entry(number)?.or_insert(Vec::new(alloc));
     chain.push(rule)?;
     Ok(())
@@ -106,10 +108,7 @@ fn gather(
             return Err(JsonFrontendError::SyscallName(name, arch));
         };
         match &entry.conditions {
-            Some(conditions) => {
-                let rule = rule_of(alloc, conditions.as_slice())?;
-                add_rule(alloc, &mut rules, number, rule)?;
-            }
+            Some(conditions) => add_rule(alloc, &mut rules, number, conditions.as_slice())?,
             None => always[number as usize] = true,
         }
     }

@@ -12,7 +12,7 @@ use Rattle.seccompiler.proofs.json.policy.GatheredEntries.{next_done, next_wrong
 use Rattle.seccompiler.proofs.json.policy.ToldNumbers.{place_of_name, told_more}
 use Rattle.seccompiler.proofs.json.policy.EntryFaults.{unknown_entry, wrong_entry}
 use Rattle.seccompiler.proofs.json.policy.gather.Goals.{in-None}
-use Rattle.seccompiler.proofs.json.policy.gather.Goals.{in-Some-conditions+in_ok-rule-in-Some-conditions+in_ok-add_rule-in-Some-conditions}
+use Rattle.seccompiler.proofs.json.policy.gather.Goals.{in-Some-conditions+in_ok-add_rule-in-Some-conditions}
 use Rattle.seccompiler.proofs.json.policy.gather.Goals as goal
 
 pub overflow_cast-always : goal.overflow_cast-always
@@ -35,7 +35,7 @@ loop-entry-preserved c =
     let named = entry_of c.entry.inside.syscall.now c.entry.inside.conditions in
     let next = next_done c.args.arch c.args.entries.now _ _ named _ c.loop-entry-test.true c.entry-item.is c.entry.view_is so_far in
     elim c.match-entry.branch [
-      | in-Some-conditions+in_ok-rule-in-Some-conditions+in_ok-add_rule-in-Some-conditions w ↦
+      | in-Some-conditions+in_ok-add_rule-in-Some-conditions w ↦
           let fine : IsFineEntry c.args.arch named = search rules in
           rw (w.rules-is, w.always-is) (next _ so_far.long fine (record { rules = search rules; always = search rules }))
       | in-None w ↦
@@ -57,8 +57,8 @@ returns-in_default c =
     next_wrong c.args.arch c.args.entries.now _ _ named _ c.loop-entry-test.true c.entry-item.is c.entry.view_is c.loop-entry.invariant
     (SyscallName c.in-Ok.name c.args.arch) (unknown_entry c.args.arch named _ unknown same)
 
-pub returns-in_err-rule-in-Some-conditions : goal.returns-in_err-rule-in-Some-conditions
-returns-in_err-rule-in-Some-conditions c =
+pub returns-in_err-add_rule-in-Some-conditions : goal.returns-in_err-add_rule-in-Some-conditions
+returns-in_err-add_rule-in-Some-conditions c =
     let end = c.from_residual in
     let p = err_from_is_err_and end.result end.ensures.1 in
     let named = entry_of c.entry.inside.syscall.now c.entry.inside.conditions in
@@ -66,4 +66,4 @@ returns-in_err-rule-in-Some-conditions c =
     rw (p.1, p.2) (next_wrong c.args.arch c.args.entries.now _ _ named _ c.loop-entry-test.true c.entry-item.is c.entry.view_is
     c.loop-entry.invariant _ (wrong_entry c.args.arch named c.in-Some.number c.in-Some-conditions.conditions.items _ known
     (ap (option_map (λ (all : Vec JsonCondition Global). all.items)) c.in-Some-conditions.is)
-    (rw c.as_slice.ensures.value at c.in_err-rule-in-Some-conditions.ensures)))
+    (rw c.as_slice.ensures.value at c.in_err-add_rule-in-Some-conditions.ensures)))

@@ -1,10 +1,11 @@
 use Rattle.std.proofs.Common.{◌≡◌, ℕ, zero, suc, true, false, ◌<◌, ◌≤◌, ◌++◌, ◌∷◌, [], map, take, ap, sym, ◌∙◌, refl, subst}
-use Rattle.std.proofs.Common.{All, Any, length, arith}
+use Rattle.std.proofs.Common.{All, Any, List, length, arith}
 use Rattle.std.proofs.lemmas.Bool.{true≢false}
 use Rattle.std.proofs.lemmas.List.{map_more, length-map, nil_from_length, take_all}
 use Rattle.std.proofs.lemmas.List.Elements.{All-more, Contains-get_or}
 use Rattle.std.proofs.lemmas.Result.{err_from_is_err_and}
 use Rattle.seccompiler.specs.JsonPolicyOf.{condition_of, index_above, empty_args}
+use Rattle.seccompiler.specs.Policy.{Condition}
 use Rattle.seccompiler.specs.declared.json.types.JsonCondition.{JsonCondition}
 use Rattle.seccompiler.proofs.json.policy.rule_of.Goals as goal
 
@@ -15,8 +16,9 @@ loop-condition-preserved c =
     let done = map condition_of (take place given) in
     let of = c.in_ok-try_from.ensures in
     record {
-      made = c.push_reserved.ensures.items ∙ ap (λ conditions. conditions ++ c.in_ok-try_from.field-0 ∷ []) c.loop-condition.invariant.made
-          ∙ ap (λ condition. done ++ condition ∷ []) of.1 ∙ sym (map_more condition_of given place _ c.loop-condition-test.true);
+      made = ◌∙◌ {A = List Condition} c.push_reserved.ensures.items
+          (ap (λ conditions. conditions ++ c.in_ok-try_from.field-0 ∷ []) c.loop-condition.invariant.made
+          ∙ ap (λ condition. done ++ condition ∷ []) of.1 ∙ sym (map_more condition_of given place _ c.loop-condition-test.true));
       indices = All-more (λ (c : JsonCondition). c.arg_index ≤ 5) given place _ c.loop-condition-test.true
           c.loop-condition.invariant.indices of.0;
       room = omega (arith, c.push_reserved.ensures.len, c.push_reserved.ensures.capacity, c.loop-condition.invariant.room);

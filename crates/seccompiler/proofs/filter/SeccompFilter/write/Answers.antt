@@ -1,6 +1,5 @@
-use Rattle.std.proofs.Common.{◌≡◌, ℤ, ◌+◌, ◌-◌, ◌<◌, ◌≤◌, List, [], ◌∷◌, ◌++◌, Vec, Global, All, length, set, take}
-use Rattle.std.proofs.Common.{drop, refl, sym, ap, ◌∙◌, subst}
-use Rattle.std.proofs.Common.{true, false, arith, length-append, length-drop}
+use Rattle.std.proofs.Common.{◌≡◌, ◌+◌, List, ◌++◌, Global, length, take, drop, refl, subst, true, false, arith, length-append, length-drop}
+use Rattle.std.proofs.Common.{ℤ, ◌-◌, ◌<◌, ◌≤◌, [], ◌∷◌, Vec, All, set, sym, ap, ◌∙◌}
 use Rattle.std.proofs.Math.ListN.{length-set}
 use Rattle.std.proofs.lemmas.Bool.{false≢true}
 use lib.Seq.{length-take-le}

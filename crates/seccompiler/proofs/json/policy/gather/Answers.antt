@@ -11,8 +11,7 @@ use Rattle.seccompiler.specs.JsonPolicyOf.{IsFineEntry, IsFor, is_always}
 use Rattle.seccompiler.proofs.json.policy.GatheredEntries.{next_done, next_wrong, none_gathered}
 use Rattle.seccompiler.proofs.json.policy.ToldNumbers.{place_of_name, told_more}
 use Rattle.seccompiler.proofs.json.policy.EntryFaults.{unknown_entry, wrong_entry}
-use Rattle.seccompiler.proofs.json.policy.gather.Goals.{in-None}
-use Rattle.seccompiler.proofs.json.policy.gather.Goals.{in-Some-conditions+in_ok-add_rule-in-Some-conditions}
+use Rattle.seccompiler.proofs.json.policy.gather.Goals.{in-None, in-Some-conditions+in_ok-add_rule-in-Some-conditions}
 use Rattle.seccompiler.proofs.json.policy.gather.Goals as goal
 
 pub overflow_cast-always : goal.overflow_cast-always

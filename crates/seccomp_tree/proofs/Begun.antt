@@ -1,9 +1,8 @@
--- Steps that ascend: what they have for a number, what is left of them there, one step more, and comparisons laid over them.
-use Rattle.seccomp_tree.proofs.Common.{SeccompCmpArgLen, if◌then◌else◌, length-append, SeccompCmpOp, first_start, sock_filter, found_from}
-use Rattle.seccomp_tree.proofs.Common.{AscendFrom, nat_tests, Condition, take_rest, found_in, AreSteps, AreTight, IsPushed, cases_lt, AllIn}
-use Rattle.seccomp_tree.proofs.Common.{cases_eq, MaskedEq, Compares, is_plain, IsChosen, bit_and, part_of, AreLaid, nat_le, IsTurn, length}
-use Rattle.seccomp_tree.proofs.Common.{get_or, Target, nat_eq, nat_lt, arith, AreIn, take, zero, List, ◌++◌, drop, true, refl, Bool, Step}
-use Rattle.seccomp_tree.proofs.Common.{IsIn, ◌≡◌, suc, ◌+◌, ◌-◌, ◌^◌, ◌<◌, ◌≤◌, ◌≢◌, ◌∷◌, ◌∙◌, ◌⊎◌, ◌↔◌, inl, inr, [], ap, ℕ}
+-- Steps: what they have for a number, what is left of them there, one step more, and comparisons laid over them.
+use Rattle.seccomp_tree.proofs.Common.{SeccompCmpArgLen, if◌then◌else◌, length-append, SeccompCmpOp, sock_filter, Condition, nat_tests, All}
+use Rattle.seccomp_tree.proofs.Common.{take_rest, AreSteps, IsPushed, cases_lt, compares, found_in, is_plain, AreLaid, AreOver, part_of, []}
+use Rattle.seccomp_tree.proofs.Common.{IsTurn, Target, get_or, length, nat_eq, nat_le, nat_lt, AllIn, arith, Bool, IsIn, List, Step, drop}
+use Rattle.seccomp_tree.proofs.Common.{refl, take, true, zero, ◌++◌, inl, inr, suc, ◌+◌, ◌-◌, ◌<◌, ◌^◌, ◌∙◌, ◌∷◌, ◌≡◌, ◌≢◌, ◌≤◌, ◌⊎◌, ℕ}
 use Rattle.seccomp_tree.specs.Code.{numbers_of}
 use mir.Val.{bool_byte}
 
@@ -11,101 +10,112 @@ use mir.Val.{bool_byte}
 abbrev pub single : Target → List Step
 single target = record { start = 0; target = target } ∷ []
 
--- Steps over numbers of 32 bits, of which it doesn't matter where the first starts.
-abbrev pub AreOver : List Step → Type 0
-AreOver steps = AscendFrom (2 ^ 32) 1 (drop 1 steps)
-
 -- ---- ascending
 
-pub ascend_more : (m n from to : ℕ) (steps : List Step) → m ≤ n → to ≤ from → AscendFrom m from steps → AscendFrom n to steps
-ascend_more m n from to [] le le' h = tt
-ascend_more m n from to (x ∷ steps) le le' h = grind (arith, h, ascend_more m n (x.start + 1) (x.start + 1) steps le)
+pub over_more : (m n : ℕ) (steps : List Step) → m ≤ n → AreOver m steps → AreOver n steps
+over_more m n (x ∷ y ∷ steps) le h = (h.0, (h.1.0, over_more m n (y ∷ steps) le h.1.1))
+over_more m n (x ∷ []) le h = omega arith
+over_more m n [] le h = h
+
+pub over_below : (m : ℕ) (x : Step) (steps : List Step) → AreOver m (x ∷ steps) → x.start < m
+over_below m x [] h = h
+over_below m x (y ∷ steps) h = omega (arith, h.0, over_below m y steps h.1.1)
 
 pub not_none : (m : ℕ) (steps : List Step) → AreSteps m steps → 0 < m → 1 ≤ length steps
-not_none m steps h some = grind (arith, h.first)
+not_none m [] h some = absurd (omega arith)
+not_none m (x ∷ steps) h some = omega arith
+
+pub steps_over : (m : ℕ) (steps : List Step) → AreSteps m steps → 1 ≤ length steps → AreOver m steps
+steps_over m [] h some = absurd (omega arith)
+steps_over m (x ∷ steps) h some = h.1
 
 -- steps below a number are below a greater one
 pub steps_more : (m n : ℕ) (steps : List Step) → 0 < m → m ≤ n → AreSteps m steps → AreSteps n steps
-steps_more m n [] some le h = absurd (omega (arith, h.first))
-steps_more m n (x ∷ steps) some le h =
-    record { first = h.first; ascend = ascend_more m n 0 0 (x ∷ steps) le (omega arith) h.ascend; tight = h.tight }
-
--- steps in front of one ascend up to its start, and those behind it from there on
-pub ascend_parts : (m from : ℕ) (front : List Step) (x : Step) (back : List Step) → AscendFrom m from (front ++ x ∷ back)
-    → AscendFrom x.start from front × ((from ≤ x.start) × ((x.start < m) × AscendFrom m (x.start + 1) back))
-ascend_parts m from [] x back h = (tt, (h.0, h.1))
-ascend_parts m from (y ∷ front) x back h =
-    grind (arith, h.0, h.1.0, ascend_parts m (y.start + 1) front x back h.1.1)
+steps_more m n [] some le h = absurd (omega arith)
+steps_more m n (x ∷ steps) some le h = (h.0, over_more m n (x ∷ steps) le h.1)
 
 -- ---- targets
 
--- a number in front of all starts has what there is
-pub found_before : (m from : ℕ) (t : Target) (steps : List Step) (a : ℕ) → AscendFrom m from steps → a < from → found_from t steps a ≡ t
-found_before m from t [] a h lt = refl
-found_before m from t (x ∷ steps) a h lt = grind (arith, nat_tests, h.0)
+-- numbers up to the first start have the first target
+pub found_first : (m : ℕ) (x : Step) (steps : List Step) (a : ℕ) → AreOver m (x ∷ steps) → a ≤ x.start → found_in (x ∷ steps) a ≡ x.target
+found_first m x [] a h le = refl
+found_first m x (y ∷ steps) a h le = grind (arith, nat_tests, h.0)
 
--- numbers below the start of a step have what those in front of it have, and others what it and those behind it have
-pub found_front : (t : Target) (front : List Step) (x : Step) (back : List Step) (a : ℕ) → a < x.start
-    → found_from t (front ++ x ∷ back) a ≡ found_from t front a
-found_front t [] x back a below = grind (arith, nat_tests)
-found_front t (y ∷ front) x back a below =
-    ap (λ v. if nat_le y.start a then v else t) (found_front y.target front x back a below)
+-- from all starts on there is the last target
+found_last : (m a : ℕ) (x : Step) (steps : List Step) (d : Step) → AreOver m (x ∷ steps) → m ≤ a
+    → found_in (x ∷ steps) a ≡ (get_or (x ∷ steps) (length steps) d).target
+found_last m a x [] d h le = refl
+found_last m a x (y ∷ steps) d h le = grind (arith, nat_tests, over_below m y steps h.1.1, found_last m a y steps d h.1.1 le)
 
-pub found_back : (t : Target) (from : ℕ) (front : List Step) (x : Step) (back : List Step) (a : ℕ) → AscendFrom x.start from front
-    → x.start ≤ a → found_from t (front ++ x ∷ back) a ≡ found_from x.target back a
-found_back t from [] x back a h le = grind (arith, nat_tests)
-found_back t from (y ∷ front) x back a h le =
-    grind (arith, nat_tests, h.1.0, found_back y.target (y.start + 1) front x back a h.1.1 le)
+-- Steps in two parts: numbers from where the second starts have what that has, and others what the first has.
+pub record AreParts (m border : ℕ) (steps front back : List Step) : Type 0 where
+  pub before : AreOver border front
+  pub behind : AreOver m back
+  pub within : border < m
+  pub found : (a : ℕ) → found_in steps a ≡ (if nat_le border a then found_in back a else found_in front a)
 
--- the last step decides from all starts on
-last_from : (m from : ℕ) (steps : List Step) (a : ℕ) (y d : Step) → AscendFrom m from steps → m ≤ a
-    → found_from y.target steps a ≡ (get_or (y ∷ steps) (length steps) d).target
-last_from m from [] a y d h le = refl
-last_from m from (z ∷ steps) a y d h le = grind (arith, nat_tests, h.1.0, last_from m (z.start + 1) steps a z d h.1.1 le)
+pub parts : (m n : ℕ) (steps : List Step) (d : Step) → 1 ≤ n → n < length steps → AreOver m steps
+    → AreParts m (get_or steps n d).start steps (take n steps) (drop n steps)
+parts m (suc zero) (x ∷ y ∷ steps) d some lt h =
+    record { before = h.0; behind = h.1.1; within = over_below m y steps h.1.1; found = λ a. refl }
+parts m (suc (suc n)) (x ∷ y ∷ steps) d some lt h =
+    let rest = parts m (suc n) (y ∷ steps) d (omega arith) (omega arith) h.1.1 in record {
+      before = (h.0, (h.1.0, rest.before));
+      behind = rest.behind;
+      within = rest.within;
+      found = λ a. grind (arith, nat_tests, rest.found a, over_below _ y (take n steps) rest.before);
+    }
+parts m n _ d some lt h = absurd (omega arith)
 
-pub found_last : (m a n : ℕ) (steps : List Step) (d : Step) → AreSteps m steps → 1 ≤ length steps → n ≡ length steps - 1 → m ≤ a
-    → found_in steps a ≡ (get_or steps n d).target
-found_last m a n [] d h some last le = absurd (omega arith)
-found_last m a n (y ∷ steps) d h some last le = grind (arith, last, last_from m (y.start + 1) steps a y d h.ascend.1.1 le)
-
--- targets for all numbers below the size are all targets, and the other way round
-in_below : (code : List sock_filter) (m from : ℕ) (t : Target) (steps : List Step) → AscendFrom m from steps
-    → ((a : ℕ) → from ≤ a → a < m → IsIn code (found_from t steps a)) → AreIn code steps
-in_below code m from t [] up h k d lt = absurd (omega arith)
-in_below code m from t (x ∷ steps) up h zero d lt =
-    grind (arith, nat_tests, found_before m (x.start + 1) x.target steps x.start up.1.1, h x.start up.0 up.1.0)
-in_below code m from t (x ∷ steps) up h (suc k) d lt = in_below code m (x.start + 1) x.target steps up.1.1
+-- targets for all numbers below the size are all targets
+in_below : (code : List sock_filter) (m : ℕ) (x : Step) (steps : List Step) → AreOver m (x ∷ steps)
+    → ((a : ℕ) → x.start ≤ a → a < m → IsIn code (found_in (x ∷ steps) a)) → All (λ y. IsIn code y.target) (x ∷ steps)
+in_below code m x steps up h zero d lt =
+    rw (found_first m x steps x.start up (omega arith)) at (h x.start (omega arith) (over_below m x steps up))
+in_below code m x [] up h (suc k) d lt = absurd (omega arith)
+in_below code m x (y ∷ steps) up h (suc k) d lt = in_below code m y steps up.1.1
     (λ a le lt'. grind (arith, nat_tests, up.0, h a, lt')) k d (omega arith)
 
-pub are_in_below : (code : List sock_filter) (m : ℕ) (steps : List Step) → 0 < m → AreSteps m steps → AllIn code m steps → AreIn code steps
-are_in_below code m [] some are h = absurd (omega (arith, are.first))
-are_in_below code m (x ∷ steps) some are h = in_below code m 0 x.target (x ∷ steps) are.ascend
-    (λ a le lt. let yes : nat_le x.start a ≡ true = grind (arith, nat_tests, are.first) in rw yes (h a lt))
+pub are_in_below : (code : List sock_filter) (m : ℕ) (steps : List Step) → AreOver m steps → AllIn code m steps
+    → All (λ y. IsIn code y.target) steps
+are_in_below code m [] up h = absurd up
+are_in_below code m (x ∷ steps) up h = in_below code m x steps up (λ a le lt. h a lt)
 
 -- ---- what is left of steps from a number on
 
--- Steps that begin with what a number has.
+-- Where the first of the steps starts, or the size.
+abbrev pub first_start : ℕ → List Step → ℕ
+first_start size [] = size
+first_start size (x ∷ steps) = x.start
+
+-- Steps that begin with what a number has, and none at the size.
 abbrev pub IsFrom : ℕ → ℕ → List Step → Type 0
-IsFrom size number [] = ⊥
-IsFrom size number (x ∷ rest) = AscendFrom size (number + 1) rest
+IsFrom size number (x ∷ after) = (number < first_start size after) × AreOver size (x ∷ after)
+IsFrom size number [] = number ≡ size
 
 pub record AreLeft (size : ℕ) (steps : List Step) (number : ℕ) (rest : List Step) : Type 0 where
-  pub within : number ≤ size
-  pub from : number < size → IsFrom size number rest
+  pub from : IsFrom size number rest
   pub same : (a : ℕ) → number ≤ a → a < size → found_in steps a ≡ found_in rest a
 
-pub left_begins : (size : ℕ) (steps : List Step) → 0 < size → AreSteps size steps → AreLeft size steps 0 steps
-left_begins size steps some h = grind (arith, h.first, h.ascend)
+-- where a step ends
+step_ends : (size : ℕ) (x : Step) (after : List Step) → AreOver size (x ∷ after)
+    → (x.start < first_start size after) × (first_start size after ≤ size)
+step_ends size x [] h = (h, omega arith)
+step_ends size x (y ∷ after) h = (h.0, omega (arith, over_below size y after h.1.1))
 
--- where the next of them starts
 pub left_end : {size number : ℕ} {steps : List Step} (rest : List Step) → AreLeft size steps number rest → number < size
     → (number < first_start size (drop 1 rest)) × ((first_start size (drop 1 rest) ≤ size) × (1 ≤ length rest))
-left_end rest h some = grind (arith, h.from some)
+left_end [] h some = absurd (omega (arith, h.from))
+left_end {size} (x ∷ after) h some = (h.from.0, ((step_ends size x after h.from.1).1, omega arith))
 
 -- numbers up to there have what the first of them has
 pub left_has : {size number : ℕ} {steps : List Step} (rest : List Step) (d : Step) (a : ℕ) → AreLeft size steps number rest → number < size
     → number ≤ a → a < first_start size (drop 1 rest) → found_in steps a ≡ (get_or rest 0 d).target
-left_has rest d a h some le lt = grind (arith, nat_tests, h.from some, h.same a le, left_end rest h some, lt)
+left_has rest d a h some le lt = grind (arith, nat_tests, h.from, h.same a le, left_end rest h some, lt)
+
+pub left_all : {size number : ℕ} {steps : List Step} (rest : List Step) → AreLeft size steps number rest → size ≤ number → number ≡ size
+left_all [] h all = h.from
+left_all {size} (x ∷ after) h all = absurd (omega (arith, h.from.0, step_ends size x after h.from.1))
 
 -- What is left at the next number: the others, if the first ends there.
 abbrev pub HasMoved : ℕ → ℕ → List Step → List Step → Type 0
@@ -121,64 +131,54 @@ moves k next end rest is = rw (take_rest rest k) (grind (arith, nat_tests, is))
 
 pub left_on : {size number : ℕ} {steps : List Step} (next end : ℕ) (rest back : List Step) → AreLeft size steps number rest → number < size
     → end ≡ first_start size (drop 1 rest) → number < next → next ≤ end → HasMoved next end rest back → AreLeft size steps next back
-left_on next end rest back h some ends up le moved = record {
-  within = grind (arith, left_end rest h some);
-  from = λ less. grind (arith, h.from some, left_end rest h some, moved, ends);
-  same = λ a le lt. h.same a (omega arith) lt ∙ grind (arith, nat_tests, h.from some, moved, ends);
+left_on next end [] back h some ends up le moved = absurd (omega (arith, h.from))
+left_on next end (x ∷ []) back h some ends up le (inl (at, is)) = rw is record { from = at ∙ ends; same = λ a le' lt. absurd (omega arith) }
+left_on {size} next end (x ∷ y ∷ after) back h some ends up le (inl (at, is)) = rw is record {
+  from = (omega (arith, at, step_ends size y after h.from.1.1.1), h.from.1.1.1);
+  same = λ a le' lt. h.same a (omega arith) lt ∙ grind (arith, nat_tests, at, le');
 }
+left_on next end (x ∷ after) back h some ends up le (inr (not, is)) =
+    rw is record { from = (omega arith, h.from.1); same = λ a le' lt. h.same a (omega arith) lt }
 
 -- ---- one step more
 
-ascend_push : (from : ℕ) (steps : List Step) (x : Step) → from ≤ x.start → AscendFrom x.start from steps
-    → AscendFrom (x.start + 1) from (steps ++ x ∷ [])
-ascend_push from [] x le h = (le, (omega arith, tt))
-ascend_push from (y ∷ steps) x le h = (h.0, (omega (arith, h.1.0), ascend_push (y.start + 1) steps x (omega (arith, h.1.0)) h.1.1))
+over_push : (y : Step) (old : List Step) (x d : Step) → AreOver x.start (y ∷ old)
+    → ((get_or (y ∷ old) (length old) d).target ≢ x.target) → AreOver (x.start + 1) (y ∷ (old ++ x ∷ []))
+over_push y [] x d h not = (h, (not, omega arith))
+over_push y (z ∷ old) x d h not = (h.0, (h.1.0, over_push z old x d h.1.1 not))
 
-tight_from : (z : Step) (from : ℕ) (steps : List Step) (x : Step) → AscendFrom x.start from steps
-    → (found_from z.target steps x.start ≢ x.target) → AreTight (z ∷ steps) → AreTight (z ∷ (steps ++ x ∷ []))
-tight_from z from [] x h not tight = (not, tt)
-tight_from z from (y ∷ steps) x h not tight =
-    (tight.0, tight_from y (y.start + 1) steps x h.1.1 (λ e. not (grind (arith, nat_tests, h.1.0, e))) tight.1)
+found_push : (y : Step) (old : List Step) (x : Step) (a : ℕ) → AreOver x.start (y ∷ old)
+    → found_in (y ∷ (old ++ x ∷ [])) a ≡ (if nat_le x.start a then x.target else found_in (y ∷ old) a)
+found_push y [] x a h = refl
+found_push y (z ∷ old) x a h = grind (arith, nat_tests, found_push z old x a h.1.1, over_below x.start z old h.1.1)
 
-pub pushed_more : (old : List Step) (x : Step) → AreSteps x.start old → (1 ≤ length old → found_in old x.start ≢ x.target)
-    → IsPushed old x.start x.target (old ++ x ∷ [])
-pushed_more [] x h not = record {
-  are = record { first = h.first; ascend = (omega arith, (omega arith, tt)); tight = tt };
-  from = λ a le. refl;
-  below = λ a lt. absurd (omega (arith, h.first));
-  few = omega arith;
-}
+pub pushed_more : (old : List Step) (x : Step) → AreSteps x.start old
+    → ((n : ℕ) → suc n ≡ length old → (d : Step) × ((get_or old n d).target ≢ x.target)) → IsPushed old x.start x.target (old ++ x ∷ [])
+pushed_more [] x h not = record { are = (h, omega arith); from = λ a le. refl; below = λ a lt. absurd (omega arith); few = omega arith }
 pushed_more (y ∷ old) x h not = record {
-  are = record {
-    first = h.first;
-    ascend = ascend_push 0 (y ∷ old) x (omega arith) h.ascend;
-    tight = tight_from y (y.start + 1) old x h.ascend.1.1 (not (omega arith)) h.tight;
-  };
-  from = λ a le. found_back y.target (y.start + 1) old x [] a h.ascend.1.1 le;
-  below = λ a lt. found_front y.target old x [] a lt;
+  are = (h.0, let last = not (length old) refl in over_push y old x last.0 h.1 last.1);
+  from = λ a le. grind (arith, nat_tests, found_push y old x a h.1);
+  below = λ a lt. grind (arith, nat_tests, found_push y old x a h.1);
   few = omega (arith, length-append old (x ∷ []));
 }
 
 -- steps that end in the target need no step more
-pub pushed_same : (old : List Step) (start : ℕ) (target : Target) → AreSteps start old → 1 ≤ length old
-    → ((a : ℕ) → start ≤ a → found_in old a ≡ target) → IsPushed old start target old
-pushed_same old start target h some same = record {
-  are = steps_more start (start + 1) old (grind (arith, some, h.ascend)) (omega arith) h;
-  from = same;
+pub pushed_same : (old : List Step) (start n : ℕ) (target : Target) (d : Step) → AreSteps start old → suc n ≡ length old
+    → (get_or old n d).target ≡ target → IsPushed old start target old
+pushed_same [] start n target d h last same = absurd (omega arith)
+pushed_same (x ∷ old) start n target d h last same = record {
+  are = (h.0, over_more start (start + 1) (x ∷ old) (omega arith) h.1);
+  from = λ a le. let at : length old ≡ n = omega arith in found_last start a x old d h.1 le ∙ rw at same;
   below = λ a lt. refl;
   few = omega arith;
 }
 
 -- ---- comparisons
 
-pub compares_or_not : (o : SeccompCmpOp) (a v : ℕ) → Compares o a v ⊎ (Compares o a v → ⊥)
-compares_or_not (MaskedEq m) a v = cases_eq (bit_and a m) (bit_and v m)
-compares_or_not _ a v = grind arith
-
 -- numbers that lie alike to a value compare alike
 alike_on : (o : SeccompCmpOp) (a b v : ℕ) → is_plain o ≡ true
-    → ((a < v) × (b < v)) ⊎ (((a ≡ v) × (b ≡ v)) ⊎ ((v < a) × (v < b))) → Compares o a v ↔ Compares o b v
-alike_on o a b v plain side = (λ h. grind (arith, plain, side, h), λ h. grind (arith, plain, side, h))
+    → ((a < v) × (b < v)) ⊎ (((a ≡ v) × (b ≡ v)) ⊎ ((v < a) × (v < b))) → compares o a v ≡ compares o b v
+alike_on o a b v plain side = grind (arith, nat_tests, plain, side)
 
 pub numbers_many : (l : SeccompCmpArgLen) → 2 ^ 32 ≤ numbers_of l
 numbers_many l = grind arith
@@ -192,37 +192,26 @@ parts_left value number = if nat_lt number value then 2 else if nat_eq number va
 pub record Laying (c : Condition) (target : Target) (others : List Step) (number : ℕ) (rest steps : List Step) : Type 0 where
   pub left : AreLeft (numbers_of c.arg_len) others number rest
   pub are : AreSteps number steps
-  pub each : (a : ℕ) → a < number → IsChosen (Compares c.operator a (part_of c.arg_len c.value)) target (found_in others a)
-      (found_in steps a)
+  pub each : (a : ℕ) → a < number
+      → found_in steps a ≡ (if compares c.operator a (part_of c.arg_len c.value) then target else found_in others a)
   pub few : length steps + length rest + parts_left (part_of c.arg_len c.value) number ≤ length others + 2
-
-pub laying_begins : (c : Condition) (target : Target) (others : List Step) → AreSteps (numbers_of c.arg_len) others
-    → Laying c target others 0 others []
-laying_begins c target others h = record {
-  left = left_begins (numbers_of c.arg_len) others (omega (arith, numbers_many c.arg_len)) h;
-  are = record { first = refl; ascend = tt; tight = tt };
-  each = λ a lt. absurd (omega arith);
-  few = grind arith;
-}
 
 -- a step more: numbers that compare alike, and have one of the others' targets
 pub laying_on : {c : Condition} {target t : Target} {others steps more : List Step} {end number next : ℕ} (rest back : List Step)
     (d : Step) → is_plain c.operator ≡ true → Laying c target others number rest steps → number < numbers_of c.arg_len
     → end ≡ first_start (numbers_of c.arg_len) (drop 1 rest)
     → IsTurn number (part_of c.arg_len c.value + (if nat_le (part_of c.arg_len c.value) number then 1 else 0)) end next
-    → IsChosen (Compares c.operator number (part_of c.arg_len c.value)) target (get_or rest 0 d).target t → IsPushed steps number t more
-    → HasMoved next end rest back → Laying c target others next back more
-laying_on [] back d plain h some ends turn chosen pushed moved = absurd (h.left.from some)
-laying_on {c} {end = end} {number} {next} (x ∷ rest) back d plain h some ends turn chosen pushed moved = record {
-  left = left_on next end (x ∷ rest) back h.left some ends turn.above turn.within moved;
+    → t ≡ (if compares c.operator number (part_of c.arg_len c.value) then target else (get_or rest 0 d).target)
+    → IsPushed steps number t more → HasMoved next end rest back → Laying c target others next back more
+laying_on {c} {end = end} {number} {next} rest back d plain h some ends turn chosen pushed moved = record {
+  left = left_on next end rest back h.left some ends turn.above turn.within moved;
   are = steps_more (number + 1) next _ (omega arith) (omega (arith, turn.above)) pushed.are;
   each = λ a lt. elim (cases_lt a number) [
     | inl below ↦ rw (pushed.below a below) (h.each a below)
     | inr le ↦
-        let other = left_has (x ∷ rest) d a h.left some le (omega (arith, ends, turn.within)) in
+        let other = left_has rest d a h.left some le (omega (arith, ends, turn.within)) in
         let same = alike_on c.operator a number (part_of c.arg_len c.value) plain (grind (arith, nat_tests, turn.before, le, lt)) in
-        rw (pushed.from a le, other)
-        record { met = λ is. chosen.met (same.0 is); unmet = λ not. chosen.unmet (λ is. not (same.1 is)) }
+        rw (pushed.from a le, other, same) chosen
   ];
   few = grind (arith, nat_tests, h.few, pushed.few, turn.above, turn.stops, turn.within, moved);
 }
@@ -230,11 +219,10 @@ laying_on {c} {end = end} {number} {next} (x ∷ rest) back d plain h some ends 
 pub laying_ends : {c : Condition} {target : Target} {others rest steps : List Step} {number : ℕ} → is_plain c.operator ≡ true
     → Laying c target others number rest steps → numbers_of c.arg_len ≤ number → AreLaid c target others steps
 laying_ends {c} {number = number} plain h all =
-    let end : number ≡ numbers_of c.arg_len = omega (arith, h.left.within) in
-    record { are = rw end at h.are; each = λ a lt. h.each a (omega arith); few = omega (arith, h.few); plain = plain }
+    let end = left_all _ h.left all in
+    record { are = rw end at h.are; each = λ a lt. h.each a (omega (arith, end)); few = omega (arith, h.few); plain = plain }
 
 -- what is laid over targets of the code are targets of the code
 pub laid_in : (code : List sock_filter) (c : Condition) (target : Target) (others new : List Step) → AreLaid c target others new
     → IsIn code target → AllIn code (numbers_of c.arg_len) others → AllIn code (numbers_of c.arg_len) new
-laid_in code c target others new h own inside a lt =
-    grind (arith, h.each a lt, compares_or_not c.operator a (part_of c.arg_len c.value), own, inside a lt)
+laid_in code c target others new h own inside a lt = grind (arith, h.each a lt, own, inside a lt)

@@ -1,17 +1,23 @@
--- What decisions decide: the first ruling that holds, the rulings of a number, the default; for a filter what it decides itself; and the
--- calls that a loop makes of its chains.
-use Rattle.seccomp_tree.proofs.Common.{other_architecture, IsCallNumber, ChainMatches, policy_differs, AreCallNumbers}
-use Rattle.seccomp_tree.proofs.Common.{DecisionSet, default_for, append_assoc, unsigned_abs, insert_entry, Chain, chain_under, decisions_of}
-use Rattle.seccomp_tree.proofs.Common.{First, audit_word, rulings_for, IsDecided, map-append, numbers_of, Condition, IsDecision, rulings_of}
-use Rattle.seccomp_tree.proofs.Common.{one_value, drop_more, nat_tests, RuleHolds, All-push, All-head, All-tail, chains_of, Holds}
-use Rattle.seccomp_tree.proofs.Common.{nat_cmp, nothing, cases_eq, calls_of, decided, All-nil, call_of, DecideAs, int_cmp, keys_of}
-use Rattle.seccomp_tree.proofs.Common.{length, get_or, Option, arith, lookup, Global, Ruling, behind, word_at, Filter, word_of, All}
-use Rattle.seccomp_tree.proofs.Common.{List, [], drop, refl, Some, None, Vec, inl, inr, is_at, here, ◌++◌, Any, ints, Rule, pos, map}
-use Rattle.seccomp_tree.proofs.Common.{◌≡◌, ◌≤◌, ◌-◌, ℕ, ◌+◌, ◌<◌, ◌∷◌, sym, ap, ◌∙◌, ℤ, ⊤, ◌⊎◌}
-use Rattle.seccomp_tree.proofs.Meeting.{rule_or_not}
-use Rattle.seccompiler.proofs.Searches.{any_cases, any_head, any_nil, any_tail}
+-- What decisions decide: one word for each record; for a filter what it decides itself, with the calls that a loop makes of its chains; and
+-- steps over call numbers, which are as few as can be.
+use Rattle.seccomp_tree.proofs.Common.{other_architecture, AreCallNumbers, policy_differs, if◌then◌else◌, AreCallSteps, ChainMatches, Chain}
+use Rattle.seccomp_tree.proofs.Common.{DefaultValue, IsCallNumber, append_assoc, calls_length, decisions_of, default_from, insert_entry, []}
+use Rattle.seccomp_tree.proofs.Common.{rules_length, DecisionSet, chain_under, default_for, rulings_for, sock_filter, AreOver, AreRanges}
+use Rattle.seccomp_tree.proofs.Common.{IsDecision, audit_word, found_in, map-append, numbers_of, option_map, rulings_of, Condition, First}
+use Rattle.seccomp_tree.proofs.Common.{IsDecided, RuleHolds, chains_of, drop_more, is_member, nat_tests, unwrap_or, All-head, All-tail, All}
+use Rattle.seccomp_tree.proofs.Common.{DecideAs, IsAnswer, IsPushed, calls_of, cases_eq, cases_lt, All-nil, call_of, decided, Any}
+use Rattle.seccomp_tree.proofs.Common.{int_cmp, keys_of, nat_cmp, nothing, word_at, word_of, Filter, Global, Option, Ruling, Target, behind}
+use Rattle.seccomp_tree.proofs.Common.{get_or, length, lookup, nat_eq, nat_le, nat_lt, Grows, Holds, arith, false, holds, is_at, subst, Vec}
+use Rattle.seccomp_tree.proofs.Common.{Bool, Less, List, None, Rule, Some, Step, drop, here, ints, refl, true, ◌++◌, inl, inr, map, pos, ap}
+use Rattle.seccomp_tree.proofs.Common.{suc, sym, ◌+◌, ◌-◌, ◌<◌, ◌^◌, ◌∙◌, ◌∷◌, ◌≡◌, ◌≤◌, ◌⊎◌, ℕ, ℤ}
+use Rattle.seccompiler.proofs.Searches.{any_cases, any_head, any_tail, any_nil}
 use Rattle.std.specs.List.Sorted.{IsStrictlySortedBy}
+use Rattle.std.proofs.lemmas.Map.Keys.{sorted_tail}
+use Rattle.std.proofs.lemmas.Map.Views.{All-after_first}
 use Rattle.seccompiler.specs.Policy.{other_architecture as other}
+use Rattle.seccomp_tree.proofs.Meeting.{first_alone, first_is}
+use Rattle.seccomp_tree.proofs.Runs.{is_in_grown, leads_grown, grows_on}
+use Rattle.seccomp_tree.proofs.Begun.{found_first, over_below, steps_more}
 
 -- ---- lists that a loop goes down
 
@@ -23,150 +29,81 @@ drop_at l i x lt is = drop_more l i x lt ∙ ap (λ y. y ∷ drop (i + 1) l) (sy
 pub drop_back : {A : Type 0} (l : List A) (n : ℕ) (x : A) → 0 < n → n ≤ length l → x ≡ get_or l (n - 1) x → drop (n - 1) l ≡ x ∷ drop n l
 drop_back l n x some le is = drop_at l (n - 1) x (omega arith) is ∙ ap (λ k. x ∷ drop k l) (omega arith)
 
--- ---- the first ruling that holds
-
-pub first_here : {default w : ℕ} {r : List ℕ} (d : Ruling) (rest : List Ruling) → RuleHolds d.conditions r → First default r (d ∷ rest) w
-    → w ≡ d.value
-first_here d rest holds h = grind (arith, holds, h)
-
-pub first_behind : {default w : ℕ} {r : List ℕ} (d : Ruling) (rest : List Ruling) → (RuleHolds d.conditions r → ⊥)
-    → First default r (d ∷ rest) w → First default r rest w
-first_behind d rest not h = grind (arith, not, h)
-
-pub first_nothing : {default w : ℕ} {r : List ℕ} → First default r [] w → w ≡ default
-first_nothing nothing = refl
-
--- the one value that answers is the word that is decided
-pub one_first : (default v w : ℕ) (rulings : List Ruling) (r : List ℕ) → one_value default rulings ≡ Some v → First default r rulings w
-    → w ≡ v
-one_first default v w rulings r is h = grind (arith, nat_tests, is, h)
-
--- no two words are decided
-first_one : (default : ℕ) (r : List ℕ) (rulings : List Ruling) (v w : ℕ) → First default r rulings v → First default r rulings w → v ≡ w
-first_one default r [] v w nothing k = sym (first_nothing k)
-first_one default r (d ∷ rest) v w (here _ _ holds) k = sym (first_here d rest holds k)
-first_one default r (d ∷ rest) v w (behind _ _ _ not h) k = first_one default r rest v w h (first_behind d rest not k)
-
-pub one_decided : (d : DecisionSet) (r : List ℕ) (v w : ℕ) → IsDecided d r v → IsDecided d r w → v ≡ w
-one_decided d r v w h k =
-    grind (arith, first_one (default_for d.defaults (word_at r 0)) r (rulings_for d.calls (word_at r 0)) v w)
-
--- ---- the rulings of a number
-
--- the rulings of a number are those that a map has for it
-abbrev pub items_of : Option (Vec Ruling Global) → List Ruling
-items_of None = []
-items_of (Some v) = v.items
-
-pub rulings_under : (entries : List (ℕ × Vec Ruling Global)) (n : ℕ)
-    → items_of (lookup (is_at (nat_cmp n)) entries) ≡ rulings_for (calls_of entries) n
-rulings_under [] n = refl
-rulings_under (e ∷ entries) n = grind (arith, nat_tests, rulings_under entries n)
-
 -- ---- what is decided
 
-first_some : (default : ℕ) (r : List ℕ) (rulings : List Ruling) → (w : ℕ) × First default r rulings w
-first_some default r [] = (default, nothing)
-first_some default r (d ∷ rest) = elim (rule_or_not d.conditions r) [
-  | inl h ↦ (d.value, here d rest h)
-  | inr not ↦ let x = first_some default r rest in (x.0, behind d rest x.0 not x.1)
-]
+-- one word
+pub one_decided : (d : DecisionSet) (r : List ℕ) (v w : ℕ) → IsDecided d r v → IsDecided d r w → v ≡ w
+one_decided d r v w h k = grind (arith, first_alone, h, k)
 
 -- something is decided for each record
 pub decided_some : (d : DecisionSet) (r : List ℕ) → (w : ℕ) × IsDecided d r w
 decided_some d r = elim (cases_eq (word_at r 4) (audit_word d.target_arch)) [
-  | inl arch ↦ let x = first_some (default_for d.defaults (word_at r 0)) r (rulings_for d.calls (word_at r 0)) in (x.0, decided arch x.1)
+  | inl arch ↦ (_, decided arch (first_is (default_for d.defaults (word_at r 0)) (rulings_for d.calls (word_at r 0)) r))
   | inr not ↦ (0x80000000, other_architecture not refl)
 ]
 
--- ---- the loop of `calls_of`
+-- ---- the loop of `of_filter`
 
--- Chains' numbers are call numbers from one on, each above the one before it.
-abbrev pub RiseFrom : ℕ → List (ℤ × Vec Rule Global) → Type 0
-RiseFrom n [] = ⊤
-RiseFrom n (e ∷ entries) = IsCallNumber e.0 × ((n ≤ unsigned_abs e.0) × RiseFrom (unsigned_abs e.0 + 1) entries)
-
-rising : (n : ℕ) (e : ℤ × Vec Rule Global) (entries : List (ℤ × Vec Rule Global)) → AreCallNumbers (numbers_of (chains_of (e ∷ entries)))
-    → IsStrictlySortedBy int_cmp (keys_of (e ∷ entries)) → n ≤ unsigned_abs e.0 → RiseFrom n (e ∷ entries)
-unfolding IsStrictlySortedBy
-rising n e [] calls h le = (All-head IsCallNumber e.0 [] calls, (le, tt))
-rising n e (f ∷ entries) calls h le =
-    let rest = All-tail IsCallNumber e.0 (numbers_of (chains_of (f ∷ entries))) calls in
-    let own = All-head IsCallNumber e.0 (numbers_of (chains_of (f ∷ entries))) calls in
-    let next = All-head IsCallNumber f.0 (numbers_of (chains_of entries)) rest in
-    (own, (le, rising (unsigned_abs e.0 + 1) f entries rest h.1 (grind (arith, nat_tests, ints, own, next, h.0.0))))
+-- what is so of all is so of one between
+at_middle : {A : Type 0} (P : A → Type 0) (front : List A) (x : A) (back : List A) → All P (front ++ x ∷ back) → P x
+at_middle P [] x back h = All-head P x back h
+at_middle P (y ∷ front) x back h = at_middle P front x back (All-tail P y (front ++ x ∷ back) h)
 
 pub record CallsSoFar (w : ℕ) (chains : List (ℤ × Chain)) (left : List (ℤ × Vec Rule Global)) (calls : List (ℕ × Vec Ruling Global)) :
     Type 0 where
   pub made : calls_of calls ++ map (call_of w) (chains_of left) ≡ map (call_of w) chains
-  pub next : ℕ
-  pub below : All (λ x. x.0 < next) calls
-  pub rise : RiseFrom next left
+  pub keys : map (λ x. pos x.0) calls ++ keys_of left ≡ numbers_of chains
 
-pub calls_begin : (w : ℕ) (entries : List (ℤ × Vec Rule Global)) → AreCallNumbers (numbers_of (chains_of entries))
-    → IsStrictlySortedBy int_cmp (keys_of entries) → CallsSoFar w (chains_of entries) entries []
-calls_begin w entries calls ascends =
-    record { made = refl; next = 0; below = λ k d lt. absurd (omega arith); rise = rise entries calls ascends }
-  where
-    rise : (es : List (ℤ × Vec Rule Global)) → AreCallNumbers (numbers_of (chains_of es)) → IsStrictlySortedBy int_cmp (keys_of es)
-        → RiseFrom 0 es
-    rise [] calls ascends = tt
-    rise (e ∷ es) calls ascends = rising 0 e es calls ascends (omega arith)
+pub next_number : {w : ℕ} {chains : List (ℤ × Chain)} {left : List (ℤ × Vec Rule Global)} {e : ℤ × Vec Rule Global}
+    {calls : List (ℕ × Vec Ruling Global)} → CallsSoFar w chains (e ∷ left) calls → AreCallNumbers (numbers_of chains) → IsCallNumber e.0
+next_number {left = left} {e} {calls} h fit =
+    at_middle IsCallNumber (map (λ (x : ℕ × Vec Ruling Global). pos x.0) calls) e.0 (keys_of left) (subst AreCallNumbers (sym h.keys) fit)
 
 -- a call whose number is above those so far goes last
-insert_last : (calls : List (ℕ × Vec Ruling Global)) (next n : ℕ) (q : Vec Ruling Global) → All (λ x. x.0 < next) calls → next ≤ n
-    → insert_entry nat_cmp calls n q ≡ calls ++ (n, q) ∷ []
-insert_last [] next n q below le = refl
-insert_last (x ∷ calls) next n q below le =
-    let P = λ (y : ℕ × Vec Ruling Global). y.0 < next in
-    grind (arith, nat_tests, All-head P x calls below, insert_last calls next n q (All-tail P x calls below) le)
+insert_last : (calls : List (ℕ × Vec Ruling Global)) (n : ℕ) (q : Vec Ruling Global) (back : List ℤ)
+    → IsStrictlySortedBy int_cmp (map (λ x. pos x.0) calls ++ pos n ∷ back) → insert_entry nat_cmp calls n q ≡ calls ++ (n, q) ∷ []
+insert_last [] n q back h = refl
+insert_last (x ∷ calls) n q back h =
+    let others : List ℤ = map (λ (y : ℕ × Vec Ruling Global). pos y.0) calls in
+    let all = All-after_first int_cmp (pos x.0) (others ++ pos n ∷ back) h in
+    let below = at_middle (λ (z : ℤ). int_cmp (pos x.0) z ≡ Less) others (pos n) back all in
+    grind (arith, nat_tests, ints, below, insert_last calls n q back (sorted_tail int_cmp (pos x.0) (others ++ pos n ∷ back) h))
 
 pub calls_next : (w n : ℕ) (z : ℤ) (chain : Vec Rule Global) (q : Vec Ruling Global) (chains : List (ℤ × Chain))
-    (back : List (ℤ × Vec Rule Global)) (calls : List (ℕ × Vec Ruling Global)) → CallsSoFar w chains ((z, chain) ∷ back) calls → z ≡ pos n
-    → q.items ≡ rulings_of w chain.items → CallsSoFar w chains back (insert_entry nat_cmp calls n q)
-calls_next w n z chain q chains back calls h is same =
-    let rise = rw is at h.rise in
-    rw (insert_last calls h.next n q h.below rise.1.0) record {
+    (back : List (ℤ × Vec Rule Global)) (calls : List (ℕ × Vec Ruling Global)) → CallsSoFar w chains ((z, chain) ∷ back) calls
+    → IsStrictlySortedBy int_cmp (numbers_of chains) → z ≡ pos n → q.items ≡ rulings_of w chain.items
+    → CallsSoFar w chains back (insert_entry nat_cmp calls n q)
+calls_next w n z chain q chains back calls h sorted is same =
+    let keys = rw is at h.keys in
+    rw (insert_last calls n q (keys_of back) (subst (IsStrictlySortedBy int_cmp) (sym keys) sorted)) record {
       made = rw (map-append, append_assoc, same) (rw is at h.made);
-      next = n + 1;
-      below = All-push (λ (x : ℕ × Vec Ruling Global). x.0 < n + 1) calls (n, q)
-          (λ k d lt. omega (arith, h.below k d lt, rise.1.0)) (omega arith);
-      rise = rise.1.1;
+      keys = rw (map-append, append_assoc) keys;
     }
 
 -- ---- the first of a chain's rulings
 
 module _ (r : List ℕ) (default w : ℕ) where
-  abbrev Hold : Chain → Type 0
-  Hold chain = Any (λ q. RuleHolds q r) chain
+  -- The word if something is so, or else the default.
+  abbrev Names : Type 0 → ℕ → Type 0
+  Names Is v = (Is × (v ≡ w)) ⊎ ((Is → ⊥) × (v ≡ default))
 
-  abbrev rulings : Chain → List Ruling
-  rulings chain = map (λ q. record { conditions = q; value = w }) chain
-
-  -- the word if a rule holds, or else the default
-  first_is : (chain : Chain) (v : ℕ) → First default r (rulings chain) v
-      → (Hold chain × (v ≡ w)) ⊎ ((Hold chain → ⊥) × (v ≡ default))
-  first_is [] v nothing = inr (any_nil (λ (x : Rule). RuleHolds x r), refl)
-  first_is (q ∷ chain) v (here d rest holds) = inl (any_head (λ (x : Rule). RuleHolds x r) q chain holds, refl)
-  first_is (q ∷ chain) v (behind d rest u not first) =
-      let P = λ (x : Rule). RuleHolds x r in grind (arith, any_tail P q chain, any_cases P q chain, first_is chain v first, not)
+  rules_name : (chain : Chain) (v : ℕ) → First default r (map (λ q. record { conditions = q; value = w }) chain) v
+      → Names (Any (λ q. RuleHolds q r) chain) v
+  rules_name [] v nothing = inr (any_nil (λ (x : Rule). RuleHolds x r), refl)
+  rules_name (q ∷ chain) v (here d rest holds) = inl (any_head (λ (x : Rule). RuleHolds x r) q chain holds, refl)
+  rules_name (q ∷ chain) v (behind d rest u not first) =
+      let P = λ (x : Rule). RuleHolds x r in grind (arith, any_tail P q chain, any_cases P q chain, rules_name chain v first, not)
 
   -- so for a chain, which matches if it has no rules
-  chain_is : (chain : Chain) (v : ℕ) → First default r (rulings_of w chain) v
-      → (ChainMatches chain r × (v ≡ w)) ⊎ ((ChainMatches chain r → ⊥) × (v ≡ default))
-  chain_is [] v (here d rest holds) = inl (inl refl, refl)
-  chain_is [] v (behind d rest u not first) = absurd (not (All-nil (λ (c : Condition). Holds c r)))
-  chain_is (q ∷ chain) v first = grind (arith, first_is (q ∷ chain) v first)
+  chain_names : (chain : Chain) (v : ℕ) → First default r (rulings_of w chain) v → Names (ChainMatches chain r) v
+  chain_names [] v (here d rest holds) = inl (inl refl, refl)
+  chain_names [] v (behind d rest u not first) = absurd (not (All-nil (λ (c : Condition). Holds c r)))
+  chain_names (q ∷ chain) v first = grind (arith, rules_name (q ∷ chain) v first)
 
 -- ---- the chain of a number
 
--- The rulings of a chain that was found.
-abbrev found_rulings : ℕ → Option Chain → List Ruling
-found_rulings w None = []
-found_rulings w (Some chain) = rulings_of w chain
-
 rulings_found : (w : ℕ) (chains : List (ℤ × Chain)) (n : ℕ) → AreCallNumbers (numbers_of chains)
-    → rulings_for (map (call_of w) chains) n ≡ found_rulings w (chain_under chains n)
+    → rulings_for (map (call_of w) chains) n ≡ unwrap_or (option_map (rulings_of w) (chain_under chains n)) []
 rulings_found w [] n numbers = refl
 rulings_found w (e ∷ chains) n numbers =
     let call = All-head IsCallNumber e.0 (numbers_of chains) numbers in
@@ -177,10 +114,10 @@ rulings_found w (e ∷ chains) n numbers =
 
 module _ (f : Filter) (r : List ℕ) where
   given_decision : (found : Option Chain) → chain_under f.chains (word_at r 0) ≡ found → word_at r 4 ≡ audit_word f.target_arch → (v : ℕ)
-      → First (word_of f.mismatch_action) r (found_rulings (word_of f.match_action) found) v → IsDecision f r v
+      → First (word_of f.mismatch_action) r (unwrap_or (option_map (rulings_of (word_of f.match_action)) found) []) v → IsDecision f r v
   given_decision None is own v nothing = policy_differs own (λ m. let e = m.there in cc) refl
   given_decision (Some chain) is own v first =
-      grind (arith, own, is, chain_is r (word_of f.mismatch_action) (word_of f.match_action) chain v first)
+      grind (arith, own, is, chain_names r (word_of f.mismatch_action) (word_of f.match_action) chain v first)
 
 -- a filter names one word for a record
 pub one_decision : (f : Filter) (r : List ℕ) (v w : ℕ) → IsDecision f r v → IsDecision f r w → v ≡ w
@@ -199,3 +136,119 @@ decide_as f numbers r w = (to w, from)
 
     from : IsDecision f r w → IsDecided (decisions_of f) r w
     from h = let x = decided_some (decisions_of f) r in rw (one_decision f r x.0 w (to x.0 x.1) h) at x.1
+
+-- ---- the loop of `next_start`
+
+-- numbers that no start parts have one default
+pub same_from : (value : ℕ) (defaults : List DefaultValue) (m n : ℕ)
+    → ((k : ℕ) (d : DefaultValue) → k < length defaults → ((get_or defaults k d).start ≤ m) ⊎ (n < (get_or defaults k d).start))
+    → m ≤ n → default_from value defaults n ≡ default_from value defaults m
+same_from value [] m n parts le = refl
+same_from value (x ∷ defaults) m n parts le =
+    let rest = λ (v : ℕ). same_from v defaults m n (λ k d lt. parts (suc k) d (omega arith)) le in
+    grind (arith, nat_tests, parts 0 x (omega arith), rest x.value, rest value)
+
+-- the rulings of a number are those that a map has for it
+abbrev pub items_of : Option (Vec Ruling Global) → List Ruling
+items_of None = []
+items_of (Some v) = v.items
+
+pub rulings_under : (entries : List (ℕ × Vec Ruling Global)) (n : ℕ)
+    → items_of (lookup (is_at (nat_cmp n)) entries) ≡ rulings_for (calls_of entries) n
+rulings_under [] n = refl
+rulings_under (e ∷ entries) n = grind (arith, nat_tests, rulings_under entries n)
+
+-- up to a number there are no rulings, and the next is no greater or the very next
+pub none_to : {number next : ℕ} (entries : List (ℕ × Vec Ruling Global)) (empty : ℕ) → (next ≤ empty) ⊎ (next ≡ number + 1)
+    → ((n : ℕ) → number ≤ n → n < empty → items_of (lookup (is_at (nat_cmp n)) entries) ≡ []) → (n : ℕ) → number ≤ n → n < next
+    → rulings_for (calls_of entries) n ≡ rulings_for (calls_of entries) number
+none_to {number} entries empty which none n le lt = elim (cases_eq n number) [
+  | inl same ↦ ap (rulings_for (calls_of entries)) same
+  | inr not ↦ grind (arith, which, not, rulings_under entries, none n le, none number)
+]
+
+-- ---- the loop of `call_steps`
+
+-- How many instructions the rulings of the numbers below one take.
+abbrev pub below_length : List (ℕ × List Ruling) → ℕ → ℕ
+below_length [] n = 0
+below_length (e ∷ calls) n = (if nat_lt e.0 n then rules_length e.1 else 0) + below_length calls n
+
+pub below_all : (calls : List (ℕ × List Ruling)) (n : ℕ) → below_length calls n ≤ calls_length calls
+below_all [] n = omega arith
+below_all (e ∷ calls) n = grind (arith, nat_tests, below_all calls n)
+
+below_one : (calls : List (ℕ × List Ruling)) (n m : ℕ) → n < m
+    → below_length calls n + rules_length (rulings_for calls n) ≤ below_length calls m
+below_one [] n m lt = omega arith
+below_one (e ∷ calls) n m lt = grind (arith, nat_tests, below_one calls n m lt)
+
+-- a call's rulings are among all
+pub calls_less : (calls : List (ℕ × List Ruling)) (n : ℕ) → rules_length (rulings_for calls n) ≤ calls_length calls
+calls_less calls n = omega (arith, below_one calls n (n + 1) (omega arith), below_all calls (n + 1))
+
+pub calls_on : {d : DecisionSet} {old mid new : List sock_filter} {steps more : List Step} {number next : ℕ} {t : Target}
+    → AreCallSteps old d (below_length d.calls number) number steps mid
+    → Grows mid (rules_length (rulings_for d.calls number)) new
+    → IsAnswer new (default_for d.defaults number) (rulings_for d.calls number) t → IsPushed steps number t more → number < next
+    → ((n : ℕ) → number ≤ n → n < next → default_for d.defaults n ≡ default_for d.defaults number)
+    → ((n : ℕ) → number ≤ n → n < next → rulings_for d.calls n ≡ rulings_for d.calls number)
+    → AreCallSteps old d (below_length d.calls next) next more new
+calls_on {d} {number = number} {next} h grows answer pushed up defaults rulings = record {
+  grows = grows_on _ h.grows grows (below_one d.calls number next up);
+  are = steps_more (number + 1) next _ (omega arith) (omega (arith, up)) pushed.are;
+  each = λ n lt. elim (cases_lt n number) [
+    | inl less ↦
+        let old = h.each n less in
+        rw (pushed.below n less) record {
+          inside = is_in_grown _ grows old.inside;
+          one = old.one;
+          leads = λ r rec w n first takes a small. leads_grown grows (old.leads r rec w n first takes a small);
+        }
+    | inr le ↦ rw (pushed.from n le, defaults n le lt, rulings n le lt) answer
+  ];
+}
+
+-- ---- steps without alike neighbours are at most as many as any ranges of the decisions
+
+-- How many numbers are at a number or above it.
+abbrev above : ℕ → List ℕ → ℕ
+above n [] = 0
+above n (s ∷ starts) = (if nat_le n s then 1 else 0) + above n starts
+
+above_all : (n : ℕ) (starts : List ℕ) → above n starts ≤ length starts
+above_all n [] = omega arith
+above_all n (s ∷ starts) = grind (arith, nat_tests, above_all n starts)
+
+-- above one of them there are fewer
+above_less : (m n : ℕ) (starts : List ℕ) → m < n → (if is_member nat_eq starts m then 1 else 0) + above n starts ≤ above m starts
+above_less m n [] lt = omega arith
+above_less m n (s ∷ starts) lt = grind (arith, nat_tests, above_less m n starts lt)
+
+-- where each step starts, ranges start
+few_from : (d : DecisionSet) (code : List sock_filter) (starts : List ℕ) (y : Step) (steps : List Step) → AreRanges d starts
+    → is_member nat_eq starts y.start ≡ true → AreOver (2 ^ 32) (y ∷ steps)
+    → ((n : ℕ) → y.start ≤ n → n < 2 ^ 32 → IsAnswer code (default_for d.defaults n) (rulings_for d.calls n) (found_in (y ∷ steps) n))
+    → length (y ∷ steps) ≤ above y.start starts
+few_from d code starts y [] ranges first over each = grind (arith, above_less y.start (y.start + 1) starts, first)
+few_from d code starts y (x ∷ steps) ranges first over each =
+    let rest = few_from d code starts x steps ranges (begins (is_member nat_eq starts (x.start - 1 + 1)) refl) over.1.1 (λ n le lt.
+    let yes : nat_le x.start n ≡ true = grind (arith, nat_tests) in rw yes at (each n (omega (arith, over.0)) lt)) in
+    grind (arith, rest, above_less y.start x.start starts, first, over.0)
+  where
+    begins : (b : Bool) → is_member nat_eq starts (x.start - 1 + 1) ≡ b → is_member nat_eq starts x.start ≡ true
+    begins true e = ap (is_member nat_eq starts) (omega (arith, over.0)) ∙ e
+    begins false e =
+        let fits = over_below (2 ^ 32) x steps over.1.1 in
+        let alike = ranges.alike (x.start - 1) (omega (arith, over.0, fits)) e in
+        let low = (each (x.start - 1) (omega (arith, over.0)) (omega (arith, fits))).one alike.0 alike.1 in
+        let high = (each (x.start - 1 + 1) (omega (arith, over.0)) (omega (arith, over.0, fits))).one alike.0 alike.2 in
+        let at = found_first (2 ^ 32) x steps (x.start - 1 + 1) over.1.1 (omega (arith, over.0)) in
+        absurd (over.1.0 (grind (arith, nat_tests, over.0, low, high, at)))
+
+pub fewest : {d : DecisionSet} {most : ℕ} {old code : List sock_filter} (steps : List Step) (starts : List ℕ)
+    → AreCallSteps old d most (2 ^ 32) steps code → AreRanges d starts → length steps ≤ length starts
+fewest [] starts h ranges = omega arith
+fewest {d} {code = code} (x ∷ steps) starts h ranges =
+    let zero : is_member nat_eq starts x.start ≡ true = rw h.are.0 ranges.zero in
+    omega (arith, few_from d code starts x steps ranges zero h.are.1 (λ n le lt. h.each n lt), above_all x.start starts)

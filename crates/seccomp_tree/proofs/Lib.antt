@@ -2,10 +2,7 @@
 pub mod Common
 pub mod Runs
 pub mod Meeting
-pub mod Ruled
 pub mod Trees
 pub mod Theorem
 pub mod Decided
-pub mod CallsPushed
 pub mod Begun
-pub mod Halves

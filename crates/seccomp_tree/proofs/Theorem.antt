@@ -1,33 +1,26 @@
 -- The theorem: what is written answers every record as is decided. Sound code is a checked program, and a run that returns a word ends
 -- with it there.
-use Rattle.seccomp_tree.proofs.Common.{other_architecture, greatest_length, EndsAsDecided, IsTreeProgram, AreCallSteps, calls_length, subst}
-use Rattle.seccomp_tree.proofs.Common.{length-drop, sock_filter, DecisionSet, default_for, rulings_for, EndsWithin, audit_word, one-le-pow}
-use Rattle.seccomp_tree.proofs.Common.{slice_get, drop-drop, then_step, IsInRange, IsChecked, length_by, nat_tests, to_return, run_steps, ℕ}
-use Rattle.seccomp_tree.proofs.Common.{IsDecided, AreRanges, word_fits, pow-succ', drop_all, zero-add, IsAnswer, IsRecord, TakesOwn, length}
-use Rattle.seccomp_tree.proofs.Common.{IsTested, goes_on, AreFine, IsSound, Returns, word_at, decided, IsFine, Target, IsPart, chosen, zero}
-use Rattle.seccomp_tree.proofs.Common.{Ruling, passes, begins, joined, arith, stays, gives, Equal, Leads, Dword, First, Takes, stops, other}
-use Rattle.seccomp_tree.proofs.Common.{List, drop, Some, refl, give, Goes, Give, Step, ends, load, ◌≡◌, suc, ◌+◌, ◌-◌, ◌<◌, ◌≤◌, ◌^◌, ◌∷◌}
-use Rattle.seccomp_tree.proofs.Common.{sym, ◌∙◌, ◌*◌, inl, inr, one, own, [], ap}
+use Rattle.seccomp_tree.proofs.Common.{other_architecture, greatest_length, EndsAsDecided, IsTreeProgram, if◌then◌else◌, AreCallSteps, Give}
+use Rattle.seccomp_tree.proofs.Common.{calls_length, DecisionSet, default_for, rulings_for, sock_filter, EndsWithin, audit_word, one-le-pow}
+use Rattle.seccomp_tree.proofs.Common.{AreRanges, IsChecked, IsDecided, drop-drop, length_by, nat_tests, pow-succ', run_steps, slice_get, ℕ}
+use Rattle.seccomp_tree.proofs.Common.{then_step, to_return, word_fits, IsAnswer, IsRecord, IsTested, TakesOwn, drop_all, zero-add, IsSound}
+use Rattle.seccomp_tree.proofs.Common.{Returns, decided, goes_on, word_at, IsPart, Ruling, Target, begins, joined, length, nat_eq, passes}
+use Rattle.seccomp_tree.proofs.Common.{Dword, Equal, First, Leads, Takes, arith, gives, other, stays, stops, subst, Goes, List, Some, Step}
+use Rattle.seccomp_tree.proofs.Common.{drop, ends, give, load, refl, zero, inl, inr, one, own, suc, sym, ◌*◌, ◌+◌, ◌-◌, ◌<◌, ◌^◌, ◌∙◌, ◌∷◌}
+use Rattle.seccomp_tree.proofs.Common.{◌≡◌, ◌≤◌, [], ap}
 use Rattle.seccomp_tree.proofs.Runs.{returns_more, grown_long, sound_some}
-use Rattle.seccomp_tree.proofs.Decided.{decided_some, one_first}
+use Rattle.seccomp_tree.proofs.Decided.{decided_some, fewest}
 use Rattle.seccomp_tree.proofs.Begun.{not_none}
+use Rattle.seccompiler.proofs.Runs.{goes_far}
+use Rattle.std.proofs.lemmas.Option.{slice_get_within}
 use Rattle.seccomp_tree.proofs.Trees.{load_run}
-use Rattle.seccomp_tree.proofs.CallsPushed.{fewest}
-use Rattle.seccomp_tree.proofs.Meeting.{rule_or_not}
+use Rattle.seccomp_tree.proofs.Meeting.{one_first, rule_or_not}
 
 get_at : (p : List sock_filter) (place : ℕ) (i : sock_filter) (rest : List sock_filter) → drop place p ≡ i ∷ rest
     → slice_get p place ≡ Some i
 get_at (x ∷ p) zero i rest e = cc
 get_at (x ∷ p) (suc place) i rest e = get_at p place i rest e
 get_at [] place i rest e = cc (drop_all {X = sock_filter} place [] (omega arith))
-
--- a run takes no more steps than there are instructions
-pub returns_short : {r : List ℕ} {a w n : ℕ} (code : List sock_filter) → Returns r code a w n → Returns r code a w (length code)
-returns_short [] h = elim h [ ]
-returns_short (i ∷ rest) (gives i' rest' a w n is word) = gives i rest a w (length rest) is word
-returns_short (i ∷ rest) (goes_on i' rest' a a' w n d does small h) =
-    goes_on i rest a a' w (length rest) d does small
-    (returns_more (length rest) (omega (arith, length-drop d rest)) (returns_short (drop d rest) h))
 
 -- a run that has come to a place ends as it does from there
 ends_from : (p : List sock_filter) (r : List ℕ) (tail : List sock_filter) (place m a w n : ℕ) → drop place p ≡ tail → Goes p r 0 0 m place
@@ -63,20 +56,14 @@ ends_from p r tail place m a w n at goes small (goes_on i rest b a' v n' d does 
 pub program_ends : (p : List sock_filter) (r : List ℕ) (w n : ℕ) → Returns r p 0 w n → EndsWithin p r w n
 program_ends p r w n h = rw zero-add at (ends_from p r p 0 0 0 w n refl stays (omega arith) h)
 
-each_fine : (p : List sock_filter) (place : ℕ) (i : sock_filter) → AreFine p → slice_get p place ≡ Some i
-    → IsFine i place (length p) × IsInRange i
-each_fine [] place i h here = absurd (cc)
-each_fine (x ∷ p) zero i h here = grind (arith, h, here)
-each_fine (x ∷ p) (suc place) i h here = grind (arith, each_fine p place i h.1.1 here)
-
 -- Sound code is a checked program, if it is no longer than that may be.
 pub sound_checked : (p : List sock_filter) → IsSound p → length p ≤ greatest_length → IsChecked p
 sound_checked p h few =
     record {
       some = sound_some p h;
       few = few;
-      ranges = record { each = λ place i here. (each_fine p place i h.fine here).1 };
-      each = λ place i here. (each_fine p place i h.fine here).0;
+      ranges = record { each = λ place i here. (h.fine place i here).1 };
+      each = λ place i here. (h.fine place i here).0;
       last = λ i here.
           let same : i ≡ give 0x80000000 = cc (get_at p (length p - 1) (give 0x80000000) [] h.ends) in
           ap (λ (j : sock_filter). j.code) same;
@@ -113,60 +100,60 @@ takes_some r (d ∷ rest) zero =
 
 -- ---- the whole
 
--- What is written: a load of the architecture's word, its test, and for the calls of the architecture a tree over numbers.
+-- What is written is short, and the program of the decisions if it is no longer than that may be.
 pub record IsWritten (d : DecisionSet) (p : List sock_filter) : Type 0 where
-  pub mid : List sock_filter
-  pub steps : List Step
-  pub answers : AreCallSteps (give 0x80000000 ∷ []) d (calls_length d.calls) (2 ^ 32) steps mid
-  pub calls : Target
-  pub behind : List sock_filter
-  pub word : IsPart mid Dword (λ r. word_at r 0) steps calls behind
-  pub test : Target
-  pub tested : List sock_filter
-  pub tests : IsTested behind Equal (audit_word d.target_arch) calls (Give 0x80000000) test tested
-  pub whole : p ≡ load 4 ∷ tested
+  pub short : (starts : List ℕ) → AreRanges d starts → length p ≤ length_by d (length starts)
+  pub program : IsSound p → length p ≤ greatest_length → IsTreeProgram d p
 
-module _ (d : DecisionSet) (p : List sock_filter) (h : IsWritten d p) where
+-- A load of the architecture's word, its test, and for the calls of the architecture a tree over numbers.
+module _ {d : DecisionSet} {p mid behind tested : List sock_filter} {steps : List Step} {calls test : Target}
+    (answers : AreCallSteps (give 0x80000000 ∷ []) d (calls_length d.calls) (2 ^ 32) steps mid)
+    (word : IsPart mid Dword (λ r. word_at r 0) steps calls behind)
+    (tests : IsTested behind Equal (audit_word d.target_arch) calls (Give 0x80000000) test tested) (whole : p ≡ load 4 ∷ tested) where
   -- the test of the architecture's word, after its load
   chosen_runs : (r : List ℕ) (u : Target) (w m : ℕ) → IsRecord r
-      → chosen Equal (audit_word d.target_arch) h.calls (Give 0x80000000) (word_at r 4) ≡ u → Leads 1 h.behind r u w m
+      → (if nat_eq (word_at r 4) (audit_word d.target_arch) then calls else Give 0x80000000) ≡ u → Leads 1 behind r u w m
       → Returns r p 0 w (suc (suc m))
   chosen_runs r u w m rec is enters =
       let small = word_fits r 4 rec in
-      rw h.whole (load_run r h.tested 4 0 w (suc m) rec (omega arith)
-      (h.tests.leads r (word_at r 4) w m small (rw is (enters (word_at r 4) small))))
+      rw whole (load_run r tested 4 0 w (suc m) rec (omega arith)
+      (tests.leads r (word_at r 4) w m small (rw is (enters (word_at r 4) small))))
 
   -- a program that is written returns what is decided
-  written_returns : (r : List ℕ) (w n k : ℕ) → IsRecord r → length h.steps ≤ 2 ^ k → IsDecided d r w → TakesOwn d r n
+  written_returns : (r : List ℕ) (w n k : ℕ) → IsRecord r → length steps ≤ 2 ^ k → IsDecided d r w → TakesOwn d r n
       → Returns r p 0 w (4 + 2 * k + n)
   written_returns r w n k rec few (other_architecture not is) takes = returns_more (4 + 2 * k + n) (omega arith)
       (chosen_runs r (Give w) w 1 rec (grind (arith, nat_tests, not, is)) (λ a small. to_return w a 1 (omega arith)))
   written_returns r w n k rec few (decided arch first) takes = returns_more (4 + 2 * k + n) (omega arith)
-      (chosen_runs r h.calls w (n + 1 + (1 + 2 * k)) rec (grind (arith, nat_tests, arch))
-      (h.word.leads r rec w (n + 1) k few
-      (answer_leads d h.mid _ r w n rec (h.answers.each (word_at r 0) (word_fits r 0 rec)) arch first takes)))
+      (chosen_runs r calls w (n + 1 + (1 + 2 * k)) rec (grind (arith, nat_tests, arch))
+      (word.leads r rec w (n + 1) k few
+      (answer_leads d mid _ r w n rec (answers.each (word_at r 0) (word_fits r 0 rec)) arch first takes)))
 
   written_decides : (r : List ℕ) → IsRecord r → EndsAsDecided d p r
   written_decides r rec =
-      let k = length h.steps in
+      let k = length steps in
       let x = decided_some d r in
       let y = takes_some r (rulings_for d.calls (word_at r 0)) 0 in
-      let run = written_returns r x.0 y.0 k rec (power k) x.1 (own y.0 y.1) in
-      record { word = x.0; decided = x.1; ends = program_ends p r x.0 (length p) (returns_short p run) }
+      let h = program_ends p r x.0 _ (written_returns r x.0 y.0 k rec (power k) x.1 (own y.0 y.1)) in
+      let short : h.steps ≤ length p = omega (arith, goes_far p r h.ends.goes, slice_get_within p _ _ h.ends.here, h.ends.some) in
+      record { word = x.0; decided = x.1; ends = record { steps = h.steps; few = short; ends = h.ends } }
 
-  pub written_short : (starts : List ℕ) → AreRanges d starts → length p ≤ length_by d (length starts)
+  written_short : (starts : List ℕ) → AreRanges d starts → length p ≤ length_by d (length starts)
   written_short starts ranges =
-      let some = not_none (2 ^ 32) h.steps h.answers.are (omega arith) in
-      let few = fewest h.steps starts h.answers ranges in
-      let grown = (grown_long h.answers.grows).1 in
-      omega (arith, some, few, grown, (grown_long h.word.grows).1, (grown_long h.tests.grows).1, ap length h.whole)
+      let some = not_none (2 ^ 32) steps answers.are (omega arith) in
+      let few = fewest steps starts answers ranges in
+      let grown = (grown_long answers.grows).1 in
+      omega (arith, some, few, grown, (grown_long word.grows).1, (grown_long tests.grows).1, ap length whole)
 
-  pub written_program : IsSound p → length p ≤ greatest_length → IsTreeProgram d p
-  written_program sound fits = record {
-    checked = sound_checked p sound fits;
-    decides = written_decides;
-    soon = λ r rec w n k decision takes starts ranges few.
-        let less = fewest h.steps starts h.answers ranges in
-        program_ends p r w (4 + 2 * k + n) (written_returns r w n k rec (omega (arith, less)) decision takes);
+  pub is_written : IsWritten d p
+  is_written = record {
     short = written_short;
+    program = λ sound fits. record {
+      checked = sound_checked p sound fits;
+      decides = written_decides;
+      soon = λ r rec w n k decision takes starts ranges few.
+          let less = fewest steps starts answers ranges in
+          program_ends p r w (4 + 2 * k + n) (written_returns r w n k rec (omega (arith, less)) decision takes);
+      short = written_short;
+    };
   }

@@ -1,56 +1,41 @@
 -- What private functions promise each other: of steps that are looked up by a number, of code that is written from its end to its
 -- front, conditions, rulings and call numbers.
-use Rattle.std.specs.Prelude.{◌≡◌, ℕ, suc, ◌+◌, ◌-◌, ◌*◌, ◌<◌, ◌≤◌, ◌^◌, List, [], ◌∷◌, ◌++◌, length, drop, ⊤, nat_eq, nat_le}
-use Rattle.std.specs.Prelude.{slice_index_or, if◌then◌else◌, bit_and, Some, Bool, true, ◌≢◌, false, ◌&&◌}
+use Rattle.std.specs.Prelude.{◌≡◌, ℕ, suc, ◌+◌, ◌-◌, ◌*◌, ◌<◌, ◌≤◌, ◌^◌, List, [], ◌∷◌, ◌++◌, length, drop, nat_eq, nat_le, nat_lt, not}
+use Rattle.std.specs.Prelude.{if◌then◌else◌, bit_and, slice_get, Some, Bool, true, ◌≢◌, false, ◌&&◌}
+use Rattle.std.specs.List.{list_all}
 use Rattle.seccompiler.specs.declared.bpf.sock_filter.{sock_filter}
-use Rattle.seccompiler.specs.Machine.{IsRecord, Does, IsFine, IsInRange, word_at, greatest_length}
-use Rattle.seccompiler.specs.Policy.{Condition, Holds, Compares, RuleHolds, part_of}
+use Rattle.seccompiler.specs.Machine.{IsRecord, Does, IsFine, IsInRange, argument_at}
+use Rattle.seccompiler.specs.Policy.{Condition, operator_part, part_of}
 use Rattle.seccompiler.specs.declared.backend.SeccompCmpArgLen.{SeccompCmpArgLen}
 use Rattle.seccompiler.specs.declared.backend.SeccompCmpArgLen.TheVariants.{Dword, Qword}
-use Rattle.seccompiler.specs.Code.{give}
-use Rattle.seccomp_tree.specs.declared.error.TreeError.{TreeError}
-use Rattle.seccomp_tree.specs.declared.error.TreeError.TheVariants.{TooLarge}
-use Rattle.seccomp_tree.specs.declared.decisions.DefaultValue.{DefaultValue}
+use Rattle.seccompiler.specs.declared.backend.SeccompCmpOp.{SeccompCmpOp}
+use Rattle.seccompiler.specs.declared.backend.SeccompCmpOp.TheVariants.{Eq, Ne, Ge, Gt, Le, Lt, MaskedEq}
+use Rattle.seccompiler.specs.Code.{give, jump}
 use Rattle.seccomp_tree.specs.declared.steps.Target.{Target}
 use Rattle.seccomp_tree.specs.declared.steps.Target.TheVariants.{Give, At}
 use Rattle.seccomp_tree.specs.declared.steps.Step.{Step}
 use Rattle.seccomp_tree.specs.declared.code.Test.{Test}
 use Rattle.seccomp_tree.specs.declared.code.Test.TheVariants.{Equal, AtLeast}
-use Rattle.seccomp_tree.specs.Decisions.{Ruling, First, Takes, condition_length, condition_steps, conditions_length, conditions_steps}
-use Rattle.seccomp_tree.specs.Decisions.{is_plain, part_length, part_steps, rules_length}
+use Rattle.seccomp_tree.specs.Decisions.{Ruling, First, Takes, conditions_length, conditions_steps, is_plain, part_length, part_steps}
 use Rattle.seccomp_tree.specs.Decided.{DecisionSet, default_for, rulings_for}
 use Rattle.seccomp_tree.specs.TreeProgram.{one_value}
 
--- The target for a number: that of the last step that starts at or below it, or this one if none does.
-abbrev pub found_from : Target → List Step → ℕ → Target
-found_from found [] a = found
-found_from found (x ∷ steps) a = if nat_le x.start a then found_from x.target steps a else found
-
--- The target that steps have for a number, which is that of the first if the number is below all starts.
+-- The target that steps have for a number: that of the last step that starts at or below it, or of the first if none does.
 abbrev pub found_in : List Step → ℕ → Target
+found_in (x ∷ y ∷ steps) a = if nat_le y.start a then found_in (y ∷ steps) a else x.target
+found_in (x ∷ []) a = x.target
 found_in [] a = Give 0
-found_in (x ∷ steps) a = found_from x.target steps a
 
--- The steps start at a number or above it and below the size, each above the one before it.
-abbrev pub AscendFrom : ℕ → ℕ → List Step → Type 0
-AscendFrom size start [] = ⊤
-AscendFrom size start (x ∷ steps) = (start ≤ x.start) × ((x.start < size) × AscendFrom size (x.start + 1) steps)
+-- Some steps, each of which starts above the one before it, and has another target; all start below a size.
+abbrev pub AreOver : ℕ → List Step → Type 0
+AreOver size (x ∷ y ∷ steps) = (x.start < y.start) × ((x.target ≢ y.target) × AreOver size (y ∷ steps))
+AreOver size (x ∷ []) = x.start < size
+AreOver size [] = ⊥
 
--- No two neighbours have one target.
-abbrev pub AreTight : List Step → Type 0
-AreTight (x ∷ y ∷ steps) = (x.target ≢ y.target) × AreTight (y ∷ steps)
-AreTight _ = ⊤
-
--- Where the first of the steps starts, or the size.
-abbrev pub first_start : ℕ → List Step → ℕ
-first_start size [] = size
-first_start size (x ∷ steps) = x.start
-
--- Steps over all numbers below the size, none if it is 0; no two neighbours have one target.
-pub record AreSteps (size : ℕ) (steps : List Step) : Type 0 where
-  pub first : first_start size steps ≡ 0
-  pub ascend : AscendFrom size 0 steps
-  pub tight : AreTight steps
+-- Steps over all numbers below a size, none if it is 0.
+abbrev pub AreSteps : ℕ → List Step → Type 0
+AreSteps size (x ∷ steps) = (x.start ≡ 0) × AreOver size (x ∷ steps)
+AreSteps size [] = size ≡ 0
 
 -- From start on the steps have this target, and below what they had.
 pub record IsPushed (old : List Step) (start : ℕ) (target : Target) (new : List Step) : Type 0 where
@@ -80,18 +65,13 @@ row steps = length steps - 1
 
 -- ---- code
 
--- Each instruction is one of the seven, within its fields' ranges, and its jumps lead to instructions after it.
-abbrev pub AreFine : List sock_filter → Type 0
-AreFine [] = ⊤
-AreFine (i ∷ rest) = IsFine i 0 (length rest + 1) × (IsInRange i × AreFine rest)
-
 -- The code from a place on. A place counts instructions from the end, the last one being 0.
 abbrev pub tail_at : List sock_filter → ℕ → List sock_filter
 tail_at code place = drop (length code - (place + 1)) code
 
--- Code that may be run: it is fine, its places fit 32 bits, and it ends in a return that kills the process.
+-- Code that may be run: each instruction is fine at its place, places fit 32 bits, and it ends in a return that kills the process.
 pub record IsSound (code : List sock_filter) : Type 0 where
-  pub fine : AreFine code
+  pub fine : (place : ℕ) (i : sock_filter) → slice_get code place ≡ Some i → IsFine i place (length code) × IsInRange i
   pub few : length code < 2 ^ 32
   pub ends : tail_at code 0 ≡ give 0x80000000 ∷ []
 
@@ -105,8 +85,8 @@ pub data Returns (r : List ℕ) : List sock_filter → ℕ → ℕ → ℕ → T
 -- with a step more for a jump, if the place is further than so many instructions from where the code begins.
 pub data Starts (reach : ℕ) (code : List sock_filter) (r : List ℕ) : Target → ℕ → ℕ → ℕ → Type 0 where
   to_return : (w a n : ℕ) → 1 ≤ n → Starts reach code r (Give w) a w n
-  to_place : (m w a n : ℕ) → m < length code → Returns r (tail_at code m) a w n → Starts reach code r (At m) a w (suc n)
-  near : (m w a n : ℕ) → m < length code → length code ≤ m + reach → Returns r (tail_at code m) a w n → Starts reach code r (At m) a w n
+  to_place : (m w a k n : ℕ) → m < length code → Returns r (tail_at code m) a w k
+      → k + (if nat_le (length code) (m + reach) then 0 else 1) ≤ n → Starts reach code r (At m) a w n
 
 -- So whatever the accumulator holds. From what is written next no jump is needed to the last place: there the reach is 1, and 0 if
 -- each place may be far.
@@ -118,11 +98,7 @@ abbrev pub IsIn : List sock_filter → Target → Type 0
 IsIn code (Give w) = w < 2 ^ 32
 IsIn code (At m) = m < length code
 
--- All targets of steps are.
-abbrev pub AreIn : List sock_filter → List Step → Type 0
-AreIn code steps = (k : ℕ) (d : Step) → k < length steps → IsIn code (slice_index_or steps k d).target
-
--- All that steps have for numbers below a size are.
+-- So are all targets that steps have for numbers below a size.
 abbrev pub AllIn : List sock_filter → ℕ → List Step → Type 0
 AllIn code size steps = (a : ℕ) → a < size → IsIn code (found_in steps a)
 
@@ -132,10 +108,10 @@ pub record Grows (old : List sock_filter) (most : ℕ) (new : List sock_filter) 
   pub whole : new ≡ front ++ old
   pub few : length front ≤ most
 
--- What stands at the place does what the target says.
-pub record DoesAs (code : List sock_filter) (t : Target) (place : ℕ) : Type 0 where
-  pub inside : place < length code
-  pub leads : (r : List ℕ) (a w n : ℕ) → a < 2 ^ 32 → Starts 0 code r t a w n → Returns r (tail_at code place) a w n
+-- The instruction that does at a place what the target says.
+abbrev pub stand_in : Target → ℕ → sock_filter
+stand_in (Give w) place = give w
+stand_in (At m) place = jump (place - (m + 1))
 
 -- The place does what the target says, and is so near that a jump to it fits 8 bits though one more instruction may come
 -- between. A place that is near is taken as it is.
@@ -145,21 +121,18 @@ pub record IsReached (old : List sock_filter) (t : Target) (place : ℕ) (new : 
   pub near : length new ≤ place + 255
   pub leads : (r : List ℕ) (a w n : ℕ) → a < 2 ^ 32 → Starts 255 old r t a w n → Returns r (tail_at new place) a w n
 
--- Whether the accumulator passes a test, and the target that this chooses.
+-- Whether the accumulator passes a test.
 abbrev pub passed : Test → ℕ → ℕ → Bool
 passed Equal k a = nat_eq a k
 passed AtLeast k a = nat_le k a
 
-abbrev pub chosen : Test → ℕ → Target → Target → ℕ → Target
-chosen test k met other a = if passed test k a then met else other
-
--- The target, which was written last, tests the accumulator, and goes on as the test chooses: a step more than what is chosen
--- takes.
+-- The target, which was written last, tests the accumulator, and goes on as the one target or the other says, in a step more.
 pub record IsTested (old : List sock_filter) (test : Test) (k : ℕ) (yes no t : Target) (new : List sock_filter) : Type 0 where
   pub grows : Grows old 3 new
   pub last : t ≡ At (length new - 1)
   pub some : 1 ≤ length new
-  pub leads : (r : List ℕ) (a w n : ℕ) → a < 2 ^ 32 → Starts 1 old r (chosen test k yes no a) a w n → Returns r new a w (suc n)
+  pub leads : (r : List ℕ) (a w n : ℕ) → a < 2 ^ 32 → Starts 1 old r (if passed test k a then yes else no) a w n
+      → Returns r new a w (suc n)
 
 -- The target goes on as the steps say for the accumulator, in so many steps more than what they say takes.
 abbrev pub GoesOn : List sock_filter → List Step → ℕ → Target → List sock_filter → Type 0
@@ -189,10 +162,15 @@ abbrev pub numbers_of : SeccompCmpArgLen → ℕ
 numbers_of Dword = 2 ^ 32
 numbers_of Qword = 2 ^ 64
 
--- Of two things the first if something is so, and else the second.
-pub record IsChosen {A : Type 0} (Is : Type 0) (yes no t : A) : Type 0 where
-  pub met : Is → t ≡ yes
-  pub unmet : (Is → ⊥) → t ≡ no
+-- Whether a number compares with a value as the operator says.
+abbrev pub compares : SeccompCmpOp → ℕ → ℕ → Bool
+compares Eq x v = nat_eq x v
+compares Ne x v = not (nat_eq x v)
+compares Ge x v = nat_le v x
+compares Gt x v = nat_lt v x
+compares Le x v = nat_le x v
+compares Lt x v = nat_lt x v
+compares (MaskedEq m) x v = nat_eq (bit_and x m) (bit_and v m)
 
 -- The cut or the end, whichever comes first behind the number.
 pub record IsTurn (number cut end next : ℕ) : Type 0 where
@@ -206,55 +184,32 @@ pub record IsTurn (number cut end next : ℕ) : Type 0 where
 pub record AreLaid (c : Condition) (target : Target) (others steps : List Step) : Type 0 where
   pub are : AreSteps (numbers_of c.arg_len) steps
   pub each : (a : ℕ) → a < numbers_of c.arg_len
-      → IsChosen (Compares c.operator a (part_of c.arg_len c.value)) target (found_in others a) (found_in steps a)
+      → found_in steps a ≡ (if compares c.operator a (part_of c.arg_len c.value) then target else found_in others a)
   pub few : length steps ≤ length others + 2
   pub plain : is_plain c.operator ≡ true
 
--- The target goes on as `yes` says if something is so of the record, and else as `no` says, whatever the accumulator holds.
-pub record IsMet (Is : List ℕ → Type 0) (most steps : ℕ) (old : List sock_filter) (yes no t : Target) (new : List sock_filter) :
+-- Whether the condition holds on the record.
+abbrev pub holds : List ℕ → Condition → Bool
+holds r c = compares (operator_part c.arg_len c.operator) (part_of c.arg_len (argument_at r c.arg_index)) (part_of c.arg_len c.value)
+
+-- The target goes on as `yes` says if the record passes the test, and else as `no` says, whatever the accumulator holds.
+pub record IsMet (test : List ℕ → Bool) (most steps : ℕ) (old : List sock_filter) (yes no t : Target) (new : List sock_filter) :
     Type 0 where
   pub grows : Grows old most new
   pub inside : IsIn new t
-  pub met : (r : List ℕ) → IsRecord r → Is r → (w n : ℕ) → Leads 0 old r yes w n → Leads 0 new r t w (n + steps)
-  pub unmet : (r : List ℕ) → IsRecord r → (Is r → ⊥) → (w n : ℕ) → Leads 0 old r no w n → Leads 0 new r t w (n + steps)
+  pub leads : (r : List ℕ) → IsRecord r → (w n : ℕ) → Leads 0 old r (if test r then yes else no) w n → Leads 0 new r t w (n + steps)
 
-abbrev pub IsConditionMet : List sock_filter → Condition → Target → Target → Target → List sock_filter → Type 0
-IsConditionMet old c met unmet t new =
-    IsMet (Holds c) (condition_length c.arg_len c.operator) (condition_steps c.arg_len c.operator + 1) old met unmet t new
+-- The test is whether all the conditions hold.
+abbrev pub AreMet : List Condition → List sock_filter → Target → Target → Target → List sock_filter → Type 0
+AreMet q = IsMet (λ r. list_all (holds r) q) (conditions_length q) (conditions_steps q)
 
--- The word of the record at this byte has the value's bits under the mask.
-abbrev pub HasBits : ℕ → ℕ → ℕ → List ℕ → Type 0
-HasBits byte mask value r = bit_and (word_at r byte) mask ≡ bit_and value mask
-
--- ---- rulings
-
--- The target returns the value if all the conditions hold, and else goes on as what comes after.
-abbrev pub IsRulingMet : List sock_filter → List Condition → ℕ → Target → Target → List sock_filter → Type 0
-IsRulingMet old q value after t new = IsMet (RuleHolds q) (conditions_length q) (conditions_steps q) old (Give value) after t new
+-- ---- rulings and calls
 
 -- The target goes on as the first of the rulings that holds says, or returns the default; if one value answers calls, it returns that.
 pub record IsAnswer (code : List sock_filter) (default : ℕ) (rulings : List Ruling) (t : Target) : Type 0 where
   pub inside : IsIn code t
   pub one : (v : ℕ) → one_value default rulings ≡ Some v → t ≡ Give v
   pub leads : (r : List ℕ) → IsRecord r → (w n : ℕ) → First default r rulings w → Takes r 0 rulings n → Leads 0 code r t w (n + 1)
-
--- Code was put in front for that.
-pub record IsAnswered (old : List sock_filter) (default : ℕ) (rulings : List Ruling) (t : Target) (new : List sock_filter) : Type 0 where
-  pub grows : Grows old (rules_length rulings) new
-  pub answer : IsAnswer new default rulings t
-
--- There are more rulings than a program has room for: this comes only if that is so, or of memory.
-abbrev pub IsTooMany : ℕ → TreeError → Type 0
-IsTooMany length e = e ≡ TooLarge → greatest_length < length
-
--- ---- steps over call numbers
-
--- A number after this one, up to which calls are answered as those of this one.
-pub record IsNextStart (defaults : List DefaultValue) (calls : List (ℕ × List Ruling)) (number next : ℕ) : Type 0 where
-  pub above : number < next
-  pub within : next ≤ 2 ^ 32
-  pub default : (n : ℕ) → number ≤ n → n < next → default_for defaults n ≡ default_for defaults number
-  pub rulings : (n : ℕ) → number ≤ n → n < next → rulings_for calls n ≡ rulings_for calls number
 
 -- At most so many instructions were put in front, and the steps over the numbers below one answer each of them.
 pub record AreCallSteps (old : List sock_filter) (d : DecisionSet) (most next : ℕ) (steps : List Step) (new : List sock_filter) :

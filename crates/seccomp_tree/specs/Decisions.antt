@@ -5,7 +5,7 @@ use Rattle.seccompiler.specs.declared.backend.SeccompCmpArgLen.{SeccompCmpArgLen
 use Rattle.seccompiler.specs.declared.backend.SeccompCmpArgLen.TheVariants.{Dword, Qword}
 use Rattle.seccompiler.specs.Policy.{Condition, RuleHolds}
 use Rattle.seccompiler.specs.declared.backend.SeccompCmpOp.{SeccompCmpOp}
-use Rattle.seccompiler.specs.declared.backend.SeccompCmpOp.TheVariants.{Eq, Ne, Ge, Gt, Le, Lt, MaskedEq}
+use Rattle.seccompiler.specs.declared.backend.SeccompCmpOp.TheVariants.{MaskedEq}
 
 -- Conditions, and the word that is returned if they all hold.
 pub record Ruling : Type 0 where
@@ -21,21 +21,15 @@ pub data First (default : ℕ) (r : List ℕ) : List Ruling → ℕ → Type 0 w
 
 -- Whether the operator compares without a mask: it holds on the numbers of one interval or two.
 abbrev pub is_plain : SeccompCmpOp → Bool
-is_plain Eq = true
-is_plain Ne = true
-is_plain Ge = true
-is_plain Gt = true
-is_plain Le = true
-is_plain Lt = true
 is_plain (MaskedEq m) = false
+is_plain _ = true
 
 -- ---- runs: rulings that compare one argument, one after the other
 
 -- The condition of a ruling that has one, without a mask.
 abbrev pub only : List Condition → Option Condition
-only [] = None
 only (c ∷ []) = if is_plain c.operator then Some c else None
-only (c ∷ d ∷ conditions) = None
+only _ = None
 
 -- Whether two lengths are one.
 abbrev pub same_length : SeccompCmpArgLen → SeccompCmpArgLen → Bool

@@ -1,18 +1,16 @@
 // Code that is written from its end to its front.
 
-ghost use Rattle.std.specs.Prelude.{◌≡◌, ◌≤◌, ◌<◌, ◌+◌, ◌^◌, ◌∷◌, [], IsTrue, IfOk, OnOk, length};
+ghost use Rattle.std.specs.Prelude.{◌≡◌, ◌≤◌, ◌<◌, ◌+◌, ◌^◌, ◌∷◌, [], ℕ, IfOk, OnOk, length};
 ghost use Rattle.seccompiler.specs.Code.{give};
 ghost use Rattle.seccompiler.specs.Machine.{IsFine, IsInRange};
-ghost use Rattle.seccomp_tree.specs.Code.{IsSound, IsIn, DoesAs, IsReached, IsTested};
+ghost use Rattle.seccomp_tree.specs.declared.steps.Target.TheVariants.{At};
+ghost use Rattle.seccomp_tree.specs.Code.{IsIn, IsReached, IsSound, IsTested, stand_in};
 
 use crate::steps::Target;
 use seccompiler::BpfProgram;
 use seccompiler::bpf::{JUMP, JUMP_AT_LEAST, JUMP_EQUAL, RETURN, bpf_jump, bpf_stmt, sock_filter};
 use std::alloc::{AllocError, Global};
 use std::marker::Model;
-
-// How many instructions there may be, so that 32 bits hold the distance of each jump. A program has far fewer.
-const MOST: usize = 0xffff_ffff;
 
 // How many instructions a jump may pass over if one more may still come between: 8 bits hold 255.
 const REACH: usize = 254;
@@ -57,8 +55,7 @@ impl Code {
 
     /// How many instructions there are.
     pub(crate) fn len(&self) -> usize
-        ensures len { result ≡ length self.now }
-        ensures some { 1 ≤ result }
+        ensures { result ≡ length self.now }
     {
         self.back.len()
     }
@@ -69,7 +66,8 @@ impl Code {
         requires range { IsInRange instruction }
         ensures { OnOk result (self.new ≡ instruction ∷ self.old) }
     {
-        if self.back.len() == MOST {
+        // 32 bits hold the distance of each jump. A program has far fewer instructions.
+        if self.back.len() == 0xffff_ffff {
             return Err(AllocError);
         }
         self.back.push(instruction)?;
@@ -85,45 +83,25 @@ impl Code {
         self.back.len() - 1 - place
     }
 
-    // Whether the instruction at a place does what the target says, whatever is in the accumulator.
-    fn does(&self, place: usize, target: Target) -> bool
-        requires place { place < length self.now }
-        requires target { IsIn self.now target }
-        ensures { IsTrue result → DoesAs self.now target place }
-    {
-        let instruction = self.back[place];
-        match target {
-            Target::Give(word) => instruction.code == RETURN && instruction.k == word,
-            Target::At(to) => {
-                instruction.code == JUMP && to + 1 + instruction.k as usize == place
-            }
-        }
-    }
-
     /// A near place that does what the target says: its own, or that of a return or a jump, which is written if none
     /// is near.
     pub(crate) fn reach(&mut self, target: Target) -> Result<usize, AllocError>
         requires { IsIn self.old target }
         ensures { IfOk result (λ place. IsReached self.old target place self.new) }
     {
-        let instruction = match target {
-            Target::Give(word) => bpf_stmt(RETURN, word),
-            Target::At(place) => {
-                let over = self.over(place);
-                if over <= REACH {
-                    return Ok(place);
-                }
-                bpf_stmt(JUMP, over as u32)
-            }
-        };
-        let farthest = self.len().saturating_sub(REACH + 1);
-        for place in (farthest..self.len()).rev() {
-            if self.does(place, target) {
+        if let Target::At(place) = target {
+            if self.over(place) <= REACH {
                 return Ok(place);
             }
         }
-        self.push(instruction)?;
-        Ok(self.len() - 1)
+        let len = self.len();
+        for place in (len.saturating_sub(REACH + 1)..len).rev() {
+            if self.back[place] == stand_in(target, place) {
+                return Ok(place);
+            }
+        }
+        self.push(stand_in(target, len))?;
+        Ok(len)
     }
 
     /// If the accumulator compares with `k`, goes on as the one target says, and else as the other.
@@ -152,5 +130,19 @@ impl Code {
         let Code { mut back } = self;
         back.reverse();
         back
+    }
+}
+
+// The instruction that does at a place what the target says, whatever is in the accumulator.
+fn stand_in(target: Target, place: usize) -> sock_filter
+    requires place { place < 2 ^ 32 }
+    requires behind { (m : ℕ) → target ≡ At m → m < place }
+    ensures is { result ≡ stand_in target place }
+    ensures fine { IsFine result 0 (place + 1) }
+    ensures range { IsInRange result }
+{
+    match target {
+        Target::Give(word) => bpf_stmt(RETURN, word),
+        Target::At(to) => bpf_stmt(JUMP, (place - to - 1) as u32),
     }
 }

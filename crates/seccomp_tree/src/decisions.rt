@@ -1,10 +1,14 @@
-// Decisions on calls: what each call is answered with.
+// Decisions on calls: what each call is answered with; and a filter as decisions.
 
-ghost use Rattle.std.specs.Prelude.{◌≡◌, ℕ, ◌↔◌};
+ghost use Rattle.std.specs.Prelude.{◌≡◌, ℕ, ◌↔◌, IfOk, IfErr, OnOk};
+ghost use Rattle.seccompiler.specs.Compiled.{AreCallNumbers, numbers_of};
 ghost use Rattle.seccomp_tree.specs.Decisions.{First};
 ghost use Rattle.seccomp_tree.specs.Decided.{AscendFromZero, calls_of, default_for, rulings_for};
+ghost use Rattle.seccomp_tree.specs.FilterDecisions.{rulings_of};
 
-use seccompiler::{SeccompCondition, TargetArch};
+use crate::error::FilterError;
+use seccompiler::{BackendError, SeccompCondition, SeccompFilter, SeccompRule, TargetArch};
+use std::alloc::{AllocError, Global};
 use std::collections::BTreeMap;
 use std::marker::Model;
 
@@ -62,6 +66,7 @@ impl Model for Decisions {
 impl Decisions {
     ghost use Rattle.std.specs.Prelude.{IsSome, IfSome};
     ghost use Rattle.seccomp_tree.specs.Decided.{IsDecided};
+    ghost use Rattle.seccomp_tree.specs.FilterDecisions.{DecideAs, IsUndecidable, decisions_of};
 
     /// Makes decisions: `defaults` begin at the number 0, each above the one before it.
     ///
@@ -91,6 +96,36 @@ impl Decisions {
         })
     }
 
+    /// A filter as decisions: each rule of a chain, or a chain without rules, gives the return value of the
+    /// match action; the default is that of the mismatch action.
+    ///
+    /// # Errors
+    ///
+    /// `InvalidSyscallNumber` with the least key that lies outside 0 to 4294967295, if there is one, which
+    /// takes no memory; else `OutOfMemory` if memory runs out.
+    pub fn of_filter(alloc: Global, filter: &SeccompFilter) -> Result<Decisions, FilterError>
+        ensures made { IfOk result (λ d. d ≡ decisions_of filter.now) }
+        ensures alike { IfOk result (λ d. DecideAs filter.now d) }
+        ensures numbers { OnOk result (AreCallNumbers (numbers_of filter.now.chains)) }
+        ensures refused { IfErr result (IsUndecidable filter.now) }
+    {
+        if let Err(BackendError::InvalidSyscallNumber(number)) = filter.compiled_len() {
+            return Err(FilterError::InvalidSyscallNumber(number));
+        }
+        let match_value = filter.match_action().into();
+        let mut calls = BTreeMap::new(alloc);
+        for (number, chain) in filter.rules() {
+            drop(calls.insert(*number as u32, rulings_of(alloc, chain, match_value)?)?);
+        }
+        let value = filter.mismatch_action().into();
+        let defaults = vec![in alloc; DefaultValue { start: 0, value }]?;
+        Ok(Decisions {
+            target_arch: filter.target_arch(),
+            defaults,
+            calls,
+        })
+    }
+
     /// The return value that is decided for the call of this record (`struct seccomp_data` of `linux/seccomp.h`). No other value is.
     #[tactic(auto, using(crate::proofs::Decided::one_decided))]
     pub fn decide(&self, call: &[u8; 64]) -> u32
@@ -102,8 +137,20 @@ impl Decisions {
         if arch != self.target_arch.get_audit_value() {
             return KILL_PROCESS;
         }
-        let default = default_for(&self.defaults, number);
-        first_value(self.rulings_for(number), default, call)
+        first_value(self.rulings_for(number), self.default_for(number), call)
+    }
+
+    /// The value of the last default that starts at or below the number.
+    pub(crate) fn default_for(&self, number: u32) -> u32
+        ensures { result ≡ default_for self.now.defaults number }
+    {
+        let mut value = 0;
+        for default in &self.defaults {
+            if default.start <= number {
+                value = default.value;
+            }
+        }
+        value
     }
 
     /// The rulings of a number, or none.
@@ -112,19 +159,6 @@ impl Decisions {
     {
         self.calls.get(&number).map_or(&[], |all| all.as_slice())
     }
-}
-
-/// The value of the last default that starts at or below the number.
-pub(crate) fn default_for(defaults: &[DefaultValue], number: u32) -> u32
-    ensures { result ≡ default_for defaults.now number }
-{
-    let mut value = 0;
-    for default in defaults {
-        if default.start <= number {
-            value = default.value;
-        }
-    }
-    value
 }
 
 // The word of the first of the decisions that holds, or the default.
@@ -138,4 +172,20 @@ fn first_value(rulings: &[Decision], default: u32, call: &[u8; 64]) -> u32
         }
     }
     default
+}
+
+// The rulings of a chain.
+fn rulings_of(alloc: Global, chain: &[SeccompRule], value: u32) -> Result<Vec<Decision>, AllocError>
+    ensures { IfOk result (λ rulings. rulings.items ≡ rulings_of value chain.now) }
+{
+    let mut rulings = Vec::new(alloc);
+    for rule in chain {
+        let conditions = rule.conditions().to_vec(alloc)?;
+        rulings.push(Decision { conditions, value })?;
+    }
+    if chain.is_empty() {
+        let conditions = Vec::new(alloc);
+        rulings.push(Decision { conditions, value })?;
+    }
+    Ok(rulings)
 }

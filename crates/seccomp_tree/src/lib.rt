@@ -21,13 +21,9 @@
 //! program.
 #![tactic(auto)]
 
-mod argument;
 mod code;
-mod condition;
 mod decisions;
 mod error;
-mod filter;
-mod intervals;
 mod layout;
 mod program;
 mod rules;

@@ -1,11 +1,11 @@
 // The program of decisions.
 
-ghost use Rattle.std.specs.Prelude.{◌^◌, IfOk, IfErr};
-ghost use Rattle.seccomp_tree.specs.Decided.{calls_of};
-ghost use Rattle.seccomp_tree.specs.Code.{IsNextStart, IsTooMany};
+ghost use Rattle.std.specs.Prelude.{◌≡◌, ◌<◌, ◌≤◌, ◌^◌, ℕ, IfOk, IfErr};
+ghost use Rattle.seccompiler.specs.Machine.{greatest_length};
+ghost use Rattle.seccomp_tree.specs.declared.error.TreeError.TheVariants as tree;
 
 use crate::code::{Code, Test};
-use crate::decisions::{Decision, Decisions, DefaultValue, KILL_PROCESS, default_for};
+use crate::decisions::{Decisions, KILL_PROCESS};
 use crate::error::TreeError;
 use crate::steps::{Step, Target, WORDS, push_step};
 use seccompiler::BpfProgram;
@@ -13,12 +13,12 @@ use seccompiler::bpf::{
     BPF_MAX_LEN, LOAD, SECCOMP_DATA_ARCH_OFFSET, SECCOMP_DATA_NR_OFFSET, bpf_stmt,
 };
 use std::alloc::Global;
-use std::collections::BTreeMap;
 use std::ops::Bound;
 
 impl Decisions {
     ghost use Rattle.seccomp_tree.specs.TreeProgram.{IsTreeProgram, IsTooLargeFor, calls_length};
     ghost use Rattle.seccomp_tree.specs.Code.{AreCallSteps};
+    ghost use Rattle.seccomp_tree.specs.Decided.{default_for, rulings_for};
 
     /// The program of these decisions: one tree of tests over call numbers, and after it the tests of their arguments.
     ///
@@ -43,37 +43,42 @@ impl Decisions {
     }
 
     // The steps over call numbers.
-    #[tactic(auto, using(crate::proofs::CallsPushed::calls_less))]
+    #[tactic(auto, using(crate::proofs::Decided::calls_less))]
     fn call_steps(&self, alloc: Global, code: &mut Code) -> Result<Vec<Step>, TreeError>
-        ensures ok { IfOk result (λ steps. AreCallSteps code.old self.now (calls_length self.now.calls) (2 ^ 32) steps.items code.new) }
-        ensures err { IfErr result (IsTooMany (calls_length self.now.calls)) }
+        ensures steps { IfOk result (λ steps. AreCallSteps code.old self.now (calls_length self.now.calls) (2 ^ 32) steps.items code.new) }
+        ensures large { IfErr result (λ e. e ≡ tree.TooLarge → greatest_length < calls_length self.now.calls) }
     {
         let mut steps = Vec::new(alloc);
         let mut next: u64 = 0;
         while next < WORDS {
             let number = next as u32;
-            let default = default_for(&self.defaults, number);
-            let target = code.rules(alloc, self.rulings_for(number), default)?;
+            let target = code.rules(alloc, self.rulings_for(number), self.default_for(number))?;
             push_step(&mut steps, next, target)?;
-            next = next_start(&self.defaults, &self.calls, number);
+            next = self.next_start(number);
         }
         Ok(steps)
     }
-}
 
-// The next number after this one that may be answered otherwise: it or this one has rulings, or a default starts at it; or 2^32.
-fn next_start(defaults: &[DefaultValue], calls: &BTreeMap<u32, Vec<Decision>>, number: u32) -> u64
-    ensures { IsNextStart defaults.now (calls_of calls.now.entries) number result }
-{
-    let mut from_here = calls.range((Bound::Included(number), Bound::Unbounded));
-    let mut next = match from_here.next() {
-        Some((next, _)) => u64::from(*next).max(u64::from(number) + 1),
-        None => WORDS,
-    };
-    for default in defaults {
-        if number < default.start {
-            next = next.min(u64::from(default.start));
+    // The next number after this one that may be answered otherwise: it or this one has rulings, or a default starts at it;
+    // or 2^32.
+    fn next_start(&self, number: u32) -> u64
+        ensures above { number < result }
+        ensures within { result ≤ 2 ^ 32 }
+        ensures default { (n : ℕ) → number ≤ n → n < result → default_for self.now.defaults n ≡ default_for self.now.defaults number }
+        ensures rulings { (n : ℕ) → number ≤ n → n < result → rulings_for self.now.calls n ≡ rulings_for self.now.calls number }
+    {
+        let mut from_here = self
+            .calls
+            .range((Bound::Included(number), Bound::Unbounded));
+        let mut next = match from_here.next() {
+            Some((next, _)) => u64::from(*next).max(u64::from(number) + 1),
+            None => WORDS,
+        };
+        for default in &self.defaults {
+            if number < default.start {
+                next = next.min(u64::from(default.start));
+            }
         }
+        next
     }
-    next
 }

@@ -1,16 +1,18 @@
-// Rulings as a target: what the first that holds says.
+// Conditions and rulings as targets: what a condition chooses, and what the first ruling that holds says.
 
-ghost use Rattle.std.specs.Prelude.{◌≡◌, Some, IfOk, IfErr};
-ghost use Rattle.seccomp_tree.specs.Code.{IsAnswered, IsIn, IsRulingMet, IsTooMany};
+ghost use Rattle.std.specs.Prelude.{◌≡◌, ◌<◌, ◌≤◌, ◌%◌, ◌∷◌, [], Some, IfOk, IfErr, bit_and, nat_eq};
+ghost use Rattle.seccompiler.specs.Machine.{greatest_length, word_at};
+ghost use Rattle.seccomp_tree.specs.declared.error.TreeError.TheVariants as tree;
+ghost use Rattle.seccomp_tree.specs.declared.steps.Target.TheVariants.{Give};
+ghost use Rattle.seccomp_tree.specs.Code.{AreMet, Grows, IsAnswer, IsIn, IsMet};
 ghost use Rattle.seccomp_tree.specs.Decisions.{alike, only, rules_length};
 
-use crate::code::Code;
+use crate::code::{Code, Test};
 use crate::decisions::Decision;
 use crate::error::TreeError;
-use crate::intervals::laid;
-use crate::steps::{Target, one};
-use seccompiler::bpf::BPF_MAX_LEN;
-use seccompiler::{SeccompCmpOp, SeccompCondition};
+use crate::steps::{Target, WORDS, laid, one};
+use seccompiler::bpf::{BPF_MAX_LEN, LOAD, MASK, bpf_stmt};
+use seccompiler::{SeccompCmpArgLen, SeccompCmpOp, SeccompCondition};
 use std::alloc::{AllocError, Global};
 
 impl Code {
@@ -22,8 +24,9 @@ impl Code {
         rulings: &[Decision],
         default: u32,
     ) -> Result<Target, TreeError>
-        ensures ok { IfOk result (λ t. IsAnswered self.old default rulings.now t self.new) }
-        ensures err { IfErr result (IsTooMany (rules_length rulings.now)) }
+        ensures grows { IfOk result (λ _. Grows self.old (rules_length rulings.now) self.new) }
+        ensures answer { IfOk result (λ t. IsAnswer self.new default rulings.now t) }
+        ensures large { IfErr result (λ e. e ≡ tree.TooLarge → greatest_length < rules_length rulings.now) }
     {
         match rulings.first() {
             None => return Ok(Target::Give(default)),
@@ -34,21 +37,21 @@ impl Code {
         let mut steps = one(alloc, Target::Give(default))?;
         for left in (0..rulings.len()).rev() {
             let ruling = &rulings[left];
-            let Some(condition) = only(&ruling.conditions) else {
-                let after = steps[0].target;
-                let met = self.conditions(alloc, &ruling.conditions, ruling.value, after)?;
-                steps = one(alloc, met)?;
-                continue;
+            let target = match only(ruling) {
+                None => self.conditions(alloc, &ruling.conditions, ruling.value, steps[0].target)?,
+                Some(condition) => {
+                    steps = laid(alloc, &condition, Target::Give(ruling.value), &steps)?;
+                    // A program has fewer tests than so many steps need.
+                    if steps.len() > BPF_MAX_LEN {
+                        return Err(TreeError::TooLarge);
+                    }
+                    if left > 0 && joins(&rulings[left - 1], &condition) {
+                        continue;
+                    }
+                    self.argument(alloc, condition.arg_len(), condition.arg_index(), &steps)?
+                }
             };
-            steps = laid(alloc, &condition, Target::Give(ruling.value), &steps)?;
-            // A program has fewer tests than so many steps need.
-            if steps.len() > BPF_MAX_LEN {
-                return Err(TreeError::TooLarge);
-            }
-            if left == 0 || !joins(&rulings[left - 1], &condition) {
-                let (size, index) = (condition.arg_len(), condition.arg_index());
-                steps = one(alloc, self.argument(alloc, size, index, &steps)?)?;
-            }
+            steps = one(alloc, target)?;
         }
         Ok(steps[0].target)
     }
@@ -63,7 +66,7 @@ impl Code {
         after: Target,
     ) -> Result<Target, AllocError>
         requires after { IsIn self.old after }
-        ensures { IfOk result (λ t. IsRulingMet self.old conditions.now value after t self.new) }
+        ensures { IfOk result (λ t. AreMet conditions.now self.old (Give value) after t self.new) }
     {
         let mut target = Target::Give(value);
         for left in (0..conditions.len()).rev() {
@@ -71,22 +74,76 @@ impl Code {
         }
         Ok(target)
     }
+
+    // Goes on as the one target says if the condition holds, and else as the other, whatever the accumulator holds.
+    fn condition(
+        &mut self,
+        alloc: Global,
+        condition: &SeccompCondition,
+        yes: Target,
+        no: Target,
+    ) -> Result<Target, AllocError>
+        requires yes { IsIn self.old yes }
+        requires no { IsIn self.old no }
+        ensures { IfOk result (λ t. AreMet (condition.now ∷ []) self.old yes no t self.new) }
+    {
+        if yes == no {
+            return Ok(yes);
+        }
+        if let SeccompCmpOp::MaskedEq(mask) = condition.operator() {
+            // The low half first, since code is written from its end.
+            let index = condition.arg_index();
+            let (high_value, low_value) = condition.split_value();
+            let yes = self.masked(16 + 8 * index, (mask % WORDS) as u32, low_value, yes, no)?;
+            if let SeccompCmpArgLen::Dword = condition.arg_len() {
+                return Ok(yes);
+            }
+            return self.masked(20 + 8 * index, (mask / WORDS) as u32, high_value, yes, no);
+        }
+        let steps = laid(alloc, condition, yes, &one(alloc, no)?)?;
+        self.argument(alloc, condition.arg_len(), condition.arg_index(), &steps)
+    }
+
+    // Goes on as the one target says if the record's word at this byte has the value's bits under the mask.
+    fn masked(
+        &mut self,
+        byte: u8,
+        mask: u32,
+        value: u32,
+        yes: Target,
+        no: Target,
+    ) -> Result<Target, AllocError>
+        requires aligned { byte % 4 ≡ 0 }
+        requires inside_record { byte ≤ 60 }
+        requires yes { IsIn self.old yes }
+        requires no { IsIn self.old no }
+        ensures { IfOk result (λ t. IsMet (λ r. nat_eq (bit_and (word_at r byte) mask) (bit_and value mask)) 5 4 self.old yes no t self.new) }
+    {
+        if mask == 0 {
+            return Ok(yes);
+        }
+        self.test(Test::Equal, value & mask, yes, no)?;
+        self.push(bpf_stmt(MASK, mask))?;
+        self.push(bpf_stmt(LOAD, u32::from(byte)))?;
+        Ok(Target::At(self.len() - 1))
+    }
 }
 
 // Whether a ruling has one condition, without a mask, that compares the same as the other.
 fn joins(ruling: &Decision, other: &SeccompCondition) -> bool
     ensures { result ≡ alike (only ruling.now.conditions) (Some other.now) }
 {
-    only(&ruling.conditions).is_some_and(|one| {
-        one.arg_index() == other.arg_index() && one.arg_len() == other.arg_len()
-    })
+    match only(ruling) {
+        Some(one) => one.arg_index() == other.arg_index() && one.arg_len() == other.arg_len(),
+        None => false,
+    }
 }
 
-// The condition, if there is one without a mask.
-fn only(conditions: &[SeccompCondition]) -> Option<SeccompCondition>
-    ensures { result ≡ only conditions.now }
+// A ruling's condition, if it has one alone, without a mask.
+fn only(ruling: &Decision) -> Option<SeccompCondition>
+    ensures { result ≡ only ruling.now.conditions }
 {
-    let [condition] = conditions else {
+    let [condition] = ruling.conditions.as_slice() else {
         return None;
     };
     match condition.operator() {

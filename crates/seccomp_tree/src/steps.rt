@@ -1,8 +1,10 @@
-// What is looked up by a number: steps, each from its start up to the next one's.
+// What is looked up by a number: steps, each from its start up to the next one's; and comparisons laid over them.
 
-ghost use Rattle.std.specs.Prelude.{◌≡◌, ◌∷◌, [], IfOk};
-ghost use Rattle.seccomp_tree.specs.Code.{AreSteps, IsPushed};
+ghost use Rattle.std.specs.Prelude.{◌≡◌, ◌<◌, ◌∷◌, [], IfOk, true};
+ghost use Rattle.seccomp_tree.specs.Code.{AreLaid, AreSteps, IsPushed, IsTurn, compares, numbers_of};
+ghost use Rattle.seccomp_tree.specs.Decisions.{is_plain};
 
+use seccompiler::{SeccompCmpArgLen, SeccompCmpOp, SeccompCondition};
 use std::alloc::{AllocError, Global};
 
 /// How many numbers there are of 32 bits.
@@ -41,4 +43,56 @@ pub(crate) fn push_step(steps: &mut Vec<Step>, start: u64, target: Target) -> Re
         steps.push(Step { start, target })?;
     }
     Ok(())
+}
+
+/// Steps that have the target if the condition's comparison holds, and else what others have.
+pub(crate) fn laid(
+    alloc: Global,
+    condition: &SeccompCondition,
+    target: Target,
+    others: &[Step],
+) -> Result<Vec<Step>, AllocError>
+    requires plain { is_plain condition.now.operator ≡ true }
+    requires others { AreSteps (numbers_of condition.now.arg_len) others.now }
+    ensures { IfOk result (λ steps. AreLaid condition.now target others.now steps.items) }
+{
+    let size = match condition.arg_len() {
+        SeccompCmpArgLen::Dword => 0x1_0000_0000,
+        SeccompCmpArgLen::Qword => 0x1_0000_0000_0000_0000,
+    };
+    let value = u128::from(condition.value()) % size;
+    let mut steps = Vec::new(alloc);
+    let (mut number, mut rest) = (0, others);
+    while number < size {
+        let is_met = compares(condition.operator(), number, value);
+        let chosen = if is_met { target } else { rest[0].target };
+        push_step(&mut steps, number as u64, chosen)?;
+        let end = rest.get(1).map_or(size, |step| u128::from(step.start));
+        number = turn(number, value + u128::from(value <= number), end);
+        rest = &rest[usize::from(number == end)..];
+    }
+    Ok(steps)
+}
+
+/// The cut or the end, whichever comes first behind the number.
+pub(crate) fn turn(number: u128, cut: u128, end: u128) -> u128
+    requires { number < end }
+    ensures { IsTurn number cut end result }
+{
+    if number < cut { cut.min(end) } else { end }
+}
+
+// Whether the comparison holds.
+fn compares(operator: SeccompCmpOp, number: u128, value: u128) -> bool
+    ensures { result ≡ compares operator number value }
+{
+    match operator {
+        SeccompCmpOp::Eq => number == value,
+        SeccompCmpOp::Ne => number != value,
+        SeccompCmpOp::Ge => number >= value,
+        SeccompCmpOp::Gt => number > value,
+        SeccompCmpOp::Le => number <= value,
+        SeccompCmpOp::Lt => number < value,
+        SeccompCmpOp::MaskedEq(mask) => number & u128::from(mask) == value & u128::from(mask),
+    }
 }

@@ -1,17 +1,19 @@
-// The tree of tests of steps.
+// The tree of tests of steps, over the accumulator, a word of the record or an argument.
 
-ghost use Rattle.std.specs.Prelude.{◌≡◌, ◌≤◌, ◌+◌, ◌-◌, ◌*◌, ◌%◌, ◌^◌, ◌↔◌, IsTrue, IfOk, drop, length};
-ghost use Rattle.seccomp_tree.specs.Code.{AllIn, AreIn, AreSteps, AscendFrom, IsPart, IsTree, row, second_stands_out};
-ghost use Rattle.seccompiler.specs.Machine.{word_at};
+ghost use Rattle.std.specs.Prelude.{◌≡◌, ◌≤◌, ◌+◌, ◌-◌, ◌*◌, ◌%◌, ◌^◌, ◌↔◌, All, IsTrue, IfOk, length};
+ghost use Rattle.seccomp_tree.specs.Code.{AllIn, AreOver, AreSteps, IsIn, IsPart, IsTree, numbers_of, row, second_stands_out};
+ghost use Rattle.seccompiler.specs.Machine.{argument_at, word_at};
+ghost use Rattle.seccompiler.specs.Policy.{part_of};
 ghost use Rattle.seccompiler.specs.declared.backend.SeccompCmpArgLen.TheVariants.{Dword};
 
 use crate::code::{Code, Test};
-use crate::steps::{Step, Target};
+use crate::steps::{Step, Target, push_step, turn};
+use seccompiler::SeccompCmpArgLen;
 use seccompiler::bpf::{LOAD, bpf_stmt};
-use std::alloc::AllocError;
+use std::alloc::{AllocError, Global};
 
-// The most tests of a row.
-const MOST: usize = 6;
+// How many numbers of 64 bits have one high half, and how many high halves there are.
+const HALF: u128 = 0x1_0000_0000;
 
 // Whether the second step is of one number, and its neighbours have one target.
 fn stands_out(steps: &[Step]) -> bool
@@ -31,17 +33,18 @@ fn is_row(steps: &[Step], tests: usize) -> bool
 }
 
 impl Code {
-    /// Goes on as the steps say for the accumulator. A row of few tests is written as it is, others are halved.
+    /// Goes on as the steps say for the accumulator. A row of at most six tests stays one, and other steps are halved.
+    #[tactic(auto, using(crate::proofs::Trees::start_fits))]
     pub(crate) fn tree(&mut self, steps: &[Step]) -> Result<Target, AllocError>
         requires some { 1 ≤ length steps.now }
-        requires over { AscendFrom (2 ^ 32) 1 (drop 1 steps.now) }
-        requires inside { AreIn self.old steps.now }
+        requires over { AreOver (2 ^ 32) steps.now }
+        requires inside { All (λ x. IsIn self.old x.target) steps.now }
         ensures { IfOk result (λ t. IsTree self.old steps.now t self.new) }
     {
         if steps.len() == 1 {
             return Ok(steps[0].target);
         }
-        if !is_row(steps, MOST) {
+        if !is_row(steps, 6) {
             let half = steps.len() / 2;
             let upper = self.tree(&steps[half..])?;
             let lower = self.tree(&steps[..half])?;
@@ -69,5 +72,41 @@ impl Code {
         }
         self.push(bpf_stmt(LOAD, u32::from(byte)))?;
         Ok(Target::At(self.len() - 1))
+    }
+
+    /// Goes on as the steps say for what is compared of the argument, whatever the accumulator holds.
+    pub(crate) fn argument(
+        &mut self,
+        alloc: Global,
+        size: SeccompCmpArgLen,
+        index: u8,
+        steps: &[Step],
+    ) -> Result<Target, AllocError>
+        requires index { index ≤ 5 }
+        requires are { AreSteps (numbers_of size) steps.now }
+        requires inside { AllIn self.old (numbers_of size) steps.now }
+        ensures { IfOk result (λ t. IsPart self.old size (λ r. part_of size (argument_at r index)) steps.now t self.new) }
+    {
+        if let SeccompCmpArgLen::Dword = size {
+            return self.word(16 + 8 * index, steps);
+        }
+        let mut highs = Vec::new(alloc);
+        let mut lows = Vec::new(alloc);
+        let (mut number, mut rest) = (0, steps);
+        while number < HALF * HALF {
+            push_step(&mut lows, (number % HALF) as u64, rest[0].target)?;
+            let end = rest.get(1).map_or(HALF * HALF, |step| step.start.into());
+            let (high, last) = (number / HALF, end / HALF);
+            if high < last {
+                let target = self.word(16 + 8 * index, &lows)?;
+                push_step(&mut highs, high as u64, target)?;
+                lows = Vec::new(alloc);
+            }
+            // High halves that begin with this number have what it has.
+            let past = if number % HALF == 0 { last } else { high + 1 };
+            number = turn(number, past * HALF, end);
+            rest = &rest[usize::from(number == end)..];
+        }
+        self.word(20 + 8 * index, &highs)
     }
 }

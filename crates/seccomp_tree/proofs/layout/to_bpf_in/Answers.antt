@@ -9,14 +9,10 @@ ends_at Tree f p compiled = compiled.decides
 
 agree : (layout : Layout) (f : Filter) (p : List sock_filter) → IsCompiledIn layout f p → AgreesInAll f p
 agree layout f p compiled = λ other q also r rec.
-    let at = ends_at layout f p compiled r rec in
-    let at_other = ends_at other f q also r rec in (
-      at.word,
-      at.steps,
-      at_other.steps,
-      at.ends,
-      subst (Ends q r at_other.steps) (one_decision f r at_other.word at.word at_other.decision at.decision) at_other.ends,
-    )
+    let x = ends_at layout f p compiled r rec in
+    let y = ends_at other f q also r rec in
+    let same = one_decision f r y.word x.word y.decision x.decision in
+    (x.word, x.steps, y.steps, x.ends, subst (Ends q r y.steps) same y.ends)
 
 pub returns-in-Ok-clause-agrees : goal.returns-in-Ok-clause-agrees
 returns-in-Ok-clause-agrees c = agree Linear c.args.filter.now c.in-Ok.program.items c.in-Ok.ensures.compiled

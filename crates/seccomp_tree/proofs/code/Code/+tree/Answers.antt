@@ -1,7 +1,8 @@
-use Rattle.seccomp_tree.proofs.Common.{◌≤◌, All-take, IsIn, Step, ◌/◌, length, refl, sym, ◌∙◌, arith, inl, inr, cases_lt, false≢true, row}
-use Rattle.seccomp_tree.proofs.Common.{IfOk-weaker, length-take-le, take_rest}
+use Rattle.seccomp_tree.proofs.Common.{length-take-le, IfOk-weaker, false≢true, take_rest, All-take, cases_lt, length, arith, IsIn, Step}
+use Rattle.seccomp_tree.proofs.Common.{refl, inl, inr, row, sym, ◌/◌, ◌^◌, ◌∙◌, ◌≤◌}
 use Rattle.seccomp_tree.proofs.Runs.{is_in_grown}
-use Rattle.seccomp_tree.proofs.Trees.{none, over_halves, rest_of, tree_single, tree_out, tree_first, tree_halves}
+use Rattle.seccomp_tree.proofs.Begun.{over_more, parts}
+use Rattle.seccomp_tree.proofs.Trees.{tree_halves, tree_single, tree_first, tree_out, rest_of, none}
 use Rattle.seccomp_tree.proofs.code.Code.+tree.Goals as goal
 
 pub returns-then-steps-eq1 : goal.returns-then-steps-eq1
@@ -17,16 +18,17 @@ tree-requires-then-not-is_row t c =
     let steps = c.args.steps.now in
     let n = length steps / 2 in
     let long = length-take-le n steps (omega arith) in
-    let halves = over_halves steps n none (omega (arith, c.requires.some)) (omega (arith, c.requires.some)) c.requires.over in
+    let halves = parts (2 ^ 32) n steps none (omega (arith, c.requires.some)) (omega (arith, c.requires.some)) c.requires.over in
     let first = All-take (λ (x : Step). IsIn c.args.self.now x.target) n steps c.requires.inside in (
       omega (arith, long, c.requires.some, c.decreases),
-      (omega (arith, long, c.requires.some), (halves.0, λ k d lt. is_in_grown _ c.in_ok-upper.ensures.grows (first k d lt))),
+      (
+        omega (arith, long, c.requires.some),
+        (
+          over_more _ (2 ^ 32) _ (omega (arith, halves.within)) halves.before,
+          λ k d lt. is_in_grown _ c.in_ok-upper.ensures.grows (first k d lt),
+        ),
+      ),
     )
-
-pub overflow_cast-steps : goal.overflow_cast-steps
-overflow_cast-steps t c =
-    let halves = over_halves c.args.steps.now (length c.args.steps.now / 2) none (omega (arith, c.requires.some))
-    (omega (arith, c.requires.some)) c.requires.over in omega (arith, halves.1.1.1)
 
 pub returns-then-not-is_row : goal.returns-then-not-is_row
 returns-then-not-is_row t c =
@@ -51,11 +53,6 @@ returns-then-stands_out t c =
     (λ u h. tree_out steps _ c.requires.over (sym c.stands_out.ensures ∙ c.if-stands_out.true)
     (c.is_row.ensures.0 c.if-not-is_row.false) (rw (take_rest steps 2) at c.in_ok-rest.ensures) h)
     c.test-then-stands_out.ensures
-
-pub tree-requires-2 : goal.tree-requires-2
-tree-requires-2 t c =
-    rest_of c.args.self.now 1 t c.args.steps.now (omega arith) (omega (arith, c.requires.some)) (omega (arith, c.decreases))
-    c.requires.over c.requires.inside
 
 pub returns : goal.returns
 returns t c =

@@ -1,20 +1,11 @@
-use Rattle.seccomp_tree.proofs.Common.{rules, ◌≡◌, ◌^◌, Step, Give, IfOk-weaker, ◌∙◌, arith, drop, first_start}
-use Rattle.seccomp_tree.proofs.Begun.{byte_is, moves}
-use Rattle.seccomp_tree.proofs.Meeting.{part_of_word}
-use Rattle.seccomp_tree.proofs.Halves.{IsPast, halving_begins, halving_on, halving_done, highs_in, is_argument, lows_in}
-use Rattle.seccomp_tree.proofs.code.Code.argument.Goals.{After-map_or-end, then-high-last+in_ok-target+in_ok-push_step-2, else-high-last}
+use Rattle.seccomp_tree.proofs.Common.{IfOk-weaker, arith, rules, drop, ◌^◌, ◌∙◌, ◌≡◌}
+use Rattle.seccomp_tree.proofs.Begun.{first_start, byte_is, moves}
+use Rattle.seccomp_tree.proofs.Trees.{halving_done, part_of_word, is_argument, halving_on, highs_in, lows_in, IsPast, none}
+use Rattle.seccomp_tree.proofs.code.Code.argument.Goals.{then-high-last+in_ok-target+in_ok-push_step-2, After-map_or-end, else-high-last}
 use Rattle.seccomp_tree.proofs.code.Code.argument.Goals as goal
 
 pub returns-in-Dword : goal.returns-in-Dword
-returns-in-Dword c =
-    rw c.in-Dword.is (IfOk-weaker c.word.result _ _ (λ t h. part_of_word c.args.index h) c.word.ensures)
-
-pub loop-number-init : goal.loop-number-init
-loop-number-init c = rw (c.new-lows.ensures.items, c.new-highs.ensures.items) (halving_begins c.args.self.now c.args.index c.args.steps.now
-    (rw c.in_default.is at c.requires.are))
-
-abbrev none : Step
-none = record { start = 0; target = Give 0 }
+returns-in-Dword c = rw c.in-Dword.is (IfOk-weaker c.word.result _ _ (λ t h. part_of_word c.args.index h) c.word.ensures)
 
 -- where the next step starts
 end_is : (c : After-map_or-end) → c.map_or-end.result ≡ first_start (2 ^ 64) (drop 1 c.loop-number.rest.now)

@@ -1,36 +1,35 @@
-use Rattle.seccomp_tree.proofs.Common.{rules, ◌≡◌, arith, nat_tests}
-use Rattle.seccomp_tree.proofs.Runs.{grows_not, StandsIn, jump_stands, reached_itself, reached_by, reached_new, return_stands}
-use Rattle.seccomp_tree.proofs.code.Code.reach.Goals.{After-len, in-Give, in-At+else-over-le-REACH}
+use Rattle.seccomp_tree.proofs.Common.{length-reverse, nat_tests, stand_in, tail_at, length, arith, rules, sym, ◌+◌, ◌-◌, ◌<◌, ◌∙◌, ◌∷◌, At}
+use Rattle.seccomp_tree.proofs.Common.{◌≡◌, ap, ℕ}
+use Rattle.seccomp_tree.proofs.Runs.{reached_itself, tail_written, tail_whole, grows_not, grows_one, reached}
+use Rattle.seccomp_tree.proofs.code.Code.reach.Goals.{After-len-len}
 use Rattle.seccomp_tree.proofs.code.Code.reach.Goals as goal
 
 pub returns-then-over-le-REACH : goal.returns-then-over-le-REACH
 returns-then-over-le-REACH c =
-    rw c.in-At.is (reached_itself c.args.self.now c.in-At.place (omega (arith, c.over-over.ensures.over))
-    (omega (arith, c.over-over.ensures.over)))
+    rw c.in-At.is (reached_itself c.args.self.now c.in-At.place (omega (arith, c.over.ensures.over)) (omega (arith, c.over.ensures.over)))
 
-stands : (c : After-len) → StandsIn c.args.self.now c.args.target c.match-target.instruction
-stands c = elim c.match-target.branch [
-  | in-Give w ↦ rw (w.instruction-is, w.bpf_stmt-instruction.ensures)
-      (return_stands c.args.self.now c.args.target w.in-Give.word w.in-Give.is (rw w.in-Give.is at c.requires))
-  | in-At+else-over-le-REACH w ↦ rw (w.instruction-is, w.bpf_stmt-instruction-in-At.ensures)
-      (jump_stands c.args.self.now c.args.target w.in-At.place w.over-over.result w.in-At.is w.over-over.ensures.over
-      w.if-over-le-REACH.false
-      w.over-over.ensures.few)
-]
+far : (c : After-len-len) → (m : ℕ) → c.args.target ≡ At m → m + 255 < length c.args.self.now
+far c m is = search rules
 
-same : (c : After-len) → c.match-target.target ≡ c.args.target
+same : (c : After-len-len) → c.match-target.target ≡ c.args.target
 same c = search rules
 
-pub push-requires : goal.push-requires
-push-requires c =
-    let h = stands ((goal.at.push-requires c).After-len) in record { fine = h.fine; range = h.range }
-
-pub returns-then-does : goal.returns-then-does
-returns-then-does c =
-    let b = (goal.at.returns-then-does c).After-len in
-    reached_by (grows_not c.args.self.now 1) (stands b).far (rw (same b) at (c.does.ensures c.if-does.true)) (grind (arith, nat_tests))
+pub returns-then-eq : goal.returns-then-eq
+returns-then-eq c =
+    let b = (goal.at.returns-then-eq c).After-len-len in
+    let place = c.loop-place.place - 1 in
+    let is : c.index.result.now ≡ stand_in c.args.target place =
+    let equal : c.index.result.now ≡ c.stand_in.result = search rules in rw (← same b) (equal ∙ c.stand_in.ensures.is) in
+    let inside : place < length c.args.self.now = omega (arith, c.len-len.ensures) in
+    let at = tail_written c.self-2.inside.back.items place c.index.result.now
+    (omega (arith, ap length c.self-2.view_is, length-reverse c.self-2.inside.back.items)) c.index.ensures in
+    reached place at.0 (grows_not c.args.self.now 1) (far b) inside (grind (arith, nat_tests))
+    (ap (λ l. tail_at l place) (sym c.self-2.view_is) ∙ at.1 ∙ ap (λ i. i ∷ at.0) is)
 
 pub returns : goal.returns
 returns c =
-    let h = stands ((goal.at.returns c).After-len) in
-    reached_new c.match-target.instruction h.far c.in_ok-push.ensures (omega (arith, c.len.ensures.len, c.len.ensures.some)) h.says
+    let b = (goal.at.returns c).After-len-len in
+    let written : c.push.new.self ≡ stand_in c.args.target c.len-len.result ∷ c.args.self.now =
+    c.in_ok-push.ensures ∙ ap (λ i. i ∷ c.args.self.now) (rw (← same b) c.stand_in-2.ensures.is) in
+    rw written (reached c.len-len.result c.args.self.now (grows_one _ _) (far b) (omega (arith, c.len-len.ensures))
+    (omega (arith, c.len-len.ensures)) (tail_whole _ c.len-len.result (omega (arith, c.len-len.ensures))))

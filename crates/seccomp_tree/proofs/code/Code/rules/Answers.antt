@@ -1,124 +1,118 @@
-use Rattle.seccomp_tree.proofs.Common.{rules, one_value, None, ◌≡◌, ◌-◌, ◌∷◌, [], List, Ruling, only, rules_length, length, drop, drop_all}
-use Rattle.seccomp_tree.proofs.Common.{ap, sym, ◌∙◌, arith, refl, Give, joined, suc}
+use Rattle.seccomp_tree.proofs.Common.{Condition, one_value, to_return, drop_all, AreLaid, Option, Ruling, get_or, joined, []}
+use Rattle.seccomp_tree.proofs.Common.{length, arith, rules, Give, List, None, Some, Step, drop, only, refl, suc, sym, ◌+◌, ◌-◌, ◌<◌, ◌^◌}
+use Rattle.seccomp_tree.proofs.Common.{◌∙◌, ◌∷◌, ◌≡◌, ap}
 use Rattle.seccomp_tree.proofs.Decided.{drop_back}
-use Rattle.seccomp_tree.proofs.Ruled.{AreRules, answered_one, IsBehind, answered_more, behind_along, behind_fresh, behind_laid}
-use Rattle.seccomp_tree.proofs.Ruled.{behind_many, behind_none, compared, front_is, in_front, joined_none, rules_alone}
-use Rattle.seccomp_tree.proofs.Ruled.{rules_less, rules_none, rules_settled}
-use Rattle.seccomp_tree.proofs.code.Code.rules.Goals.{After-only, After-len, After-index, then-left-eq0-via-then-left-eq0}
-use Rattle.seccomp_tree.proofs.code.Code.rules.Goals.{then-left-eq0-via-else-left-eq0+then-not-joins}
+use Rattle.seccomp_tree.proofs.Meeting.{rules_settled, answered_one, behind_along, behind_fresh, behind_laid, behind_none}
+use Rattle.seccomp_tree.proofs.Meeting.{first_alone, joined_none, rules_alone, rules_less, AreRules, IsBehind, compared, front_is, in_front}
+use Rattle.seccomp_tree.proofs.Runs.{grows_not}
+use Rattle.seccomp_tree.proofs.code.Code.rules.Goals.{After-only}
 use Rattle.seccomp_tree.proofs.code.Code.rules.Goals as goal
 
-pub returns-in-None-clause-ok : goal.returns-in-None-clause-ok
-returns-in-None-clause-ok c = answered_one _ _ c.args.rulings.now c.ranges.default.fits (search rules)
+pub returns-in-None-clause-answer : goal.returns-in-None-clause-answer
+returns-in-None-clause-answer c = answered_one _ _ c.args.rulings.now c.ranges.default.fits (search rules)
 
-pub returns-in-Some-clause-ok : goal.returns-in-Some-clause-ok
-returns-in-Some-clause-ok c = answered_one _ _ c.args.rulings.now (search rules) (search rules)
+pub returns-in-Some-clause-answer : goal.returns-in-Some-clause-answer
+returns-in-Some-clause-answer c = answered_one _ _ c.args.rulings.now (search rules) (search rules)
 
 pub loop-left-init : goal.loop-left-init
 loop-left-init c =
     let none = drop_all (length c.args.rulings.now) c.args.rulings.now (omega arith) in
-    rw (none, c.in_ok-steps.ensures) (behind_fresh _ [] (Give c.args.default)
-    (rules_none c.args.self.now c.args.default c.ranges.default.fits))
+    rw (none, c.in_ok-steps.ensures) (behind_fresh _ 0 [] (Give c.args.default) refl record {
+      grows = grows_not c.args.self.now 0;
+      inside = c.ranges.default.fits;
+      leads = λ r rec n takes a small. to_return c.args.default a (n + 1) (omega arith);
+    })
 
--- the rulings behind this one, and what there is of it
+-- the rulings behind this one
 abbrev rest : After-only → List Ruling
 rest c = drop c.loop-left.left c.args.rulings.now
 
-from_here : (c : After-only) → drop (c.loop-left.left - 1) c.args.rulings.now ≡ c.index-rulings-left.result ∷ rest c
-from_here c = drop_back c.args.rulings.now c.loop-left.left c.index-rulings-left.result c.loop-left-test.true c.loop-left.auto.left
-    c.index-rulings-left.is
+module _ (c : After-only) (d : Ruling) (is : d ≡ c.index-rulings-left.result) where
+  at_left : d ≡ get_or c.args.rulings.now (c.loop-left.left - 1) d
+  at_left = rw is c.index-rulings-left.is
 
-own_is : (c : After-only) → only c.index-rulings-left.result.conditions ≡ c.only.result
-own_is c = ap only (sym (ap (λ (d : Ruling). d.conditions) c.ruling.view_is) ∙ sym c.deref.ensures.value) ∙ sym c.only.ensures
+  from_here : drop (c.loop-left.left - 1) c.args.rulings.now ≡ d ∷ rest c
+  from_here = drop_back c.args.rulings.now c.loop-left.left d c.loop-left-test.true c.loop-left.auto.left at_left
 
-value_is : (c : After-only) → c.ruling.inside.value ≡ c.index-rulings-left.result.value
-value_is c = ap (λ (d : Ruling). d.value) c.ruling.view_is
+  own : (o : Option Condition) → c.only.result ≡ o → only d.conditions ≡ o
+  own o given = ap (λ (x : Ruling). only x.conditions) is ∙ sym c.only.ensures ∙ given
 
--- the steps are what it is laid over
-ready : (c : After-only) → IsBehind c.args.self.now c.args.default (compared c.index-rulings-left.result.conditions)
-    (joined c.index-rulings-left.result.conditions (rest c)) (rest c) c.loop-left.steps.items c.loop-left.self
-ready c =
-    let front = front_is c.args.rulings.now c.loop-left.left c.index-rulings-left.result c.loop-left-test.true c.loop-left.auto.left
-    c.index-rulings-left.is in
-    rw front at c.loop-left.invariant
+  -- the steps are what it is laid over
+  ready : IsBehind c.args.self.now c.args.default (compared d.conditions) (joined d.conditions (rest c)) (rest c) c.loop-left.steps.items
+      c.loop-left.self
+  ready = rw (front_is c.args.rulings.now c.loop-left.left d c.loop-left-test.true c.loop-left.auto.left at_left) at c.loop-left.invariant
 
--- if it has more than a condition, a target
-after : (c : After-index) → AreRules c.args.self.now (rest c.before.before.before) c.args.default c.index.result.now.target c.loop-left.self
-after c =
-    let b : After-only = c.before.before.before in
-    let own = own_is b ∙ c.in_default-only.is in
-    behind_none _ _ (rw (own, joined_none _ (rest b) own) at (ready b)) c.index.ensures
+  -- if it has more than a condition, a target
+  after : (y : Step) → c.only.result ≡ None → y ≡ get_or c.loop-left.steps.items 0 y
+      → AreRules c.args.self.now (rest c) c.args.default y.target c.loop-left.self
+  after y given first =
+      behind_none _ _ (rw (own None given, joined_none d.conditions (rest c) (own None given)) at ready) first
+
+  laid_is : (x : Condition) (laid : List Step) → c.only.result ≡ Some x → d.value < 2 ^ 32
+      → AreLaid x (Give d.value) c.loop-left.steps.items laid → IsBehind c.args.self.now c.args.default (x.arg_len, x.arg_index)
+      (suc (joined d.conditions (rest c))) (d ∷ rest c) laid c.loop-left.self
+  laid_is x laid given fits h = behind_laid d (rest c) (own (Some x) given) fits (rw (own (Some x) given) at ready) h
 
 pub conditions-requires : goal.conditions-requires
-conditions-requires c = record { after = (after ((goal.at.conditions-requires c).After-index)).inside }
+conditions-requires c =
+    record { after = (after ((goal.at.conditions-requires c).After-only) _ c.ruling.view_is _ c.in-None-only.is c.index.ensures).inside }
 
-pub loop-left-preserved-in_default-only : goal.loop-left-preserved-in_default-only
-loop-left-preserved-in_default-only c =
-    let i = (goal.at.loop-left-preserved-in_default-only c).After-index in
-    let b : After-only = i.before.before.before in
-    let d = c.index-rulings-left.result in
-    let own = own_is b ∙ c.in_default-only.is in
-    let q = c.deref-in_default-only.ensures.value ∙ ap (λ (d : Ruling). d.conditions) c.ruling.view_is in
-    let front = in_front c.args.rulings.now (c.loop-left.left - 1) in
-    let apart : joined front (d ∷ rest b) ≡ 0 = rw own (grind arith) in
-    rw (from_here b, c.in_ok-steps-2.ensures, apart)
-    (behind_fresh _ _ _ (rules_alone d (rest b) c.conditions.new.self own (after i) (rw (value_is b, q) at c.in_ok-met.ensures)))
+pub laid-requires-clause-others : goal.laid-requires-clause-others
+laid-requires-clause-others c =
+    let b = (goal.at.laid-requires-clause-others c).After-only in
+    rw c.deref-in-Some-only.ensures.value (rw (own b _ refl _ c.in-Some-only.is) at (ready b _ refl)).are
 
--- up to the conditions of a ruling
-abbrev only_of : After-len → After-only
-only_of c = c.before.before.before.before.before.before.before.before.before.before
-
-laid_is : (c : After-len) → IsBehind c.args.self.now c.args.default (c.in-Some-only.condition.arg_len, c.in-Some-only.condition.arg_index)
-    (suc (joined c.index-rulings-left.result.conditions (rest (only_of c)))) (c.index-rulings-left.result ∷ rest (only_of c))
-    c.in_ok-steps-3.steps.items c.loop-left.self
-laid_is c =
-    let b = only_of c in
-    let own = own_is b ∙ c.in-Some-only.is in
-    let value : c.ruling.inside.value ≡ c.index-rulings-left.result.value = value_is b in
-    behind_laid _ (rest b) own (rw (← value) c.ruling.invariant) (rw own at (ready b))
-    (rw (value, c.deref-in-loop-left.ensures.value) at c.in_ok-steps-3.ensures)
-
-pub returns-then-len-gt-BPF_MAX_LEN-clause-err : goal.returns-then-len-gt-BPF_MAX_LEN-clause-err
-returns-then-len-gt-BPF_MAX_LEN-clause-err c = λ is.
-    let l = (goal.at.returns-then-len-gt-BPF_MAX_LEN-clause-err c).After-len in
-    let many = behind_many (laid_is l) (omega (arith, c.len.ensures)) in
-    omega (arith, many, ap rules_length (from_here (only_of l)), rules_less (c.loop-left.left - 1) c.args.rulings.now)
+pub returns-then-len-gt-BPF_MAX_LEN-clause-large : goal.returns-then-len-gt-BPF_MAX_LEN-clause-large
+returns-then-len-gt-BPF_MAX_LEN-clause-large c = λ large.
+    let b = (goal.at.returns-then-len-gt-BPF_MAX_LEN-clause-large c).After-only in
+    let laid = laid_is b _ c.ruling.view_is _ _ c.in-Some-only.is c.ruling.invariant
+    (rw c.deref-in-Some-only.ensures.value at c.in_ok-steps-in-Some-only.ensures) in
+    let less = rw (from_here b _ c.ruling.view_is) at (rules_less (c.loop-left.left - 1) c.args.rulings.now) in
+    grind (arith, laid.few, laid.room, less, c.len.ensures, c.if-len-gt-BPF_MAX_LEN.true)
 
 pub argument-requires-clause-inside : goal.argument-requires-clause-inside
 argument-requires-clause-inside c =
-    let x = laid_is ((goal.at.argument-requires-clause-inside c).After-len) in
-    rw (c.deref-then-left-eq0.ensures.value, c.arg_len-size.ensures) x.inside
-
-pub loop-left-preserved-in-loop-left : goal.loop-left-preserved-in-loop-left
-loop-left-preserved-in-loop-left c =
-    let l = (goal.at.loop-left-preserved-in-loop-left c).After-len in
-    let b = only_of l in
-    let d = c.index-rulings-left.result in
-    let front = in_front c.args.rulings.now (c.loop-left.left - 1) in
-    let apart : joined front (d ∷ rest b) ≡ 0 = elim c.then-left-eq0.branch [
-      | then-left-eq0-via-then-left-eq0 w ↦ rw w.if-left-eq0.true refl
-      | then-left-eq0-via-else-left-eq0+then-not-joins w ↦
-          let at = front_is c.args.rulings.now (c.loop-left.left - 1) _ (omega (arith, w.if-left-eq0.false)) (omega arith)
-          w.index-rulings-left-else-left-eq0.is in
-          rw (own_is b ∙ c.in-Some-only.is, at, sym w.joins.ensures ∙ w.if-not-joins.true) refl
-    ] in
-    rw (from_here b, c.in_ok-steps-4.ensures, apart) (behind_fresh _ _ _
-    (rules_settled d (rest b) (own_is b ∙ c.in-Some-only.is) c.argument.new.self (laid_is l)
-    (rw (c.deref-then-left-eq0.ensures.value, c.arg_len-size.ensures, c.arg_index-index.ensures.index) at c.in_ok-argument.ensures)))
+    let b = (goal.at.argument-requires-clause-inside c).After-only in
+    let laid = laid_is b _ c.ruling.view_is _ _ c.in-Some-only.is c.ruling.invariant
+    (rw c.deref-in-Some-only.ensures.value at c.in_ok-steps-in-Some-only.ensures) in
+    rw (c.deref-in-Some-only-2.ensures.value, c.arg_len.ensures) laid.inside
 
 pub loop-left-preserved : goal.loop-left-preserved
 loop-left-preserved c =
-    let l = (goal.at.loop-left-preserved c).After-len in
-    let b = only_of l in
-    let front = in_front c.args.rulings.now (c.loop-left.left - 1) in
-    let at = front_is c.args.rulings.now (c.loop-left.left - 1) _ (omega (arith, c.if-left-eq0.false)) (omega arith)
-    c.index-rulings-left-else-left-eq0.is in
-    rw (from_here b) (behind_along c.index-rulings-left.result (rest b) (own_is b ∙ c.in-Some-only.is) front (only front) refl
-    (rw at (sym c.joins.ensures ∙ c.if-not-joins.false)) (laid_is l))
+    let b = (goal.at.loop-left-preserved c).After-only in
+    let is = c.ruling.view_is in
+    rw (from_here b _ is, c.in_ok-steps-2.ensures) (elim c.match-only.branch [
+      | goal.in-None-only+in_ok-target-in-None-only w ↦
+          let alone = own b _ is None w.in-None-only.is in
+          rw (w.self-is, w.target-is) (behind_fresh _ _ _ _ (rw alone (grind arith))
+          (rules_alone _ (rest b) _ alone (after b _ is _ w.in-None-only.is w.index.ensures)
+          (rw w.deref.ensures.value at w.in_ok-target-in-None-only.ensures)))
+      | goal.in-Some-only+in_ok-steps-in-Some-only+else-len-gt-BPF_MAX_LEN+else-left-gt0+in_ok-target-in-Some-only w ↦
+          let given = own b _ is _ w.in-Some-only.is in
+          let laid = laid_is b _ is _ _ w.in-Some-only.is c.ruling.invariant
+          (rw w.deref-in-Some-only.ensures.value at w.in_ok-steps-in-Some-only.ensures) in
+          rw (w.self-is, w.target-is) (behind_fresh _ _ _ _ (rw given (elim w.else-left-gt0.branch [
+            | goal.else-left-gt0-via-then-left-gt0+else-joins v ↦
+                let at = front_is c.args.rulings.now (c.loop-left.left - 1) _ v.if-left-gt0.true (omega arith)
+                v.index-rulings-left-then-left-gt0.is in rw (at, sym v.joins.ensures ∙ v.if-joins.false) refl
+            | goal.else-left-gt0-via-else-left-gt0 v ↦
+                let zero : c.loop-left.left - 1 ≡ 0 = omega (arith, v.if-left-gt0.false) in rw zero refl
+          ])) (rules_settled _ (rest b) given _ laid
+          (rw (w.deref-in-Some-only-2.ensures.value, w.arg_len.ensures, w.arg_index.ensures.index) at w.in_ok-target-in-Some-only.ensures)))
+    ])
 
-pub returns-clause-ok : goal.returns-clause-ok
-returns-clause-ok c =
+pub loop-left-preserved-then-joins : goal.loop-left-preserved-then-joins
+loop-left-preserved-then-joins c =
+    let b = (goal.at.loop-left-preserved-then-joins c).After-only in
+    let front = in_front c.args.rulings.now (c.loop-left.left - 1) in
+    let at = front_is c.args.rulings.now (c.loop-left.left - 1) _ c.if-left-gt0.true (omega arith) c.index-rulings-left-then-left-gt0.is in
+    rw (from_here b _ c.ruling.view_is) (behind_along _ (rest b) (own b _ c.ruling.view_is _ c.in-Some-only.is) front (only front) refl
+    (rw at (sym c.joins.ensures ∙ c.if-joins.true)) (laid_is b _ c.ruling.view_is _ _ c.in-Some-only.is c.ruling.invariant
+    (rw c.deref-in-Some-only.ensures.value at c.in_ok-steps-in-Some-only.ensures)))
+
+pub returns-clause-answer : goal.returns-clause-answer
+returns-clause-answer c =
     let none : c.loop-left.left ≡ 0 = omega arith in
     let many : one_value c.args.default c.args.rulings.now ≡ None = search rules in
-    let all = rw (joined_none [] c.args.rulings.now refl) at (rw none at c.loop-left.invariant) in
-    answered_more many (behind_none _ _ all c.index-2.ensures)
+    let h = behind_none _ _ (rw (joined_none [] c.args.rulings.now refl) at (rw none at c.loop-left.invariant)) c.index-2.ensures in
+    record { inside = h.inside; one = λ v is. absurd (cc); leads = λ r rec w n is takes. rw (first_alone is) (h.leads r rec n takes) }

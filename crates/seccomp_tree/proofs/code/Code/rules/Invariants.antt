@@ -1,5 +1,5 @@
-use Rattle.seccomp_tree.proofs.Common.{drop, joined}
-use Rattle.seccomp_tree.proofs.Ruled.{IsBehind, compared, in_front}
+use Rattle.seccomp_tree.proofs.Common.{joined, drop}
+use Rattle.seccomp_tree.proofs.Meeting.{IsBehind, compared, in_front}
 use Rattle.seccomp_tree.proofs.code.Code.rules.Given as goal
 
 abbrev pub invariant-loop-left : goal.invariant-loop-left

@@ -8,4 +8,4 @@ returns c =
     let i : sock_filter = record { code = c.match-test.bpf_jump; jt = c.over.result; jf = c.over-2.result; k = c.args.k } in
     let is : c.match-test.bpf_jump ≡ code_of c.args.test = search rules in
     tested c.args.test i is c.over.ensures.over c.over-2.ensures.over c.in_ok-yes.ensures c.in_ok-no.ensures
-    (c.in_ok-push.ensures ∙ ap (λ x. x ∷ code) c.bpf_jump.ensures) (ap (λ n. At (n - 1)) c.len.ensures.len)
+    (c.in_ok-push.ensures ∙ ap (λ x. x ∷ code) c.bpf_jump.ensures) (ap (λ n. At (n - 1)) c.len.ensures)

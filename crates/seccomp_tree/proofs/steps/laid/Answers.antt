@@ -1,12 +1,8 @@
-use Rattle.seccomp_tree.proofs.Common.{rules, arith, ◌≡◌, ◌%◌, ◌∙◌, drop, get_or, Give, Compares, part_of, first_start, IsChosen}
+use Rattle.seccomp_tree.proofs.Common.{compares, if◌then◌else◌, part_of, get_or, arith, rules, Give, drop, ◌%◌, ◌∙◌, ◌≡◌}
 use Rattle.seccomp_tree.specs.Code.{numbers_of}
-use Rattle.seccomp_tree.proofs.Begun.{byte_is, moves, laying_begins, laying_on, laying_ends}
-use Rattle.seccomp_tree.proofs.intervals.laid.Goals.{After-turn-number}
-use Rattle.seccomp_tree.proofs.intervals.laid.Goals as goal
-
-pub loop-number-init : goal.loop-number-init
-loop-number-init c =
-    rw c.new-steps.ensures.items (laying_begins c.args.condition.now c.args.target c.args.others.now c.requires.others)
+use Rattle.seccomp_tree.proofs.Begun.{first_start, laying_ends, laying_on, byte_is, moves}
+use Rattle.seccomp_tree.proofs.steps.laid.Goals.{After-turn-number}
+use Rattle.seccomp_tree.proofs.steps.laid.Goals as goal
 
 size_is : (c : After-turn-number) → c.match-arg_len.size ≡ numbers_of c.args.condition.now.arg_len
 size_is c = search rules
@@ -23,12 +19,12 @@ value_is c =
     (grind (arith, rw c.value.ensures at c.value.type_inv))
 
 -- what is chosen for the number
-chosen : (c : After-turn-number) → IsChosen (Compares c.args.condition.now.operator c.loop-number.number
-    (part_of c.args.condition.now.arg_len c.args.condition.now.value)) c.args.target
-    (get_or c.loop-number.rest.now 0 (record { start = 0; target = Give 0 })).target c.if-is_met.chosen
+chosen : (c : After-turn-number) → c.if-is_met.chosen
+    ≡ (if compares c.args.condition.now.operator c.loop-number.number (part_of c.args.condition.now.arg_len c.args.condition.now.value)
+    then c.args.target else (get_or c.loop-number.rest.now 0 (record { start = 0; target = Give 0 })).target)
 chosen c =
-    let both = rw (c.operator.ensures, value_is c) at c.compares-is_met.ensures in
-    record { met = λ is. grind (arith, both.1 is); unmet = λ not. grind (arith, both, not) }
+    let is = rw (c.operator.ensures, value_is c) at c.compares-is_met.ensures in
+    rw (← is) (search rules)
 
 pub loop-number-preserved : goal.loop-number-preserved
 loop-number-preserved c =

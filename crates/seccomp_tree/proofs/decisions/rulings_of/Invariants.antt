@@ -1,5 +1,5 @@
 use Rattle.seccomp_tree.proofs.Common.{◌≡◌, map, take}
-use Rattle.seccomp_tree.proofs.filter.rulings_of.Given as goal
+use Rattle.seccomp_tree.proofs.decisions.rulings_of.Given as goal
 
 -- the rulings of the rules so far
 abbrev pub invariant-loop-rule : goal.invariant-loop-rule

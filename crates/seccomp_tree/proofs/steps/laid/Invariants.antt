@@ -1,7 +1,7 @@
 use Rattle.seccomp_tree.proofs.Common.{◌-◌}
 use Rattle.seccomp_tree.proofs.Begun.{Laying}
 use Rattle.seccomp_tree.specs.Code.{numbers_of}
-use Rattle.seccomp_tree.proofs.intervals.laid.Given as goal
+use Rattle.seccomp_tree.proofs.steps.laid.Given as goal
 
 abbrev pub invariant-loop-number : goal.invariant-loop-number
 invariant-loop-number l = Laying l.condition l.target l.others l.number l.rest l.steps.items

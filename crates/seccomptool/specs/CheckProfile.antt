@@ -51,7 +51,7 @@ IsSoOfProfile arch container p Flags = p.flags ≢ []
 IsSoOfProfile arch container p (UnknownKey key) = ⊤
 IsSoOfProfile arch container p (OfEntries w origin) = IsTrueOfSome arch w
 
--- If all that is told so far is so, it all is when more is told.
+-- If all so far is so, all is still so with what is added.
 abbrev pub AreStillSo : TargetArch → Container → Profile → (old new : List ProfileWarning) → Type 0
 AreStillSo arch container p old new = All (IsSoOfProfile arch container p) old → All (IsSoOfProfile arch container p) new
 

@@ -71,9 +71,8 @@ pub fn lent(alloc: Global, filter: &JsonFilter) -> Result<LentFilter<'_>, AllocE
         return Err(AllocError);
     };
     for rule in &filter.rules {
-        let conditions = match &rule.conditions {
-            Some(conditions) => Some(conditions.clone()?),
-            None => None,
+        let Ok(conditions) = rule.conditions.clone() else {
+            return Err(AllocError);
         };
         rules.push_reserved(LentRule {
             syscall: rule.syscall.as_str(),

@@ -30,12 +30,14 @@ returns-in-Ne-clause-code c = let test = rw c.in-Ne.is at c.low_test-test.ensure
 
 pub returns-in-Ge-clause-code : goal.returns-in-Ge-clause-code
 returns-in-Ge-clause-code c = let code = c.copy_from_slice-in-Ge.ensures.after ∙ (λ i. c.bpf_stmt-high.ensures i
-    ∷ c.bpf_jump-greater_or_on.ensures i ∷ c.bpf_jump-equal_or_fail.ensures i ∷ c.bpf_stmt-low.ensures i ∷ c.low_test-test.ensures.test i ∷ []) in
+    ∷ c.bpf_jump-greater_or_on.ensures i ∷ c.bpf_jump-equal_or_fail.ensures i ∷ c.bpf_stmt-low.ensures i
+    ∷ c.low_test-test.ensures.test i ∷ []) in
     ⊎_elim (λ is. rw is (rw is at code)) (λ is. rw is (rw is at code)) c.in-Ge.is
 
 pub returns-in-Le-clause-code : goal.returns-in-Le-clause-code
 returns-in-Le-clause-code c = let code = c.copy_from_slice-in-Le.ensures.after ∙ (λ i. c.bpf_stmt-high.ensures i
-    ∷ c.bpf_jump-greater_fails.ensures i ∷ c.bpf_jump-equal_or_done.ensures i ∷ c.bpf_stmt-low.ensures i ∷ c.low_test-test.ensures.test i ∷ []) in
+    ∷ c.bpf_jump-greater_fails.ensures i ∷ c.bpf_jump-equal_or_done.ensures i ∷ c.bpf_stmt-low.ensures i
+    ∷ c.low_test-test.ensures.test i ∷ []) in
     ⊎_elim (λ is. rw is (rw is at code)) (λ is. rw is (rw is at code)) c.in-Le.is
 
 pub returns-in-MaskedEq-clause-code : goal.returns-in-MaskedEq-clause-code

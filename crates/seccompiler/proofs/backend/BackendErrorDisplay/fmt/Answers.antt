@@ -1,13 +1,15 @@
 use Rattle.std.proofs.Common.{◌≡◌, ap}
 use Rattle.seccompiler.specs.Texts.{backend_text}
-use Rattle.seccompiler.proofs.backend.BackendErrorDisplay.fmt.Goals.{in-EmptyRule, in-IdenticalActions, in-InvalidArgumentNumber, in-OutOfMemory}
+use Rattle.seccompiler.proofs.backend.BackendErrorDisplay.fmt.Goals.{in-EmptyRule, in-IdenticalActions, in-InvalidArgumentNumber}
+use Rattle.seccompiler.proofs.backend.BackendErrorDisplay.fmt.Goals.{in-OutOfMemory}
 use Rattle.seccompiler.proofs.backend.BackendErrorDisplay.fmt.Goals as goal
 
 pub returns-in-FilterTooLarge : goal.returns-in-FilterTooLarge
 returns-in-FilterTooLarge g c = rw c.in-FilterTooLarge.is (record { writes = c.write.ensures.writes; styled = tt })
 
 pub returns-in-InvalidTargetArch : goal.returns-in-InvalidTargetArch
-returns-in-InvalidTargetArch g c = rw c.in-InvalidTargetArch.is (record { writes = c.write-in-InvalidTargetArch.ensures.writes; styled = tt })
+returns-in-InvalidTargetArch g c =
+    rw c.in-InvalidTargetArch.is (record { writes = c.write-in-InvalidTargetArch.ensures.writes; styled = tt })
 
 pub returns-in-InvalidSyscallNumber : goal.returns-in-InvalidSyscallNumber
 returns-in-InvalidSyscallNumber g c =

@@ -14,7 +14,8 @@ loop-condition-preserved c = let l = c.loop-condition in
     _ _ c.loop-condition-test.true c.condition-item.is
     (elim c.if-offset-gt-GREATEST_OFFSET.branch [
       | then-offset-gt-GREATEST_OFFSET w ↦ counted_relay _ c.condition-item.result l.length _ l.offset _ w.if-offset-gt-GREATEST_OFFSET.true
-          (sum ∙ λ i. min ((w.length-is ∙ w.saturating_add-length.ensures) i + size i) (2 ^ 64 - 1)) (λ i. w.offset-is i + size i) l.invariant
+          (sum ∙ λ i. min ((w.length-is ∙ w.saturating_add-length.ensures) i + size i) (2 ^ 64 - 1)) (λ i. w.offset-is i + size i)
+          l.invariant
       | else-offset-gt-GREATEST_OFFSET w ↦ counted_more _ c.condition-item.result l.length _ l.offset _ w.if-offset-gt-GREATEST_OFFSET.false
           (sum ∙ λ i. min (w.length-is i + size i) (2 ^ 64 - 1)) (λ i. w.offset-is i + size i) l.invariant
     ])

@@ -1,6 +1,6 @@
 -- Steps: what they have for a number, what is left of them there, one step more, and comparisons laid over them.
-use Rattle.seccomp_tree.proofs.Common.{SeccompCmpArgLen, if◌then◌else◌, length-append, SeccompCmpOp, sock_filter, Condition, nat_tests, All}
-use Rattle.seccomp_tree.proofs.Common.{take_rest, AreSteps, IsPushed, cases_lt, compares, found_in, is_plain, AreLaid, AreOver, part_of, []}
+use Rattle.seccomp_tree.proofs.Common.{SeccompCmpArgLen, if◌then◌else◌, length-append, sock_filter, Condition, nat_tests, All}
+use Rattle.seccomp_tree.proofs.Common.{take_rest, AreSteps, IsPushed, cases_lt, compares, found_in, is_plain, AreOver, part_of, All-nil, []}
 use Rattle.seccomp_tree.proofs.Common.{IsTurn, Target, get_or, length, nat_eq, nat_le, nat_lt, AllIn, arith, Bool, IsIn, List, Step, drop}
 use Rattle.seccomp_tree.proofs.Common.{refl, take, true, zero, ◌++◌, inl, inr, suc, ◌+◌, ◌-◌, ◌<◌, ◌^◌, ◌∙◌, ◌∷◌, ◌≡◌, ◌≢◌, ◌≤◌, ◌⊎◌, ℕ}
 use Rattle.seccomp_tree.specs.Code.{numbers_of}
@@ -9,8 +9,6 @@ use mir.Val.{bool_byte}
 -- One target for all numbers.
 abbrev pub single : Target → List Step
 single target = record { start = 0; target = target } ∷ []
-
--- ---- ascending
 
 pub over_more : (m n : ℕ) (steps : List Step) → m ≤ n → AreOver m steps → AreOver n steps
 over_more m n (x ∷ y ∷ steps) le h = (h.0, (h.1.0, over_more m n (y ∷ steps) le h.1.1))
@@ -25,16 +23,10 @@ pub not_none : (m : ℕ) (steps : List Step) → AreSteps m steps → 0 < m → 
 not_none m [] h some = absurd (omega arith)
 not_none m (x ∷ steps) h some = omega arith
 
-pub steps_over : (m : ℕ) (steps : List Step) → AreSteps m steps → 1 ≤ length steps → AreOver m steps
-steps_over m [] h some = absurd (omega arith)
-steps_over m (x ∷ steps) h some = h.1
-
 -- steps below a number are below a greater one
 pub steps_more : (m n : ℕ) (steps : List Step) → 0 < m → m ≤ n → AreSteps m steps → AreSteps n steps
 steps_more m n [] some le h = absurd (omega arith)
 steps_more m n (x ∷ steps) some le h = (h.0, over_more m n (x ∷ steps) le h.1)
-
--- ---- targets
 
 -- numbers up to the first start have the first target
 pub found_first : (m : ℕ) (x : Step) (steps : List Step) (a : ℕ) → AreOver m (x ∷ steps) → a ≤ x.start → found_in (x ∷ steps) a ≡ x.target
@@ -76,10 +68,10 @@ in_below code m x [] up h (suc k) d lt = absurd (omega arith)
 in_below code m x (y ∷ steps) up h (suc k) d lt = in_below code m y steps up.1.1
     (λ a le lt'. grind (arith, nat_tests, up.0, h a, lt')) k d (omega arith)
 
-pub are_in_below : (code : List sock_filter) (m : ℕ) (steps : List Step) → AreOver m steps → AllIn code m steps
+pub are_in_below : (code : List sock_filter) (m : ℕ) (steps : List Step) → AreSteps m steps → AllIn code m steps
     → All (λ y. IsIn code y.target) steps
-are_in_below code m [] up h = absurd up
-are_in_below code m (x ∷ steps) up h = in_below code m x steps up (λ a le lt. h a lt)
+are_in_below code m [] are h = All-nil (λ (y : Step). IsIn code y.target)
+are_in_below code m (x ∷ steps) are h = in_below code m x steps are.1 (λ a le lt. h a lt)
 
 -- ---- what is left of steps from a number on
 
@@ -140,8 +132,7 @@ left_on {size} next end (x ∷ y ∷ after) back h some ends up le (inl (at, is)
 left_on next end (x ∷ after) back h some ends up le (inr (not, is)) =
     rw is record { from = (omega arith, h.from.1); same = λ a le' lt. h.same a (omega arith) lt }
 
--- ---- one step more
-
+-- one step more
 over_push : (y : Step) (old : List Step) (x d : Step) → AreOver x.start (y ∷ old)
     → ((get_or (y ∷ old) (length old) d).target ≢ x.target) → AreOver (x.start + 1) (y ∷ (old ++ x ∷ []))
 over_push y [] x d h not = (h, (not, omega arith))
@@ -173,13 +164,6 @@ pushed_same (x ∷ old) start n target d h last same = record {
   few = omega arith;
 }
 
--- ---- comparisons
-
--- numbers that lie alike to a value compare alike
-alike_on : (o : SeccompCmpOp) (a b v : ℕ) → is_plain o ≡ true
-    → ((a < v) × (b < v)) ⊎ (((a ≡ v) × (b ≡ v)) ⊎ ((v < a) × (v < b))) → compares o a v ≡ compares o b v
-alike_on o a b v plain side = grind (arith, nat_tests, plain, side)
-
 pub numbers_many : (l : SeccompCmpArgLen) → 2 ^ 32 ≤ numbers_of l
 numbers_many l = grind arith
 
@@ -210,19 +194,9 @@ laying_on {c} {end = end} {number} {next} rest back d plain h some ends turn cho
     | inl below ↦ rw (pushed.below a below) (h.each a below)
     | inr le ↦
         let other = left_has rest d a h.left some le (omega (arith, ends, turn.within)) in
-        let same = alike_on c.operator a number (part_of c.arg_len c.value) plain (grind (arith, nat_tests, turn.before, le, lt)) in
+        let v = part_of c.arg_len c.value in
+        let same : compares c.operator a v ≡ compares c.operator number v = grind (arith, nat_tests, plain, turn.before, le, lt) in
         rw (pushed.from a le, other, same) chosen
   ];
   few = grind (arith, nat_tests, h.few, pushed.few, turn.above, turn.stops, turn.within, moved);
 }
-
-pub laying_ends : {c : Condition} {target : Target} {others rest steps : List Step} {number : ℕ} → is_plain c.operator ≡ true
-    → Laying c target others number rest steps → numbers_of c.arg_len ≤ number → AreLaid c target others steps
-laying_ends {c} {number = number} plain h all =
-    let end = left_all _ h.left all in
-    record { are = rw end at h.are; each = λ a lt. h.each a (omega (arith, end)); few = omega (arith, h.few); plain = plain }
-
--- what is laid over targets of the code are targets of the code
-pub laid_in : (code : List sock_filter) (c : Condition) (target : Target) (others new : List Step) → AreLaid c target others new
-    → IsIn code target → AllIn code (numbers_of c.arg_len) others → AllIn code (numbers_of c.arg_len) new
-laid_in code c target others new h own inside a lt = grind (arith, h.each a lt, own, inside a lt)

@@ -1,25 +1,18 @@
--- What decisions decide: one word for each record; for a filter what it decides itself, with the calls that a loop makes of its chains; and
--- steps over call numbers, which are as few as can be.
-use Rattle.seccomp_tree.proofs.Common.{other_architecture, AreCallNumbers, policy_differs, if◌then◌else◌, AreCallSteps, ChainMatches, Chain}
-use Rattle.seccomp_tree.proofs.Common.{DefaultValue, IsCallNumber, append_assoc, calls_length, decisions_of, default_from, insert_entry, []}
-use Rattle.seccomp_tree.proofs.Common.{rules_length, DecisionSet, chain_under, default_for, rulings_for, sock_filter, AreOver, AreRanges}
-use Rattle.seccomp_tree.proofs.Common.{IsDecision, audit_word, found_in, map-append, numbers_of, option_map, rulings_of, Condition, First}
-use Rattle.seccomp_tree.proofs.Common.{IsDecided, RuleHolds, chains_of, drop_more, is_member, nat_tests, unwrap_or, All-head, All-tail, All}
-use Rattle.seccomp_tree.proofs.Common.{DecideAs, IsAnswer, IsPushed, calls_of, cases_eq, cases_lt, All-nil, call_of, decided, Any}
-use Rattle.seccomp_tree.proofs.Common.{int_cmp, keys_of, nat_cmp, nothing, word_at, word_of, Filter, Global, Option, Ruling, Target, behind}
-use Rattle.seccomp_tree.proofs.Common.{get_or, length, lookup, nat_eq, nat_le, nat_lt, Grows, Holds, arith, false, holds, is_at, subst, Vec}
-use Rattle.seccomp_tree.proofs.Common.{Bool, Less, List, None, Rule, Some, Step, drop, here, ints, refl, true, ◌++◌, inl, inr, map, pos, ap}
-use Rattle.seccomp_tree.proofs.Common.{suc, sym, ◌+◌, ◌-◌, ◌<◌, ◌^◌, ◌∙◌, ◌∷◌, ◌≡◌, ◌≤◌, ◌⊎◌, ℕ, ℤ}
+-- What decisions decide: one word for each record, and for a filter what it decides; and steps over call numbers, as few as can be.
+use Rattle.seccomp_tree.proofs.{Begun.found_first, Begun.over_below, Begun.steps_more, Runs.is_in_grown, Runs.leads_grown, Runs.grows_on}
+use Rattle.std.{proofs.lemmas.Map.Keys.sorted_tail, proofs.lemmas.Map.Views.All-after_first, specs.List.Sorted.IsStrictlySortedBy}
+use Rattle.seccomp_tree.proofs.{Common.other_architecture, Common.AreCallNumbers, Common.DecisionSet, Meeting.first_alone, Meeting.first_is}
+use Rattle.seccomp_tree.proofs.Common.{policy_differs, if◌then◌else◌, AreCallSteps, ChainMatches, DefaultValue, IsCallNumber, append_assoc}
+use Rattle.seccomp_tree.proofs.Common.{calls_length, decisions_of, default_from, insert_entry, rules_length, chain_under, default_for, Bool}
+use Rattle.seccomp_tree.proofs.Common.{rulings_for, sock_filter, IsDecision, audit_word, map-append, numbers_of, option_map, rulings_of, []}
+use Rattle.seccomp_tree.proofs.Common.{AreRanges, Condition, IsDecided, RuleHolds, chains_of, drop_more, is_member, nat_tests, unwrap_or, ℕ}
+use Rattle.seccomp_tree.proofs.Common.{found_in, All-head, All-tail, DecideAs, IsAnswer, IsPushed, calls_of, cases_eq, cases_lt, AreOver, ℤ}
+use Rattle.seccomp_tree.proofs.Common.{All-nil, call_of, decided, int_cmp, keys_of, nat_cmp, nothing, word_at, word_of, Filter, Global, All}
+use Rattle.seccomp_tree.proofs.Common.{Option, Ruling, Target, behind, get_or, length, lookup, nat_eq, nat_le, nat_lt, Chain, First, Grows}
+use Rattle.seccomp_tree.proofs.Common.{Holds, arith, false, holds, is_at, subst, Less, List, None, Rule, Some, Step, drop, here, ints, refl}
+use Rattle.seccomp_tree.proofs.Common.{true, ◌++◌, Any, Vec, inl, inr, map, pos, suc, sym, ◌+◌, ◌-◌, ◌<◌, ◌^◌, ◌∙◌, ◌∷◌, ◌≡◌, ◌≤◌, ◌⊎◌, ap}
 use Rattle.seccompiler.proofs.Searches.{any_cases, any_head, any_tail, any_nil}
-use Rattle.std.specs.List.Sorted.{IsStrictlySortedBy}
-use Rattle.std.proofs.lemmas.Map.Keys.{sorted_tail}
-use Rattle.std.proofs.lemmas.Map.Views.{All-after_first}
 use Rattle.seccompiler.specs.Policy.{other_architecture as other}
-use Rattle.seccomp_tree.proofs.Meeting.{first_alone, first_is}
-use Rattle.seccomp_tree.proofs.Runs.{is_in_grown, leads_grown, grows_on}
-use Rattle.seccomp_tree.proofs.Begun.{found_first, over_below, steps_more}
-
--- ---- lists that a loop goes down
 
 -- at an element there is it, and what is after
 pub drop_at : {A : Type 0} (l : List A) (i : ℕ) (x : A) → i < length l → x ≡ get_or l i x → drop i l ≡ x ∷ drop (i + 1) l
@@ -28,8 +21,6 @@ drop_at l i x lt is = drop_more l i x lt ∙ ap (λ y. y ∷ drop (i + 1) l) (sy
 -- and in front of what there was
 pub drop_back : {A : Type 0} (l : List A) (n : ℕ) (x : A) → 0 < n → n ≤ length l → x ≡ get_or l (n - 1) x → drop (n - 1) l ≡ x ∷ drop n l
 drop_back l n x some le is = drop_at l (n - 1) x (omega arith) is ∙ ap (λ k. x ∷ drop k l) (omega arith)
-
--- ---- what is decided
 
 -- one word
 pub one_decided : (d : DecisionSet) (r : List ℕ) (v w : ℕ) → IsDecided d r v → IsDecided d r w → v ≡ w
@@ -80,8 +71,7 @@ calls_next w n z chain q chains back calls h sorted is same =
       keys = rw (map-append, append_assoc) keys;
     }
 
--- ---- the first of a chain's rulings
-
+-- what the first of a chain's rulings names
 module _ (r : List ℕ) (default w : ℕ) where
   -- The word if something is so, or else the default.
   abbrev Names : Type 0 → ℕ → Type 0
@@ -100,8 +90,7 @@ module _ (r : List ℕ) (default w : ℕ) where
   chain_names [] v (behind d rest u not first) = absurd (not (All-nil (λ (c : Condition). Holds c r)))
   chain_names (q ∷ chain) v first = grind (arith, rules_name (q ∷ chain) v first)
 
--- ---- the chain of a number
-
+-- the chain of a number
 rulings_found : (w : ℕ) (chains : List (ℤ × Chain)) (n : ℕ) → AreCallNumbers (numbers_of chains)
     → rulings_for (map (call_of w) chains) n ≡ unwrap_or (option_map (rulings_of w) (chain_under chains n)) []
 rulings_found w [] n numbers = refl
@@ -109,8 +98,6 @@ rulings_found w (e ∷ chains) n numbers =
     let call = All-head IsCallNumber e.0 (numbers_of chains) numbers in
     let rest = rulings_found w chains n (All-tail IsCallNumber e.0 (numbers_of chains) numbers) in
     grind (arith, nat_tests, ints, call, rest)
-
--- ---- the decisions
 
 module _ (f : Filter) (r : List ℕ) where
   given_decision : (found : Option Chain) → chain_under f.chains (word_at r 0) ≡ found → word_at r 4 ≡ audit_word f.target_arch → (v : ℕ)
@@ -188,8 +175,7 @@ pub calls_less : (calls : List (ℕ × List Ruling)) (n : ℕ) → rules_length 
 calls_less calls n = omega (arith, below_one calls n (n + 1) (omega arith), below_all calls (n + 1))
 
 pub calls_on : {d : DecisionSet} {old mid new : List sock_filter} {steps more : List Step} {number next : ℕ} {t : Target}
-    → AreCallSteps old d (below_length d.calls number) number steps mid
-    → Grows mid (rules_length (rulings_for d.calls number)) new
+    → AreCallSteps old d (below_length d.calls number) number steps mid → Grows mid (rules_length (rulings_for d.calls number)) new
     → IsAnswer new (default_for d.defaults number) (rulings_for d.calls number) t → IsPushed steps number t more → number < next
     → ((n : ℕ) → number ≤ n → n < next → default_for d.defaults n ≡ default_for d.defaults number)
     → ((n : ℕ) → number ≤ n → n < next → rulings_for d.calls n ≡ rulings_for d.calls number)

@@ -1,6 +1,4 @@
--- Conditions and rulings as targets: what choices and masks make of conditions; and rulings from the last to the first, each of which is
--- put in front of what comes after it.
-use Rattle.seccomp_tree.proofs.Begun.{numbers_many, laid_in, single}
+-- Conditions and rulings as targets: conditions of choices and masks; and rulings from the last to the first, each put in front.
 use Rattle.seccomp_tree.proofs.Common.{false_from_ne_true, get_or_read_under, SeccompCmpArgLen, condition_length, not_from_Decides, AreLaid}
 use Rattle.seccomp_tree.proofs.Common.{condition_steps, Decides-by_and, if◌then◌else◌, number_halves, operator_part, rules_length, AreSteps}
 use Rattle.seccomp_tree.proofs.Common.{argument_at, mask_halves, part_length, sock_filter, cases_Bool, false≢true, option_map, part_steps}
@@ -11,10 +9,8 @@ use Rattle.seccomp_tree.proofs.Common.{nat_eq, passes, Dword, Equal, First, Grow
 use Rattle.seccomp_tree.proofs.Common.{holds, masks, stops, Bool, Give, IsIn, List, None, Some, Step, drop, here, load, mask, only, refl, ℕ}
 use Rattle.seccomp_tree.proofs.Common.{true, zero, ◌&&◌, suc, sym, ◌%◌, ◌*◌, ◌+◌, ◌-◌, ◌/◌, ◌<◌, ◌^◌, ◌∙◌, ◌∷◌, ◌≡◌, ◌≤◌, ◌⊎◌, At, [], ap}
 use Rattle.seccomp_tree.proofs.Runs.{leads_grown, starts_last, starts_more, grows_not, grows_one, grows_on, leads_by}
-use Rattle.seccomp_tree.proofs.Trees.{high_word, load_run, low_word}
+use Rattle.seccomp_tree.proofs.{Begun.numbers_many, Begun.single, Trees.high_word, Trees.load_run, Trees.low_word}
 use Rattle.seccomp_tree.specs.Code.{numbers_of}
-
--- ---- tests
 
 pub holds_is : (q : List Condition) (r : List ℕ) → Decides (list_all (holds r) q) (RuleHolds q r)
 holds_is q r = Decides-by_and (holds r) (λ (c : Condition). Holds c r) (list_all (holds r))
@@ -25,8 +21,6 @@ rule_or_not q r = elim (cases_Bool (list_all (holds r) q)) [
   | inl is ↦ inl ((holds_is q r).0 is)
   | inr not ↦ inr (not_from_Decides _ (holds_is q r) not)
 ]
-
--- ---- conditions without a mask
 
 -- laid steps have for the argument's part what the condition chooses
 pub laid_for : {c : Condition} {target : Target} {others steps : List Step} (q : List Condition) (r : List ℕ) → q ≡ c ∷ [] → IsRecord r
@@ -81,8 +75,6 @@ met_both {first} {s = s} {most = most} {steps} both room time h g = record {
   ];
 }
 
--- ---- masks
-
 -- Whether the record's word at this byte has the value's bits under the mask.
 abbrev pub has_bits : ℕ → ℕ → ℕ → List ℕ → Bool
 has_bits byte m value r = nat_eq (bit_and (word_at r byte) m) (bit_and value m)
@@ -97,8 +89,7 @@ masked_some {old} {mid} byte m value low small tested is = rw is record {
       let x = bit_and (word_at r byte) m in
       let x_small : x < 2 ^ 32 = and_lt 32 (word_at r byte) m (word_fits r byte rec) small in
       let run = tested.leads r x w n x_small (leads_grown (grows_not old 0) (lead x x_small)) in
-      starts_more (n + 4) (omega arith)
-      (leads_by (starts_last refl (omega arith) (load_run r (mask m ∷ mid) byte a w (suc (suc n)) rec low
+      starts_more (n + 4) (omega arith) (leads_by (starts_last refl (omega arith) (load_run r (mask m ∷ mid) byte a w (suc (suc n)) rec low
       (goes_on (mask m) mid (word_at r byte) x w (suc n) 0 (λ p. masks refl (omega arith) refl) x_small run))));
 }
 
@@ -121,10 +112,7 @@ pub masked_qword : {old mid new : List sock_filter} {fit unfit one t : Target} (
     → IsMet (has_bits (20 + 8 * c.arg_index) (m / 2 ^ 32) (c.value / 2 ^ 32)) 5 4 mid one unfit t new → AreMet (c ∷ []) old fit unfit t new
 masked_qword c m long is low high =
     met_both (λ r rec. rw (long, is, ← high_word r c.arg_index rec, ← low_word r c.arg_index rec)
-    (grind (arith, mask_parts (argument_at r c.arg_index) c.value m)))
-    (rw (long, is) (omega arith)) (rw (long, is) (omega arith)) low high
-
--- ---- the first ruling that holds
+    (grind (arith, mask_parts (argument_at r c.arg_index) c.value m))) (rw (long, is) (omega arith)) (rw (long, is) (omega arith)) low high
 
 -- The value of the first of the rulings that holds, or the default.
 abbrev pub first : ℕ → List Ruling → List ℕ → ℕ
@@ -223,8 +211,6 @@ module _ {old code : List sock_filter} {default : ℕ} where
   }
   behind_none (x ∷ z ∷ steps) y h is = absurd (omega (arith, h.few))
 
--- ---- a ruling in front
-
 pub joined_none : (q : List Condition) (rulings : List Ruling) → only q ≡ None → joined q rulings ≡ 0
 joined_none q [] own = refl
 joined_none q (d ∷ rest) own = rw own refl
@@ -260,7 +246,7 @@ module _ {old code : List sock_filter} {default : ℕ} (d : Ruling) (rest : List
       room = grind (arith, only_is d.conditions c own, x.room);
       few = omega (arith, h.few, x.few);
       are = h.are;
-      inside = laid_in code c (Give d.value) steps laid h fits x.inside;
+      inside = λ a lt. grind (arith, h.each a lt, fits, x.inside a lt);
       leads = λ r rec n takes.
           rw (laid_for d.conditions r (only_is d.conditions c own).0 rec h) (entered default d rest r (λ m. x.leads r rec m) takes);
     }

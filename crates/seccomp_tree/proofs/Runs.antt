@@ -50,8 +50,7 @@ grows_on {a} most g h few = record {
 
 -- how long the code is then
 pub grown_long : {old new : List sock_filter} {most : ℕ} → Grows old most new → (length old ≤ length new) × (length new ≤ length old + most)
-grown_long {old} g =
-    let long = ap length g.whole ∙ length-append g.front old in (omega (arith, long), omega (arith, long, g.few))
+grown_long {old} g = let long = ap length g.whole ∙ length-append g.front old in (omega (arith, long), omega (arith, long, g.few))
 
 pub is_in_grown : {old new : List sock_filter} {most : ℕ} (t : Target) → Grows old most new → IsIn old t → IsIn new t
 is_in_grown t g h = grind (arith, grown_long g)
@@ -102,7 +101,7 @@ starts_last {code} {r} {t} {a} {w} {n} is some h =
     rw is (to_place (length code - 1) w a n n (omega arith) (rw at h) (grind (arith, nat_tests)))
 
 -- what a target that is a place does
-runs_at : {reach : ℕ} {code : List sock_filter} {r : List ℕ} {t : Target} {a w n : ℕ} (m : ℕ) → t ≡ At m → Starts reach code r t a w n
+pub runs_at : {reach : ℕ} {code : List sock_filter} {r : List ℕ} {t : Target} {a w n : ℕ} (m : ℕ) → t ≡ At m → Starts reach code r t a w n
     → Returns r (tail_at code m) a w n
 runs_at m is (to_return w a n some) = absurd (cc)
 runs_at m is (to_place p w a k n inside h few) = let same : p ≡ m = cc in rw same at (returns_more n (omega (arith, few)) h)
@@ -122,12 +121,6 @@ sound_push code i h fine range room =
     each : (place : ℕ) (j : sock_filter) → slice_get (i ∷ code) place ≡ Some j → IsFine j place (length (i ∷ code)) × IsInRange j
     each zero j here = grind (arith, here, fine, range)
     each (suc place) j here = grind (arith, h.fine place j here)
-
--- ---- for `reach` and `test`
-
-pub reached_itself : (code : List sock_filter) (m : ℕ) → m < length code → length code ≤ m + 255 → IsReached code (At m) m code
-reached_itself code m inside close =
-    record { grows = grows_not code 1; inside = inside; near = close; leads = λ r a w n small h. runs_at m refl h }
 
 -- a place at which an instruction stands in for a target that is far
 pub reached : {code new : List sock_filter} {t : Target} (place : ℕ) (rest : List sock_filter) → Grows code 1 new

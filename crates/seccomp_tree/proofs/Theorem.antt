@@ -1,20 +1,15 @@
--- The theorem: what is written answers every record as is decided. Sound code is a checked program, and a run that returns a word ends
--- with it there.
-use Rattle.seccomp_tree.proofs.Common.{other_architecture, greatest_length, EndsAsDecided, IsTreeProgram, if◌then◌else◌, AreCallSteps, Give}
-use Rattle.seccomp_tree.proofs.Common.{calls_length, DecisionSet, default_for, rulings_for, sock_filter, EndsWithin, audit_word, one-le-pow}
-use Rattle.seccomp_tree.proofs.Common.{AreRanges, IsChecked, IsDecided, drop-drop, length_by, nat_tests, pow-succ', run_steps, slice_get, ℕ}
-use Rattle.seccomp_tree.proofs.Common.{then_step, to_return, word_fits, IsAnswer, IsRecord, IsTested, TakesOwn, drop_all, zero-add, IsSound}
-use Rattle.seccomp_tree.proofs.Common.{Returns, decided, goes_on, word_at, IsPart, Ruling, Target, begins, joined, length, nat_eq, passes}
-use Rattle.seccomp_tree.proofs.Common.{Dword, Equal, First, Leads, Takes, arith, gives, other, stays, stops, subst, Goes, List, Some, Step}
-use Rattle.seccomp_tree.proofs.Common.{drop, ends, give, load, refl, zero, inl, inr, one, own, suc, sym, ◌*◌, ◌+◌, ◌-◌, ◌<◌, ◌^◌, ◌∙◌, ◌∷◌}
-use Rattle.seccomp_tree.proofs.Common.{◌≡◌, ◌≤◌, [], ap}
-use Rattle.seccomp_tree.proofs.Runs.{returns_more, grown_long, sound_some}
-use Rattle.seccomp_tree.proofs.Decided.{decided_some, fewest}
-use Rattle.seccomp_tree.proofs.Begun.{not_none}
+-- The theorem: what is written answers every record as is decided. Sound code is checked, and a run that returns a word ends with it.
+use Rattle.seccomp_tree.proofs.{Begun.not_none, Common.other_architecture, Meeting.rule_or_not, Meeting.one_first, Trees.load_run}
 use Rattle.seccompiler.proofs.Runs.{goes_far}
 use Rattle.std.proofs.lemmas.Option.{slice_get_within}
-use Rattle.seccomp_tree.proofs.Trees.{load_run}
-use Rattle.seccomp_tree.proofs.Meeting.{one_first, rule_or_not}
+use Rattle.seccomp_tree.proofs.Common.{greatest_length, EndsAsDecided, IsTreeProgram, if◌then◌else◌, AreCallSteps, calls_length, EndsWithin}
+use Rattle.seccomp_tree.proofs.Common.{DecisionSet, default_for, rulings_for, sock_filter, audit_word, one-le-pow, AreRanges, IsChecked, []}
+use Rattle.seccomp_tree.proofs.Common.{IsDecided, drop-drop, length_by, nat_tests, pow-succ', run_steps, slice_get, then_step, to_return, ℕ}
+use Rattle.seccomp_tree.proofs.Common.{word_fits, IsAnswer, IsRecord, IsTested, TakesOwn, drop_all, zero-add, IsSound, Returns, decided, ap}
+use Rattle.seccomp_tree.proofs.Common.{goes_on, word_at, IsPart, Ruling, Target, begins, joined, length, nat_eq, passes, Dword, Equal, Give}
+use Rattle.seccomp_tree.proofs.Common.{First, Leads, Takes, arith, gives, other, stays, stops, subst, Goes, List, Some, Step, drop, ends}
+use Rattle.seccomp_tree.proofs.Common.{give, load, refl, zero, inl, inr, one, own, suc, ◌*◌, ◌+◌, ◌-◌, ◌<◌, ◌^◌, ◌∷◌, ◌≡◌, ◌≤◌}
+use Rattle.seccomp_tree.proofs.{Decided.decided_some, Decided.fewest, Runs.returns_more, Runs.grown_long, Runs.sound_some}
 
 get_at : (p : List sock_filter) (place : ℕ) (i : sock_filter) (rest : List sock_filter) → drop place p ≡ i ∷ rest
     → slice_get p place ≡ Some i
@@ -47,9 +42,7 @@ ends_from p r tail place m a w n at goes small (goes_on i rest b a' v n' d does 
       after = small';
       does = does place;
     } in
-    let over : 1 + d ≡ suc d = omega arith in
-    let at' : drop (place + (1 + d)) p ≡ drop d rest =
-    sym (drop-drop (1 + d) place p) ∙ ap (λ l. drop (1 + d) l) at ∙ ap (λ k. drop k (i ∷ rest)) over in
+    let at' : drop (place + (1 + d)) p ≡ drop d rest = grind (arith, drop-drop (1 + d) place p, at) in
     subst (EndsWithin p r v) (omega arith) (ends_from p r (drop d rest) (place + (1 + d)) (suc m) a' w n' at' step small' h)
 
 -- A program whose run returns a word ends with it.
@@ -58,16 +51,13 @@ program_ends p r w n h = rw zero-add at (ends_from p r p 0 0 0 w n refl stays (o
 
 -- Sound code is a checked program, if it is no longer than that may be.
 pub sound_checked : (p : List sock_filter) → IsSound p → length p ≤ greatest_length → IsChecked p
-sound_checked p h few =
-    record {
-      some = sound_some p h;
-      few = few;
-      ranges = record { each = λ place i here. (h.fine place i here).1 };
-      each = λ place i here. (h.fine place i here).0;
-      last = λ i here.
-          let same : i ≡ give 0x80000000 = cc (get_at p (length p - 1) (give 0x80000000) [] h.ends) in
-          ap (λ (j : sock_filter). j.code) same;
-    }
+sound_checked p h few = record {
+  some = sound_some p h;
+  few = few;
+  ranges = record { each = λ place i here. (h.fine place i here).1 };
+  each = λ place i here. (h.fine place i here).0;
+  last = λ i here. grind (arith, here, get_at p (length p - 1) (give 0x80000000) [] h.ends);
+}
 
 -- what answers a number leads to what is decided, within its own steps and one
 answer_leads : (d : DecisionSet) (code : List sock_filter) (t : Target) (r : List ℕ) (w n : ℕ) → IsRecord r
@@ -78,17 +68,12 @@ answer_leads d code t r w n rec h arch first (one v is) =
     λ a small. rw (h.one v is, one_first _ v w _ r is first) (to_return v a 1 (omega arith))
 answer_leads d code t r w n rec h arch first (own k takes) = h.leads r rec w k first takes
 
--- ---- what there is for every record
-
 power : (n : ℕ) → n ≤ 2 ^ n
 power zero = omega arith
 power (suc n) = omega (arith, power n, pow-succ' 2 n, one-le-pow n 2 (omega arith))
 
 entered : (r : List ℕ) (i : ℕ) (d : Ruling) (rest : List Ruling) → (n : ℕ) × Takes r i rest n → (n : ℕ) × Takes r (suc i) (d ∷ rest) n
-entered r i d rest x = elim (rule_or_not d.conditions r) [
-  | inl h ↦ (0, stops i d rest h)
-  | inr not ↦ (x.0, passes i d rest x.0 not x.1)
-]
+entered r i d rest x = elim (rule_or_not d.conditions r) [ inl h ↦ (0, stops i d rest h) | inr not ↦ (x.0, passes i d rest x.0 not x.1) ]
 
 takes_some : (r : List ℕ) (rulings : List Ruling) (i : ℕ) → (n : ℕ) × Takes r i rulings n
 takes_some r [] i = (0, ends i)
@@ -97,8 +82,6 @@ takes_some r (d ∷ rest) zero =
     let j = joined d.conditions rest in
     let x = entered r j d rest (takes_some r rest j) in
     (run_steps d.conditions (2 * suc j + 1) + x.0, begins d rest (2 * suc j + 1) x.0 (power (2 * suc j + 1)) x.1)
-
--- ---- the whole
 
 -- What is written is short, and the program of the decisions if it is no longer than that may be.
 pub record IsWritten (d : DecisionSet) (p : List sock_filter) : Type 0 where
@@ -125,8 +108,7 @@ module _ {d : DecisionSet} {p mid behind tested : List sock_filter} {steps : Lis
   written_returns r w n k rec few (other_architecture not is) takes = returns_more (4 + 2 * k + n) (omega arith)
       (chosen_runs r (Give w) w 1 rec (grind (arith, nat_tests, not, is)) (λ a small. to_return w a 1 (omega arith)))
   written_returns r w n k rec few (decided arch first) takes = returns_more (4 + 2 * k + n) (omega arith)
-      (chosen_runs r calls w (n + 1 + (1 + 2 * k)) rec (grind (arith, nat_tests, arch))
-      (word.leads r rec w (n + 1) k few
+      (chosen_runs r calls w (n + 1 + (1 + 2 * k)) rec (grind (arith, nat_tests, arch)) (word.leads r rec w (n + 1) k few
       (answer_leads d mid _ r w n rec (answers.each (word_at r 0) (word_fits r 0 rec)) arch first takes)))
 
   written_decides : (r : List ℕ) → IsRecord r → EndsAsDecided d p r

@@ -1,14 +1,13 @@
 -- For `tree`, `word` and `argument`: rows of tests, the code of steps, put together of the code of fewer and a test, and steps by halves.
 use Rattle.seccomp_tree.proofs.Common.{second_stands_out, length-take-le, if◌then◌else◌, number_halves, argument_at, length-drop, nat_tests}
 use Rattle.seccomp_tree.proofs.Common.{sock_filter, cases_Bool, pow-succ', take_rest, word_fits, All-drop, AreSteps, IsPushed, IsRecord, At}
-use Rattle.seccomp_tree.proofs.Common.{IsTested, cases_lt, found_in, AreOver, AtLeast, Returns, goes_on, part_of, word_at, GoesOn, IsPart}
+use Rattle.seccomp_tree.proofs.Common.{IsTested, cases_lt, found_in, AreOver, AtLeast, Returns, goes_on, word_at, GoesOn, IsPart}
 use Rattle.seccomp_tree.proofs.Common.{IsTree, IsTurn, Target, get_or, length, nat_lt, passed, AllIn, Dword, Equal, Grows, Leads, Qword, []}
 use Rattle.seccomp_tree.proofs.Common.{arith, false, loads, subst, Give, IsIn, List, Step, Test, drop, load, refl, take, true, zero, All, ℕ}
 use Rattle.seccomp_tree.proofs.Common.{inl, inr, row, suc, sym, ◌%◌, ◌*◌, ◌+◌, ◌-◌, ◌/◌, ◌<◌, ◌^◌, ◌∷◌, ◌≡◌, ◌≤◌, ◌⊎◌, ap}
-use Rattle.seccomp_tree.proofs.Runs.{is_in_grown, leads_grown, starts_last, starts_more, grows_not, grows_one, runs_last, grows_on, last_in}
-use Rattle.seccomp_tree.proofs.Runs.{leads_by}
 use Rattle.seccomp_tree.proofs.Begun.{first_start, found_first, steps_more, HasMoved, left_all, left_end, left_has, AreLeft, left_on, parts}
-use Rattle.seccomp_tree.proofs.Begun.{single}
+use Rattle.seccomp_tree.proofs.{Begun.single, Runs.is_in_grown, Runs.leads_grown, Runs.starts_last, Runs.starts_more, Runs.grows_not}
+use Rattle.seccomp_tree.proofs.Runs.{grows_one, runs_last, grows_on, leads_by, last_in}
 
 abbrev pub none : Step
 none = record { start = 0; target = Give 0 }
@@ -42,8 +41,6 @@ row_few _ some = omega arith
 pub row_halvings : (steps : List Step) (k : ℕ) → 1 ≤ length steps → row steps ≤ 6 → length steps ≤ 2 ^ k → row steps ≤ 2 * k
 row_halvings steps (suc (suc (suc k))) some six le = omega arith
 row_halvings steps k some six le = omega (arith, row_few steps some)
-
--- ---- the code
 
 -- what there was is led to as before
 plain_goes : {most : ℕ} (old new : List sock_filter) (t : Target) (m : ℕ) → Grows old most new → GoesOn old (single t) m t new
@@ -127,8 +124,6 @@ tree_halves {new = new} {t = t} steps n d half over some long upper lower h =
       soon = λ few. absurd (omega arith);
     }
 
--- ---- after the load of a word
-
 -- one step needs no load
 pub word_one : {old new : List sock_filter} {t : Target} (steps : List Step) (byte : ℕ) → length steps ≡ 1 → IsTree old steps t new
     → IsPart old Dword (λ r. word_at r byte) steps t new
@@ -167,15 +162,6 @@ low_word r index rec = omega (arith, number_halves r (16 + 8 * index), word_fits
 
 pub high_word : (r : List ℕ) (index : ℕ) → IsRecord r → argument_at r index / 2 ^ 32 ≡ word_at r (20 + 8 * index)
 high_word r index rec = grind (arith, number_halves r (16 + 8 * index), word_fits r (16 + 8 * index) rec)
-
-pub part_of_word : {old new : List sock_filter} {steps : List Step} {t : Target} (index : ℕ)
-    → IsPart old Dword (λ r. word_at r (16 + 8 * index)) steps t new
-    → IsPart old Dword (λ r. part_of Dword (argument_at r index)) steps t new
-part_of_word index word = record {
-  grows = word.grows;
-  inside = word.inside;
-  leads = λ r rec w n k few lead. word.leads r rec w n k few (rw (← low_word r index rec) lead);
-}
 
 -- How many further high halves a number may begin for which no step that is left starts.
 abbrev pub due : ℕ → List Step → ℕ
@@ -305,8 +291,8 @@ module _ {old code : List sock_filter} {index number : ℕ} {steps rest lows hig
   end : number / 2 ^ 32 ≡ 2 ^ 32
   end = omega (arith, left_all rest h.left all)
 
-  pub highs_in : AreSteps (2 ^ 32) highs × AllIn code (2 ^ 32) highs
-  highs_in = (rw end at h.are_highs, λ a lt. (h.leads a (omega (arith, end))).0)
+  pub are_all : AreSteps (2 ^ 32) highs
+  are_all = rw end at h.are_highs
 
   -- both halves
   pub is_argument : (t : Target) (new : List sock_filter) → IsPart code Dword (λ r. word_at r (20 + 8 * index)) highs t new

@@ -1,6 +1,5 @@
 use Rattle.seccomp_tree.proofs.Common.{rules, IsTrue, ◌↔◌, ◌≡◌, ◌+◌, ◌∷◌, drop, sym, ap, ◌∙◌, false≢true, RuleHolds, Ruling, here, behind}
-use Rattle.seccomp_tree.proofs.Common.{nothing, drop_all}
-use Rattle.seccomp_tree.proofs.Decided.{drop_at}
+use Rattle.seccomp_tree.proofs.{Common.nothing, Common.drop_all, Decided.drop_at}
 use Rattle.seccomp_tree.proofs.decisions.first_value.Goals.{After-all}
 use Rattle.seccomp_tree.proofs.decisions.first_value.Goals as goal
 

@@ -1,6 +1,5 @@
 use Rattle.seccomp_tree.proofs.Common.{ℕ, List, subst, IfOk-weaker, sock_filter, IsRecord, Ends, Filter, EndsAtDecision, Layout, Linear}
-use Rattle.seccomp_tree.proofs.Common.{Tree, AgreesInAll, IsCompiledIn}
-use Rattle.seccomp_tree.proofs.Decided.{one_decision}
+use Rattle.seccomp_tree.proofs.{Common.Tree, Common.AgreesInAll, Common.IsCompiledIn, Decided.one_decision}
 use Rattle.seccomp_tree.proofs.layout.to_bpf_in.Goals as goal
 
 ends_at : (layout : Layout) (f : Filter) (p : List sock_filter) → IsCompiledIn layout f p → (r : List ℕ) → IsRecord r → EndsAtDecision f p r

@@ -1,6 +1,6 @@
-use Rattle.seccomp_tree.proofs.Common.{compares, if◌then◌else◌, part_of, get_or, arith, rules, Give, drop, ◌%◌, ◌∙◌, ◌≡◌}
+use Rattle.seccomp_tree.proofs.Common.{if◌then◌else◌, compares, part_of, get_or, arith, rules, Give, drop, ◌%◌, ◌∙◌, ◌≡◌}
+use Rattle.seccomp_tree.proofs.Begun.{first_start, laying_on, left_all, byte_is, moves}
 use Rattle.seccomp_tree.specs.Code.{numbers_of}
-use Rattle.seccomp_tree.proofs.Begun.{first_start, laying_ends, laying_on, byte_is, moves}
 use Rattle.seccomp_tree.proofs.steps.laid.Goals.{After-turn-number}
 use Rattle.seccomp_tree.proofs.steps.laid.Goals as goal
 
@@ -15,8 +15,7 @@ end_is c = rw (← size_is c) (search rules)
 -- what counts of the value
 value_is : (c : After-turn-number) → c.from.result % c.match-arg_len.size ≡ part_of c.args.condition.now.arg_len c.args.condition.now.value
 value_is c =
-    rw (c.from.ensures, c.value.ensures, size_is c)
-    (grind (arith, rw c.value.ensures at c.value.type_inv))
+    rw (c.from.ensures, c.value.ensures, size_is c) (grind (arith, rw c.value.ensures at c.value.type_inv))
 
 -- what is chosen for the number
 chosen : (c : After-turn-number) → c.if-is_met.chosen
@@ -29,12 +28,13 @@ chosen c =
 pub loop-number-preserved : goal.loop-number-preserved
 loop-number-preserved c =
     let b = (goal.at.loop-number-preserved c).After-turn-number in
-    laying_on c.loop-number.rest.now _ _ c.requires.plain c.loop-number.invariant
-    (rw (size_is b) at c.loop-number-test.true) (end_is b)
+    laying_on c.loop-number.rest.now _ _ c.requires.plain c.loop-number.invariant (rw (size_is b) at c.loop-number-test.true) (end_is b)
     (rw (c.from-in-loop-number.ensures ∙ byte_is _, value_is b) at c.turn-number.ensures) (chosen b) c.in_ok-push_step.ensures
     (moves _ c.turn-number.result c.map_or-end.result c.loop-number.rest.now (c.from-in-loop-number-2.ensures ∙ byte_is _))
 
 pub returns : goal.returns
 returns c =
     let size : c.match-arg_len.size ≡ numbers_of c.args.condition.now.arg_len = search rules in
-    laying_ends c.requires.plain c.loop-number.invariant (rw size at c.loop-number-test.false)
+    let h = c.loop-number.invariant in
+    let end = left_all _ h.left (rw size at c.loop-number-test.false) in
+    record { are = rw end at h.are; each = λ a lt. h.each a (omega (arith, end)); few = omega (arith, h.few); plain = c.requires.plain }

@@ -1,6 +1,4 @@
-use Rattle.seccomp_tree.proofs.Common.{◌-◌}
-use Rattle.seccomp_tree.proofs.Begun.{Laying}
-use Rattle.seccomp_tree.specs.Code.{numbers_of}
+use Rattle.seccomp_tree.{proofs.Begun.Laying, proofs.Common.◌-◌, specs.Code.numbers_of}
 use Rattle.seccomp_tree.proofs.steps.laid.Given as goal
 
 abbrev pub invariant-loop-number : goal.invariant-loop-number

@@ -1,5 +1,4 @@
-use Rattle.seccomp_tree.proofs.Common.{◌-◌, ◌^◌}
-use Rattle.seccomp_tree.proofs.Trees.{Halving}
+use Rattle.seccomp_tree.proofs.{Common.◌-◌, Common.◌^◌, Trees.Halving}
 use Rattle.seccomp_tree.proofs.code.Code.argument.Given as goal
 
 abbrev pub invariant-loop-number : goal.invariant-loop-number

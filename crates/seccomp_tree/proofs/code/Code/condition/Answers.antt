@@ -3,8 +3,7 @@ use Rattle.seccomp_tree.proofs.Meeting.{met_now, met_by_steps, masked_dword, mas
 use Rattle.seccomp_tree.proofs.code.Code.condition.Goals as goal
 
 pub returns-then-eq : goal.returns-then-eq
-returns-then-eq c =
-    let same : c.args.yes ≡ c.args.no = search rules in met_now c.requires.yes (λ r. rw same (grind arith))
+returns-then-eq c = let same : c.args.yes ≡ c.args.no = search rules in met_now c.requires.yes (λ r. rw same (grind arith))
 
 pub returns-in-Dword : goal.returns-in-Dword
 returns-in-Dword c = masked_dword c.args.condition.now c.in-MaskedEq.mask (sym c.in-Dword.ensures)

@@ -1,6 +1,5 @@
-use Rattle.seccomp_tree.proofs.Common.{drop, length, arith, drop_all, refl, holds, list_all}
-use Rattle.seccomp_tree.proofs.Decided.{drop_back}
-use Rattle.seccomp_tree.proofs.Meeting.{met_both, met_now}
+use Rattle.seccomp_tree.proofs.Common.{drop_all, list_all, length, arith, holds, drop, refl}
+use Rattle.seccomp_tree.proofs.{Decided.drop_back, Meeting.met_both, Meeting.met_now}
 use Rattle.seccomp_tree.proofs.code.Code.conditions.Goals as goal
 
 pub loop-left-init : goal.loop-left-init

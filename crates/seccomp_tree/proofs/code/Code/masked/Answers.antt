@@ -1,5 +1,4 @@
-use Rattle.seccomp_tree.proofs.Common.{arith, and_zero_r, word_at, nat_tests}
-use Rattle.seccomp_tree.proofs.Meeting.{masked_some, met_now}
+use Rattle.seccomp_tree.proofs.{Common.and_zero_r, Common.nat_tests, Common.word_at, Common.arith, Meeting.masked_some, Meeting.met_now}
 use Rattle.seccomp_tree.proofs.code.Code.masked.Goals as goal
 
 -- a mask of nothing is met by each word

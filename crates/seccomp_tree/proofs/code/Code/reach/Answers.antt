@@ -1,12 +1,16 @@
-use Rattle.seccomp_tree.proofs.Common.{length-reverse, nat_tests, stand_in, tail_at, length, arith, rules, sym, ◌+◌, ◌-◌, ◌<◌, ◌∙◌, ◌∷◌, At}
-use Rattle.seccomp_tree.proofs.Common.{◌≡◌, ap, ℕ}
-use Rattle.seccomp_tree.proofs.Runs.{reached_itself, tail_written, tail_whole, grows_not, grows_one, reached}
+use Rattle.seccomp_tree.proofs.Runs.{tail_written, tail_whole, grows_not, grows_one, runs_at, reached}
+use Rattle.seccomp_tree.proofs.{Common.length-reverse, Common.nat_tests, Common.stand_in, Common.arith}
 use Rattle.seccomp_tree.proofs.code.Code.reach.Goals.{After-len-len}
+use Rattle.seccomp_tree.proofs.Common.{tail_at, length, rules, refl, sym, ◌+◌, ◌-◌, ◌<◌, ◌∙◌, ◌∷◌, ◌≡◌, At, ap, ℕ}
 use Rattle.seccomp_tree.proofs.code.Code.reach.Goals as goal
 
 pub returns-then-over-le-REACH : goal.returns-then-over-le-REACH
-returns-then-over-le-REACH c =
-    rw c.in-At.is (reached_itself c.args.self.now c.in-At.place (omega (arith, c.over.ensures.over)) (omega (arith, c.over.ensures.over)))
+returns-then-over-le-REACH c = rw c.in-At.is record {
+  grows = grows_not c.args.self.now 1;
+  inside = omega (arith, c.over.ensures.over);
+  near = omega (arith, c.over.ensures.over);
+  leads = λ r a w n small h. runs_at c.in-At.place refl h;
+}
 
 far : (c : After-len-len) → (m : ℕ) → c.args.target ≡ At m → m + 255 < length c.args.self.now
 far c m is = search rules

@@ -1,10 +1,8 @@
-use Rattle.seccomp_tree.proofs.Common.{Condition, one_value, to_return, drop_all, AreLaid, Option, Ruling, get_or, joined, []}
-use Rattle.seccomp_tree.proofs.Common.{length, arith, rules, Give, List, None, Some, Step, drop, only, refl, suc, sym, ◌+◌, ◌-◌, ◌<◌, ◌^◌}
-use Rattle.seccomp_tree.proofs.Common.{◌∙◌, ◌∷◌, ◌≡◌, ap}
-use Rattle.seccomp_tree.proofs.Decided.{drop_back}
-use Rattle.seccomp_tree.proofs.Meeting.{rules_settled, answered_one, behind_along, behind_fresh, behind_laid, behind_none}
-use Rattle.seccomp_tree.proofs.Meeting.{first_alone, joined_none, rules_alone, rules_less, AreRules, IsBehind, compared, front_is, in_front}
-use Rattle.seccomp_tree.proofs.Runs.{grows_not}
+use Rattle.seccomp_tree.proofs.Meeting.{rules_settled, answered_one, behind_along, behind_fresh, behind_laid, behind_none, first_alone}
+use Rattle.seccomp_tree.proofs.Meeting.{joined_none, rules_alone, rules_less, AreRules, IsBehind, compared, front_is, in_front}
+use Rattle.seccomp_tree.proofs.Common.{Condition, one_value, to_return, drop_all, AreLaid, Option, Ruling, get_or, joined, [], length, Give}
+use Rattle.seccomp_tree.proofs.Common.{arith, rules, List, None, Some, Step, drop, only, refl, suc, sym, ◌+◌, ◌-◌, ◌<◌, ◌^◌, ◌∙◌, ◌∷◌, ◌≡◌}
+use Rattle.seccomp_tree.proofs.{Common.ap, Decided.drop_back, Runs.grows_not}
 use Rattle.seccomp_tree.proofs.code.Code.rules.Goals.{After-only}
 use Rattle.seccomp_tree.proofs.code.Code.rules.Goals as goal
 
@@ -28,11 +26,8 @@ abbrev rest : After-only → List Ruling
 rest c = drop c.loop-left.left c.args.rulings.now
 
 module _ (c : After-only) (d : Ruling) (is : d ≡ c.index-rulings-left.result) where
-  at_left : d ≡ get_or c.args.rulings.now (c.loop-left.left - 1) d
-  at_left = rw is c.index-rulings-left.is
-
   from_here : drop (c.loop-left.left - 1) c.args.rulings.now ≡ d ∷ rest c
-  from_here = drop_back c.args.rulings.now c.loop-left.left d c.loop-left-test.true c.loop-left.auto.left at_left
+  from_here = drop_back c.args.rulings.now c.loop-left.left d c.loop-left-test.true c.loop-left.auto.left (rw is c.index-rulings-left.is)
 
   own : (o : Option Condition) → c.only.result ≡ o → only d.conditions ≡ o
   own o given = ap (λ (x : Ruling). only x.conditions) is ∙ sym c.only.ensures ∙ given
@@ -40,13 +35,14 @@ module _ (c : After-only) (d : Ruling) (is : d ≡ c.index-rulings-left.result) 
   -- the steps are what it is laid over
   ready : IsBehind c.args.self.now c.args.default (compared d.conditions) (joined d.conditions (rest c)) (rest c) c.loop-left.steps.items
       c.loop-left.self
-  ready = rw (front_is c.args.rulings.now c.loop-left.left d c.loop-left-test.true c.loop-left.auto.left at_left) at c.loop-left.invariant
+  ready =
+      let front = front_is c.args.rulings.now c.loop-left.left d c.loop-left-test.true c.loop-left.auto.left (rw is c.index-rulings-left.is)
+      in rw front at c.loop-left.invariant
 
   -- if it has more than a condition, a target
   after : (y : Step) → c.only.result ≡ None → y ≡ get_or c.loop-left.steps.items 0 y
       → AreRules c.args.self.now (rest c) c.args.default y.target c.loop-left.self
-  after y given first =
-      behind_none _ _ (rw (own None given, joined_none d.conditions (rest c) (own None given)) at ready) first
+  after y given first = behind_none _ _ (rw (own None given, joined_none d.conditions (rest c) (own None given)) at ready) first
 
   laid_is : (x : Condition) (laid : List Step) → c.only.result ≡ Some x → d.value < 2 ^ 32
       → AreLaid x (Give d.value) c.loop-left.steps.items laid → IsBehind c.args.self.now c.args.default (x.arg_len, x.arg_index)

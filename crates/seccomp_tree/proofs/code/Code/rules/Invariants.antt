@@ -1,5 +1,4 @@
-use Rattle.seccomp_tree.proofs.Common.{joined, drop}
-use Rattle.seccomp_tree.proofs.Meeting.{IsBehind, compared, in_front}
+use Rattle.seccomp_tree.proofs.{Common.joined, Common.drop, Meeting.IsBehind, Meeting.compared, Meeting.in_front}
 use Rattle.seccomp_tree.proofs.code.Code.rules.Given as goal
 
 abbrev pub invariant-loop-left : goal.invariant-loop-left

@@ -1,6 +1,4 @@
-use Rattle.seccomp_tree.proofs.Common.{arith, ◌^◌, ◌≡◌}
-use Rattle.seccomp_tree.proofs.Decided.{below_all, calls_on}
-use Rattle.seccomp_tree.proofs.Runs.{grows_not, grows_on}
+use Rattle.seccomp_tree.proofs.{Common.arith, Common.◌^◌, Common.◌≡◌, Decided.below_all, Decided.calls_on, Runs.grows_not, Runs.grows_on}
 use Rattle.seccomp_tree.proofs.decisions.Decisions.call_steps.Goals as goal
 
 pub loop-next-preserved : goal.loop-next-preserved

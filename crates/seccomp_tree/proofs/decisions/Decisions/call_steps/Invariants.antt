@@ -1,5 +1,4 @@
-use Rattle.seccomp_tree.proofs.Common.{AreCallSteps, ◌-◌, ◌^◌, ◌≤◌}
-use Rattle.seccomp_tree.proofs.Decided.{below_length}
+use Rattle.seccomp_tree.proofs.{Common.AreCallSteps, Common.◌-◌, Common.◌^◌, Common.◌≤◌, Decided.below_length}
 use Rattle.seccomp_tree.proofs.decisions.Decisions.call_steps.Given as goal
 
 abbrev pub invariant-loop-next : goal.invariant-loop-next

@@ -1,8 +1,6 @@
-use Rattle.seccomp_tree.proofs.Common.{AreCallNumbers, decisions_of, numbers_of, rulings_of, calls_of, int_cmp, Global, rules, Rule, refl}
-use Rattle.seccomp_tree.proofs.Common.{Vec, sym, ◌∙◌, ◌≡◌, ap}
-use Rattle.std.specs.List.Sorted.{IsStrictlySortedBy}
-use Rattle.std.proofs.lemmas.Map.Made.{keys_of-map_values}
-use Rattle.seccomp_tree.proofs.Decided.{next_number, calls_next, decide_as}
+use Rattle.seccomp_tree.proofs.{Common.AreCallNumbers, Common.decisions_of, Decided.next_number, Decided.calls_next, Decided.decide_as}
+use Rattle.seccomp_tree.proofs.Common.{numbers_of, rulings_of, calls_of, int_cmp, Global, rules, Rule, refl, Vec, sym, ◌∙◌, ◌≡◌, ap}
+use Rattle.std.{proofs.lemmas.Map.Made.keys_of-map_values, specs.List.Sorted.IsStrictlySortedBy}
 use Rattle.seccomp_tree.proofs.decisions.Decisions.of_filter.Goals as goal
 
 pub loop-number-init : goal.loop-number-init

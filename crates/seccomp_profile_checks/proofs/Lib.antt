@@ -1,2 +1,3 @@
 -- What holds of lists.
 pub mod Places
+pub mod Picked

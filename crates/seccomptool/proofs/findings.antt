@@ -3,5 +3,4 @@ pub mod Names
 pub mod Found
 pub mod Covered
 pub mod Ending
-pub mod Returned
 pub mod Decided

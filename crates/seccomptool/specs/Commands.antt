@@ -1,10 +1,9 @@
 -- What it means that a command is carried out on the texts that it is given, and with which status it ends.
-use Rattle.std.specs.Prelude.{◌≡◌, ◌≢◌, ◌≤◌, ◌⊎◌, ℕ, ◌/◌, All, Bool, true, false, Contains, List, length, Option, Some, None}
+use Rattle.std.specs.Prelude.{◌≡◌, ◌≢◌, ◌≤◌, ◌⊎◌, ℕ, ◌/◌, All, Bool, true, false, Contains, List, Option, length}
 use Rattle.std.specs.Borrow.{Bor}
 use Rattle.std.specs.Simd.{first_chunks}
 use Rattle.std.specs.List.{AllZip}
 use Rattle.seccompiler.specs.declared.backend.TargetArch.{TargetArch}
-use Rattle.seccompiler.specs.declared.backend.TargetArch.TheVariants.{x86_64}
 use Rattle.seccompiler.specs.declared.bpf.sock_filter.{sock_filter}
 use Rattle.seccomp_tree.specs.declared.layout.Layout.{Layout}
 use Rattle.seccomp_tree.specs.Layouts.{IsCompiledIn}
@@ -33,16 +32,10 @@ use Rattle.seccomptool.specs.declared.stats.Measure.{Measure}
 use Rattle.seccomptool.specs.declared.words.Call.{Call}
 use Rattle.seccomptool.specs.declared.words.Calls.{Calls}
 use Rattle.seccomptool.specs.declared.words.Calls.TheVariants.{One, Records, Log}
-use Rattle.seccomptool.specs.declared.words.Command.{Command}
-use Rattle.seccomptool.specs.declared.words.Command.TheVariants.{Compile, Show, Check, Codes, Explain, Call as CallOf, Diff as DiffOf}
-use Rattle.seccomptool.specs.declared.words.Command.TheVariants.{Learn}
+use Rattle.seccomptool.specs.declared.words.Asked.{Asked}
+use Rattle.seccomptool.specs.declared.words.Verb.{Verb}
+use Rattle.seccomptool.specs.declared.words.Verb.TheVariants as verb
 use Rattle.seccomptool.specs.declared.words.Inputs.{Inputs}
-use Rattle.seccomptool.specs.declared.words.Calling.{Calling}
-use Rattle.seccomptool.specs.declared.words.Checking.{Checking}
-use Rattle.seccomptool.specs.declared.words.Comparing.{Comparing}
-use Rattle.seccomptool.specs.declared.words.Compiling.{Compiling}
-use Rattle.seccomptool.specs.declared.words.Explaining.{Explaining}
-use Rattle.seccomptool.specs.declared.words.Showing.{Showing}
 use Rattle.seccomptool.specs.Check.{IsCheckOf, IsRefusal, verdict_where}
 use Rattle.seccomptool.specs.CheckProfile.{IsProfileCheckOf, IsRefusedProfile}
 use Rattle.seccomptool.specs.Chosen.{text_of}
@@ -76,12 +69,12 @@ abbrev pub IsCheckedProgram : (bytes : List ℕ) → Type 0
 IsCheckedProgram bytes = (program : List sock_filter) × IsProgramOf bytes program × IsChecked program
 
 -- The program of what is given.
-abbrev pub IsCompiledAs : Compiling → Subject → (given : List ℕ) → Type 0
+abbrev pub IsCompiledAs : Asked → Subject → (given : List ℕ) → Type 0
 IsCompiledAs asked subject.Policy text = (made : NamedProgram) × IsFilterCompiled asked.arch asked.layout (text_of asked.filter) text made
 IsCompiledAs asked (subject.Profile container) text = IsProfileCompiled asked.arch container.now asked.strict text
 IsCompiledAs asked subject.Program bytes = IsCheckedProgram bytes
 
-abbrev pub IsCompiled : Compiling → (given : List ℕ) → Type 0
+abbrev pub IsCompiled : Asked → (given : List ℕ) → Type 0
 IsCompiled asked given = (kind : Subject) × IsTakenAs asked.reading given kind × IsCompiledAs asked kind given
 
 -- The programs of what is given, all those of a policy.
@@ -101,12 +94,12 @@ abbrev pub IsShownOrMeasured : (measured : Bool) → TargetArch → Subject → 
 IsShownOrMeasured false arch kind layout given = IsShownAs arch kind layout given
 IsShownOrMeasured true arch kind layout given = IsMeasuredAs arch kind given
 
-abbrev pub IsShown : Showing → (given : List ℕ) → Type 0
+abbrev pub IsShown : Asked → (given : List ℕ) → Type 0
 IsShown asked given =
     (kind : Subject) × IsTakenAs asked.reading given kind × IsShownOrMeasured asked.measured asked.arch kind asked.layout given
 
 -- What is given is accepted, with its warnings, and whether they count.
-abbrev pub IsAccepted : Checking → Subject → (given : List ℕ) → Verdict → Type 0
+abbrev pub IsAccepted : Asked → Subject → (given : List ℕ) → Verdict → Type 0
 IsAccepted asked subject.Policy text v =
     (checked : CheckedPolicy) × IsCheckOf asked.arch asked.allowed.items text checked × (v ≡ verdict_where asked.denied checked.count)
 IsAccepted asked (subject.Profile container) text v =
@@ -121,11 +114,11 @@ IsRejectedFor arch (subject.Profile container) text e = IsRefusedProfile arch co
 IsRejectedFor arch subject.Program bytes e = IsRefusedProgram bytes e
 
 -- What is given is accepted; or it is rejected, and not for want of memory.
-pub data IsJudged (asked : Checking) (kind : Subject) (given : List ℕ) (v : Verdict) : Type 0 where
+pub data IsJudged (asked : Asked) (kind : Subject) (given : List ℕ) (v : Verdict) : Type 0 where
   accepted : IsAccepted asked kind given v → IsJudged asked kind given v
   rejected : (e : ToolError) → IsRejectedFor asked.arch kind given e → e ≢ OutOfMemory → v ≡ Different → IsJudged asked kind given v
 
-abbrev pub IsCheck : Checking → (given : List ℕ) → Verdict → Type 0
+abbrev pub IsCheck : Asked → (given : List ℕ) → Verdict → Type 0
 IsCheck asked given v = (kind : Subject) × IsTakenAs asked.reading given kind × IsJudged asked kind given v
 
 -- The whole records of these bytes.
@@ -133,11 +126,14 @@ abbrev pub records_in : List ℕ → List (List ℕ)
 records_in bytes = first_chunks 64 (length bytes / 64) bytes
 
 -- P holds of the records that are asked about: that of a call, those of these bytes, or those of calls that lines are about.
-abbrev pub OnRecords : TargetArch → Calls → (bytes : List ℕ) → (List (List ℕ) → Type 0) → Type 0
-OnRecords arch (One call) bytes P =
+abbrev pub OnRecordsOf : Calls → TargetArch → Call → (bytes : List ℕ) → (List (List ℕ) → Type 0) → Type 0
+OnRecordsOf One arch call bytes P =
     (record_of : List ℕ) × IsRecordOf arch call.name.now call.arguments record_of × P (records_in record_of)
-OnRecords arch Records bytes P = P (records_in bytes)
-OnRecords arch Log bytes P = (records : List (List ℕ)) × P records
+OnRecordsOf Records arch call bytes P = P (records_in bytes)
+OnRecordsOf Log arch call bytes P = (records : List (List ℕ)) × P records
+
+abbrev pub OnRecords : Asked → (bytes : List ℕ) → (List (List ℕ) → Type 0) → Type 0
+OnRecords asked bytes P = OnRecordsOf asked.calls asked.arch asked.call bytes P
 
 -- What is given decides so on the records, and why: a policy's filter, a profile or a program.
 abbrev pub IsExplainedAs : TargetArch → Subject → (asked : Option (List ℕ)) → (given : List ℕ) → (records : List (List ℕ)) → Explanation
@@ -146,20 +142,19 @@ IsExplainedAs arch subject.Policy asked text records e = IsOfPolicy arch asked t
 IsExplainedAs arch (subject.Profile container) asked text records e = IsOfProfile arch container.now text records e
 IsExplainedAs arch subject.Program asked bytes records e = IsOfProgram bytes records e
 
-abbrev pub IsExplained : Explaining → (given : List ℕ) → (records : List (List ℕ)) → Type 0
+abbrev pub IsExplained : Asked → (given : List ℕ) → (records : List (List ℕ)) → Type 0
 IsExplained asked given records =
     (kind : Subject) × IsTakenAs asked.reading given kind
     × (e : Explanation) × IsExplainedAs asked.arch kind (text_of asked.filter) given records e
 
--- The architectures' calls of this name or number; or the record of one.
-abbrev pub IsCalledOn : Option TargetArch → Call → (recorded : Bool) → Type 0
-IsCalledOn arch call false =
+-- The record of a call; or the architectures' calls of its name or number.
+abbrev pub IsCalledOn : (recorded : Bool) → TargetArch → Call → Type 0
+IsCalledOn true arch call = (bytes : List ℕ) × IsRecordOf arch call.name.now call.arguments bytes
+IsCalledOn false arch call =
     (calls : List KnownCall) × All (λ (known : KnownCall). IsCall known.target call.name.now known.number) calls
-IsCalledOn None call true = (bytes : List ℕ) × IsRecordOf x86_64 call.name.now call.arguments bytes
-IsCalledOn (Some arch) call true = (bytes : List ℕ) × IsRecordOf arch call.name.now call.arguments bytes
 
-abbrev pub IsCalled : Calling → Type 0
-IsCalled asked = IsCalledOn asked.arch asked.call asked.recorded
+abbrev pub IsCalled : Asked → Type 0
+IsCalled asked = IsCalledOn asked.recorded asked.arch asked.call
 
 -- The side is of these bytes, and of this filter of theirs.
 pub record IsSideOf (reading : Reading) (filter : Option (Bor (List ℕ))) (given : List ℕ) (side : Side) : Type 0 where
@@ -168,7 +163,7 @@ pub record IsSideOf (reading : Reading) (filter : Option (Bor (List ℕ))) (give
   pub given_is : side.given.now ≡ given
 
 -- On which calls the one decides otherwise than the other, and whether on any that counts.
-pub record IsCompared (asked : Comparing) (old_given new_given : List ℕ) (v : Verdict) : Type 0 where
+pub record IsCompared (asked : Asked) (old_given new_given : List ℕ) (v : Verdict) : Type 0 where
   pub old : Side
   pub new : Side
   pub of_old : IsSideOf asked.reading asked.old old_given old
@@ -179,21 +174,24 @@ pub record IsCompared (asked : Comparing) (old_given new_given : List ℕ) (v : 
 
 -- ---- a command
 
--- The command is carried out on these bytes, the first and the second that it reads: a value is made that is so, and this is its
--- verdict. The bytes say what is given.
-abbrev pub IsCarriedOut : Command → (first second : List ℕ) → Verdict → Type 0
-IsCarriedOut (Compile asked) given none v = IsCompiled asked given × (v ≡ Same)
-IsCarriedOut (Show asked) given none v = IsShown asked given × (v ≡ Same)
-IsCarriedOut (Check asked) given none v = IsCheck asked given v
-IsCarriedOut Codes none other v = v ≡ Same
-IsCarriedOut (Explain asked) given bytes v = OnRecords asked.arch asked.calls bytes (IsExplained asked given) × (v ≡ Same)
-IsCarriedOut (CallOf asked) none other v = IsCalled asked × (v ≡ Same)
-IsCarriedOut (DiffOf asked) old new v = IsCompared asked old new v
-IsCarriedOut (Learn asked) trace policy v = IsLesson asked policy × (v ≡ Same)
+-- What is asked for is carried out on these bytes, the first and the second that are read: a value is made that is so, and this is
+-- its verdict. The bytes say what is given.
+abbrev pub IsDone : Verb → Asked → (first second : List ℕ) → Verdict → Type 0
+IsDone verb.Compile asked given none v = IsCompiled asked given × (v ≡ Same)
+IsDone verb.Show asked given none v = IsShown asked given × (v ≡ Same)
+IsDone verb.Check asked given none v = IsCheck asked given v
+IsDone verb.Codes asked none other v = v ≡ Same
+IsDone verb.Explain asked given bytes v = OnRecords asked bytes (IsExplained asked given) × (v ≡ Same)
+IsDone verb.Call asked none other v = IsCalled asked × (v ≡ Same)
+IsDone verb.Diff asked old new v = IsCompared asked old new v
+IsDone verb.Learn asked trace policy v = IsLesson asked policy × (v ≡ Same)
+
+abbrev pub IsCarriedOut : Asked → (first second : List ℕ) → Verdict → Type 0
+IsCarriedOut asked first second v = IsDone asked.verb asked first second v
 
 -- It is carried out on some bytes.
-abbrev pub IsPerformed : Command → Verdict → Type 0
-IsPerformed command v = (first : List ℕ) × (second : List ℕ) × IsCarriedOut command first second v
+abbrev pub IsPerformed : Asked → Verdict → Type 0
+IsPerformed asked v = (first : List ℕ) × (second : List ℕ) × IsCarriedOut asked first second v
 
 -- ---- statuses
 
@@ -204,13 +202,13 @@ verdict_status Undecided = 3
 
 -- The command may end with this status: if that is a verdict's, and not that of trouble, it is carried out, and this is what it
 -- finds.
-abbrev pub EndsWith : Command → ℕ → Type 0
-EndsWith command status = (v : Verdict) → status ≡ verdict_status v → IsPerformed command v
+abbrev pub EndsWith : Asked → ℕ → Type 0
+EndsWith asked status = (v : Verdict) → status ≡ verdict_status v → IsPerformed asked v
 
--- The command ends with statuses, one for each of these that it is carried out on, of which this is the greatest; it is 0 if
--- there is none.
-pub record EndWith (command : Command) (inputs : List Inputs) (status : ℕ) : Type 0 where
+-- The command ends with statuses, one for each of these that it is carried out on. This is the greatest of them; or it is that of
+-- trouble, if what is made of all can't be written, and 0 if there is none.
+pub record EndWith (asked : Asked) (inputs : List Inputs) (status : ℕ) : Type 0 where
   pub statuses : List ℕ
-  pub each : AllZip (λ (one : Inputs) s. EndsWith command s) inputs statuses
+  pub each : AllZip (λ (one : Inputs) s. EndsWith asked s) inputs statuses
   pub most : All (λ s. s ≤ status) statuses
-  pub reached : (status ≡ 0) ⊎ Contains statuses status
+  pub reached : (status ≡ 0) ⊎ ((status ≡ 2) ⊎ Contains statuses status)

@@ -1,6 +1,6 @@
 -- What `diff` gives: on which calls a new side rules otherwise than an old one, or permits more.
 use Rattle.std.specs.Prelude.{◌≡◌, ◌≢◌, ℕ, Bool, true, false, ◌+◌, ◌-◌, ◌^◌, ◌⊎◌, List, [], ◌∷◌, map, All, Contains, Option, Some, None}
-use Rattle.std.specs.Prelude.{string_bytes, ⊤}
+use Rattle.std.specs.Prelude.{string_bytes, ◌&&◌, ⊤}
 use Rattle.seccompiler.specs.declared.backend.TargetArch.{TargetArch}
 use Rattle.seccomp_compare.specs.declared.Relation.{Relation}
 use Rattle.seccompiler.specs.Architecture.{audit_word}
@@ -86,7 +86,7 @@ pub record IsPairOf (target : TargetArch) (relation : Relation) (old_side new_si
   pub of_old : IsRuling target old_side old
   pub of_new : IsRuling target new_side new
   pub own : AreFindingsOf target relation new old pair.own.items
-  pub others : AreFoundElsewhere target relation new old pair.others.items
+  pub others : AreFoundElsewhere target relation new old pair.others
 
 -- ---- both
 
@@ -98,17 +98,22 @@ is_whole side = is_whole_of side.kind side.filter
     is_whole_of subject.Policy None = true
     is_whole_of kind filter = false
 
--- The comparison, where both sides are whole policies or not.
-abbrev pub IsDiffWhere : (old_whole new_whole : Bool) → TargetArch → Relation → (old new : Side) → Diff → Type 0
-IsDiffWhere true true target relation old new (ByName all) =
-    AreByName target relation old.given.now new.given.now all.items
-IsDiffWhere true true target relation old new diff = ⊥
-IsDiffWhere old_whole new_whole target relation old new (OfPair pair) = IsPairOf target relation old new pair
-IsDiffWhere old_whole new_whole target relation old new diff = ⊥
+-- It is found name by name of two texts, or of what two sides rule.
+abbrev pub IsByName : TargetArch → Relation → (old_text new_text : List ℕ) → Diff → Type 0
+IsByName target relation old new (ByName all) = AreByName target relation old new all.items
+IsByName target relation old new (OfPair pair) = ⊥
+
+abbrev pub IsOfPair : TargetArch → Relation → (old new : Side) → Diff → Type 0
+IsOfPair target relation old new (ByName all) = ⊥
+IsOfPair target relation old new (OfPair pair) = IsPairOf target relation old new pair
 
 -- The comparison of two sides: name by name, if all filters of both are compared, or else of what both rule.
 abbrev pub IsDiff : TargetArch → Relation → (old new : Side) → Diff → Type 0
-IsDiff target relation old new diff = IsDiffWhere (is_whole old) (is_whole new) target relation old new diff
+IsDiff target relation old new diff = by (is_whole old && is_whole new)
+  where
+    by : (whole : Bool) → Type 0
+    by true = IsByName target relation old.given.now new.given.now diff
+    by false = IsOfPair target relation old new diff
 
 -- A name that one text lacks is a difference, whatever the relation.
 abbrev pub verdict_found : Found → Verdict
@@ -123,4 +128,4 @@ verdict_all (named ∷ all) = worse (verdict_found named.found) (verdict_all all
 abbrev pub verdict_in : Scope → Diff → Verdict
 verdict_in counted (ByName all) = verdict_all all.items
 verdict_in scope.Named (OfPair pair) = verdict_of pair.own.items
-verdict_in scope.All (OfPair pair) = worse (verdict_of pair.own.items) (verdict_of pair.others.items)
+verdict_in scope.All (OfPair pair) = worse (verdict_of pair.own.items) (verdict_of pair.others)

@@ -3,6 +3,8 @@ use Rattle.std.specs.Prelude.{◌≡◌, ℕ, ◌⊎◌, List, map, All, Contain
 use Rattle.seccompiler.specs.declared.backend.TargetArch.{TargetArch}
 use Rattle.seccomp_compare.specs.declared.Relation.{Relation}
 use Rattle.seccompiler.specs.Policy.{Filter}
+use Rattle.seccomptool.specs.declared.diff.Diff.{Diff}
+use Rattle.seccomptool.specs.declared.diff.Diff.TheVariants.{ByName, OfPair}
 use Rattle.seccomptool.specs.declared.diff.NamedFound.{NamedFound}
 use Rattle.seccomptool.specs.Diff.{IsFoundOf, name_bytes}
 use Rattle.seccomptool.specs.Sides.{Policies}
@@ -15,3 +17,8 @@ IsFoundUnder target relation old new named = IsFoundOf target relation (old (nam
 pub record AreFoundUnder (target : TargetArch) (relation : Relation) (old new : Policies) (all : List NamedFound) : Type 0 where
   pub each : All (IsFoundUnder target relation old new) all
   pub complete : (name : List ℕ) (f : Filter) → (old name ≡ Some f) ⊎ (new name ≡ Some f) → Contains (map name_bytes all) name
+
+-- The comparison is of these.
+abbrev pub IsFoundByName : TargetArch → Relation → (old new : Policies) → Diff → Type 0
+IsFoundByName target relation old new (ByName all) = AreFoundUnder target relation old new all.items
+IsFoundByName target relation old new (OfPair pair) = ⊥

@@ -70,7 +70,11 @@ pub fn checked(
     // The policy is taken, so that each of its filters is one of the architecture: an error is want of memory.
     match warnings_in(alloc, target, allowed, &filters) {
         Ok(checked) => Ok(checked),
-        Err(_) => Err(ToolError::OutOfMemory),
+        Err(error) => {
+            // Here, so that no branch below has to.
+            drop(error);
+            Err(ToolError::OutOfMemory)
+        }
     }
 }
 

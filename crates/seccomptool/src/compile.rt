@@ -1,6 +1,6 @@
 // A program, in the form that is asked for.
 
-ghost use Rattle.std.specs.Prelude.{◌≡◌, ◌++◌, IfOk, OnOk};
+ghost use Rattle.std.specs.Prelude.{◌≡◌, IfOk};
 ghost use Rattle.seccomptool.specs.Compile.{instruction_bytes, program_bytes};
 
 use crate::error::ToolError;
@@ -26,7 +26,7 @@ pub(crate) fn too_large(
     filter: &SeccompFilter,
     name: &str,
     cause: FilterError,
-) -> Result<ToolError, AllocError> {
+) -> ToolError {
     let mut told = Text::new(alloc);
     told.push_readable(name, TextKind::Name);
     let (other, other_name) = match cause {
@@ -40,7 +40,7 @@ pub(crate) fn too_large(
             told.push_str(": needs more than 4096 instructions in the tree layout");
             (Layout::Linear, "linear")
         }
-        cause => return Ok(cause.into()),
+        cause => return cause.into(),
     };
     match to_bpf_in(alloc, filter, other) {
         Ok(program) => told.push_format(format!(in alloc;
@@ -50,7 +50,10 @@ pub(crate) fn too_large(
         Err(FilterError::FilterTooLarge(_) | FilterError::TreeTooLarge) => {}
         Err(_) => told.fail(),
     }
-    Ok(ToolError::Fault(told.finish_string()?))
+    match told.finish_string() {
+        Ok(told) => ToolError::Fault(told),
+        Err(error) => error.into(),
+    }
 }
 
 /// How `compile` writes a program.
@@ -74,26 +77,28 @@ pub(crate) fn program_text(
     name: &str,
     program: BpfProgramRef<'_>,
 ) -> Result<Vec<u8>, AllocError> {
-    let mut text = Text::new(alloc);
     match format {
-        ProgramFormat::Raw => return bytes_of(alloc, program),
+        ProgramFormat::Raw => bytes_of(alloc, program),
         ProgramFormat::Listing => {
             let mut listing = Vec::new(alloc);
             push_listing(&mut listing, name, program)?;
-            return Ok(listing);
+            Ok(listing)
         }
         ProgramFormat::C => {
+            let mut text = Text::new(alloc);
             for instruction in program {
                 let sock_filter { code, jt, jf, k } = *instruction;
                 text.push_format(format!(in alloc; "{{ 0x{code:x}, {jt}, {jf}, 0x{k:08x} }},\n"));
             }
+            text.finish()
         }
         ProgramFormat::Json => {
+            let mut text = Text::new(alloc);
             text.push_object(program_value(alloc, name, program, &[]));
             text.push_str("\n");
+            text.finish()
         }
     }
-    text.finish()
 }
 
 // A program as JSON, with notes on its instructions if there are any.
@@ -129,18 +134,10 @@ pub(crate) fn bytes_of(alloc: Global, program: BpfProgramRef<'_>) -> Result<Vec<
 {
     let mut bytes = Vec::new(alloc);
     for instruction in program {
-        push_instruction(&mut bytes, instruction)?;
+        let sock_filter { code, jt, jf, k } = *instruction;
+        let [code0, code1] = code.to_le_bytes();
+        let [k0, k1, k2, k3] = k.to_le_bytes();
+        bytes.extend_from_slice(&[code0, code1, jt, jf, k0, k1, k2, k3])?;
     }
     Ok(bytes)
-}
-
-// Adds the bytes of an instruction.
-fn push_instruction(bytes: &mut Vec<u8>, instruction: &sock_filter) -> Result<(), AllocError>
-    ensures { OnOk result (bytes.new.items ≡ bytes.old.items ++ instruction_bytes instruction.now) }
-{
-    let sock_filter { code, jt, jf, k } = *instruction;
-    bytes.extend_from_slice(&code.to_le_bytes())?;
-    bytes.push(jt)?;
-    bytes.push(jf)?;
-    bytes.extend_from_slice(&k.to_le_bytes())
 }

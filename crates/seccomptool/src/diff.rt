@@ -5,13 +5,13 @@ pub(crate) mod text;
 ghost use Rattle.std.specs.Prelude.{◌≡◌, IfOk, Some, option_map};
 ghost use Rattle.std.specs.BTreeMap.{get_by_text};
 ghost use Rattle.seccomptool.specs.Diff as spec;
-ghost use Rattle.seccomptool.specs.Diff.{AreByName, IsDiff, IsFoundOf, IsPairOf};
-ghost use Rattle.seccomptool.specs.DiffParts.{AreFoundUnder};
+ghost use Rattle.seccomptool.specs.Diff.{IsByName, IsDiff, IsFoundOf, IsOfPair};
+ghost use Rattle.seccomptool.specs.DiffParts.{IsFoundByName};
 
 use crate::error::ToolError;
-use crate::findings::{Finding, Part, Terms, Verdict, findings_of, findings_on, verdict_of};
+use crate::findings::{Finding, Part, Terms, Verdict, answer_on, findings_of, verdict_of};
 use crate::kind::Subject;
-use crate::progress::Progress;
+use crate::progress::Watch;
 use crate::sides::{Side, ruled_by};
 use seccomp_tree::fitting_bpf;
 use seccompiler::bpf::LOAD;
@@ -53,9 +53,9 @@ pub struct Pair {
     pub new_name: String,
     /// Whether one of the programs loads the instruction pointer, on which what it decides may depend then.
     pub loads_pointer: bool,
-    /// What is found on the calls of the architecture, and on those of others.
+    /// What is found on the calls of the architecture; and on those of others, below it and above it.
     pub own: Vec<Finding>,
-    pub others: Vec<Finding>,
+    pub others: [Finding; 2],
 }
 
 /// What a comparison of two sides finds.
@@ -80,28 +80,20 @@ pub enum Diff {
 ///
 /// Those of [`ruled_by`](crate::sides::ruled_by), of the old side first; `Library` with `FilterTooLarge` of a filter that
 /// both policies have and that is too large in both layouts.
-pub fn diff_of<G: Progress>(
+pub fn diff_of(
     alloc: Global,
     terms: Terms,
     old: Side<'_>,
     new: Side<'_>,
-    progress: &mut G,
+    progress: &mut Watch<'_>,
 ) -> Result<Diff, ToolError>
     ensures { IfOk result (IsDiff terms.target terms.relation old.entry new.entry) }
 {
-    if is_whole(old) && is_whole(new) {
-        return Ok(Diff::ByName(diff_policies(alloc, terms, old.given, new.given, progress)?));
-    }
-    Ok(Diff::OfPair(diff_pair(alloc, terms, old, new, progress)?))
-}
-
-// Whether all filters of a side are compared.
-pub(crate) fn is_whole(side: Side<'_>) -> bool
-    ensures { result ≡ spec.is_whole side.entry }
-{
-    match (side.kind, side.filter) {
-        (Subject::Policy, None) => true,
-        _ => false,
+    match (old.kind, old.filter, new.kind, new.filter) {
+        (Subject::Policy, None, Subject::Policy, None) => {
+            diff_policies(alloc, terms, old.given, new.given, progress)
+        }
+        _ => diff_pair(alloc, terms, old, new, progress),
     }
 }
 
@@ -114,7 +106,10 @@ impl Diff {
             Diff::ByName(all) => {
                 let mut verdict = Verdict::Same;
                 for named in all {
-                    verdict = verdict.worse(verdict_found(&named.found));
+                    verdict = verdict.worse(match &named.found {
+                        Found::Both(findings) => verdict_of(findings),
+                        _ => Verdict::Different,
+                    });
                 }
                 verdict
             }
@@ -129,24 +124,14 @@ impl Diff {
     }
 }
 
-// The verdict of what is found under a name.
-pub(crate) fn verdict_found(found: &Found) -> Verdict
-    ensures { result ≡ spec.verdict_found found.now }
-{
-    match found {
-        Found::Both(findings) => verdict_of(findings),
-        _ => Verdict::Different,
-    }
-}
-
-fn diff_pair<G: Progress>(
+fn diff_pair(
     alloc: Global,
     terms: Terms,
     old: Side<'_>,
     new: Side<'_>,
-    progress: &mut G,
-) -> Result<Pair, ToolError>
-    ensures { IfOk result (IsPairOf terms.target terms.relation old.entry new.entry) }
+    progress: &mut Watch<'_>,
+) -> Result<Diff, ToolError>
+    ensures { IfOk result (IsOfPair terms.target terms.relation old.entry new.entry) }
 {
     let by_old = ruled_by(alloc, terms.target, old)?;
     let by_new = match ruled_by(alloc, terms.target, new) {
@@ -158,25 +143,34 @@ fn diff_pair<G: Progress>(
     let own = findings_of(alloc, terms, new, old, progress)?;
     // The calls of the architectures with a lesser word than this one, and of those with a greater one.
     let word = terms.target.get_audit_value();
-    let elsewhere = [
-        Part::Elsewhere {
-            least: 0,
-            greatest: word - 1,
+    let lesser = Part::Elsewhere {
+        least: 0,
+        greatest: word - 1,
+    };
+    let greater = Part::Elsewhere {
+        least: word + 1,
+        greatest: u32::MAX,
+    };
+    let on_lesser = answer_on(alloc, terms, lesser, new, old, progress)?;
+    let on_greater = answer_on(alloc, terms, greater, new, old, progress)?;
+    let others = [
+        Finding {
+            part: lesser,
+            answer: on_lesser,
         },
-        Part::Elsewhere {
-            least: word + 1,
-            greatest: u32::MAX,
+        Finding {
+            part: greater,
+            answer: on_greater,
         },
     ];
-    let others = findings_on(alloc, terms, &elsewhere, new, old, progress)?;
-    let loads_pointer = loads_pointer(old) || loads_pointer(new);
-    Ok(Pair {
+    let loads_pointer = loads_pointer(old) | loads_pointer(new);
+    Ok(Diff::OfPair(Pair {
         old_name: by_old.name,
         new_name: by_new.name,
         loads_pointer,
         own,
         others,
-    })
+    }))
 }
 
 // Whether a program loads a word of the instruction pointer.
@@ -189,14 +183,14 @@ fn loads_pointer(program: BpfProgramRef<'_>) -> bool {
     false
 }
 
-fn diff_policies<G: Progress>(
+fn diff_policies(
     alloc: Global,
     terms: Terms,
     old: &[u8],
     new: &[u8],
-    progress: &mut G,
-) -> Result<Vec<NamedFound>, ToolError>
-    ensures { IfOk result (λ all. AreByName terms.target terms.relation old.now new.now all.items) }
+    progress: &mut Watch<'_>,
+) -> Result<Diff, ToolError>
+    ensures { IfOk result (IsByName terms.target terms.relation old.now new.now) }
 {
     let compiler = JsonCompiler::new(terms.target);
     let old = compiler.policies_of(alloc, old)?;
@@ -208,20 +202,20 @@ fn diff_policies<G: Progress>(
 }
 
 // What is found under all names of both policies.
-fn found_by_name<G: Progress>(
+fn found_by_name(
     alloc: Global,
     terms: Terms,
     old: &BTreeMap<String, SeccompFilter>,
     new: &BTreeMap<String, SeccompFilter>,
-    progress: &mut G,
-) -> Result<Vec<NamedFound>, ToolError>
-    ensures { IfOk result (λ all. AreFoundUnder terms.target terms.relation (get_by_text old.now) (get_by_text new.now) all.items) }
+    progress: &mut Watch<'_>,
+) -> Result<Diff, ToolError>
+    ensures { IfOk result (IsFoundByName terms.target terms.relation (get_by_text old.now) (get_by_text new.now)) }
 {
     let mut all = Vec::new(alloc);
     for (name, filter) in old {
+        let copy = name.clone()?;
         let found = found_of(alloc, terms, filter, new.get(name.as_str()), progress)?;
-        let name = name.clone()?;
-        all.push(NamedFound { name, found })?;
+        all.push(NamedFound { name: copy, found })?;
     }
     for (name, _) in new {
         match old.get(name.as_str()) {
@@ -232,16 +226,16 @@ fn found_by_name<G: Progress>(
             })?,
         }
     }
-    Ok(all)
+    Ok(Diff::ByName(all))
 }
 
 // What is found of a filter of the old policy and of the one that the new policy has under its name, each compiled once.
-fn found_of<G: Progress>(
+fn found_of(
     alloc: Global,
     terms: Terms,
     old: &SeccompFilter,
     new: Option<&SeccompFilter>,
-    progress: &mut G,
+    progress: &mut Watch<'_>,
 ) -> Result<Found, ToolError>
     ensures { IfOk result (IsFoundOf terms.target terms.relation (Some old.now) (option_map (λ f. f.now) new.entry)) }
 {

@@ -9,13 +9,11 @@ use seccomp_tree::FilterError;
 use seccompiler::json::JsonFrontendError;
 use seccompiler::{BackendError, TargetArch};
 use std::alloc::{AllocError, AllocFailed, Global};
-use std::io::ErrorKind;
-use std::{fmt, io};
+use std::io::{self, ErrorKind};
 
 /// Why the program fails.
 ///
 /// Running out of memory is `OutOfMemory` alone, and never inside another variant.
-#[derive(Drop)]
 pub enum ToolError {
     /// The library's error.
     Library(seccompiler::Error),
@@ -43,14 +41,32 @@ pub enum ToolError {
     OutOfMemory,
 }
 
+// By hand, so that wherever an error is dropped, that is one call, and not each variant written out.
+impl Drop for ToolError {
+    fn drop(self) {
+        match self {
+            ToolError::Library(error) => drop(error),
+            ToolError::Program(fault) => drop(fault),
+            ToolError::Profile(error) => drop(error),
+            ToolError::Placed(told, fault) => drop((told, fault)),
+            ToolError::NoFilter(told)
+            | ToolError::Unchosen(told)
+            | ToolError::UnknownCall(told, _)
+            | ToolError::Fault(told)
+            | ToolError::Second(told)
+            | ToolError::Told(told) => drop(told),
+            ToolError::TreeTooLarge | ToolError::OutOfMemory => {}
+        }
+    }
+}
+
 impl ToolError {
     // An error of the second one of what is read.
     pub(crate) fn in_second(alloc: Global, error: ToolError) -> ToolError {
-        if let ToolError::OutOfMemory = error {
-            return error;
-        }
-        let told = error.to_string(alloc);
-        // Here, so that no branch below has to.
+        let told = match &error {
+            ToolError::OutOfMemory => Err(AllocError),
+            error => error.told(alloc),
+        };
         drop(error);
         match told {
             Ok(told) => ToolError::Second(told),
@@ -76,30 +92,31 @@ impl ToolError {
             Err(error) => error.into(),
         }
     }
-}
 
-/// The error's text.
-impl fmt::Display for ToolError {
-    fn fmt<W: fmt::Write>(&self, f: &mut fmt::Formatter<W>) -> fmt::Result {
-        f.write_str(match self {
-            ToolError::Library(error) => return error.fmt(f),
-            ToolError::Program(fault) => return fault.fmt(f),
-            ToolError::Profile(fault) => return fault.fmt(f),
-            ToolError::NoFilter(name) => return write!(f, "No filter has this name: {name}."),
+    /// The error's text.
+    pub(crate) fn told(&self, alloc: Global) -> Result<String, AllocError> {
+        match self {
+            ToolError::Library(error) => error.to_string(alloc),
+            ToolError::Program(fault) => fault.told(alloc),
+            ToolError::Profile(error) => error.to_string(alloc),
+            ToolError::NoFilter(name) => format!(in alloc; "No filter has this name: {name}."),
             ToolError::UnknownCall(call, arch) => {
-                return write!(f, "No call of {arch} has this name or number: {call}.");
+                format!(in alloc; "No call of {arch} has this name or number: {call}.")
             }
-            ToolError::Unchosen(names) if names.is_empty() => "The policy has no filters.",
-            ToolError::Unchosen(names) => return write!(f, "Name one of its filters: {names}."),
+            ToolError::Unchosen(names) if names.is_empty() => {
+                String::from_str(alloc, "The policy has no filters.")
+            }
+            ToolError::Unchosen(names) => format!(in alloc; "Name one of its filters: {names}."),
             ToolError::Fault(told)
             | ToolError::Second(told)
             | ToolError::Told(told)
-            | ToolError::Placed(told, _) => told.as_str(),
-            ToolError::TreeTooLarge => {
-                "A filter needs more than 4096 instructions in the tree layout."
-            }
-            ToolError::OutOfMemory => "Out of memory.",
-        })
+            | ToolError::Placed(told, _) => told.clone(),
+            ToolError::TreeTooLarge => String::from_str(
+                alloc,
+                "A filter needs more than 4096 instructions in the tree layout.",
+            ),
+            ToolError::OutOfMemory => String::from_str(alloc, "Out of memory."),
+        }
     }
 }
 

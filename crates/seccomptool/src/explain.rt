@@ -6,18 +6,18 @@ pub(crate) mod made;
 pub mod search;
 
 ghost use Rattle.std.specs.Prelude.{◌≡◌, IfOk, OnOk, option_map};
-ghost use Rattle.seccomp_oci.specs.Types.{AllOnArguments};
 ghost use Rattle.seccomptool.specs.Explain as spec;
-ghost use Rattle.seccomptool.specs.Explain.{HavePolicies, IsExplainedByProfile, IsOfPolicy, IsOfProfile};
+ghost use Rattle.seccomptool.specs.Explain.{HavePolicies, IsOfPolicy, IsOfProfile};
 
 use crate::chosen::chosen_name;
 use crate::error::ToolError;
 use crate::explain::search::{Reason, reason_of, word_at};
-use seccomp_oci::{
-    CompileError, Container, Profile, ProfileError, decision_of_profile, profile_of,
-};
+use seccomp_oci::{CompileError, Container, ProfileError, decision_of_profile, profile_of};
+use seccompiler::bpf::BPF_MAX_LEN;
 use seccompiler::json::filters_of;
-use seccompiler::{JsonCompiler, JsonFilter, JsonFilterMap, SeccompAction, TargetArch};
+use seccompiler::{
+    BackendError, JsonCompiler, JsonFilter, JsonFilterMap, SeccompAction, TargetArch,
+};
 use std::alloc::Global;
 
 /// Why a record is decided as it is.
@@ -86,13 +86,13 @@ pub fn explain_policy(
 ) -> Result<Explanation, ToolError>
     ensures { IfOk result (IsOfPolicy target (option_map (λ name. name.now) asked.entry) text.now records.now) }
 {
-    let mut filters = filters_of(alloc, text)?;
+    let filters = filters_of(alloc, text)?;
     let name = chosen_name(alloc, asked, &filters.0)?;
     check_filters(alloc, target, &filters)?;
-    let Some(filter) = filters.0.remove(name.as_str()) else {
+    let Some(filter) = filters.0.get(name.as_str()) else {
         return Err(ToolError::NoFilter(name));
     };
-    let (filter, mut all) = (&filter, Vec::new(alloc));
+    let mut all = Vec::new(alloc);
     for call in records {
         let reason = reason_of(target, filter.rules.as_slice(), call);
         all.push(Explained {
@@ -113,14 +113,16 @@ fn check_filters(
 {
     let compiler = JsonCompiler::new(target);
     // That a filter has no policy is reported before that another is too long.
-    let mut fitting = Ok(0);
+    let mut length = 0;
     'filters: for (_name, filter) in &filters.0 {
         let policy = compiler.make_seccomp_filter(alloc, filter)?;
-        if fitting.is_ok() {
-            fitting = policy.compiled_len();
+        if length <= BPF_MAX_LEN {
+            length = policy.program_len();
         }
     }
-    fitting?;
+    if length > BPF_MAX_LEN {
+        return Err(BackendError::FilterTooLarge(length).into());
+    }
     Ok(())
 }
 
@@ -156,36 +158,25 @@ pub fn explain_profile(
     };
     let (profile, mut all) = (&profile, Vec::new(alloc));
     for call in records {
-        all.push(explained_by_profile(target, container, profile, call))?;
+        let explained = if word_at(call, 4) == target.get_audit_value() {
+            let decision = decision_of_profile(target, container, profile, call);
+            Explained {
+                word: u32::from(decision.action),
+                why: Why::Profile {
+                    number: word_at(call, 0),
+                    entry: decision.entry,
+                },
+            }
+        } else {
+            Explained {
+                word: u32::from(SeccompAction::KillProcess),
+                why: Why::Elsewhere,
+            }
+        };
+        all.push(explained)?;
     }
     Ok(Explanation {
         name: String::new(alloc),
         records: all,
     })
-}
-
-// What a profile decides on a record, and by which of its entries.
-fn explained_by_profile(
-    target: TargetArch,
-    container: &Container,
-    profile: &Profile,
-    call: &[u8; 64],
-) -> Explained
-    requires { AllOnArguments profile.now.entries }
-    ensures { IsExplainedByProfile target container.now profile.now call.now result }
-{
-    if word_at(call, 4) != target.get_audit_value() {
-        return Explained {
-            word: u32::from(SeccompAction::KillProcess),
-            why: Why::Elsewhere,
-        };
-    }
-    let decision = decision_of_profile(target, container, profile, call);
-    Explained {
-        word: u32::from(decision.action),
-        why: Why::Profile {
-            number: word_at(call, 0),
-            entry: decision.entry,
-        },
-    }
 }

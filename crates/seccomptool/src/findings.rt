@@ -4,17 +4,16 @@ pub(crate) mod lines;
 pub(crate) mod parts;
 
 ghost use Rattle.std.specs.Prelude.{◌≡◌, ℕ, List, ◌↔◌, IfOk};
-ghost use Rattle.seccomp_compare.specs.Compare.{Compares, IsCallOf};
+ghost use Rattle.seccomp_compare.specs.Compare.{IsCallOf};
 ghost use Rattle.seccomp_compare.specs.Machine.{IsChecked};
-ghost use Rattle.seccomptool.specs.Findings.{AreFoundOn, AreReturned, IsInPart, worse, verdict_of};
+ghost use Rattle.seccomptool.specs.Findings.{AreReturned, IsFound, IsInPart, worse, verdict_of};
 ghost use Rattle.seccomptool.specs.Rulings.{AreFindingsOf, Ruling, StandsFor};
 
-use crate::error::ToolError;
 use crate::findings::parts::parts;
-use crate::progress::Progress;
+use crate::progress::Watch;
 use seccomp_compare::{Calls, Comparison, Relation, compare, machine};
 use seccompiler::{BpfProgramRef, TargetArch};
-use std::alloc::Global;
+use std::alloc::{AllocError, Global};
 
 // So many sets of records are looked at in the first of several tries.
 const FIRST: usize = 250_000;
@@ -76,9 +75,8 @@ impl Verdict {
         ensures { result ≡ worse self other }
     {
         match (self, other) {
-            (Verdict::Different, _) | (_, Verdict::Different) => Verdict::Different,
-            (Verdict::Undecided, _) | (_, Verdict::Undecided) => Verdict::Undecided,
-            (Verdict::Same, Verdict::Same) => Verdict::Same,
+            (Verdict::Same, _) | (Verdict::Undecided, Verdict::Different) => other,
+            _ => self,
         }
     }
 }
@@ -110,86 +108,71 @@ fn calls_of(target: TargetArch, part: Part) -> Calls
 }
 
 /// What is found of two programs, on each part of the architecture's calls.
-pub(crate) fn findings_of<G: Progress>(
+pub(crate) fn findings_of(
     alloc: Global,
     terms: Terms,
     new: BpfProgramRef<'_>,
     old: BpfProgramRef<'_>,
-    progress: &mut G,
-) -> Result<Vec<Finding>, ToolError>
+    progress: &mut Watch<'_>,
+) -> Result<Vec<Finding>, AllocError>
     requires new_checked { IsChecked new.now }
     requires old_checked { IsChecked old.now }
     // Of whatever the programs stand for.
     ensures { IfOk result (λ findings. (by_new by_old : Ruling) → StandsFor terms.target by_new new.now → StandsFor terms.target by_old old.now → AreFindingsOf terms.target terms.relation by_new by_old findings.items) }
 {
     let parts = parts(alloc, terms.target)?;
-    let findings = findings_on(alloc, terms, &parts, new, old, progress)?;
-    Ok(findings)
-}
-
-/// What is found of two programs, on each of these parts.
-pub(crate) fn findings_on<G: Progress>(
-    alloc: Global,
-    terms: Terms,
-    parts: &[Part],
-    new: BpfProgramRef<'_>,
-    old: BpfProgramRef<'_>,
-    progress: &mut G,
-) -> Result<Vec<Finding>, ToolError>
-    requires new_checked { IsChecked new.now }
-    requires old_checked { IsChecked old.now }
-    ensures { IfOk result (λ findings. AreFoundOn terms.target terms.relation (AreReturned new.now old.now) parts.now findings.items) }
-{
     let mut findings = Vec::new(alloc);
-    for part in parts {
+    for part in &parts {
         let part = *part;
-        let calls = calls_of(terms.target, part);
-        let answer = match try_comparisons(alloc, terms, part, &calls, new, old, progress)? {
-            Comparison::Holds => Answer::Holds,
-            Comparison::Fails(call) => Answer::Fails {
-                call,
-                old: machine::run(old, &call).word,
-                new: machine::run(new, &call).word,
-            },
-            Comparison::Undecided => Answer::Undecided,
-        };
+        let answer = answer_on(alloc, terms, part, new, old, progress)?;
         findings.push(Finding { part, answer })?;
     }
     Ok(findings)
 }
 
-// Compares two programs on the calls of a part: programs that are the same without a search. Where the progress is shown, it tries with
-// few sets first and then with twice as many each time, since a comparison can't be interrupted; a try that has an answer is the last
-// one.
-fn try_comparisons<G: Progress>(
+/// What is found of two programs on the calls of a part; of programs that are the same without a search. Where the progress is shown, it
+/// tries with few sets first and then with twice as many each time, since a comparison can't be interrupted; a try that has an answer is
+/// the last one.
+pub(crate) fn answer_on(
     alloc: Global,
     terms: Terms,
     part: Part,
-    calls: &Calls,
     new: BpfProgramRef<'_>,
     old: BpfProgramRef<'_>,
-    progress: &mut G,
-) -> Result<Comparison, ToolError>
+    progress: &mut Watch<'_>,
+) -> Result<Answer, AllocError>
     requires new_checked { IsChecked new.now }
     requires old_checked { IsChecked old.now }
-    ensures { IfOk result (Compares calls.now terms.relation new.now old.now) }
+    ensures { IfOk result (IsFound terms.target terms.relation (AreReturned new.now old.now) part) }
 {
     if new == old {
-        return Ok(Comparison::Holds);
+        return Ok(Answer::Holds);
     }
+    let calls = calls_of(terms.target, part);
     let mut sets = if progress.is_shown() {
         FIRST.min(terms.most)
     } else {
         terms.most
     };
     loop {
-        let answer = compare(alloc, new, old, calls, terms.relation, sets)?;
-        if !matches!(answer, Comparison::Undecided) {
-            return Ok(answer);
+        match compare(alloc, new, old, &calls, terms.relation, sets) {
+            Ok(Comparison::Holds) => return Ok(Answer::Holds),
+            Ok(Comparison::Fails(call)) => {
+                return Ok(Answer::Fails {
+                    call,
+                    old: machine::run(old, &call).word,
+                    new: machine::run(new, &call).word,
+                });
+            }
+            Ok(Comparison::Undecided) => progress.looked_at(terms.target, part, sets),
+            // It fails for want of memory alone.
+            Err(error) => {
+                drop(error);
+                return Err(AllocError);
+            }
         }
-        progress.looked_at(terms.target, part, sets);
         if sets >= terms.most {
-            return Ok(answer);
+            return Ok(Answer::Undecided);
         }
         sets = sets.saturating_add(sets).min(terms.most);
     }

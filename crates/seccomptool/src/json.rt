@@ -33,12 +33,6 @@ impl Object {
             Err(_) => self.is_missing = true,
         }
     }
-
-    /// Its text.
-    pub(crate) fn text(self) -> Result<String, AllocError> {
-        let alloc = self.alloc;
-        self.to_value(alloc)?.to_string(alloc)
-    }
 }
 
 impl ToValue for Object {
@@ -71,7 +65,12 @@ impl List {
     /// Adds an item.
     pub(crate) fn item<T: ToValue>(&mut self, part: T) {
         match part.to_value(*self.items.allocator()) {
-            Ok(part) => self.is_missing |= self.items.push(part).is_err(),
+            Ok(part) => {
+                let pushed = self.items.push(part);
+                self.is_missing |= pushed.is_err();
+                // By one call, and not variant by variant.
+                drop(pushed);
+            }
             Err(_) => self.is_missing = true,
         }
     }
@@ -120,22 +119,19 @@ pub(crate) fn call_name(target: TargetArch, number: Option<u32>) -> OrNull<&'sta
 }
 
 // What is written of items: as JSON the object of their list, else their lines as they are.
-pub(crate) fn written(
-    alloc: Global,
-    json: bool,
-    name: &str,
-    items: Vec<u8>,
-) -> Result<Vec<u8>, AllocError> {
+pub(crate) fn written(items: Text, json: bool, name: &str) -> Result<Vec<u8>, AllocError> {
     if json {
-        return list_text(alloc, name, &items);
+        return list_text(items.alloc(), name, &items.finish()?);
     }
-    Ok(items)
+    items.finish()
 }
 
 // The text of an object with a list under this name. Each item stands in a line, with a comma behind it.
 pub(crate) fn list_text(alloc: Global, name: &str, items: &[u8]) -> Result<Vec<u8>, AllocError> {
     let mut text = Text::new(alloc);
-    text.push_format(format!(in alloc; "{{\"{name}\":["));
+    text.push_str("{\"");
+    text.push_str(name);
+    text.push_str("\":[");
     if let Some(items) = items.strip_suffix(b",\n") {
         text.push_str("\n");
         text.push_bytes(items);

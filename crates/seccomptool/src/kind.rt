@@ -62,11 +62,22 @@ fn is_of_profile(alloc: Global, text: &[u8]) -> Result<bool, AllocError>
         return Ok(false);
     }
     match Value::from_slice(alloc, text) {
-        Ok(value) => match value.get("defaultAction") {
-            Some(action) => Ok(action.is_string()),
-            None => Ok(false),
-        },
-        Err(error) if error.is_memory() => Err(AllocError),
-        Err(_) => Ok(false),
+        Ok(value) => {
+            let is = match value.get("defaultAction") {
+                Some(action) => action.is_string(),
+                None => false,
+            };
+            drop(value);
+            Ok(is)
+        }
+        Err(error) => {
+            let is_memory = error.is_memory();
+            drop(error);
+            if is_memory {
+                Err(AllocError)
+            } else {
+                Ok(false)
+            }
+        }
     }
 }

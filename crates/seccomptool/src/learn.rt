@@ -13,7 +13,7 @@ use crate::findings::Verdict;
 use crate::learn::notes::{has, learned_json, notes_of, strange_text};
 use crate::made::Made;
 use crate::record::call_number;
-use crate::words::Inputs;
+use crate::words::{Asked, Inputs};
 use seccomp_learn::{
     Kept, Lesson, Observation, Trace, asked_kept, learn_within, profile_text, read_trace,
     start_and_exit, usual_kept, written_policy,
@@ -41,100 +41,68 @@ pub struct AskedArguments<'a> {
     pub indices: [bool; 6],
 }
 
-/// How a trace is learned from.
-#[derive(Drop)]
-pub struct Learning<'a> {
-    /// The architecture.
-    pub arch: TargetArch,
-    /// What its calls are added to.
-    pub start: Start,
-    /// The filter's name, if it is given.
-    pub name: Option<&'a str>,
-    /// The arguments whose values are kept, beside the usual ones.
-    pub arguments: Vec<AskedArguments<'a>>,
-    /// The most different values that are kept of a call.
-    pub most: usize,
-    /// Whether the calls by which programs start and end are allowed too.
-    pub runnable: bool,
-    /// Whether a trace is rejected if a line isn't understood.
-    pub strict: bool,
-    /// Whether a profile is written.
-    pub as_profile: bool,
-    /// The traces after the first one.
-    pub further: Vec<&'a str>,
-}
-
 // The name of a filter that calls are added to, the filter or what is learned, and the policy's other filters.
 type Named<F> = (String, F, JsonFilterMap);
 
 pub(crate) fn learn_made(
     alloc: Global,
-    learning: &Learning<'_>,
+    asked: &Asked<'_>,
     inputs: Inputs<'_>,
     given: &[u8],
     policy: &[u8],
 ) -> Result<Made, ToolError>
-    ensures { IfOk result (λ made. IsLesson learning.now policy.now × (made.verdict ≡ Same)) }
+    ensures { IfOk result (λ made. IsLesson asked.now policy.now × (made.verdict ≡ Same)) }
 {
-    let mut trace = read_trace(alloc, learning.arch, given)?;
-    if learning.strict && trace.strange > 0 {
-        let told = strange_text(alloc, trace.strange, trace.first_strange, true);
-        drop(trace);
-        return Err(ToolError::Fault(told?));
-    }
-    if learning.runnable {
-        let observed = start_and_exit(alloc, learning.arch)?;
-        trace.observed.extend_from_slice(&observed)?;
-    }
-    let wanted = wanted_in(alloc, learning, &trace.observed)?;
-    let learned = match learned_of(alloc, learning, &trace.observed, &wanted, policy) {
+    let mut trace = read_trace(alloc, asked.arch, given)?;
+    let wanted = wanted_in(alloc, asked, &mut trace)?;
+    let learned = match learned_of(alloc, asked, &trace.observed, &wanted, policy) {
         Ok(learned) => learned,
         Err(error) => return Err(ToolError::in_second(alloc, error)),
     };
-    let views = views_of(alloc, learning, inputs, &trace, &wanted, &learned);
+    let made = views_of(alloc, asked, inputs, &trace, &wanted, &learned);
     // Here, so that no branch has to.
     drop((trace, wanted, learned));
-    let (text, notes) = views?;
-    Ok(Made::noting(text, Verdict::Same, notes))
+    made
 }
 
 // The text of what is learned, which is a policy's, a profile's or an object with one of these, and the notes.
 fn views_of(
     alloc: Global,
-    learning: &Learning<'_>,
+    asked: &Asked<'_>,
     inputs: Inputs<'_>,
     trace: &Trace,
     wanted: &[Kept],
     learned: &Named<Lesson>,
-) -> Result<(Vec<u8>, Vec<u8>), ToolError> {
+) -> Result<Made, ToolError>
+    ensures { IfOk result (λ made. made.verdict ≡ Same) }
+{
     let (name, lesson, others) = learned;
     let (filter, kept) = (&lesson.learned.json, &lesson.kept);
-    let text = if learning.as_profile {
-        profile_text(alloc, learning.arch, filter)?
+    let mut text = if asked.as_profile {
+        profile_text(alloc, asked.arch, filter)?
     } else {
         written_policy(alloc, others, name.as_str(), filter)?
     };
     let path = inputs.first.unwrap_or("-");
-    let notes = notes_of(alloc, learning, path, trace, wanted, kept)?;
-    if !inputs.json {
-        return Ok((text, notes.into_bytes()));
+    let notes = notes_of(alloc, asked, path, trace, wanted, kept)?;
+    if asked.json {
+        text = learned_json(alloc, asked, trace, kept, notes.as_str(), &text)?;
     }
-    let json = learned_json(alloc, learning, trace, kept, notes.as_str(), &text)?;
-    Ok((json, notes.into_bytes()))
+    Ok(Made::noting(text, Verdict::Same, notes.into_bytes()))
 }
 
 // The filter that allows the observed calls, with the values of the arguments that are wanted, and what it is added to.
 fn learned_of(
     alloc: Global,
-    learning: &Learning<'_>,
+    asked: &Asked<'_>,
     observed: &[Observation],
     wanted: &[Kept],
     policy: &[u8],
 ) -> Result<Named<Lesson>, ToolError>
-    ensures { IfOk result (λ own. IsLearned learning.now wanted.now observed.now policy.now own.1) }
+    ensures { IfOk result (λ own. IsLearned asked.now wanted.now observed.now policy.now own.1) }
 {
-    let (name, filter, others) = base_of(alloc, learning.start, learning.name, policy)?;
-    let (arch, most) = (learning.arch, learning.most);
+    let (name, filter, others) = base_of(alloc, asked.start, asked.name, policy)?;
+    let (arch, most) = (asked.arch, asked.most);
     let lesson = learn_within(alloc, arch, observed, wanted, most, filter)?;
     Ok((name, lesson, others))
 }
@@ -168,27 +136,33 @@ fn base_of(
     match filter.match_action {
         SeccompAction::Allow => Ok((name, filter, others)),
         _ => {
+            drop((name, filter, others));
             let told = "The filter's match_action isn't allow, so it doesn't list what is allowed.";
             Err(ToolError::Fault(String::from_str(alloc, told)?))
         }
     }
 }
 
-// The arguments whose values are kept: the usual ones, and those that are asked for.
-fn wanted_in(
-    alloc: Global,
-    learning: &Learning<'_>,
-    observed: &[Observation],
-) -> Result<Vec<Kept>, ToolError> {
-    let arch = learning.arch;
+// The arguments whose values are kept: the usual ones, and those that are asked for. Calls that are allowed too are added to the
+// trace, which is rejected if a line isn't understood and it is asked for that.
+fn wanted_in(alloc: Global, asked: &Asked<'_>, trace: &mut Trace) -> Result<Vec<Kept>, ToolError> {
+    let arch = asked.arch;
+    if asked.strict && trace.strange > 0 {
+        let told = strange_text(alloc, trace.strange, trace.first_strange, true)?;
+        return Err(ToolError::Fault(told));
+    }
+    if asked.runnable {
+        let observed = start_and_exit(alloc, arch)?;
+        trace.observed.extend_from_slice(&observed)?;
+    }
     let mut wanted = usual_kept(alloc, arch)?;
-    for asked in &learning.arguments {
-        let Some(number) = call_number(arch, asked.call) else {
-            return Err(ToolError::UnknownCall(String::from_str(alloc, asked.call)?, arch));
+    for each in &asked.arguments {
+        let Some(number) = call_number(arch, each.call) else {
+            return Err(ToolError::UnknownCall(String::from_str(alloc, each.call)?, arch));
         };
         for index in 0..6u8 {
-            if asked.indices[index as usize] && !has(&wanted, number, Some(index)) {
-                wanted.push(asked_kept(observed, number, index))?;
+            if each.indices[index as usize] && !has(&wanted, number, Some(index)) {
+                wanted.push(asked_kept(&trace.observed, number, index))?;
             }
         }
     }

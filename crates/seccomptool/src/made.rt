@@ -15,27 +15,27 @@ use crate::json::{Object, written};
 use crate::kind::{Subject, subject_of};
 use crate::notes::push_counted;
 use crate::profile::{compiled_of, push_profile_notes, uncompiled};
-use crate::progress::Progress;
+use crate::progress::Watch;
 use crate::record::{called_record, calls_text, known_calls};
 use crate::run::program::program_of;
 use crate::show::{programs_in, push_program, push_programs};
 use crate::sides::{Side, ruled_by};
 use crate::stats::{measure_of, push_measure, push_stats, stats_of};
 use crate::text::Text;
-use crate::words::{Calling, Comparing, Compiling, Inputs, Showing};
+use crate::words::{Asked, Inputs};
 use seccomp_oci::Container;
 use seccomp_tree::to_bpf_in;
 use seccomp_warnings::Code;
 use seccompiler::{JsonCompiler, TargetArch};
-use std::alloc::Global;
+use std::alloc::{AllocError, Global};
 
 /// What a command makes of the texts that it is given.
 #[derive(Drop)]
 pub(crate) struct Made {
     /// What it writes.
     pub text: Vec<u8>,
-    /// How many bytes of the records stand after the last whole one.
-    pub rest: usize,
+    /// Whether records end inside of one, which is trouble.
+    pub is_cut: bool,
     /// What it finds.
     pub verdict: Verdict,
     /// What is to be noted on standard error, in lines, each with a line feed: no bytes if nothing is.
@@ -43,11 +43,22 @@ pub(crate) struct Made {
 }
 
 impl Made {
-    // A text of a command that finds nothing, and has nothing to tell.
-    pub(crate) fn plain(alloc: Global, text: Vec<u8>) -> Made
-        ensures { result.verdict ≡ Same }
+    // What is made of a text, if there is memory for it and for the notes.
+    pub(crate) fn of(
+        text: Result<Vec<u8>, AllocError>,
+        verdict: Verdict,
+        notes: Text,
+    ) -> Result<Made, ToolError>
+        ensures { IfOk result (λ made. made.verdict ≡ verdict) }
     {
-        Made::noting(text, Verdict::Same, Vec::new(alloc))
+        Ok(Made::noting(text?, verdict, notes.finish()?))
+    }
+
+    // A text of a command that finds nothing, and has nothing to tell.
+    pub(crate) fn plain(alloc: Global, text: Result<Vec<u8>, AllocError>) -> Result<Made, ToolError>
+        ensures { IfOk result (λ made. made.verdict ≡ Same) }
+    {
+        Made::of(text, Verdict::Same, Text::new(alloc))
     }
 
     // A text of a command that finds this, and has these notes.
@@ -56,7 +67,7 @@ impl Made {
     {
         Made {
             text,
-            rest: 0,
+            is_cut: false,
             verdict,
             notes,
         }
@@ -65,23 +76,25 @@ impl Made {
 
 pub(crate) fn compile_made(
     alloc: Global,
-    asked: &Compiling<'_>,
+    asked: &Asked<'_>,
     path: &str,
     given: &[u8],
 ) -> Result<Made, ToolError>
     ensures { IfOk result (λ made. IsCompiled asked.now given.now × (made.verdict ≡ Same)) }
 {
-    match subject_of(alloc, &asked.reading, given)? {
+    let subject = subject_of(alloc, &asked.reading, given)?;
+    if !matches!(subject, Subject::Policy) {
+        refuse_name(alloc, asked.filter)?;
+    }
+    match subject {
         Subject::Policy => policy_made(alloc, asked, path, given),
-        Subject::Profile(container) => {
-            refuse_name(alloc, asked.filter)?;
-            profile_made(alloc, asked, container, path, given)
-        }
+        Subject::Profile(container) => profile_made(alloc, asked, container, path, given),
         Subject::Program => {
-            refuse_name(alloc, asked.filter)?;
             let program = program_of(alloc, given)?;
-            let text = program_text(alloc, asked.format, "program", &program)?;
-            Ok(Made::plain(alloc, text))
+            Made::plain(
+                alloc,
+                program_text(alloc, asked.format, "program", &program),
+            )
         }
     }
 }
@@ -90,7 +103,7 @@ pub(crate) fn compile_made(
 // another one is too large is no error.
 fn policy_made(
     alloc: Global,
-    asked: &Compiling<'_>,
+    asked: &Asked<'_>,
     path: &str,
     policy: &[u8],
 ) -> Result<Made, ToolError>
@@ -101,17 +114,17 @@ fn policy_made(
     let (name, chosen) = chosen_of(alloc, asked.filter, &policies)?;
     let program = match to_bpf_in(alloc, chosen, asked.layout) {
         Ok(program) => program,
-        Err(cause) => return Err(too_large(alloc, chosen, name.as_str(), cause)?),
+        Err(cause) => return Err(too_large(alloc, chosen, name.as_str(), cause)),
     };
-    let text = program_text(alloc, asked.format, name.as_str(), &program)?;
     let mut notes = Text::new(alloc);
     push_counted(&mut notes, asked.quiet, arch, path, policy);
-    Ok(Made::noting(text, Verdict::Same, notes.finish()?))
+    let text = program_text(alloc, asked.format, name.as_str(), &program);
+    Made::of(text, Verdict::Same, notes)
 }
 
 fn profile_made(
     alloc: Global,
-    asked: &Compiling<'_>,
+    asked: &Asked<'_>,
     container: &Container,
     path: &str,
     profile: &[u8],
@@ -121,30 +134,24 @@ fn profile_made(
     let arch = asked.arch;
     let compiled = match compiled_of(alloc, arch, container, asked.strict, profile) {
         Ok(compiled) => compiled,
-        Err(error) => return Err(uncompiled(alloc, arch, error)?),
+        Err(error) => return Err(uncompiled(alloc, arch, error)),
     };
     let mut notes = Text::new(alloc);
     if !asked.quiet {
         let (listed, left_out) = (asked.reading.listed, &compiled.left_out);
         push_profile_notes(&mut notes, arch, path, listed, left_out, &compiled.flags);
     }
-    let text = program_text(alloc, asked.format, "profile", &compiled.program)?;
-    Ok(Made::noting(text, Verdict::Same, notes.finish()?))
+    let text = program_text(alloc, asked.format, "profile", &compiled.program);
+    Made::of(text, Verdict::Same, notes)
 }
 
-pub(crate) fn show_made(
-    alloc: Global,
-    asked: &Showing<'_>,
-    json: bool,
-    given: &[u8],
-) -> Result<Made, ToolError>
+pub(crate) fn show_made(alloc: Global, asked: &Asked<'_>, given: &[u8]) -> Result<Made, ToolError>
     ensures { IfOk result (λ made. IsShown asked.now given.now × (made.verdict ≡ Same)) }
 {
     let subject = subject_of(alloc, &asked.reading, given)?;
     let mut text = Text::new(alloc);
-    push_shown(&mut text, asked, json, subject, given)?;
-    let text = text.finish()?;
-    if text.is_empty() {
+    push_shown(&mut text, asked, subject, given)?;
+    if text.is_blank() {
         refuse_name(alloc, asked.filter)?;
     }
     let name = if asked.measured {
@@ -152,22 +159,20 @@ pub(crate) fn show_made(
     } else {
         "programs"
     };
-    let text = written(alloc, json, name, text)?;
-    Ok(Made::plain(alloc, text))
+    Made::plain(alloc, written(text, asked.json, name))
 }
 
 // Adds the programs of what is given, or how long they are and how many steps they take: of a policy those of all filters, or of the
 // one that is asked for, and nothing if there is none.
 fn push_shown(
     text: &mut Text,
-    asked: &Showing<'_>,
-    json: bool,
+    asked: &Asked<'_>,
     subject: Subject<'_>,
     given: &[u8],
 ) -> Result<(), ToolError>
     ensures { OnOk result (IsShownOrMeasured asked.now.measured asked.now.arch subject.entry asked.now.layout given.now) }
 {
-    let (alloc, arch, filter) = (text.alloc(), asked.arch, asked.filter);
+    let (alloc, arch, filter, json) = (text.alloc(), asked.arch, asked.filter, asked.json);
     if let Subject::Policy = subject {
         if asked.measured {
             push_stats(text, json, filter, &stats_of(alloc, arch, given)?);
@@ -210,38 +215,40 @@ pub(crate) fn codes_made(alloc: Global, json: bool) -> Result<Made, ToolError>
             text.push_format(format!(in alloc; "{name}: {paragraph}\n"));
         }
     }
-    let text = written(alloc, json, "codes", text.finish()?)?;
-    Ok(Made::plain(alloc, text))
+    Made::plain(alloc, written(text, json, "codes"))
 }
 
-pub(crate) fn call_made(alloc: Global, asked: &Calling<'_>, json: bool) -> Result<Made, ToolError>
+pub(crate) fn call_made(alloc: Global, asked: &Asked<'_>) -> Result<Made, ToolError>
     ensures { IfOk result (λ made. IsCalled asked.now × (made.verdict ≡ Same)) }
 {
-    let Calling {
-        arch,
-        call,
-        recorded,
-    } = *asked;
-    if recorded {
-        let arch = arch.unwrap_or(TargetArch::x86_64);
+    let (arch, call) = (asked.arch, asked.call);
+    if asked.recorded {
         let record = called_record(alloc, arch, call.name, &call.arguments)?;
-        return Ok(Made::plain(alloc, record));
+        return Made::plain(alloc, Ok(record));
     }
-    let calls = match arch {
-        Some(arch) => known_calls(alloc, &[arch], call.name)?,
-        None => known_calls(alloc, TargetArch::all(), call.name)?,
-    };
-    let text = calls_text(alloc, json, call.name, &calls)?;
-    Ok(Made::plain(alloc, text))
+    let calls = if asked.each_arch {
+        known_calls(alloc, TargetArch::all(), call.name)
+    } else {
+        known_calls(alloc, &[arch], call.name)
+    }?;
+    Made::plain(alloc, calls_text(alloc, asked.json, call.name, &calls))
 }
 
-pub(crate) fn diff_made<G: Progress>(
+// Adds the note on the warnings of a side, if it is a policy.
+fn push_side_notes(notes: &mut Text, asked: &Asked<'_>, path: Option<&str>, side: Side<'_>) {
+    if let Subject::Policy = side.kind {
+        let path = path.unwrap_or("-");
+        push_counted(notes, asked.quiet, asked.terms.target, path, side.given);
+    }
+}
+
+pub(crate) fn diff_made(
     alloc: Global,
-    asked: &Comparing<'_>,
+    asked: &Asked<'_>,
     inputs: Inputs<'_>,
     old: &[u8],
     new: &[u8],
-    progress: &mut G,
+    progress: &mut Watch<'_>,
 ) -> Result<Made, ToolError>
     ensures { IfOk result (λ made. IsCompared asked.now old.now new.now made.verdict) }
 {
@@ -259,17 +266,12 @@ pub(crate) fn diff_made<G: Progress>(
     let found = diff_of(alloc, terms, old, new, progress);
     progress.end();
     let found = found?;
-    let text = diff_text(alloc, terms, inputs.json, old, new, &found);
+    let text = diff_text(alloc, terms, asked.json, old, new, &found);
     let verdict = found.verdict(asked.scope);
-    // Here, so that no branch below has to.
+    // By one call, and not variant by variant.
     drop(found);
-    let text = text?;
     let mut notes = Text::new(alloc);
-    for (side, path) in [(old, inputs.first), (new, inputs.second)] {
-        if let Subject::Policy = side.kind {
-            let path = path.unwrap_or("-");
-            push_counted(&mut notes, asked.quiet, terms.target, path, side.given);
-        }
-    }
-    Ok(Made::noting(text, verdict, notes.finish()?))
+    push_side_notes(&mut notes, asked, inputs.first, old);
+    push_side_notes(&mut notes, asked, inputs.second, new);
+    Made::of(text, verdict, notes)
 }

@@ -1,6 +1,6 @@
 // What the program tells on standard error: failures, and notes on what stands at a path.
 
-use crate::check::{CheckedPolicy, warnings_in};
+use crate::check::warnings_in;
 use crate::error::ToolError;
 use crate::text::Text;
 use crate::words::Inputs;
@@ -10,7 +10,7 @@ use seccompiler::{JsonFrontendError, TargetArch};
 use std::alloc::{AllocError, Global};
 
 // Tells a failure, and the file that it is in.
-pub(crate) fn tell(rt: &(impl Eprint + AllocGlobal), inputs: Inputs<'_>, error: &ToolError) {
+pub(crate) fn tell(rt: &HostRuntime, inputs: Inputs<'_>, error: &ToolError) {
     let path = match error {
         ToolError::OutOfMemory | ToolError::UnknownCall(_, _) | ToolError::Told(_) => None,
         ToolError::Second(_) => Some(inputs.second.unwrap_or("-")),
@@ -23,7 +23,7 @@ pub(crate) fn tell(rt: &(impl Eprint + AllocGlobal), inputs: Inputs<'_>, error: 
 }
 
 // Tells notes: lines of text.
-pub(crate) fn tell_notes(rt: &(impl Eprint + AllocGlobal), notes: &[u8]) {
+pub(crate) fn tell_notes(rt: &HostRuntime, notes: &[u8]) {
     if let Ok(lines) = readable(rt.alloc(), notes, TextKind::Lines) {
         let _ = eprint!(rt; "{lines}");
     }
@@ -35,7 +35,7 @@ pub(crate) fn failure(
     path: Option<&str>,
     error: &ToolError,
 ) -> Result<String, AllocError> {
-    let told = format!(in alloc; "{error}")?;
+    let told = error.told(alloc)?;
     let mut line = Text::new(alloc);
     line.push_str("seccomptool: ");
     if let Some(path) = path {
@@ -88,16 +88,15 @@ pub(crate) fn push_counted(
         Ok(filters) => warnings_in(alloc, arch, &[], &filters),
         Err(error) => Err(error),
     };
-    let told = match checked {
-        Ok(CheckedPolicy { count: 0, .. }) => return,
-        Ok(CheckedPolicy { count: 1, .. }) => {
-            String::from_str(alloc, "1 warning; seccomptool check prints it")
-        }
-        Ok(CheckedPolicy { count, .. }) => {
-            format!(in alloc; "{count} warnings; seccomptool check prints them")
-        }
+    let count = match checked {
+        Ok(checked) => checked.count,
         Err(JsonFrontendError::OutOfMemory) => return notes.fail(),
-        Err(_) => return,
+        Err(error) => return drop(error),
+    };
+    let told = match count {
+        0 => return,
+        1 => String::from_str(alloc, "1 warning; seccomptool check prints it"),
+        _ => format!(in alloc; "{count} warnings; seccomptool check prints them"),
     };
     note(notes, path, told);
 }

@@ -73,20 +73,20 @@ pub(crate) fn push_profile_notes(
 }
 
 /// Why a profile isn't compiled: the error, or the names that no call of the architecture has.
-pub(crate) fn uncompiled(
-    alloc: Global,
-    arch: TargetArch,
-    error: ToolError,
-) -> Result<ToolError, AllocError> {
+pub(crate) fn uncompiled(alloc: Global, arch: TargetArch, error: ToolError) -> ToolError {
     let ToolError::Profile(CompileError::UnknownNames(names)) = &error else {
-        return Ok(error);
+        return error;
     };
-    let once = each_once(alloc, names);
+    let told = match each_once(alloc, names) {
+        Ok((count, names)) => format!(in alloc; "not system calls of {arch} ({count}){names}"),
+        Err(error) => Err(error),
+    };
     // Here, so that no branch below has to.
     drop(error);
-    let (count, names) = once?;
-    let told = format!(in alloc; "not system calls of {arch} ({count}){names}")?;
-    Ok(ToolError::Fault(told))
+    match told {
+        Ok(told) => ToolError::Fault(told),
+        Err(error) => error.into(),
+    }
 }
 
 // How many different names these are, and their list as people read it behind a colon, each where it first stands.

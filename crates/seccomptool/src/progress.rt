@@ -3,37 +3,25 @@
 use crate::findings::Part;
 use crate::findings::parts::name_of;
 use seccompiler::TargetArch;
-use std::time::{Clock, Instant};
+use std::time::Instant;
 
 // Nothing is shown before the program ran for so many seconds.
 const SECONDS: u64 = 2;
 
-/// Who follows how far a comparison is. No answer depends on it.
-pub trait Progress {
-    /// Whether anything is shown.
-    fn is_shown(&self) -> bool;
-
-    /// So many sets of calls of a part were looked at without an answer.
-    fn looked_at(&mut self, target: TargetArch, part: Part, sets: usize);
-
-    /// The comparison ended.
-    fn end(&mut self);
-}
-
 /// One line of a terminal, on standard error, with how many sets of calls were looked at so far. It is written
-/// once the program ran for two seconds, anew in its place, and erased at the end.
+/// once the program ran for two seconds, anew in its place, and erased at the end. No answer depends on it.
 #[derive(Drop)]
-pub(crate) struct Watch<'a, R> {
-    rt: &'a R,
+pub(crate) struct Watch<'a> {
+    rt: &'a HostRuntime,
     // When the program began, where anything is to be shown and the clock can be read.
     start: Option<Instant>,
     sets: usize,
     written: bool,
 }
 
-impl<'a, R: Eprint + Clock> Watch<'a, R> {
+impl<'a> Watch<'a> {
     /// `to_terminal` says whether standard error is a terminal: if it isn't, nothing is shown.
-    pub(crate) fn new(rt: &'a R, to_terminal: bool) -> Self {
+    pub(crate) fn new(rt: &'a HostRuntime, to_terminal: bool) -> Self {
         Watch {
             rt,
             start: if to_terminal {
@@ -45,14 +33,14 @@ impl<'a, R: Eprint + Clock> Watch<'a, R> {
             written: false,
         }
     }
-}
 
-impl<R: Eprint + Clock> Progress for Watch<'_, R> {
-    fn is_shown(&self) -> bool {
+    /// Whether anything is shown.
+    pub(crate) fn is_shown(&self) -> bool {
         self.start.is_some()
     }
 
-    fn looked_at(&mut self, target: TargetArch, part: Part, sets: usize) {
+    /// So many sets of calls of a part were looked at without an answer.
+    pub(crate) fn looked_at(&mut self, target: TargetArch, part: Part, sets: usize) {
         self.sets = self.sets.saturating_add(sets);
         let Some(start) = self.start else { return };
         if matches!(start.elapsed(self.rt), Ok(time) if time.as_secs() >= SECONDS) {
@@ -69,7 +57,8 @@ impl<R: Eprint + Clock> Progress for Watch<'_, R> {
         }
     }
 
-    fn end(&mut self) {
+    /// The comparison ended.
+    pub(crate) fn end(&mut self) {
         if self.written {
             let _ = eprint!(self.rt; "\r\x1b[K");
         }

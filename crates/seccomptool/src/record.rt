@@ -11,7 +11,6 @@ use crate::text::Text;
 use seccomp_command_line::numbers::read_digits;
 use seccompiler::{SyscallTable, TargetArch};
 use std::alloc::{AllocError, Global};
-use std::fmt;
 
 /// The record of a call as the kernel hands it to a program: the 64 bytes of a `struct seccomp_data`, as `seccomp(2)` has it.
 ///
@@ -29,10 +28,9 @@ pub fn called_record(
     let Some(number) = call_number(target, call) else {
         return Err(ToolError::UnknownCall(String::from_str(alloc, call)?, target));
     };
-    let mut bytes = Vec::new(alloc);
-    bytes.extend_from_slice(&number.to_le_bytes())?;
-    bytes.extend_from_slice(&target.get_audit_value().to_le_bytes())?;
-    bytes.extend_from_slice(&0u64.to_le_bytes())?;
+    let arch = target.get_audit_value();
+    let head = [number.to_le_bytes(), arch.to_le_bytes(), [0; 4], [0; 4]];
+    let mut bytes = Vec::from_slice(alloc, head.as_flattened())?;
     for argument in arguments {
         bytes.extend_from_slice(&argument.to_le_bytes())?;
     }
@@ -44,16 +42,6 @@ pub fn called_record(
 pub struct KnownCall {
     pub target: TargetArch,
     pub number: u32,
-}
-
-/// By its name, or by its number if it has none.
-impl fmt::Display for KnownCall {
-    fn fmt<W: fmt::Write>(&self, f: &mut fmt::Formatter<W>) -> fmt::Result {
-        match name_of(self.target, self.number) {
-            Some(name) => f.write_str(name),
-            None => self.number.fmt(f),
-        }
-    }
 }
 
 /// The calls of this name or number on these architectures; of a number those alone that have a name. That there is none is an error.
@@ -108,7 +96,7 @@ pub(crate) fn calls_text(
             text.push_format(format!(in alloc; "{arch} {name} {number}\n"));
         }
     }
-    written(alloc, json, "calls", text.finish()?)
+    written(text, json, "calls")
 }
 
 // The number of the call of this name or number.

@@ -71,18 +71,22 @@ pub(crate) fn push_program(
     if json {
         return text.push_item(program_value(alloc, name, program, &notes));
     }
-    for (place, (instruction, note)) in program.iter().zip(&notes).enumerate() {
-        text.push_format(match words(alloc, place, instruction) {
-            Ok(words) if note.is_empty() => format!(in alloc; "{place:4}  {words}\n"),
-            Ok(words) => format!(in alloc; "{place:4}  {words:28}; {note}\n"),
-            Err(error) => Err(error),
-        });
+    for (place, note) in notes.iter().enumerate() {
+        let (width, mark) = if note.is_empty() { (0, "") } else { (28, "; ") };
+        match words(alloc, place, program) {
+            Ok(words) => text.push_format(format!(in alloc;
+                "{place:4}  {words:width$}{mark}{note}\n"
+            )),
+            Err(_) => text.fail(),
+        }
     }
 }
 
-// An instruction that stands at this place, in the words of bpf_asm. Jumps tell the places that they lead to.
-fn words(alloc: Global, place: usize, instruction: &sock_filter) -> Result<String, AllocError> {
-    let sock_filter { code, jt, jf, k } = *instruction;
+// The instruction at this place, in the words of bpf_asm. Jumps tell the places that they lead to.
+fn words(alloc: Global, place: usize, program: BpfProgramRef<'_>) -> Result<String, AllocError> {
+    let Some(sock_filter { code, jt, jf, k }) = program.get(place).copied() else {
+        return Ok(String::new(alloc));
+    };
     let next = place.saturating_add(1);
     let name = match code {
         LOAD => return format!(in alloc; "ld [{k}]"),

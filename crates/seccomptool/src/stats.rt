@@ -4,7 +4,7 @@ ghost use Rattle.std.specs.Prelude.{◌≡◌, ◌≢◌, ◌+◌, ◌<◌, leng
 ghost use Rattle.seccompiler.specs.JsonAnswers.{OfValue};
 ghost use Rattle.seccomp_compare.specs.Machine.{IsChecked, IsFine};
 ghost use Rattle.seccomptool.specs.Stats.{AreStats, IsMeasureIn, IsMeasureOf, passing_record};
-ghost use Rattle.seccomptool.specs.Ways.{IsGreatestNext, IsMost};
+ghost use Rattle.seccomptool.specs.Ways.{IsGreatestNext};
 
 use crate::error::ToolError;
 use crate::findings::lines::push_filter;
@@ -85,20 +85,8 @@ pub(crate) fn measure_of(
     requires { IsChecked program.now }
     ensures { IfOk result (IsMeasureOf target program.now) }
 {
-    Ok(Measure {
-        length: program.len(),
-        most: most_steps(alloc, program)?,
-        passing: run(program, &passing_record(target)).steps,
-    })
-}
-
-// The most instructions on a way through a program, from its first instruction to a return. Whether a
-// record takes it is not asked.
-fn most_steps(alloc: Global, program: BpfProgramRef<'_>) -> Result<usize, AllocError>
-    requires { IsChecked program.now }
-    ensures { IfOk result (IsMost program.now) }
-{
-    // The most on a way from each place on, which the places behind it tell.
+    // The most instructions on a way from each place to a return, which the places behind it tell. Whether a record takes it is not
+    // asked.
     let mut most = vec![in alloc; 0usize; program.len()]?;
     for place in (0..program.len()).rev() {
         let instruction = program[place];
@@ -109,7 +97,11 @@ fn most_steps(alloc: Global, program: BpfProgramRef<'_>) -> Result<usize, AllocE
         };
         most[place] = behind + 1;
     }
-    Ok(most[0])
+    Ok(Measure {
+        length: program.len(),
+        most: most[0],
+        passing: run(program, &passing_record(target)).steps,
+    })
 }
 
 // The greatest of the numbers at the places that an instruction may lead to.

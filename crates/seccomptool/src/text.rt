@@ -2,6 +2,7 @@
 
 use crate::json::Object;
 use seccomp_command_line::readable::{TextKind, push_readable};
+use serde_json::ToValue;
 use std::alloc::{AllocError, Global};
 use std::fmt;
 
@@ -24,6 +25,11 @@ impl Text {
     /// The heap that it is in.
     pub(crate) fn alloc(&self) -> Global {
         *self.bytes.allocator()
+    }
+
+    /// Whether nothing was added.
+    pub(crate) fn is_blank(&self) -> bool {
+        self.bytes.is_empty() && !self.is_missing
     }
 
     /// Notes that memory ran out.
@@ -71,17 +77,21 @@ impl Text {
     /// Adds an object, in ASCII. What isn't stands in strings alone, and is written there by its number, so that no character of it
     /// steers a terminal.
     pub(crate) fn push_object(&mut self, object: Object) {
-        let Ok(json) = object.text() else {
+        let alloc = self.alloc();
+        let Ok(value) = object.to_value(alloc) else {
             return self.fail();
         };
-        for character in json.as_str().chars() {
-            if character < '\u{7f}' {
-                self.push_bytes(&[character as u8]);
-                continue;
-            }
-            let mut room = [0; 2];
-            for unit in character.encode_utf16(&mut room) {
-                self.push_format(format!(in self.alloc(); "\\u{unit:04x}"));
+        let json = value.to_string(alloc);
+        // By one call, and not variant by variant.
+        drop(value);
+        let Ok(json) = json else {
+            return self.fail();
+        };
+        for unit in json.as_str().encode_utf16() {
+            if unit < 0x7f {
+                self.push_bytes(&[unit as u8]);
+            } else {
+                self.push_format(format!(in alloc; "\\u{unit:04x}"));
             }
         }
     }

@@ -1,6 +1,5 @@
 // The words that the program is called with.
 
-mod matches;
 mod program;
 mod values;
 
@@ -9,12 +8,14 @@ use crate::compile::ProgramFormat;
 use crate::diff::Scope;
 use crate::findings::Terms;
 use crate::kind::Reading;
-use crate::learn::Learning;
+use crate::learn::{AskedArguments, Start};
 use crate::text::Text;
-use crate::words::matches::{
-    call_in, check_in, compile_in, diff_in, explain_in, learn_in, on, show_in,
+use crate::words::program::program;
+use crate::words::values::{
+    allowed_in, arch_in, arguments_in, calls_in, check_format_in, format_in, further_in, kept_in,
+    layout_in, named_in, number_in, output_in, path_in, program_format_in, push, reading_in,
+    records_in, relation_in, scope_in, start_in,
 };
-use crate::words::program::{CALL, CHECK, COMPILE, DIFF, EXPLAIN, LEARN, SHOW, program};
 use clap::ArgMatches;
 use clap::error::ErrorKind;
 use seccomp_tree::Layout;
@@ -22,107 +23,124 @@ use seccomp_warnings::Code;
 use seccompiler::TargetArch;
 use std::alloc::Global;
 
-// The tables of the commands, in the order of the help.
-const TABLES: [&str; 7] = [CHECK, COMPILE, SHOW, EXPLAIN, DIFF, LEARN, CALL];
+// A table of each command: its name and what it does, and in a line each its options and arguments, with what the help says of them
+// behind `: `. `--NAME` is an option that takes nothing, and `--NAME VALUE` one with a value; any other word is an argument. Behind
+// the name of a value or an argument stands `..` if several may be given, and `=` with what it is if none is given; behind that of
+// an argument that may be left out `?`, and behind that of a call's arguments `*`. Of an option's other words `-L` is a letter that
+// it has too, `!NAME` what can't be given with it, and `+NAME` what it needs.
 
-/// A command of the program, with its options.
-#[derive(Drop)]
-pub enum Command<'a> {
+// The options of every command that takes subjects.
+const COMMON: &str = "\
+--arch -a ARCH=x86_64: The architecture
+--oci: Read each text as a profile of a container runtime, whatever it contains
+--cap CAP..: Capabilities of a profile's container, such as CAP_SYS_ADMIN,CAP_BPF
+--kernel KERNEL: The kernel version for a profile, such as 6.1; without it, newer than any
+--runtime RUNTIME=crun: The runtime of a profile's container";
+
+const CHECK: &str = "\
+check: Print the first error of a policy or a profile with its place, or else its warnings
+--deny-warnings: End with exit status 1 if there is a warning
+--allow CODE..: Don't print the warnings of this code
+--format FORMAT !json: How errors and warnings are written: for people, in lines as gcc's, or as JSON
+--json: Write the answer as one JSON object
+--list: Print what each warning code means, and check nothing
+--verbose -v: List the names of a profile that are left out
+SUBJECT..=-: The files, or - for standard input";
+
+const COMPILE: &str = "\
+compile: Write the program of a filter or of a profile
+--filter -f FILTER: The name of the filter; optional if the policy has only one
+--layout LAYOUT=tree: How a program finds a call's rules: one call after the other, or by a tree of tests
+--format FORMAT=raw !json: How the program is written: as bytes, as a listing, or as a C initializer
+--json: Write the answer as one JSON object
+--output -o FILE: Write the program to FILE instead of standard output
+--quiet -q: Don't print the number of warnings
+--verbose -v: List the names of a profile that are left out
+--strict: Reject a profile that names calls which the architecture doesn't have
+SUBJECT=-: The file of a policy, profile or program, or - for standard input";
+
+const SHOW: &str = "\
+show: Print programs, with notes on their instructions
+--filter -f FILTER: The name of the filter to show; without it all filters are shown
+--layout LAYOUT=tree: How a program finds a call's rules: one call after the other, or by a tree of tests
+--stats: Print how long the programs are, and how many steps they take
+--json: Write the answer as one JSON object
+SUBJECT=-: The file of a policy, profile or program, or - for standard input";
+
+const EXPLAIN: &str = "\
+explain: Print what is decided for calls, and why
+--filter -f FILTER: The name of the filter; optional if the policy has only one
+--json: Write the answer as one JSON object
+--records FILE !CALL !log: Without CALL, read call records from FILE instead of standard input
+--log FILE !CALL: Explain the calls that lines of a log or of strace in FILE are about
+SUBJECT: The file of a policy, profile or program, or - for standard input
+CALL?: The call's name or number
+ARG*: The call's arguments; those that aren't given are 0";
+
+const DIFF: &str = "\
+diff: Print the calls that OLD and NEW decide differently
+--only-more: Report only calls of which NEW permits more than OLD
+--all: Count other architectures for the exit status too, if a program is compared
+--most N=1000000: The most sets of arguments to examine for each call
+--json: Write the answer as one JSON object
+--quiet -q: Don't print the number of warnings
+OLD: The old file, or - for standard input; append :FILTER to name a filter
+NEW: The new file, or - for standard input; append :FILTER to name a filter";
+
+const LEARN: &str = "\
+learn: Print a policy of the calls that a trace has
+--arch -a ARCH=x86_64: The architecture
+--name NAME: The name of the filter; `main`, or with --into the policy's only one
+--otherwise ACTION: What other calls get: kill_process (the default), kill_thread, trap, log, errno:N or trace:N
+--into POLICY !otherwise !profile: Add to a filter of this policy; its other filters stay
+--profile !name: Write a profile of a container runtime instead of a policy
+--args CALL[:INDEX,..]..: Keep the values of these arguments of a call, as in ioctl:1 or openat:2,3; all without INDEX
+--values N=16: The most different values to keep of a call; one with more is allowed with any arguments
+--runnable: Allow the calls by which programs start and end too
+--strict: Reject a trace with lines that aren't understood
+--json: Write the answer as one JSON object
+--output -o FILE: Write to FILE instead of standard output
+TRACE..=-: What strace, the kernel's log or audit wrote, or call records; - for standard input";
+
+const CALL: &str = "\
+call: Print the name and the number of a call, or write its struct seccomp_data
+--arch -a ARCH: The architecture
+--json: Write the answer as one JSON object
+--record !json: Write the call's record, 64 bytes
+--output -o FILE +record !json: Write the record to FILE instead of standard output
+CALL: The call's name or number
+ARG*: The call's arguments; those that aren't given are 0";
+
+// The tables of the commands, in the order of the help, each after the options that it shares with others.
+const TABLES: [(&str, &str); 7] = [
+    (COMMON, CHECK),
+    (COMMON, COMPILE),
+    (COMMON, SHOW),
+    (COMMON, EXPLAIN),
+    (COMMON, DIFF),
+    ("", LEARN),
+    ("", CALL),
+];
+
+/// What the program is to do.
+#[derive(Clone, Copy)]
+pub enum Verb {
     /// Write the program of what is given.
-    Compile(Compiling<'a>),
+    Compile,
     /// Print the programs of what is given for people, or how long they are and how many steps they take.
-    Show(Showing<'a>),
+    Show,
     /// Print the first error of what is given, or else its warnings.
-    Check(Checking),
+    Check,
     /// Print the codes of warnings.
     Codes,
     /// Print what is decided for calls, and why.
-    Explain(Explaining<'a>),
+    Explain,
     /// Print the name and the number of a call, or write its record.
-    Call(Calling<'a>),
+    Call,
     /// Print the calls that two sides decide otherwise.
-    Diff(Comparing<'a>),
+    Diff,
     /// Write a policy of the calls that a trace has.
-    Learn(Learning<'a>),
-}
-
-/// How a program is written.
-#[derive(Drop)]
-pub struct Compiling<'a> {
-    pub arch: TargetArch,
-    pub reading: Reading,
-    /// Whether names that no call of the architecture has are an error, in a profile.
-    pub strict: bool,
-    /// The filter's name; the policy's only filter if there is none.
-    pub filter: Option<&'a str>,
-    pub layout: Layout,
-    pub format: ProgramFormat,
-    /// Whether the number of warnings is left out.
-    pub quiet: bool,
-}
-
-/// What is printed of programs.
-#[derive(Drop)]
-pub struct Showing<'a> {
-    pub arch: TargetArch,
-    pub reading: Reading,
-    /// The filter's name; all filters of a policy if there is none.
-    pub filter: Option<&'a str>,
-    pub layout: Layout,
-    /// Whether they are measured.
-    pub measured: bool,
-}
-
-/// How what is given is checked.
-#[derive(Drop)]
-pub struct Checking {
-    pub arch: TargetArch,
-    pub reading: Reading,
-    /// Whether warnings count for the exit status.
-    pub denied: bool,
-    /// The codes whose warnings aren't printed.
-    pub allowed: Vec<Code>,
-    /// How errors and warnings are written.
-    pub format: CheckFormat,
-}
-
-/// What is explained.
-#[derive(Drop)]
-pub struct Explaining<'a> {
-    pub arch: TargetArch,
-    pub reading: Reading,
-    /// The filter's name; the policy's only filter if there is none.
-    pub filter: Option<&'a str>,
-    /// The calls that it is asked about.
-    pub calls: Calls<'a>,
-}
-
-/// What is printed of a call.
-#[derive(Clone, Copy)]
-pub struct Calling<'a> {
-    /// The architecture; all if there is none.
-    pub arch: Option<TargetArch>,
-    /// The call.
-    pub call: Call<'a>,
-    /// Whether its record is written.
-    pub recorded: bool,
-}
-
-/// How two sides are compared.
-#[derive(Drop)]
-pub struct Comparing<'a> {
-    /// On which terms.
-    pub terms: Terms,
-    /// How both are read.
-    pub reading: Reading,
-    /// The name of the old filter, if it is asked for.
-    pub old: Option<&'a str>,
-    /// The name of the new one.
-    pub new: Option<&'a str>,
-    /// Which calls count for the exit status.
-    pub scope: Scope,
-    /// Whether the numbers of warnings are left out.
-    pub quiet: bool,
+    Learn,
 }
 
 /// A call that a command is asked about.
@@ -134,37 +152,88 @@ pub struct Call<'a> {
     pub arguments: [u64; 6],
 }
 
-/// The calls that `explain` is asked about.
+/// Where the calls are that `explain` is asked about.
 #[derive(Clone, Copy)]
-pub enum Calls<'a> {
-    /// This one.
-    One(Call<'a>),
-    /// Those of records.
+pub enum Calls {
+    /// In the arguments: one.
+    One,
+    /// In records.
     Records,
-    /// Those that lines of a log or of a trace are about.
+    /// In lines of a log or of a trace.
     Log,
 }
 
-/// The paths of what a command reads, `-` of standard input, and how it writes what it makes of that.
+/// The paths of what a command reads, `-` of standard input.
 #[derive(Clone, Copy)]
 pub struct Inputs<'a> {
     /// A policy, a profile, a program or a trace; of two that are compared the old one.
     pub first: Option<&'a str>,
     /// Records or a log; of two that are compared the new one; the policy that a trace's calls are added to.
     pub second: Option<&'a str>,
-    /// Whether that is written as JSON; `check` and `compile` have formats for it.
-    pub json: bool,
 }
 
-/// What the arguments ask for.
+/// What the arguments ask for. An option that a command doesn't have is as if it weren't given.
 #[derive(Drop)]
 pub struct Asked<'a> {
-    /// The command.
-    pub command: Command<'a>,
-    /// What it is carried out on, one after the other.
-    pub inputs: Vec<Inputs<'a>>,
+    /// What is to be done.
+    pub verb: Verb,
     /// The path of the file that is written, in place of standard output.
     pub output: Option<&'a str>,
+    /// Whether the answer is written as JSON; `check` and `compile` have formats for it.
+    pub json: bool,
+    /// The architecture: x86_64 if none is named.
+    pub arch: TargetArch,
+    /// Whether none is named: `call` prints a call of each then.
+    pub each_arch: bool,
+    /// The filter's name. If there is none, it is the policy's only one; `show` shows all filters.
+    pub filter: Option<&'a str>,
+    pub layout: Layout,
+    /// How `compile` writes a program.
+    pub format: ProgramFormat,
+    /// How `check` writes errors and warnings.
+    pub check_format: CheckFormat,
+    /// Whether names that no call of the architecture has are an error, in a profile; or lines of a trace that aren't understood.
+    pub strict: bool,
+    /// Whether the numbers of warnings are left out.
+    pub quiet: bool,
+    /// Whether warnings count for the exit status of `check`.
+    pub denied: bool,
+    /// Whether `show` measures programs.
+    pub measured: bool,
+    /// The call that is asked about, if one is.
+    pub call: Call<'a>,
+    /// Where the calls are that `explain` is asked about.
+    pub calls: Calls,
+    /// Whether `call` writes the call's record.
+    pub recorded: bool,
+    /// On which terms two sides are compared.
+    pub terms: Terms,
+    /// The name of the old filter, if it is asked for.
+    pub old: Option<&'a str>,
+    /// The name of the new one.
+    pub new: Option<&'a str>,
+    /// Which calls count for the exit status of `diff`.
+    pub scope: Scope,
+    /// What the calls of a trace are added to.
+    pub start: Start,
+    /// The name of the filter that is learned, if it is given.
+    pub name: Option<&'a str>,
+    /// The most different values that are kept of a call.
+    pub most: usize,
+    /// Whether the calls by which programs start and end are allowed too.
+    pub runnable: bool,
+    /// Whether a profile is written.
+    pub as_profile: bool,
+    /// How what is given is read.
+    pub reading: Reading,
+    /// On what it is done, one after the other.
+    pub inputs: Vec<Inputs<'a>>,
+    /// The codes whose warnings aren't printed.
+    pub allowed: Vec<Code>,
+    /// The arguments whose values are kept, beside the usual ones.
+    pub arguments: Vec<AskedArguments<'a>>,
+    /// The traces after the first one.
+    pub further: Vec<&'a str>,
 }
 
 /// Reads the arguments that follow the program's name: what they ask for. The names of all codes of warnings are added to `codes`.
@@ -199,8 +268,10 @@ fn asked_of<'a>(
     let asked = asked_in(&matches, &mut wrong);
     // Here, so that no branch below has to.
     drop(matches);
+    // `--list` prints the codes, whatever else is asked for.
+    let is_list = matches!(asked.verb, Verb::Codes);
     match wrong.finish_string() {
-        Ok(lines) if lines.is_empty() => Ok(asked),
+        Ok(lines) if is_list || lines.is_empty() => Ok(asked),
         lines => {
             drop(asked);
             let lines = lines?;
@@ -210,17 +281,105 @@ fn asked_of<'a>(
     }
 }
 
-// What the matches of a subcommand ask for. clap lets no words pass without one.
+// What the matches of a subcommand ask for. What clap can't check is checked here: each fault is a line of `wrong`.
 fn asked_in<'a>(matches: &ArgMatches<'a>, wrong: &mut Text) -> Asked<'a> {
+    // clap lets no words pass without one.
     let (name, found) = matches.subcommand().unwrap_or(("", matches));
-    match name {
-        "check" if found.get_flag("list") => on(found, wrong, Command::Codes, &[], None),
-        "check" => check_in(found, wrong),
-        "compile" => compile_in(found, wrong),
-        "show" => show_in(found, wrong),
-        "explain" => explain_in(found, wrong),
-        "diff" => diff_in(found, wrong),
-        "learn" => learn_in(found, wrong),
-        _ => call_in(found, wrong),
+    let verb = match name {
+        "check" if found.get_flag("list") => Verb::Codes,
+        "check" => Verb::Check,
+        "compile" => Verb::Compile,
+        "show" => Verb::Show,
+        "explain" => Verb::Explain,
+        "diff" => Verb::Diff,
+        "learn" => Verb::Learn,
+        _ => Verb::Call,
+    };
+    // What drops comes last, so that no branch before it has to.
+    Asked {
+        verb,
+        output: output_in(found),
+        json: format_in(found) == "json",
+        arch: arch_in(found),
+        each_arch: found.get_str("arch").is_none(),
+        filter: found.get_str("filter"),
+        layout: layout_in(found),
+        format: program_format_in(found),
+        check_format: check_format_in(found),
+        strict: found.get_flag("strict"),
+        quiet: found.get_flag("quiet"),
+        denied: found.get_flag("deny-warnings"),
+        measured: found.get_flag("stats"),
+        call: Call {
+            name: path_in(found, "CALL"),
+            arguments: arguments_in(found, wrong),
+        },
+        calls: calls_in(found),
+        recorded: found.get_flag("record"),
+        terms: Terms {
+            target: arch_in(found),
+            relation: relation_in(found),
+            most: number_in(found, wrong, "most"),
+        },
+        old: named_in(path_in(found, "OLD")).1,
+        new: named_in(path_in(found, "NEW")).1,
+        scope: scope_in(found),
+        start: start_in(found, wrong),
+        name: found.get_str("name"),
+        most: number_in(found, wrong, "values"),
+        runnable: found.get_flag("runnable"),
+        as_profile: found.get_flag("profile"),
+        reading: reading_in(found, wrong),
+        inputs: inputs_in(found, wrong, verb),
+        allowed: allowed_in(found, wrong),
+        arguments: kept_in(found, wrong),
+        further: further_in(found, wrong),
     }
+}
+
+// What a command is carried out on, one after the other.
+fn inputs_in<'a>(found: &ArgMatches<'a>, wrong: &mut Text, verb: Verb) -> Vec<Inputs<'a>> {
+    let subjects = found.get_strs("SUBJECT").unwrap_or(&[]);
+    match verb {
+        Verb::Codes | Verb::Call => inputs_of(wrong, verb, &[], None),
+        Verb::Check | Verb::Compile | Verb::Show => inputs_of(wrong, verb, subjects, None),
+        Verb::Explain => inputs_of(wrong, verb, subjects, records_in(found)),
+        Verb::Diff => {
+            let (old, _) = named_in(path_in(found, "OLD"));
+            let (new, _) = named_in(path_in(found, "NEW"));
+            inputs_of(wrong, verb, &[old], Some(new))
+        }
+        Verb::Learn => {
+            let traces = found.get_strs("TRACE").unwrap_or(&[]);
+            inputs_of(wrong, verb, traces, found.get_str("into"))
+        }
+    }
+}
+
+// Each of what a command reads first, with what it reads second. All traces are one, and a command that reads nothing first is
+// carried out once.
+fn inputs_of<'a>(
+    wrong: &mut Text,
+    verb: Verb,
+    firsts: &[&'a str],
+    second: Option<&'a str>,
+) -> Vec<Inputs<'a>> {
+    if second == Some("-") && firsts.contains(&"-") {
+        wrong.push_str(match verb {
+            Verb::Diff => "OLD and NEW can't both be read from standard input\n",
+            Verb::Learn => "TRACE and POLICY can't both be read from standard input\n",
+            _ =>
+                "SUBJECT and records can't both be read from standard input: give CALL, --records or --log\n",
+        });
+    }
+    let count = match verb {
+        Verb::Learn => 1,
+        _ => firsts.len().max(1),
+    };
+    let mut inputs = Vec::new(wrong.alloc());
+    for index in 0..count {
+        let first = firsts.get(index).copied();
+        push(wrong, &mut inputs, Inputs { first, second });
+    }
+    inputs
 }

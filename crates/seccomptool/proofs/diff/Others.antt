@@ -1,13 +1,14 @@
 -- For `diff_pair`: where nothing is found on other architectures, the relation holds on every call of them.
-use Rattle.std.proofs.Common.{◌≡◌, ℕ, ◌+◌, ◌-◌, ◌^◌, ◌<◌, List, [], ◌∷◌, All, subst, inl, inr, arith}
+use Rattle.std.proofs.Common.{◌≡◌, ℕ, ◌+◌, ◌-◌, ◌^◌, ◌<◌, List, [], ◌∷◌, All, ap, subst, inl, inr, arith}
 use Rattle.std.proofs.lemmas.Bool.{cases_lt}
-use Rattle.std.proofs.lemmas.List.Elements.{All-head, All-tail}
+use Rattle.std.proofs.lemmas.List.Elements.{All-cons, All-head, All-nil, All-tail}
 use Rattle.seccompiler.specs.declared.backend.TargetArch.{TargetArch}
 use Rattle.seccomp_compare.specs.declared.Relation.{Relation}
 use Rattle.seccompiler.specs.Architecture.{audit_word}
 use Rattle.seccompiler.specs.Machine.{IsRecord, word_at}
 use Rattle.seccomptool.specs.Findings.{AreFoundOn, IsFound, verdict_of}
 use Rattle.seccomptool.specs.Diff.{HoldsElsewhere, other_parts}
+use Rattle.seccomptool.specs.declared.findings.Answer.{Answer}
 use Rattle.seccomptool.specs.declared.findings.Answer.TheVariants as answer
 use Rattle.seccomptool.specs.declared.findings.Finding.{Finding}
 use Rattle.seccomptool.specs.declared.findings.Part.{Part}
@@ -39,3 +40,18 @@ others_covered target relation Words findings are same = λ r rec other.
           let more : word < word_at r 4 = grind (arith, from, other) in
           All-head Holding above [] (All-tail Holding below (above ∷ []) each) r (rec, omega (arith, more), omega (arith, fits))
     ]
+
+-- What is found on the one part and on the other is found on both.
+pub found_elsewhere : (target : TargetArch) (relation : Relation) (Words : List ℕ → ℕ → ℕ → Type 0) (word : ℕ) (lesser greater : Answer)
+    → word ≡ audit_word target → IsFound target relation Words (Elsewhere 0 (word - 1)) lesser
+    → IsFound target relation Words (Elsewhere (word + 1) (2 ^ 32 - 1)) greater
+    → AreFoundOn target relation Words (other_parts target) (record { part = Elsewhere 0 (word - 1); answer = lesser }
+    ∷ record { part = Elsewhere (word + 1) (2 ^ 32 - 1); answer = greater } ∷ [])
+found_elsewhere target relation Words word lesser greater is below above =
+    let Found = λ (f : Finding). IsFound target relation Words f.part f.answer in
+    let first : Finding = record { part = Elsewhere 0 (word - 1); answer = lesser } in
+    let second : Finding = record { part = Elsewhere (word + 1) (2 ^ 32 - 1); answer = greater } in
+    record {
+      parts_are = ap (λ w. Elsewhere 0 (w - 1) ∷ Elsewhere (w + 1) (2 ^ 32 - 1) ∷ []) is;
+      each = All-cons Found first (second ∷ []) below (All-cons Found second [] above (All-nil Found));
+    }

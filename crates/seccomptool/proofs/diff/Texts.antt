@@ -6,9 +6,11 @@ use Rattle.seccomp_compare.specs.declared.Relation.{Relation}
 use Rattle.seccompiler.specs.JsonAnswers.{OfValue, ArePoliciesOf, HasPolicy}
 use Rattle.seccompiler.specs.JsonShape.{Has}
 use Rattle.seccompiler.specs.Policy.{Filter}
+use Rattle.seccomptool.specs.declared.diff.Diff.{Diff}
+use Rattle.seccomptool.specs.declared.diff.Diff.TheVariants.{ByName, OfPair}
 use Rattle.seccomptool.specs.declared.diff.NamedFound.{NamedFound}
-use Rattle.seccomptool.specs.Diff.{AreByName, HasFilter, IsFoundIn, name_bytes}
-use Rattle.seccomptool.specs.DiffParts.{AreFoundUnder, IsFoundUnder}
+use Rattle.seccomptool.specs.Diff.{AreByName, HasFilter, IsByName, IsFoundIn, name_bytes}
+use Rattle.seccomptool.specs.DiffParts.{AreFoundUnder, IsFoundByName, IsFoundUnder}
 use Rattle.seccomptool.specs.Sides.{Policies}
 use Rattle.seccomp_command_line.proofs.Found.{there, nowhere}
 
@@ -39,7 +41,7 @@ module _ (target : TargetArch) (relation : Relation) (old_text new_text : List �
     found = is;
   }
 
-  pub policies_differ : (all : List NamedFound) → AreFoundUnder target relation old new all
+  policies_differ : (all : List NamedFound) → AreFoundUnder target relation old new all
       → AreByName target relation old_text new_text all
   policies_differ all are = record {
     each = All-weaker (IsFoundUnder target relation old new) (IsFoundIn target relation old_text new_text) found_in all are.each;
@@ -48,3 +50,7 @@ module _ (target : TargetArch) (relation : Relation) (old_text new_text : List �
       | inr h ↦ let found = found_has target new_text new of_new name f h in are.complete name found.0 (inr found.1)
     ];
   }
+
+  pub by_name : (diff : Diff) → IsFoundByName target relation old new diff → IsByName target relation old_text new_text diff
+  by_name (ByName all) are = policies_differ all.items are
+  by_name (OfPair pair) are = are

@@ -12,10 +12,10 @@ use Rattle.seccomptool.specs.declared.findings.Answer.{Answer}
 use Rattle.seccomptool.specs.declared.findings.Answer.TheVariants.{Holds, Fails, Undecided}
 use Rattle.seccomptool.specs.declared.findings.Finding.{Finding}
 use Rattle.seccomptool.specs.declared.findings.Part.{Part}
-use Rattle.seccomptool.specs.declared.findings.Part.TheVariants.{Named, Unnamed, Elsewhere}
-use Rattle.seccomptool.specs.Findings.{AreFindings, AreFoundOn, ArePartsBelow, AreReturned, IsFound, IsInPart}
+use Rattle.seccomptool.specs.Findings.{AreFindings, AreFoundOn, ArePartsBelow, AreReturned, IsFound}
 use Rattle.seccomptool.specs.Rulings.{AreDecided, AreFindingsOf, Decides, EndsAsDecided, Ruling, StandsFor}
 use Rattle.seccomptool.proofs.findings.Covered.{covered}
+use Rattle.seccomptool.proofs.findings.Ending.{record_in}
 
 -- A program that ends as decided ends with no other word.
 decided_word : (target : TargetArch) (ruling : Ruling) (p : List sock_filter) (r : List ℕ) (steps word : ℕ) → Ends p r steps word
@@ -25,12 +25,6 @@ decided_word target ruling p r steps word ends at =
 
 module _ (target : TargetArch) (relation : Relation) (new old : List sock_filter) (by_new by_old : Ruling)
     (of_new : StandsFor target by_new new) (of_old : StandsFor target by_old old) where
-  -- The calls of a part are records.
-  record_in : (part : Part) (r : List ℕ) → IsInPart target part r → IsRecord r
-  record_in (Named number) r own = own.0
-  record_in (Unnamed least greatest) r own = own.0
-  record_in (Elsewhere least greatest) r own = own.0
-
   words_decided : (r : List ℕ) → IsRecord r → (new_word old_word : ℕ) → AreReturned new old r new_word old_word
       → AreDecided target by_new by_old r new_word old_word
   words_decided r rec new_word old_word are = (
@@ -42,9 +36,9 @@ module _ (target : TargetArch) (relation : Relation) (new old : List sock_filter
       → IsFound target relation (AreDecided target by_new by_old) part answer
   found_decided part Holds found = λ r own.
       let are = found r own in
-      (are.0, are.1, words_decided r (record_in part r own) are.0 are.1 are.2, are.3)
+      (are.0, are.1, words_decided r (record_in target part r own) are.0 are.1 are.2, are.3)
   found_decided part (Fails call old_word new_word) found =
-      (found.0, words_decided call (record_in part call found.0) new_word old_word found.1, found.2)
+      (found.0, words_decided call (record_in target part call found.0) new_word old_word found.1, found.2)
   found_decided part Undecided found = tt
 
   -- It is found of them on the same parts.

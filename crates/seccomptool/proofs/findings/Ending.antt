@@ -1,4 +1,4 @@
--- For `try_comparisons` and `ruled_by`: a program that may be run ends on each record, so that it is related to itself.
+-- For `answer_on` and `ruled_by`: a program that may be run ends on each record, so that it is related to itself.
 use Rattle.std.proofs.Common.{◌≡◌, ◌≢◌, ℕ, zero, suc, ◌+◌, ◌<◌, ◌≤◌, List, length, get_or, refl, subst, inl, inr, arith, bit_and}
 use Rattle.std.proofs.lemmas.Bool.{cases_eq, cases_lt}
 use Rattle.std.proofs.lemmas.Option.{slice_get-get_or}
@@ -9,8 +9,12 @@ use Rattle.seccompiler.specs.Machine.{fine_return}
 use Rattle.seccompiler.specs.Machine as of_seven
 use Rattle.seccomp_compare.specs.declared.Relation.{Relation}
 use Rattle.seccomp_compare.specs.declared.Relation.TheVariants.{Alike, AtMostAsPermissive}
-use Rattle.seccomp_compare.specs.declared.Comparison.TheVariants.{Holds}
-use Rattle.seccomp_compare.specs.Compare.{CallSet, Compares, Related}
+use Rattle.seccomp_compare.specs.Compare.{Related}
+use Rattle.seccompiler.specs.declared.backend.TargetArch.{TargetArch}
+use Rattle.seccomptool.specs.Findings.{AreReturned, IsFound, IsInPart}
+use Rattle.seccomptool.specs.declared.findings.Answer.TheVariants.{Holds}
+use Rattle.seccomptool.specs.declared.findings.Part.{Part}
+use Rattle.seccomptool.specs.declared.findings.Part.TheVariants.{Named, Unnamed, Elsewhere}
 use Rattle.seccomp_compare.specs.Machine.{Does, as_of_seven, has_bits, has_no_bits, Ends, EndsFrom, returns, goes_on}
 use Rattle.seccomp_compare.specs.Machine.{IsChecked, IsFine, fine_of_seven, fine_jset}
 use Rattle.seccomp_compare.proofs.machine.CheckedLemmas.{not_last}
@@ -84,17 +88,21 @@ itself : (relation : Relation) (word : ℕ) → Related relation word word
 itself Alike word = refl
 itself AtMostAsPermissive word = omega arith
 
+-- The calls of a part are records.
+pub record_in : (target : TargetArch) (part : Part) (r : List ℕ) → IsInPart target part r → IsRecord r
+record_in target (Named number) r own = own.0
+record_in target (Unnamed least greatest) r own = own.0
+record_in target (Elsewhere least greatest) r own = own.0
+
 -- So the relation holds of programs that are the same, on every call.
-pub same_holds : (calls : CallSet) (relation : Relation) (new old : List sock_filter) → IsChecked new → new ≡ old
-    → Compares calls relation new old Holds
-same_holds calls relation new old checked same = λ r own.
-    let end = ends r own.record_is new checked in
-    record {
-      word = end.1;
-      steps = end.0;
-      ends = end.2;
-      other_word = end.1;
-      other_steps = end.0;
-      other_ends = subst (λ p. Ends p r end.0 end.1) same end.2;
-      related = itself relation end.1;
-    }
+pub same_found : (target : TargetArch) (relation : Relation) (part : Part) (new old : List sock_filter) → IsChecked new → new ≡ old
+    → IsFound target relation (AreReturned new old) part Holds
+same_found target relation part new old checked same = λ r own.
+    let end = ends r (record_in target part r own) new checked in
+    let words : AreReturned new old r end.1 end.1 = record {
+      new_steps = end.0;
+      new_ends = end.2;
+      old_steps = end.0;
+      old_ends = subst (λ p. Ends p r end.0 end.1) same end.2;
+    } in
+    (end.1, end.1, words, itself relation end.1)

@@ -32,6 +32,10 @@ is_default d value test found is = (
       is ∙ (string_tests value).1 (subst IsText one names.2),
 )
 
+pub no_default : (d : Data) (test : Bool) → None ≡ get (codes "defaultAction") d → test ≡ false
+    → (test ≡ true → NamesDefault d) × (NamesDefault d → test ≡ true)
+no_default d test lacks is = (λ yes. absurd cc, λ names. let some : None ≡ Some names.0 = lacks ∙ names.1 in absurd cc)
+
 -- So a text that has the key is taken for a profile's where the test of its value says so.
 pub is_taken : (text : List ℕ) (value : Data) (test : Bool) → StandsIn (codes "\"defaultAction\"") text → IsReadAs text value
     → (test ≡ true → NamesDefault value) × (NamesDefault value → test ≡ true)

@@ -1,25 +1,25 @@
 // What is said of the error for which a text is rejected.
 
-use crate::check::format::{CheckFormat, Lines};
-use crate::check::outline::{Place, Position};
+use crate::check::format::{CheckFormat, Lines, Place};
+use crate::check::outline::Position;
 use crate::error::ToolError;
 use crate::notes::failure;
 use seccomp_check::{Expected, Fault, Problem, Step, push_problem};
 use seccomp_oci::{CompileError, ProfileError};
 use seccompiler::{Error, JsonFrontendError};
+use std::mem;
 
 /// Adds what is said of an error: for people on standard error. A text that is no JSON and ends early has its fault behind its last
 /// byte.
 pub(crate) fn push_error(lines: &mut Lines<'_>, error: &ToolError) {
     let alloc = lines.text.alloc();
-    if let CheckFormat::Text = lines.format {
-        return lines
-            .notes
-            .push_format(failure(alloc, Some(lines.file), error));
-    }
-    match error {
-        ToolError::Placed(_, fault) => push_fault(lines, fault),
-        error => match format!(in alloc; "{error}") {
+    match (lines.format, error) {
+        (CheckFormat::Text, _) => {
+            let told = failure(alloc, Some(lines.file), error);
+            lines.notes.push_format(told);
+        }
+        (_, ToolError::Placed(_, fault)) => push_fault(lines, fault),
+        _ => match error.told(alloc) {
             Ok(told) => push_unplaced(lines, error, told.as_str()),
             Err(_) => lines.text.fail(),
         },
@@ -76,6 +76,7 @@ fn split_path<'a>(lines: &mut Lines<'_>, told: &'a str) -> &'a str {
 
 // Adds what is said of a fault of a policy. An unknown key is found where the key is.
 fn push_fault(lines: &mut Lines<'_>, fault: &Fault) {
+    let alloc = lines.text.alloc();
     for step in &fault.path {
         match step {
             Step::Key(key) => lines.key(key.as_str()),
@@ -89,8 +90,11 @@ fn push_fault(lines: &mut Lines<'_>, fault: &Fault) {
         }
         Problem::Stands(_, _, _) => "wrong-value",
         Problem::Strange(key, _) => {
-            let strange = lines.outline.inner(lines.number, key.as_str());
-            lines.place = Place::At(lines.outline.position_of(strange, Place::Key));
+            // Where the key is, on the path of its object.
+            let path = mem::replace(&mut lines.path, String::new(alloc));
+            lines.key(key.as_str());
+            lines.path = path;
+            lines.place = Place::At(Some(lines.value.key));
             "unexpected-key"
         }
         Problem::Missing(_) | Problem::Neither(_, _) => "missing-key",
@@ -98,11 +102,10 @@ fn push_fault(lines: &mut Lines<'_>, fault: &Fault) {
         Problem::SameActions => "identical-actions",
         Problem::TooLong(_, _, _) => "program-too-large",
     };
-    let alloc = lines.text.alloc();
     let mut message = Vec::new(alloc);
     let added = push_problem(&mut message, alloc, &fault.problem);
-    match (added, String::from_utf8_lossy(alloc, &message)) {
-        (Ok(()), Ok(message)) => lines.push("error", code, message.as_str()),
+    match String::from_utf8_lossy(alloc, &message) {
+        Ok(message) if added.is_ok() => lines.push("error", code, message.as_str()),
         _ => lines.text.fail(),
     }
 }

@@ -1,6 +1,6 @@
 // The forms of what `check` says.
 
-use crate::check::outline::{Outline, Place, Position};
+use crate::check::outline::{Located, Outline, Position};
 use crate::json::{Object, OrNull};
 use crate::notes::push_front;
 use crate::text::Text;
@@ -19,6 +19,17 @@ pub enum CheckFormat {
     Json,
 }
 
+/// Where a diagnostic of a value is found.
+#[derive(Clone, Copy)]
+pub(crate) enum Place {
+    /// Where the value begins.
+    Value,
+    /// Where the value's key begins, which is what it is about.
+    Key,
+    /// Here, or nowhere.
+    At(Option<Position>),
+}
+
 /// What is said of a text, in the making: lines for people or as gcc's; or JSON, an object for each diagnostic, in a line, with a
 /// comma behind it. What is noted of the next diagnostic is forgotten once it is added.
 #[derive(Drop)]
@@ -34,25 +45,15 @@ pub(crate) struct Lines<'a> {
     /// What is noted so far on standard error.
     pub notes: Text,
     /// The path of what the next diagnostic is about, with a point in front of each key.
-    pub path: Text,
-    /// The number of the value there, or else of the last one on the way.
-    pub number: usize,
+    pub path: String,
+    /// The value there, or else the last one on the way.
+    pub value: Located,
     /// Where it is found.
     pub place: Place,
     /// The name of the call that it is about, if it is about one of several.
     pub call: Option<&'static str>,
     /// What may have been meant by the value there.
     pub suggestion: Option<&'static str>,
-}
-
-// A diagnostic of what a path leads to.
-#[derive(Clone, Copy)]
-struct Diagnostic<'a> {
-    path: &'a str,
-    position: Option<Position>,
-    severity: &'a str,
-    code: &'a str,
-    message: &'a str,
 }
 
 impl Lines<'_> {
@@ -62,41 +63,47 @@ impl Lines<'_> {
         format: CheckFormat,
         file: &'a str,
         text: &[u8],
-    ) -> Result<Lines<'a>, AllocError> {
-        let outline = match format {
-            // Lines for people don't say where.
-            CheckFormat::Text => Outline::of(alloc, b""),
-            _ => Outline::of(alloc, text),
-        }?;
-        Ok(Lines {
+    ) -> Lines<'a> {
+        // Lines for people don't say where.
+        let text = match format {
+            CheckFormat::Text => b"",
+            _ => text,
+        };
+        let outline = Outline::of(alloc, text);
+        Lines {
             format,
             file,
+            value: outline.whole,
             outline,
             text: Text::new(alloc),
             notes: Text::new(alloc),
-            path: Text::new(alloc),
-            number: 0,
+            path: String::new(alloc),
             place: Place::Value,
             call: None,
             suggestion: None,
-        })
+        }
     }
 
     /// Goes on to what is under this key.
     pub(crate) fn key(&mut self, key: &str) {
-        self.path.push_str(".");
-        self.path.push_str(key);
-        self.number = self.outline.inner(self.number, key);
+        let alloc = self.text.alloc();
+        self.step(format!(in alloc; ".{key}"));
     }
 
     /// Goes on to the item at this place.
     pub(crate) fn item(&mut self, place: usize) {
-        match format!(in self.text.alloc(); "[{place}]") {
-            Ok(step) => {
-                self.path.push_str(step.as_str());
-                self.number = self.outline.inner(self.number, step.as_str());
+        let alloc = self.text.alloc();
+        self.step(format!(in alloc; "[{place}]"));
+    }
+
+    // Goes on by a step.
+    fn step(&mut self, step: Result<String, AllocError>) {
+        match step {
+            Ok(step) if self.path.push_str(step.as_str()).is_ok() => {
+                let alloc = self.text.alloc();
+                self.value = self.outline.inner(alloc, self.value, step.as_str());
             }
-            Err(_) => self.text.fail(),
+            _ => self.text.fail(),
         }
     }
 
@@ -104,77 +111,84 @@ impl Lines<'_> {
     /// `FILE:LINE:COLUMN: SEVERITY: PATH: MESSAGE [CODE]`, without a place or path that there isn't; standard input is `-`.
     pub(crate) fn push(&mut self, severity: &str, code: &str, message: &str) {
         let alloc = self.text.alloc();
-        let path = mem::replace(&mut self.path, Text::new(alloc));
-        let Ok(path) = path.finish_string() else {
-            return self.text.fail();
+        let path = mem::replace(&mut self.path, String::new(alloc));
+        let path = path.as_str().strip_prefix('.').unwrap_or(path.as_str());
+        let position = match self.place {
+            Place::Value => Some(self.value.begins),
+            Place::Key => Some(self.value.key),
+            Place::At(position) => position,
         };
-        let diagnostic = Diagnostic {
-            path: path.as_str().strip_prefix('.').unwrap_or(path.as_str()),
-            position: self.outline.position_of(self.number, self.place),
-            severity,
-            code,
-            message,
-        };
-        match self.format {
-            CheckFormat::Json => self.push_object(diagnostic),
-            _ => self.push_line(diagnostic),
+        if let CheckFormat::Json = self.format {
+            let mut object = Object::new(alloc);
+            object.field("file", self.file);
+            let (line, column) = match position {
+                Some(Position { line, column }) => (Some(line), Some(column)),
+                None => (None, None),
+            };
+            object.field("line", line);
+            object.field("column", column);
+            object.field("path", path);
+            object.field("call", OrNull(self.call));
+            object.field("code", code);
+            object.field("severity", severity);
+            object.field("message", message);
+            object.field("suggestion", OrNull(self.suggestion));
+            self.text.push_item(object);
+        } else {
+            self.push_line(path, position, severity, code, message);
         }
-        self.number = 0;
+        if self.outline.is_missing {
+            self.text.fail();
+        }
+        self.value = self.outline.whole;
         self.place = Place::Value;
         self.call = None;
         self.suggestion = None;
     }
 
-    // Adds the line of a diagnostic, for people or as gcc's.
-    fn push_line(&mut self, diagnostic: Diagnostic<'_>) {
-        let (alloc, text) = (self.text.alloc(), &mut self.text);
-        let (path, code, message) = (diagnostic.path, diagnostic.code, diagnostic.message);
-        if let CheckFormat::Text = self.format {
-            push_front(text, self.file);
-            push_subject(text, path, self.place, self.call);
-            return text.push_format(format!(in alloc; ": warning [{code}]: {message}\n"));
-        }
-        text.push_readable(self.file, TextKind::Name);
-        if let Some(Position { line, column }) = diagnostic.position {
-            text.push_format(format!(in alloc; ":{line}:{column}"));
-        }
-        text.push_format(format!(in alloc; ": {}: ", diagnostic.severity));
-        push_subject(text, path, self.place, self.call);
-        text.push_str(if path.is_empty() { "" } else { ": " });
-        text.push_readable(message, TextKind::Line);
-        text.push_format(format!(in alloc; " [{code}]\n"));
+    /// What is said, and what is noted.
+    pub(crate) fn finish(self) -> (Text, Text) {
+        (self.text, self.notes)
     }
 
-    // Adds a diagnostic as JSON.
-    fn push_object(&mut self, diagnostic: Diagnostic<'_>) {
-        let (line, column) = match diagnostic.position {
-            Some(Position { line, column }) => (Some(line), Some(column)),
-            None => (None, None),
+    // Adds the line of a diagnostic, for people or as gcc's. A key stands in quotes.
+    fn push_line(
+        &mut self,
+        path: &str,
+        position: Option<Position>,
+        severity: &str,
+        code: &str,
+        message: &str,
+    ) {
+        let is_gcc = matches!(self.format, CheckFormat::Gcc);
+        let quote = if matches!(self.place, Place::Key) {
+            "\""
+        } else {
+            ""
         };
-        let mut object = Object::new(self.text.alloc());
-        object.field("file", self.file);
-        object.field("line", line);
-        object.field("column", column);
-        object.field("path", diagnostic.path);
-        object.field("call", OrNull(self.call));
-        object.field("code", diagnostic.code);
-        object.field("severity", diagnostic.severity);
-        object.field("message", diagnostic.message);
-        object.field("suggestion", OrNull(self.suggestion));
-        self.text.push_item(object);
-    }
-}
-
-// Adds what a diagnostic is about: its path, and the call behind it. A key stands in quotes.
-fn push_subject(text: &mut Text, path: &str, place: Place, call: Option<&str>) {
-    let quote = match place {
-        Place::Key => "\"",
-        _ => "",
-    };
-    text.push_str(quote);
-    text.push_readable(path, TextKind::Name);
-    text.push_str(quote);
-    if let Some(call) = call {
-        text.push_format(format!(in text.alloc(); " ({call})"));
+        let call = self.call;
+        let (alloc, text) = (self.text.alloc(), &mut self.text);
+        if is_gcc {
+            text.push_readable(self.file, TextKind::Name);
+            if let Some(Position { line, column }) = position {
+                text.push_format(format!(in alloc; ":{line}:{column}"));
+            }
+            text.push_format(format!(in alloc; ": {severity}: "));
+        } else {
+            push_front(text, self.file);
+        }
+        text.push_str(quote);
+        text.push_readable(path, TextKind::Name);
+        text.push_str(quote);
+        if let Some(call) = call {
+            text.push_format(format!(in alloc; " ({call})"));
+        }
+        if is_gcc {
+            text.push_str(if path.is_empty() { "" } else { ": " });
+            text.push_readable(message, TextKind::Line);
+            text.push_format(format!(in alloc; " [{code}]\n"));
+        } else {
+            text.push_format(format!(in alloc; ": warning [{code}]: {message}\n"));
+        }
     }
 }

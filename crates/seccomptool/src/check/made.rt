@@ -1,7 +1,7 @@
 // What `check` makes of the text that it is given.
 
 ghost use Rattle.std.specs.Prelude.{IfErr, IfOk};
-ghost use Rattle.seccomptool.specs.Commands.{IsAccepted, IsCheck, IsJudged, IsRejectedFor};
+ghost use Rattle.seccomptool.specs.Commands.{IsAccepted, IsCheck, IsRejectedFor};
 
 use crate::check::fault::push_error;
 use crate::check::format::Lines;
@@ -15,48 +15,40 @@ use crate::kind::{Subject, subject_of};
 use crate::made::Made;
 use crate::profile::push_profile_notes;
 use crate::run::program::program_of;
-use crate::words::Checking;
+use crate::words::Asked;
 use std::alloc::Global;
 
 pub(crate) fn check_made(
     alloc: Global,
-    asked: &Checking,
+    asked: &Asked<'_>,
     path: &str,
     given: &[u8],
 ) -> Result<Made, ToolError>
     ensures { IfOk result (λ made. IsCheck asked.now given.now made.verdict) }
 {
     let subject = subject_of(alloc, &asked.reading, given)?;
-    let mut lines = Lines::new(alloc, asked.format, path, given)?;
-    let verdict = judged(&mut lines, asked, subject, given)?;
-    Ok(Made::noting(lines.text.finish()?, verdict, lines.notes.finish()?))
-}
-
-// What is found of a subject, of which the lines are to say why it is rejected, or else its warnings.
-fn judged(
-    lines: &mut Lines<'_>,
-    asked: &Checking,
-    subject: Subject<'_>,
-    given: &[u8],
-) -> Result<Verdict, ToolError>
-    ensures { IfOk result (IsJudged asked.now subject.entry given.now) }
-{
-    match accepted(lines, asked, subject, given) {
-        Ok(verdict) => Ok(verdict),
-        Err(ToolError::OutOfMemory) => Err(ToolError::OutOfMemory),
-        Err(error) => {
-            push_error(lines, &error);
-            // By one call, and not variant by variant.
-            drop(error);
-            Ok(Verdict::Different)
+    let mut lines = Lines::new(alloc, asked.check_format, path, given);
+    let verdict = match accepted(&mut lines, asked, subject, given) {
+        Ok(verdict) => verdict,
+        Err(ToolError::OutOfMemory { .. }) => {
+            drop(lines);
+            return Err(ToolError::OutOfMemory);
         }
-    }
+        Err(error) => {
+            push_error(&mut lines, &error);
+            // Here, so that no branch below has to.
+            drop(error);
+            Verdict::Different
+        }
+    };
+    let (text, notes) = lines.finish();
+    Ok(Made::noting(text.finish()?, verdict, notes.finish()?))
 }
 
 // What is found of a subject that is accepted.
 fn accepted(
     lines: &mut Lines<'_>,
-    asked: &Checking,
+    asked: &Asked<'_>,
     subject: Subject<'_>,
     given: &[u8],
 ) -> Result<Verdict, ToolError>
@@ -65,21 +57,27 @@ fn accepted(
 {
     let (alloc, arch, denied) = (lines.text.alloc(), asked.arch, asked.denied);
     match subject {
-        Subject::Policy => {
-            let checked = checked(alloc, arch, &asked.allowed, given)?;
-            push_warnings(lines, &checked.filters);
-            Ok(verdict_where(denied, checked.count))
-        }
+        Subject::Policy => match checked(alloc, arch, &asked.allowed, given) {
+            Ok(checked) => {
+                push_warnings(lines, &checked.filters);
+                Ok(verdict_where(denied, checked.count))
+            }
+            Err(error) => Err(error),
+        },
         Subject::Profile(container) => {
-            let checked = profile_checked(alloc, arch, container, &asked.allowed, given)?;
-            let (listed, left_out) = (asked.reading.listed, &checked.compiled.left_out);
-            push_profile_notes(&mut lines.notes, arch, lines.file, listed, left_out, &[]);
-            push_profile_warnings(lines, arch, container, &checked)?;
-            Ok(verdict_where(denied, checked.warnings.len()))
+            match profile_checked(alloc, arch, container, &asked.allowed, given) {
+                Ok(checked) => {
+                    let (listed, left_out) = (asked.reading.listed, &checked.compiled.left_out);
+                    push_profile_notes(&mut lines.notes, arch, lines.file, listed, left_out, &[]);
+                    push_profile_warnings(lines, arch, container, &checked);
+                    Ok(verdict_where(denied, checked.warnings.len()))
+                }
+                Err(error) => Err(error),
+            }
         }
-        Subject::Program => {
-            let _program = program_of(alloc, given)?;
-            Ok(Verdict::Same)
-        }
+        Subject::Program => match program_of(alloc, given) {
+            Ok(_program) => Ok(Verdict::Same),
+            Err(error) => Err(error),
+        },
     }
 }

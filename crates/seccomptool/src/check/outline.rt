@@ -2,10 +2,10 @@
 
 ghost use Rattle.std.specs.Prelude.{◌≤◌, length};
 
-use crate::text::Text;
-use serde_json::Value;
+use serde_json::from_slice;
 use std::alloc::{AllocError, Global};
 use std::collections::BTreeMap;
+use std::mem;
 
 // The bytes that end a number or a name.
 const MARKS: &[u8] = b"{}[],:\" \t\r\n";
@@ -19,164 +19,163 @@ pub(crate) struct Position {
     pub column: usize,
 }
 
-/// Where a diagnostic of a value is found.
+/// Where a value of a JSON text stands.
 #[derive(Clone, Copy)]
-pub(crate) enum Place {
-    /// Where the value begins.
-    Value,
-    /// Where the value's key begins, which is what it is about.
-    Key,
-    /// Here, or nowhere.
-    At(Option<Position>),
+pub(crate) struct Located {
+    /// Where it begins.
+    pub begins: Position,
+    /// Where its key does, or itself if it has none.
+    pub key: Position,
 }
 
-// A value of a JSON text.
-#[derive(Drop)]
-struct Located {
-    // Where it begins, and where its key does, or itself if it has none.
-    begins: Position,
-    key: Position,
-    // The numbers of the values in it, by their keys, or by their places in brackets.
-    inner: BTreeMap<String, usize>,
-}
-
-// An array or an object whose end isn't read: its number, and the place and the key of what is read of it.
+// An array or an object whose end isn't read.
 #[derive(Drop)]
 struct Open {
-    number: usize,
+    // Where it begins, and the step that leads to it from the one around it: `[PLACE]` or `.KEY`.
+    begins: Position,
+    step: String,
     is_object: bool,
-    place: usize,
-    key: Option<(Position, String)>,
+    // How many of its items are read.
+    count: usize,
 }
 
 /// The values of a JSON text.
 #[derive(Drop)]
 pub(crate) struct Outline {
-    // By their numbers, in the order in which they begin.
-    values: Vec<Located>,
+    /// The outermost one.
+    pub whole: Located,
     /// The first key that its object has already: the path of its value, and where the key begins.
-    pub repeated: Option<(Text, Position)>,
-    // How far the text is read: where that is, and the arrays and objects around.
-    at: Position,
+    pub repeated: Option<(String, Position)>,
+    /// Whether memory ran out, so that some value is missing.
+    pub is_missing: bool,
+    // All values, by what `address` gives.
+    values: BTreeMap<String, Located>,
+    // The arrays and objects around what is read next; where the key in front of it begins, and the step from there: no text, if
+    // none is read.
     open: Vec<Open>,
+    key: Position,
+    step: String,
 }
 
 impl Outline {
     /// The values of a text, which is JSON.
-    pub(crate) fn of(alloc: Global, text: &[u8]) -> Result<Outline, AllocError> {
+    pub(crate) fn of(alloc: Global, text: &[u8]) -> Outline {
+        let mut at = Position { line: 1, column: 1 };
         let mut outline = Outline {
-            values: Vec::new(alloc),
+            whole: Located {
+                begins: at,
+                key: at,
+            },
             repeated: None,
-            at: Position { line: 1, column: 1 },
+            is_missing: false,
+            values: BTreeMap::new(alloc),
             open: Vec::new(alloc),
+            key: at,
+            step: String::new(alloc),
         };
         let mut rest = text;
         // A piece has a byte at least, while there is a rest.
         for _ in 0..text.len() {
             let (piece, behind) = rest.split_at(piece_len(rest));
-            outline.take(alloc, piece)?;
+            match piece.first() {
+                None | Some(b':' | b',' | b' ' | b'\t' | b'\r') => {}
+                Some(b'\n') => {
+                    at.line = at.line.saturating_add(1);
+                    at.column = 0;
+                }
+                Some(b'}' | b']') => drop(outline.open.pop()),
+                Some(first) => {
+                    let pushed = outline.push(alloc, at, *first, piece);
+                    outline.is_missing |= pushed.is_err();
+                }
+            }
+            at.column = at.column.saturating_add(piece.len());
             rest = behind;
         }
-        Ok(outline)
+        outline
     }
 
-    /// The number of the value under a key of this one, or at a place in brackets; or of this one, if there is none. A filter's
-    /// actions have two names.
-    pub(crate) fn inner(&self, number: usize, step: &str) -> usize {
-        let Some(outer) = self.values.get(number) else {
-            return number;
-        };
+    /// The value to which a step leads from this one; or this one, if there is none. A filter's actions have two names.
+    pub(crate) fn inner(&mut self, alloc: Global, outer: Located, step: &str) -> Located {
         let other = match step {
-            "mismatch_action" => "default_action",
-            "match_action" => "filter_action",
+            ".mismatch_action" => ".default_action",
+            ".match_action" => ".filter_action",
             _ => step,
         };
-        let inner = outer.inner.get(step).or(outer.inner.get(other));
-        *inner.unwrap_or(&number)
-    }
-
-    /// Where a diagnostic of the value of this number is found.
-    pub(crate) fn position_of(&self, number: usize, place: Place) -> Option<Position> {
-        match (place, self.values.get(number)) {
-            (Place::At(position), _) => position,
-            (Place::Value, Some(value)) => Some(value.begins),
-            (Place::Key, Some(value)) => Some(value.key),
-            (_, None) => None,
-        }
-    }
-
-    // Takes the next piece of the text: a string is a key if it stands in an object and behind no other.
-    fn take(&mut self, alloc: Global, piece: &[u8]) -> Result<(), AllocError> {
-        let begins = self.at;
-        self.at.column = begins.column.saturating_add(piece.len());
-        match piece {
-            [b'\n', ..] => {
-                self.at.line = begins.line.saturating_add(1);
-                self.at.column = 1;
-            }
-            [] | [b':' | b' ' | b'\t' | b'\r', ..] => {}
-            [b'}' | b']', ..] => drop(self.open.pop()),
-            [b',', ..] => {
-                if let Some(outer) = self.open.last_mut() {
-                    outer.place = outer.place.saturating_add(1);
-                    outer.key = None;
-                }
-            }
-            [first, ..] => match self.open.last_mut() {
-                Some(outer) if *first == b'"' && outer.is_object && outer.key.is_none() => {
-                    outer.key = Some((begins, name_in(alloc, piece)?));
-                }
-                _ => self.push(alloc, begins, *first)?,
-            },
-        }
-        Ok(())
-    }
-
-    // Adds the value that begins here, with this byte.
-    fn push(&mut self, alloc: Global, begins: Position, first: u8) -> Result<(), AllocError> {
-        let number = self.values.len();
-        let mut key = begins;
-        if let Some(open) = self.open.last() {
-            let step = match &open.key {
-                None => format!(in alloc; "[{}]", open.place),
-                Some((place, name)) => {
-                    key = *place;
-                    String::from_str(alloc, name.as_str())
-                }
-            }?;
-            if let Some(outer) = self.values.get_mut(open.number) {
-                let earlier = outer.inner.insert(step, number)?;
-                if earlier.is_some() && self.repeated.is_none() {
-                    self.repeated = Some((self.path(alloc), key));
-                }
+        for step in [step, other] {
+            let Ok(address) = address(alloc, outer.begins, step) else {
+                self.is_missing = true;
+                return outer;
+            };
+            if let Some(inner) = self.values.get(address.as_str()) {
+                return *inner;
             }
         }
-        self.values.push(Located {
-            begins,
-            key,
-            inner: BTreeMap::new(alloc),
-        })?;
+        outer
+    }
+
+    // Takes what begins here with this byte: a key, if it stands in an object and behind no other, or else a value.
+    fn push(
+        &mut self,
+        alloc: Global,
+        begins: Position,
+        first: u8,
+        piece: &[u8],
+    ) -> Result<(), AllocError> {
+        let (mut outer, mut key) = (begins, begins);
+        match self.open.last_mut() {
+            None => self.whole = Located { begins, key },
+            Some(open) if !open.is_object => {
+                outer = open.begins;
+                self.step = format!(in alloc; "[{}]", open.count)?;
+                open.count = open.count.saturating_add(1);
+            }
+            Some(_) if self.step.is_empty() => {
+                self.key = begins;
+                self.step = step_of(alloc, piece)?;
+                return Ok(());
+            }
+            Some(open) => {
+                outer = open.begins;
+                key = self.key;
+            }
+        }
+        let address = address(alloc, outer, self.step.as_str())?;
+        let earlier = self.values.insert(address, Located { begins, key })?;
+        if earlier.is_some() && self.repeated.is_none() {
+            let mut path = String::new(alloc);
+            for open in &self.open {
+                self.is_missing |= path.push_str(open.step.as_str()).is_err();
+            }
+            self.is_missing |= path.push_str(self.step.as_str()).is_err();
+            self.repeated = Some((path, key));
+        }
+        let step = mem::replace(&mut self.step, String::new(alloc));
         if matches!(first, b'{' | b'[') {
             self.open.push(Open {
-                number,
+                begins,
+                step,
                 is_object: first == b'{',
-                place: 0,
-                key: None,
+                count: 0,
             })?;
         }
         Ok(())
     }
+}
 
-    // The path of what is read of the arrays and objects around.
-    fn path(&self, alloc: Global) -> Text {
-        let mut path = Text::new(alloc);
-        for open in &self.open {
-            path.push_format(match &open.key {
-                None => format!(in alloc; "[{}]", open.place),
-                Some((_, name)) => format!(in alloc; ".{name}"),
-            });
-        }
-        path
+// What a value is filed under: where the one around it begins, and the step from there.
+fn address(alloc: Global, outer: Position, step: &str) -> Result<String, AllocError> {
+    let Position { line, column } = outer;
+    format!(in alloc; "{line}:{column}{step}")
+}
+
+// The step to the value of a key.
+fn step_of(alloc: Global, key: &[u8]) -> Result<String, AllocError> {
+    match from_slice::<String>(alloc, key) {
+        Ok(name) => format!(in alloc; ".{name}"),
+        Err(error) if error.is_memory() => Err(AllocError),
+        // The text is no JSON.
+        Err(_) => Ok(String::new(alloc)),
     }
 }
 
@@ -196,13 +195,4 @@ fn piece_len(text: &[u8]) -> usize
         }
     }
     text.len()
-}
-
-// What a key says.
-fn name_in(alloc: Global, key: &[u8]) -> Result<String, AllocError> {
-    match Value::from_slice(alloc, key) {
-        Ok(value) => String::from_str(alloc, value.as_str().unwrap_or("")),
-        Err(error) if error.is_memory() => Err(AllocError),
-        Err(_error) => Ok(String::new(alloc)),
-    }
 }

@@ -1,7 +1,7 @@
 // What is written of a comparison: lines, or JSON.
 
-use crate::diff::{Diff, Found, NamedFound, Pair, verdict_found};
-use crate::findings::lines::{Shown, part_value, push_filter, push_finding, verdict_name};
+use crate::diff::{Diff, Found, NamedFound, Pair};
+use crate::findings::lines::{part_value, push_filter, push_finding};
 use crate::findings::{Answer, Finding, Part, Terms, Verdict, verdict_of};
 use crate::json::{List, Object, OrNull, written};
 use crate::kind::Subject;
@@ -13,12 +13,14 @@ use seccompiler::TargetArch;
 use std::alloc::{AllocError, Global};
 
 // What is found of the calls of an architecture, or of all others.
-#[derive(Clone, Copy)]
+#[derive(Drop)]
 struct Section<'a> {
     // The name of the old side, and of the new one; none if the other one alone has it.
     old: Option<&'a str>,
     new: Option<&'a str>,
     arch: Option<&'a str>,
+    // Whether all findings stand in the order of their numbers; else those of calls that have a name come first.
+    in_order: bool,
     // Whether what is found may depend on the instruction pointer.
     pointer: bool,
     verdict: Verdict,
@@ -50,17 +52,17 @@ pub(crate) fn diff_text(
             }
         }
     }
-    written(alloc, json, "compared", text.finish()?)
+    written(text, json, "compared")
 }
 
 // Adds what is found under a name.
 fn push_named(text: &mut Text, terms: Terms, json: bool, named: &NamedFound) {
     let name = Some(named.name.as_str());
     let none: &[Finding] = &[];
-    let (old, new, findings) = match &named.found {
-        Found::OnlyOld => (name, None, none),
-        Found::OnlyNew => (None, name, none),
-        Found::Both(findings) => (name, name, findings.as_slice()),
+    let (old, new, verdict, findings) = match &named.found {
+        Found::OnlyOld => (name, None, Verdict::Different, none),
+        Found::OnlyNew => (None, name, Verdict::Different, none),
+        Found::Both(findings) => (name, name, verdict_of(findings), findings.as_slice()),
     };
     if !json {
         push_filter(text, named.name.as_str());
@@ -69,11 +71,12 @@ fn push_named(text: &mut Text, terms: Terms, json: bool, named: &NamedFound) {
         old,
         new,
         arch: Some(terms.target.name()),
+        in_order: true,
         pointer: false,
-        verdict: verdict_found(&named.found),
+        verdict,
         findings,
     };
-    push_compared(text, terms, json, &[None], section);
+    push_compared(text, terms, json, section);
 }
 
 // Adds what is found of a pair of sides, on the calls of the architecture or on those of others. The title is what is compared: a
@@ -101,31 +104,24 @@ fn push_pair(
         _ => text.push_str("profile"),
     }
     let (arch, findings) = if others {
-        (None, &pair.others)
+        (None, pair.others.as_slice())
     } else {
-        (Some(terms.target.name()), &pair.own)
+        (Some(terms.target.name()), pair.own.as_slice())
     };
     let section = Section {
         old: Some(old),
         new: Some(new),
         arch,
+        in_order: false,
         pointer: pair.loads_pointer,
         verdict: verdict_of(findings),
         findings,
     };
-    // Calls that have a name, and then those that have none.
-    push_compared(text, terms, json, &[Some(true), Some(false)], section);
+    push_compared(text, terms, json, section);
 }
 
-// Adds what is found: as JSON an item, else behind a title the verdict and the lines of findings, in turn of calls that have a name or
-// that have none, or of all.
-fn push_compared(
-    text: &mut Text,
-    terms: Terms,
-    json: bool,
-    turns: &[Option<bool>],
-    section: Section<'_>,
-) {
+// Adds what is found: as JSON an item, else behind a title the verdict and the lines of findings.
+fn push_compared(text: &mut Text, terms: Terms, json: bool, section: Section<'_>) {
     let target = terms.target;
     if json {
         return text.push_item(object_of(text.alloc(), target, section));
@@ -140,12 +136,11 @@ fn push_compared(
         Verdict::Different => ": more permissive\n",
         Verdict::Undecided => ": undecided\n",
     });
-    let pointer = section.pointer;
-    for of_named in turns {
+    for is_first in [true, false] {
         for finding in section.findings {
             let is_named = matches!(finding.part, Part::Named { .. });
-            if of_named.unwrap_or(is_named) == is_named {
-                push_finding(text, Shown { target, pointer }, *finding);
+            if (section.in_order || is_named) == is_first {
+                push_finding(text, target, section.pointer, *finding);
             }
         }
     }
@@ -159,11 +154,16 @@ fn object_of(alloc: Global, target: TargetArch, section: Section<'_>) -> Object 
             parts.item(part_value(alloc, target, *finding));
         }
     }
+    let verdict = match section.verdict {
+        Verdict::Same => "same",
+        Verdict::Different => "different",
+        Verdict::Undecided => "undecided",
+    };
     let mut object = Object::new(alloc);
     object.field("old", OrNull(section.old));
     object.field("new", OrNull(section.new));
     object.field("architecture", OrNull(section.arch));
-    object.field("verdict", verdict_name(section.verdict));
+    object.field("verdict", verdict);
     object.field("parts", parts);
     object
 }

@@ -1,9 +1,11 @@
 // What is written of what is decided on records.
 
+ghost use Rattle.std.specs.Prelude.{◌<◌};
+
 use crate::explain::log::Caller;
 use crate::explain::search::{Miss, Reason};
 use crate::explain::{Explained, Explanation, Why};
-use crate::findings::lines::Word;
+use crate::findings::lines::{push_word, word_value};
 use crate::findings::parts::name_of;
 use crate::json::{Object, call_name, or_null, written};
 use crate::text::Text;
@@ -34,41 +36,65 @@ pub(crate) fn explained_text(
             push_line(&mut text, target, path.as_str(), caller, *explained);
         }
     }
-    written(alloc, json, "decisions", text.finish()?)
+    written(text, json, "decisions")
 }
 
-// The kind of a reason, what a line has in front of its path and the call, and the number of the call that it is about, if it is of
-// the architecture.
-fn parts_of(why: Why) -> (&'static str, &'static str, Option<u32>) {
+// The kinds of reasons, each with what a line has in front of its path and the call.
+const KINDS: [(&str, &str); 6] = [
+    ("another-architecture", ""),
+    ("no-entry", "no entry of "),
+    ("no-match", "no match: "),
+    ("entry", ""),
+    ("no-entry", "defaultAction of "),
+    ("program", ""),
+];
+
+// Where the kind of a reason stands, the number of the call that it is about, if it is of the architecture, and the indices of its
+// entry and of its condition, if it has one.
+fn parts_of(why: Why) -> (usize, Option<u32>, Option<usize>, Option<usize>)
+    ensures { result.0 < 6 }
+{
     match why {
-        Why::Elsewhere | Why::Filter(Reason::AnotherArchitecture) => {
-            ("another-architecture", "", None)
-        }
-        Why::Filter(Reason::NoEntry { number }) => ("no-entry", "no entry of ", Some(number)),
-        Why::Filter(Reason::NoMatch { number, .. }) => ("no-match", "no match: ", Some(number)),
-        Why::Filter(Reason::Entry { number, .. }) => ("entry", "", Some(number)),
-        Why::Profile { number, entry } => match entry {
-            None => ("no-entry", "defaultAction of ", Some(number)),
-            Some(_) => ("entry", "", Some(number)),
+        Why::Elsewhere => (0, None, None, None),
+        Why::Filter(reason) => match reason {
+            Reason::AnotherArchitecture => (0, None, None, None),
+            Reason::NoEntry { number } => (1, Some(number), None, None),
+            Reason::NoMatch {
+                number,
+                nearest,
+                ..
+            } => {
+                let Miss { entry, condition } = nearest;
+                (2, Some(number), Some(entry), Some(condition))
+            }
+            Reason::Entry { number, place } => (3, Some(number), Some(place), None),
         },
-        Why::Program { number, .. } => ("program", "", number),
+        Why::Profile { number, entry } => {
+            let kind = if entry.is_some() { 3 } else { 4 };
+            (kind, Some(number), entry, None)
+        }
+        Why::Program { number, .. } => (5, number, None, None),
     }
 }
 
 // The path of what is the reason, in the filter of this name or in a profile: nothing if it is no entry and no condition.
 fn path_of(alloc: Global, name: &str, why: Why) -> Result<String, AllocError> {
-    match why {
-        Why::Profile {
-            entry: Some(entry),
-            ..
-        } => format!(in alloc; "syscalls[{entry}]"),
-        Why::Filter(Reason::Entry { place, .. }) => format!(in alloc; "{name}.filter[{place}]"),
-        Why::Filter(Reason::NoMatch { nearest, .. }) => {
-            let Miss { entry, condition } = nearest;
-            format!(in alloc; "{name}.filter[{entry}].args[{condition}]")
+    let (mut path, (_, _, entry, condition)) = (Text::new(alloc), parts_of(why));
+    if let Some(entry) = entry {
+        if let Why::Profile { .. } = why {
+            path.push_str("syscalls[");
+        } else {
+            path.push_str(name);
+            path.push_str(".filter[");
         }
-        _ => Ok(String::new(alloc)),
+        path.push_display(&entry);
+        if let Some(condition) = condition {
+            path.push_str("].args[");
+            path.push_display(&condition);
+        }
+        path.push_str("]");
     }
+    path.finish_string()
 }
 
 // Adds the line of a decision, whose reason has this path, after who made the call.
@@ -80,29 +106,41 @@ fn push_line(
     explained: Explained,
 ) {
     let Explained { word, why } = explained;
-    match caller {
-        ("", _) => {}
-        (program, "") => text.push_format(format!(in text.alloc(); "{program}: ")),
-        (program, process) => text.push_format(format!(in text.alloc(); "{program}[{process}]: ")),
+    let (program, process) = caller;
+    if !program.is_empty() {
+        text.push_str(program);
+        if !process.is_empty() {
+            text.push_str("[");
+            text.push_str(process);
+            text.push_str("]");
+        }
+        text.push_str(": ");
     }
-    text.push_display(&Word(word));
+    push_word(text, word);
     text.push_str(": ");
-    let (_, front, Some(number)) = parts_of(why) else {
+    let (kind, Some(number), ..) = parts_of(why) else {
         return text.push_str("another architecture\n");
     };
-    text.push_str(front);
+    text.push_str(KINDS[kind].1);
     if !path.is_empty() {
         text.push_readable(path, TextKind::Name);
         text.push_str(" of ");
     }
-    text.push_format(match name_of(target, number) {
-        Some(name) => format!(in text.alloc(); "{name} ({number})"),
-        None => format!(in text.alloc(); "call {number}"),
-    });
+    if let Some(name) = name_of(target, number) {
+        text.push_str(name);
+        text.push_str(" (");
+        text.push_display(&number);
+        text.push_str(")");
+    } else {
+        text.push_str("call ");
+        text.push_display(&number);
+    }
     if let Why::Filter(Reason::NoMatch { entries, .. }) = why {
         text.push_str(" does not hold");
         if entries > 1 {
-            text.push_format(format!(in text.alloc(); ", the nearest of {entries} entries"));
+            text.push_str(", the nearest of ");
+            text.push_display(&entries);
+            text.push_str(" entries");
         }
     }
     text.push_str("\n");
@@ -117,21 +155,16 @@ fn value_of(
     explained: Explained,
 ) -> Object {
     let Explained { word, why } = explained;
-    let (reason, _, number) = parts_of(why);
-    let (entry, condition, steps) = match why {
-        Why::Filter(Reason::NoMatch { nearest, .. }) => {
-            (Some(nearest.entry), Some(nearest.condition), None)
-        }
-        Why::Filter(Reason::Entry { place, .. }) => (Some(place), None, None),
-        Why::Profile { entry, .. } => (entry, None, None),
-        Why::Program { steps, .. } => (None, None, Some(steps)),
-        _ => (None, None, None),
+    let (kind, number, entry, condition) = parts_of(why);
+    let steps = match why {
+        Why::Program { steps, .. } => Some(steps),
+        _ => None,
     };
     let mut object = Object::new(alloc);
-    object.field("action", Word(word));
+    object.field("action", word_value(alloc, word));
     object.field("call", call_name(target, number));
     object.field("number", number);
-    object.field("reason", reason);
+    object.field("reason", KINDS[kind].0);
     object.field("path", or_null(path));
     object.field("entry", entry);
     object.field("condition", condition);

@@ -1,10 +1,9 @@
 // The search for the reason of a decision.
 
-ghost use Rattle.std.specs.Prelude.{◌≡◌, ◌≤◌, ◌↔◌, pos, All, IfSome, IfNone, IsTrue, map};
-ghost use Rattle.seccompiler.specs.JsonPolicyOf.{IsFineEntry, AreFineArgs, condition_of, is_for};
+ghost use Rattle.std.specs.Prelude.{◌≡◌, ◌≤◌, ◌↔◌, pos, All, IfSome, IfNone, IsTrue};
+ghost use Rattle.seccompiler.specs.JsonPolicyOf.{IsFineEntry, AreFineArgs, is_for};
 ghost use Rattle.seccompiler.specs.Machine.{word_at};
-ghost use Rattle.seccompiler.specs.Policy.{RuleHolds};
-ghost use Rattle.seccomptool.specs.Reasons.{ConditionHolds, EntryHolds, EntryFails, FirstFails, IsReason, nearer};
+ghost use Rattle.seccomptool.specs.Reasons.{ConditionHolds, EntryHolds, EntryFails, IsReason, nearer};
 
 use seccompiler::{JsonCondition, JsonRule, SeccompCondition, SyscallTable, TargetArch};
 
@@ -102,18 +101,9 @@ fn failing(entry: &JsonRule, call: &[u8; 64]) -> Option<usize>
     ensures fails { IfSome result (EntryFails entry.now call.now) }
     ensures holds { IfNone result (EntryHolds entry.now call.now) }
 {
-    match &entry.conditions {
-        Some(conditions) => first_failing(conditions.as_slice(), call),
-        None => None,
-    }
-}
-
-// Where the first of these conditions that doesn't hold stands.
-fn first_failing(conditions: &[JsonCondition], call: &[u8; 64]) -> Option<usize>
-    requires { All (λ c. c.arg_index ≤ 5) conditions.now }
-    ensures fails { IfSome result (FirstFails conditions.now call.now) }
-    ensures holds { IfNone result (RuleHolds (map condition_of conditions.now) call.now) }
-{
+    let Some(conditions) = &entry.conditions else {
+        return None;
+    };
     for (place, condition) in conditions.iter().enumerate() {
         if !condition_holds(condition, call) {
             return Some(place);
@@ -133,10 +123,8 @@ fn condition_holds(condition: &JsonCondition, call: &[u8; 64]) -> bool
         operator,
         value,
     } = *condition;
-    match SeccompCondition::new(arg_index, arg_len, operator, value) {
-        Ok(condition) => condition.holds(call),
-        Err(_) => unreachable!(),
-    }
+    let condition = SeccompCondition::new(arg_index, arg_len, operator, value).unwrap();
+    condition.holds(call)
 }
 
 // The 32-bit word of bytes `k` to `k + 3`.

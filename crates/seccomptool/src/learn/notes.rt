@@ -1,10 +1,10 @@
 // What is noted of a trace, and what is learned as JSON.
 
-use super::Learning;
 use crate::findings::parts::name_of;
 use crate::json::{List, Object, call_name};
 use crate::notes::note;
 use crate::text::Text;
+use crate::words::Asked;
 use seccomp_learn::{Kept, Observation, Trace};
 use seccompiler::{SeccompCmpArgLen, TargetArch};
 use std::alloc::{AllocError, Global};
@@ -12,13 +12,13 @@ use std::alloc::{AllocError, Global};
 // The notes on a trace of this path, and on what is learned from it.
 pub(super) fn notes_of(
     alloc: Global,
-    learning: &Learning<'_>,
+    asked: &Asked<'_>,
     path: &str,
     trace: &Trace,
     wanted: &[Kept],
     kept: &[Kept],
 ) -> Result<String, AllocError> {
-    let (arch, most) = (learning.arch, learning.most);
+    let (arch, most) = (asked.arch, asked.most);
     let mut notes = Text::new(alloc);
     note_strange(&mut notes, path, trace.strange, trace.first_strange);
     if trace.foreign > 0 {
@@ -90,17 +90,14 @@ pub(super) fn strange_text(
 /// profile of this text, which is JSON in ASCII.
 pub(super) fn learned_json(
     alloc: Global,
-    learning: &Learning<'_>,
+    asked: &Asked<'_>,
     trace: &Trace,
     all: &[Kept],
     notes: &str,
     text: &[u8],
 ) -> Result<Vec<u8>, AllocError> {
     let mut object = Object::new(alloc);
-    object.field(
-        "kept",
-        kept_list(alloc, learning.arch, &trace.observed, all),
-    );
+    object.field("kept", kept_list(alloc, asked.arch, &trace.observed, all));
     let mut lines = List::new(alloc);
     for line in notes.lines() {
         lines.item(line);
@@ -110,7 +107,7 @@ pub(super) fn learned_json(
     json.push_object(object);
     // The text takes the place of the brace.
     json.pop();
-    json.push_str(if learning.as_profile {
+    json.push_str(if asked.as_profile {
         ",\"policy\":null,\"profile\":"
     } else {
         ",\"profile\":null,\"policy\":"

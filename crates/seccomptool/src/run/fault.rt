@@ -1,6 +1,6 @@
 // What is wrong with the bytes of a program.
 
-use std::fmt;
+use std::alloc::{AllocError, Global};
 
 /// Why a program isn't run, in the order in which the faults are reported.
 #[derive(Drop)]
@@ -29,33 +29,32 @@ pub enum Amiss {
     End,
 }
 
-/// The fault's text.
-impl fmt::Display for ProgramFault {
-    fn fmt<W: fmt::Write>(&self, f: &mut fmt::Formatter<W>) -> fmt::Result {
+impl ProgramFault {
+    /// The fault's text.
+    pub(crate) fn told(&self, alloc: Global) -> Result<String, AllocError> {
         match self {
-            ProgramFault::Text(line, expected) => write!(f, "line {line}: expected {expected}"),
-            ProgramFault::Short(rest) => {
-                write!(
-                    f,
-                    "The input ends inside an instruction, after {rest} bytes of it."
-                )
+            ProgramFault::Text(line, expected) => {
+                format!(in alloc; "line {line}: expected {expected}")
             }
+            ProgramFault::Short(rest) => format!(in alloc;
+                "The input ends inside an instruction, after {rest} bytes of it."
+            ),
             ProgramFault::Length(count) => {
-                write!(f, "expected 1 to 4096 instructions, found {count}")
+                format!(in alloc; "expected 1 to 4096 instructions, found {count}")
             }
-            ProgramFault::Unfit(place, amiss) => write!(f, "instruction {place}: {amiss}"),
+            ProgramFault::Unfit(place, amiss) => {
+                let told = match amiss {
+                    Amiss::Operation(code) => {
+                        return format!(in alloc;
+                            "instruction {place}: unknown operation 0x{code:x}"
+                        );
+                    }
+                    Amiss::Load => "load from an invalid offset",
+                    Amiss::Jump => "jump past the end",
+                    Amiss::End => "no return at the end",
+                };
+                format!(in alloc; "instruction {place}: {told}")
+            }
         }
-    }
-}
-
-/// What is amiss, in English.
-impl fmt::Display for Amiss {
-    fn fmt<W: fmt::Write>(&self, f: &mut fmt::Formatter<W>) -> fmt::Result {
-        f.write_str(match self {
-            Amiss::Operation(code) => return write!(f, "unknown operation 0x{code:x}"),
-            Amiss::Load => "load from an invalid offset",
-            Amiss::Jump => "jump past the end",
-            Amiss::End => "no return at the end",
-        })
     }
 }

@@ -23,6 +23,8 @@ struct Reader {
     // Whether braces stand around all instructions.
     is_braced: bool,
     line: usize,
+    // Whether memory ran out.
+    is_missing: bool,
 }
 
 // Whether a text begins with a brace and then a digit, a brace or a comment, as no text of JSON does.
@@ -59,15 +61,19 @@ pub(crate) fn bytes_of_initializers(alloc: Global, text: &[u8]) -> Result<Vec<u8
         next: 0,
         is_braced: false,
         line: 1,
+        is_missing: false,
     };
     let mut rest = text;
     // A piece has a byte at least, while there is a rest.
     for _ in 0..text.len() {
         let (piece, behind) = rest.split_at(piece_len(rest));
-        reader.take(piece)?;
+        if !reader.take(piece) {
+            return Err(reader.fault());
+        }
         rest = behind;
     }
     match reader.next {
+        _ if reader.is_missing => Err(reader.fault()),
         END => Ok(reader.bytes),
         0 | BEHIND if !reader.is_braced => Ok(reader.bytes),
         _ => Err(reader.fault()),
@@ -93,47 +99,46 @@ fn piece_len(text: &[u8]) -> usize
 }
 
 impl Reader {
-    fn take(&mut self, piece: &[u8]) -> Result<(), ToolError> {
+    // Whether a piece may stand here; then it is taken.
+    fn take(&mut self, piece: &[u8]) -> bool {
         let first = piece.first().copied().unwrap_or(b' ');
         if first.is_ascii_whitespace() || (first == b'/' && piece.len() > 1) {
             for byte in piece {
                 self.line = self.line.saturating_add((*byte == b'\n') as usize);
             }
-            return Ok(());
+            return true;
         }
         self.next = match (self.next, first) {
             (1, b'{') if self.bytes.is_empty() && !self.is_braced => {
                 self.is_braced = true;
                 1
             }
-            (1 | 3 | 5 | OPERAND, _) => return self.number(piece),
+            (1 | 3 | 5 | OPERAND, _) => {
+                let (greatest, size) = match self.next {
+                    OPERAND => (0xffff_ffff, 4),
+                    1 => (255, 2),
+                    _ => (255, 1),
+                };
+                let number = read_number(str::from_utf8(piece).unwrap_or("")).unwrap_or(u64::MAX);
+                if number > greatest {
+                    return false;
+                }
+                let bytes = number.to_le_bytes();
+                self.is_missing |= self.bytes.extend_from_slice(&bytes[..size]).is_err();
+                self.next.saturating_add(1)
+            }
             (0, b'{') | (2 | 4 | 6, b',') | (8, b'}') => self.next.saturating_add(1),
             (BEHIND, b',') => 0,
             (0 | BEHIND, b'}') if self.is_braced => END,
             (END, b';') => END,
-            _ => return Err(self.fault()),
+            _ => return false,
         };
-        Ok(())
-    }
-
-    // Adds the bytes of a number, and goes on behind it.
-    fn number(&mut self, piece: &[u8]) -> Result<(), ToolError> {
-        let (greatest, size) = match self.next {
-            OPERAND => (0xffff_ffff, 4),
-            1 => (255, 2),
-            _ => (255, 1),
-        };
-        let number = read_number(str::from_utf8(piece).unwrap_or("")).unwrap_or(u64::MAX);
-        if number > greatest {
-            return Err(self.fault());
-        }
-        self.bytes.extend_from_slice(&number.to_le_bytes()[..size])?;
-        self.next = self.next.saturating_add(1);
-        Ok(())
+        true
     }
 
     fn fault(&self) -> ToolError {
         let expected = match self.next {
+            _ if self.is_missing => return ToolError::OutOfMemory,
             0 => "an opening brace",
             1 | 3 | 5 => "a number from 0 to 255",
             OPERAND => "a number from 0 to 4294967295",

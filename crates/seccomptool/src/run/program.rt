@@ -7,7 +7,7 @@ ghost use Rattle.seccomp_compare.specs.Machine.{IsChecked};
 ghost use Rattle.seccomptool.specs.Compile.{instruction_bytes};
 ghost use Rattle.seccomptool.specs.Run.{AreRefusedBytes, HasBytes, IsProgramOf, IsRefusedProgram};
 ghost use Rattle.seccomptool.specs.RunFaults.{IsAmiss};
-ghost use Rattle.seccomptool.specs.RunParts.{CantStand, IsUnfit};
+ghost use Rattle.seccomptool.specs.RunParts.{CantStand};
 
 use crate::error::ToolError;
 use crate::run::fault::{Amiss, ProgramFault};
@@ -16,7 +16,7 @@ use seccomp_compare::machine::{JUMP_IF_SET, first_unfit};
 use seccompiler::bpf::{
     BPF_MAX_LEN, JUMP, JUMP_AT_LEAST, JUMP_EQUAL, JUMP_GREATER, LOAD, MASK, RETURN,
 };
-use seccompiler::{BpfProgram, BpfProgramRef, sock_filter};
+use seccompiler::{BpfProgram, sock_filter};
 use std::alloc::{AllocError, Global};
 
 // The byte of a record at which its last word begins.
@@ -48,18 +48,6 @@ fn program_of_bytes(alloc: Global, bytes: &[u8]) -> Result<BpfProgram, ToolError
     ensures checked { IfOk result (λ read. IsChecked read.items) }
     ensures refused { IfErr result (AreRefusedBytes bytes.now) }
 {
-    let program = instructions(alloc, cut(bytes)?)?;
-    refuse_unfit(&program)?;
-    Ok(program)
-}
-
-// Bytes, cut into as many instructions as a program may have.
-fn cut(bytes: &[u8]) -> Result<&[[u8; 8]], ToolError>
-    ensures joined { IfOk result (λ pieces. concat pieces.now ≡ bytes.now) }
-    ensures some { IfOk result (λ pieces. 1 ≤ length pieces.now) }
-    ensures few { IfOk result (λ pieces. length pieces.now ≤ 4096) }
-    ensures fault { IfErr result (AreRefusedBytes bytes.now) }
-{
     let (pieces, rest) = bytes.as_chunks::<8>();
     if !rest.is_empty() {
         return Err(ToolError::Program(ProgramFault::Short(rest.len())));
@@ -67,7 +55,14 @@ fn cut(bytes: &[u8]) -> Result<&[[u8; 8]], ToolError>
     if pieces.is_empty() || pieces.len() > BPF_MAX_LEN {
         return Err(ToolError::Program(ProgramFault::Length(pieces.len())));
     }
-    Ok(pieces)
+    let program = instructions(alloc, pieces)?;
+    match first_unfit(&program) {
+        None => Ok(program),
+        Some(place) => Err(ToolError::Program(ProgramFault::Unfit(
+            place,
+            amiss(program[place], place, program.len()),
+        ))),
+    }
 }
 
 // The instructions of these bytes.
@@ -93,22 +88,6 @@ fn instruction(bytes: &[u8; 8]) -> sock_filter
         jt,
         jf,
         k: u32::from_le_bytes([k0, k1, k2, k3]),
-    }
-}
-
-// Refuses a program that may not be run, by its first instruction that may not stand where it does.
-fn refuse_unfit(program: BpfProgramRef<'_>) -> Result<(), ToolError>
-    requires some { 1 ≤ length program.now }
-    requires few { length program.now ≤ 4096 }
-    ensures checked { IfOk result (λ done. IsChecked program.now) }
-    ensures unfit { IfErr result (IsUnfit program.now) }
-{
-    match first_unfit(program) {
-        None => Ok(()),
-        Some(place) => Err(ToolError::Program(ProgramFault::Unfit(
-            place,
-            amiss(program[place], place, program.len()),
-        ))),
     }
 }
 

@@ -1,21 +1,23 @@
 // What the instructions of a program are for, read off the program itself, of whichever compiler it is.
 
-use crate::findings::lines::Word as Action;
+use crate::findings::lines::{action_of, push_word};
 use crate::findings::parts::{X32, name_of};
+use crate::text::Text;
 use seccomp_compare::machine::JUMP_IF_SET;
 use seccompiler::bpf::{JUMP, JUMP_AT_LEAST, JUMP_EQUAL, JUMP_GREATER, LOAD, MASK, RETURN};
 use seccompiler::{BpfProgramRef, TargetArch, sock_filter};
 use std::alloc::{AllocError, Global};
 
 // What the accumulator holds: the word of the record that begins at this byte, as far as this mask keeps it.
-#[derive(Clone, Copy, PartialEq, Eq)]
-struct Word(u32, u32);
+type Word = (u32, u32);
 
 const WHOLE: u32 = u32::MAX;
 
 // What is known at an instruction on whichever way a run comes there.
 #[derive(Clone, Copy)]
 struct Known {
+    // Whether a way is known that leads there.
+    is_led: bool,
     word: Option<Word>,
     // The record's architecture.
     arch: Option<TargetArch>,
@@ -28,19 +30,18 @@ pub(super) fn notes(
     target: TargetArch,
     program: BpfProgramRef<'_>,
 ) -> Result<Vec<String>, AllocError> {
-    let mut known = vec![in alloc; None; program.len()]?;
+    let nothing = Known {
+        is_led: false,
+        word: None,
+        arch: None,
+    };
+    let mut known = vec![in alloc; nothing; program.len()]?;
     let arch = Some(target);
-    lead(&mut known, 0, Known { word: None, arch });
+    lead(&mut known, 0, Known { arch, ..nothing });
     let mut notes = Vec::new(alloc);
     for (place, instruction) in program.iter().enumerate() {
         // Jumps lead forward alone, so all that is known here is there already.
-        let here = match known.get(place) {
-            Some(Some(here)) => *here,
-            _ => Known {
-                word: None,
-                arch: None,
-            },
-        };
+        let here = known.get(place).copied().unwrap_or(nothing);
         go_on(&mut known, place, here, instruction);
         notes.push(note(alloc, here, instruction)?)?;
     }
@@ -48,25 +49,25 @@ pub(super) fn notes(
 }
 
 // Takes what is known at an instruction on to those behind it that it leads to.
-fn go_on(known: &mut [Option<Known>], place: usize, here: Known, instruction: &sock_filter) {
+fn go_on(known: &mut [Known], place: usize, here: Known, instruction: &sock_filter) {
     let sock_filter { code, jt, jf, k } = *instruction;
     let next = place.saturating_add(1);
     let (mut met, mut unmet) = (here, here);
     match code {
         LOAD => {
-            met.word = Some(Word(k, WHOLE));
+            met.word = Some((k, WHOLE));
             lead(known, next, met);
         }
         MASK => {
-            if let Some(Word(byte, mask)) = here.word {
-                met.word = Some(Word(byte, mask & k));
+            if let Some((byte, mask)) = here.word {
+                met.word = Some((byte, mask & k));
             }
             lead(known, next, met);
         }
         JUMP => lead(known, next.saturating_add(k as usize), here),
         JUMP_EQUAL | JUMP_GREATER | JUMP_AT_LEAST | JUMP_IF_SET => {
             // A test of the architecture tells it.
-            if code == JUMP_EQUAL && here.word == Some(Word(4, WHOLE)) {
+            if code == JUMP_EQUAL && here.word == Some((4, WHOLE)) {
                 met.arch = arch_of(k);
                 if here.arch == met.arch {
                     unmet.arch = None;
@@ -80,25 +81,25 @@ fn go_on(known: &mut [Option<Known>], place: usize, here: Known, instruction: &s
 }
 
 // Adds a way to a place: what differs from what is known on the others isn't known any more.
-fn lead(known: &mut [Option<Known>], place: usize, mut here: Known) {
+fn lead(known: &mut [Known], place: usize, mut here: Known) {
     if place >= known.len() {
         return;
     }
-    if let Some(other) = known[place] {
-        if other.word != here.word {
-            here.word = None;
-        }
-        if other.arch != here.arch {
-            here.arch = None;
-        }
+    let other = known[place];
+    if other.is_led && other.word != here.word {
+        here.word = None;
     }
-    known[place] = Some(here);
+    if other.is_led && other.arch != here.arch {
+        here.arch = None;
+    }
+    here.is_led = true;
+    known[place] = here;
 }
 
 // The note on an instruction.
 fn note(alloc: Global, here: Known, instruction: &sock_filter) -> Result<String, AllocError> {
     let sock_filter { code, k, .. } = *instruction;
-    let Word(byte, mask) = match (code, here.word) {
+    let (byte, mask): Word = match (code, here.word) {
         (LOAD, _) => return load_meaning(alloc, k),
         (RETURN, _) => return word_meaning(alloc, k),
         (_, None) => return Ok(String::new(alloc)),
@@ -142,27 +143,32 @@ fn arch_of(value: u32) -> Option<TargetArch> {
 
 // What a load gets that begins at this byte of a record.
 fn load_meaning(alloc: Global, byte: u32) -> Result<String, AllocError> {
-    match byte {
-        0 => String::from_str(alloc, "the call number"),
-        4 => String::from_str(alloc, "the architecture"),
-        0..16 => String::from_str(alloc, "the instruction pointer"),
+    let told = match byte {
+        0 => "the call number",
+        4 => "the architecture",
+        0..16 => "the instruction pointer",
         _ => {
             let half = if byte % 8 == 0 { "low" } else { "high" };
-            format!(in alloc; "the {half} half of argument {}", (byte - 16) / 8)
+            return format!(in alloc; "the {half} half of argument {}", (byte - 16) / 8);
         }
-    }
+    };
+    String::from_str(alloc, told)
 }
 
 // The action that a returned word stands for, in words; nothing where it stands for none.
 fn word_meaning(alloc: Global, word: u32) -> Result<String, AllocError> {
-    let action = Action(word);
-    match action.action().0 {
-        None => Ok(String::new(alloc)),
-        Some("kill_thread") => String::from_str(alloc, "kill the thread"),
-        Some("kill_process") => String::from_str(alloc, "kill the process"),
-        Some("user_notif") => String::from_str(alloc, "notify the supervisor"),
-        Some(_) => format!(in alloc; "{action}"),
-    }
+    let told = match action_of(word).0 {
+        None => "",
+        Some("kill_thread") => "kill the thread",
+        Some("kill_process") => "kill the process",
+        Some("user_notif") => "notify the supervisor",
+        Some(_) => {
+            let mut text = Text::new(alloc);
+            push_word(&mut text, word);
+            return text.finish_string();
+        }
+    };
+    String::from_str(alloc, told)
 }
 
 // The part of a record that a word is.

@@ -1,13 +1,20 @@
-// The values of options and arguments, in clap's matches.
+// The values of options and arguments, in clap's matches. If an option takes some names alone, clap lets no other pass. One that a
+// command doesn't have isn't given.
 
+use super::Calls;
+use crate::check::format::CheckFormat;
+use crate::compile::ProgramFormat;
+use crate::diff::Scope;
 use crate::kind::Reading;
-use crate::learn::AskedArguments;
+use crate::learn::{AskedArguments, Start};
 use crate::record::read_number;
 use crate::text::Text;
 use clap::ArgMatches;
+use seccomp_compare::Relation;
 use seccomp_names::capability;
 use seccomp_oci::{Container, Runtime, kernel_of};
 use seccomp_tree::Layout;
+use seccomp_warnings::Code;
 use seccompiler::{SeccompAction, TargetArch};
 
 // Adds an item to a list.
@@ -20,6 +27,61 @@ pub(super) fn push<T: Drop>(wrong: &mut Text, list: &mut Vec<T>, item: T) {
 // The path that is given, or standard input.
 pub(super) fn path_in<'a>(found: &ArgMatches<'a>, id: &str) -> &'a str {
     found.get_str(id).unwrap_or("-")
+}
+
+// A path, and the name of a filter, if one stands behind the last colon: none if nothing does.
+pub(super) fn named_in(text: &str) -> (&str, Option<&str>) {
+    match text.rsplit_once(':') {
+        None => (text, None),
+        Some((path, "")) => (path, None),
+        Some((path, name)) => (path, Some(name)),
+    }
+}
+
+// The traces after the first one.
+pub(super) fn further_in<'a>(found: &ArgMatches<'a>, wrong: &mut Text) -> Vec<&'a str> {
+    let mut further = Vec::new(wrong.alloc());
+    for path in found.get_strs("TRACE").unwrap_or(&[]).iter().skip(1) {
+        push(wrong, &mut further, *path);
+    }
+    further
+}
+
+// Where the calls are that are explained.
+pub(super) fn calls_in(found: &ArgMatches<'_>) -> Calls {
+    match (found.get_str("CALL"), found.get_str("log")) {
+        (Some(_), _) => Calls::One,
+        (None, None) => Calls::Records,
+        (None, Some(_)) => Calls::Log,
+    }
+}
+
+// The path of the records or the log that is explained, if a call isn't.
+pub(super) fn records_in<'a>(found: &ArgMatches<'a>) -> Option<&'a str> {
+    match calls_in(found) {
+        Calls::One => None,
+        Calls::Records => Some(path_in(found, "records")),
+        Calls::Log => found.get_str("log"),
+    }
+}
+
+// The path of the file that is written, if it isn't standard output.
+pub(super) fn output_in<'a>(found: &ArgMatches<'a>) -> Option<&'a str> {
+    match found.get_str("output") {
+        Some("-") => None,
+        output => output,
+    }
+}
+
+// The codes whose warnings aren't printed.
+pub(super) fn allowed_in(found: &ArgMatches<'_>, wrong: &mut Text) -> Vec<Code> {
+    let mut allowed = Vec::new(wrong.alloc());
+    for name in found.get_strs("allow").unwrap_or(&[]) {
+        if let Some(code) = Code::by_name(name) {
+            push(wrong, &mut allowed, code);
+        }
+    }
+    allowed
 }
 
 pub(super) fn arch_in(found: &ArgMatches<'_>) -> TargetArch {
@@ -37,6 +99,23 @@ pub(super) fn layout_in(found: &ArgMatches<'_>) -> Layout {
     }
 }
 
+pub(super) fn program_format_in(found: &ArgMatches<'_>) -> ProgramFormat {
+    match format_in(found) {
+        "listing" => ProgramFormat::Listing,
+        "c" => ProgramFormat::C,
+        "json" => ProgramFormat::Json,
+        _ => ProgramFormat::Raw,
+    }
+}
+
+pub(super) fn check_format_in(found: &ArgMatches<'_>) -> CheckFormat {
+    match format_in(found) {
+        "gcc" => CheckFormat::Gcc,
+        "json" => CheckFormat::Json,
+        _ => CheckFormat::Text,
+    }
+}
+
 // The format that is asked for: `json` with --json.
 pub(super) fn format_in<'a>(found: &ArgMatches<'a>) -> &'a str {
     if found.get_flag("json") {
@@ -45,9 +124,23 @@ pub(super) fn format_in<'a>(found: &ArgMatches<'a>) -> &'a str {
     found.get_str("format").unwrap_or("")
 }
 
+pub(super) fn relation_in(found: &ArgMatches<'_>) -> Relation {
+    if found.get_flag("only-more") {
+        return Relation::AtMostAsPermissive;
+    }
+    Relation::Alike
+}
+
+pub(super) fn scope_in(found: &ArgMatches<'_>) -> Scope {
+    if found.get_flag("all") {
+        return Scope::All;
+    }
+    Scope::Named
+}
+
 // The number that an option gives.
 pub(super) fn number_in(found: &ArgMatches<'_>, wrong: &mut Text, option: &str) -> usize {
-    let number = read_number(found.get_str(option).unwrap_or(""));
+    let number = read_number(found.get_str(option).unwrap_or("0"));
     if number.is_none() {
         wrong.push_format(format!(in wrong.alloc();
             "the value of --{option} isn't a number from 0 to 18446744073709551615, decimal or hexadecimal after 0x\n"
@@ -118,8 +211,20 @@ fn caps_in(found: &ArgMatches<'_>, wrong: &mut Text) -> Vec<String> {
     caps
 }
 
+// What the calls of a trace are added to.
+pub(super) fn start_in(found: &ArgMatches<'_>, wrong: &mut Text) -> Start {
+    match action_of(found.get_str("otherwise").unwrap_or("kill_process")) {
+        Some(action) if found.get_str("into").is_none() => return Start::Otherwise(action),
+        Some(_) => {}
+        None => wrong.push_str(
+            "the value of --otherwise isn't kill_process, kill_thread, log, trap, errno:N or trace:N\n",
+        ),
+    }
+    Start::Into
+}
+
 // The action that a text names; a number that it has is one that 16 bits hold.
-pub(super) fn action_of(text: &str) -> Option<SeccompAction> {
+fn action_of(text: &str) -> Option<SeccompAction> {
     match text {
         "kill_process" => return Some(SeccompAction::KillProcess),
         "kill_thread" => return Some(SeccompAction::KillThread),

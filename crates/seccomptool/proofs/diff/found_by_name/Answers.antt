@@ -14,7 +14,7 @@ use Rattle.seccomptool.proofs.diff.Names.{IsAmong, all_among, among_more, found_
 use Rattle.seccomptool.proofs.diff.found_by_name.Goals as goal
 
 pub loop-name-init : goal.loop-name-init
-loop-name-init g c =
+loop-name-init c =
     let Under = IsFoundUnder c.args.terms.target c.args.terms.relation (get_by_text c.args.old.now) (get_by_text c.args.new.now) in
     record {
       done = [];
@@ -24,14 +24,14 @@ loop-name-init g c =
     }
 
 pub loop-name-preserved : goal.loop-name-preserved
-loop-name-preserved g c =
+loop-name-preserved c =
     let l = c.loop-name in
     let old = get_by_text c.args.old.now in
     let new = get_by_text c.args.new.now in
     let entries = c.args.old.now.entries in
     let e : String Global × Filter = (c.in-Some.name.now, c.in-Some.filter.now) in
-    let one : NamedFound = record { name = c.in_ok-name.name; found = c.in_ok-found.found } in
-    let named : name_bytes one ≡ string_bytes e.0 = c.in_ok-name.ensures.cases in
+    let one : NamedFound = record { name = c.in_ok-copy.copy; found = c.in_ok-found.found } in
+    let named : name_bytes one ≡ string_bytes e.0 = c.in_ok-copy.ensures.cases in
     let order : IsStrictlySortedBy string_cmp (keys_of entries) = search rules in
     let there = next_found entries l.invariant.done l.name-iterator c.next.new.self e order l.invariant.whole c.in-Some.ensures.steps in
     let found = under_name c.args.terms.target c.args.terms.relation old new one _ _ (sym there ∙ ap old (sym named))
@@ -40,7 +40,7 @@ loop-name-preserved g c =
     c.next.new.self one e l.invariant c.in-Some.ensures.steps found named c.in_ok-push.ensures.items
 
 pub loop-name-2-init : goal.loop-name-2-init
-loop-name-2-init g c =
+loop-name-2-init c =
     let l = c.loop-name in
     record {
       old = all_among c.args.terms.target c.args.terms.relation (get_by_text c.args.old.now) (get_by_text c.args.new.now) l.all.items
@@ -49,7 +49,7 @@ loop-name-2-init g c =
     }
 
 pub loop-name-2-preserved-in-Some-get : goal.loop-name-2-preserved-in-Some-get
-loop-name-2-preserved-in-Some-get g c =
+loop-name-2-preserved-in-Some-get c =
     let l = c.loop-name-2 in
     let text = c.as_str-in-loop-name-2.result.now in
     let there : get_by_text c.args.old.now text ≡ Some c.in-Some-get.field-0.now =
@@ -63,7 +63,7 @@ loop-name-2-preserved-in-Some-get g c =
     }
 
 pub loop-name-2-preserved : goal.loop-name-2-preserved
-loop-name-2-preserved g c =
+loop-name-2-preserved c =
     let l = c.loop-name-2 in
     let old = get_by_text c.args.old.now in
     let new = get_by_text c.args.new.now in
@@ -88,7 +88,7 @@ loop-name-2-preserved g c =
     }
 
 pub returns : goal.returns
-returns g c =
+returns c =
     let l = c.loop-name-2 in
     let all = l.all.items in
     let among = all_among c.args.terms.target c.args.terms.relation (get_by_text c.args.old.now) (get_by_text c.args.new.now) all

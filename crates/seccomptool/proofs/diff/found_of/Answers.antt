@@ -5,17 +5,17 @@ use Rattle.seccomptool.proofs.sides.Filters.{fitting_stands}
 use Rattle.seccomptool.proofs.diff.found_of.Goals as goal
 
 pub findings_of-requires-clause-new_checked : goal.findings_of-requires-clause-new_checked
-findings_of-requires-clause-new_checked g c =
+findings_of-requires-clause-new_checked c =
     subst IsChecked (sym c.deref.ensures.value)
     (fitting_stands c.args.terms.target c.in-Some.new.now c.in-Ok.new.items c.in-Ok.ensures.fitting).checked
 
 pub findings_of-requires-clause-old_checked : goal.findings_of-requires-clause-old_checked
-findings_of-requires-clause-old_checked g c =
+findings_of-requires-clause-old_checked c =
     subst IsChecked (sym c.deref-2.ensures.value)
     (fitting_stands c.args.terms.target c.args.old.now c.in_ok-old.old.items c.in_ok-old.ensures.fitting).checked
 
 pub returns : goal.returns
-returns g c =
+returns c =
     let target = c.args.terms.target in
     let new = of_filter c.in-Some.new.now in
     let old = of_filter c.args.old.now in

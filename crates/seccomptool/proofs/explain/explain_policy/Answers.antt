@@ -21,23 +21,23 @@ use Rattle.seccomptool.proofs.explain.explain_policy.Goals as goal
 
 pub reason_of-reason-requires : goal.reason_of-reason-requires
 reason_of-reason-requires c =
-    let own = taken c.args.target c.in_ok-filters.filters (string_bytes c.in_ok-name.name) c.as_str.result.now c.in-Some.filter
+    let own = taken c.args.target c.in_ok-filters.filters (string_bytes c.in_ok-name.name) c.as_str.result.now c.in-Some.filter.now
     c.in_ok-check_filters.ensures c.as_str.ensures.value c.in-Some.ensures.value in
-    let same : c.as_slice.result.now ≡ c.in-Some.filter.rules =
-    c.as_slice.ensures.value ∙ ap (λ (f : JsonFilter). f.rules) c.filter-2.view_is in
+    let same : c.as_slice.result.now ≡ c.in-Some.filter.now.rules =
+    c.as_slice.ensures.value ∙ ap (λ (f : JsonFilter). f.rules) c.filter.view_is in
     record { fine = subst (All (IsFineEntry c.args.target)) (sym same) own.1.0.1.entries }
 
 pub loop-call-preserved : goal.loop-call-preserved
 loop-call-preserved c =
     let l = c.loop-call in
     let target = c.args.target in
-    let filter = c.in-Some.filter in
+    let filter = c.in-Some.filter.now in
     let records = c.args.records.now in
     let call = get_or records l.call-index [] in
     let reason = c.reason_of-reason.result in
     let own = taken target c.in_ok-filters.filters (string_bytes c.in_ok-name.name) c.as_str.result.now filter
     c.in_ok-check_filters.ensures c.as_str.ensures.value c.in-Some.ensures.value in
-    let same : c.as_slice.result.now ≡ filter.rules = c.as_slice.ensures.value ∙ ap (λ (f : JsonFilter). f.rules) c.filter-2.view_is in
+    let same : c.as_slice.result.now ≡ filter.rules = c.as_slice.ensures.value ∙ ap (λ (f : JsonFilter). f.rules) c.filter.view_is in
     let why = subst (λ entries. IsReason target entries call reason) same c.reason_of-reason.ensures in
     let word = c.from.ensures ∙ ap word_of c.action_of.ensures in
     let e : Explained = record { word = c.from.result; why = variant.Filter reason } in
@@ -61,14 +61,14 @@ returns c =
     let name = string_bytes c.in_ok-name.name in
     let filters = c.in_ok-filters.filters in
     let read = c.in_ok-filters.ensures.filters in
-    let own = taken c.args.target filters name c.as_str.result.now c.in-Some.filter c.in_ok-check_filters.ensures c.as_str.ensures.value
+    let own = taken c.args.target filters name c.as_str.result.now c.in-Some.filter.now c.in_ok-check_filters.ensures c.as_str.ensures.value
     c.in-Some.ensures.value in
     let all = take_all l.call-index records (let long : length records ≤ l.call-index = omega (arith, c.loop-call-test.false) in long) in
     record {
       chosen = chosen_in c.args.text.now (get_by_text filters.0) read (text_of c.args.asked) name c.in_ok-name.ensures;
-      filter = c.in-Some.filter;
-      of_text = (read.0, read.1, there IsFilter (get_by_text filters.0) read.0 read.2 name c.in-Some.filter own.0);
+      filter = c.in-Some.filter.now;
+      of_text = (read.0, read.1, there IsFilter (get_by_text filters.0) read.0 read.2 name c.in-Some.filter.now own.0);
       policy = own.1.0.0;
       is_policy = own.1.0.1;
-      each = subst (λ (rs : List (List ℕ)). AllZip (IsExplainedBy c.args.target c.in-Some.filter) rs l.all.items) all l.invariant;
+      each = subst (λ (rs : List (List ℕ)). AllZip (IsExplainedBy c.args.target c.in-Some.filter.now) rs l.all.items) all l.invariant;
     }

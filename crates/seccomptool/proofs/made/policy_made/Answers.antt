@@ -1,12 +1,15 @@
-use Rattle.std.proofs.Common.{subst}
+use Rattle.std.proofs.Common.{◌≡◌, subst}
 use Rattle.std.specs.BTreeMap.{get_by_text}
+use Rattle.std.proofs.lemmas.Result.{IfOk-weaker}
 use Rattle.seccompiler.specs.JsonAnswers.{ArePoliciesOf}
+use Rattle.seccomptool.specs.declared.findings.Verdict.TheVariants.{Same}
 use Rattle.seccomptool.proofs.made.policy_made.Goals as goal
 
 pub returns : goal.returns
 returns c =
     let policies = get_by_text c.in_ok-policies.policies in
-    let read = c.in_ok-policies.ensures.policies in (
+    let read = c.in_ok-policies.ensures.policies in
+    IfOk-weaker c.of.result (λ made. made.verdict ≡ Same) _ (λ made is. (
       (
         record { name = c.in_ok-name.name; program = c.in-Ok.program },
         record {
@@ -17,5 +20,5 @@ returns c =
           compiled = c.in-Ok.ensures.compiled;
         },
       ),
-      c.noting.ensures,
-    )
+      is,
+    )) c.of.ensures

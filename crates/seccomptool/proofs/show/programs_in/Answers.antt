@@ -1,4 +1,4 @@
-use Rattle.std.proofs.Common.{◌≡◌, ◌∷◌, ◌++◌, [], String, Global, refl, rules, sym, ap, ◌∙◌, subst, append_assoc, append-nil}
+use Rattle.std.proofs.Common.{◌≡◌, List, ◌∷◌, ◌++◌, [], String, Global, refl, rules, sym, ap, ◌∙◌, subst, append_assoc, append-nil}
 use Rattle.std.proofs.Common.{string_bytes, string_cmp}
 use Rattle.std.specs.BTreeMap.{get_by_text}
 use Rattle.std.specs.List.{AllZip}
@@ -28,7 +28,7 @@ loop-name-preserved c =
     record {
       whole = l.invariant.whole ∙ ap (λ es. l.yielded ++ es) c.in-Some.ensures.steps
           ∙ sym (append_assoc l.yielded (f ∷ []) c.next.new.self);
-      compiled = subst (AllZip (IsCompiledAs c.args.layout) (l.yielded ++ f ∷ [])) (sym c.in_ok-push.ensures.items)
+      compiled = subst (AllZip (IsCompiledAs c.args.layout) (l.yielded ++ f ∷ [])) (sym {A = List NamedProgram} c.in_ok-push.ensures.items)
           (all_zipped_more (IsCompiledAs c.args.layout) l.yielded l.programs.items f p l.invariant.compiled
           (record { name = refl; compiled = c.in_ok-program.ensures.compiled }));
     }

@@ -1,4 +1,4 @@
-use Rattle.std.proofs.Common.{◌≡◌, ◌∷◌, [], ◌++◌, String, Global, refl, rules, sym, ap, ◌∙◌, subst, append_assoc, append-nil}
+use Rattle.std.proofs.Common.{◌≡◌, List, ◌∷◌, [], ◌++◌, String, Global, refl, rules, sym, ap, ◌∙◌, subst, append_assoc, append-nil}
 use Rattle.std.proofs.Common.{string_bytes, string_cmp}
 use Rattle.std.specs.BTreeMap.{get_by_text}
 use Rattle.std.specs.List.{AllZip}
@@ -27,7 +27,7 @@ loop-name-preserved c =
     record {
       whole = l.invariant.whole ∙ ap (λ es. l.yielded ++ es) c.in-Some-2.ensures.steps
           ∙ sym (append_assoc l.yielded (e ∷ []) c.next-in-loop-name.new.self);
-      measured = subst (AllZip (IsMeasured c.args.target) (l.yielded ++ e ∷ [])) (sym c.in_ok-push.ensures.items)
+      measured = subst (AllZip (IsMeasured c.args.target) (l.yielded ++ e ∷ [])) (sym {A = List FilterStats} c.in_ok-push.ensures.items)
           (all_zipped_more (IsMeasured c.args.target) l.yielded l.all.items e s l.invariant.measured
           (record { name = refl; linear = c.in_ok-linear.ensures; tree = c.in_ok-tree.ensures }));
     }

@@ -1,13 +1,13 @@
 // What is said of the warnings of a profile.
 
-use crate::check::format::Lines;
-use crate::check::outline::Place;
-use crate::check::profile::{CheckedProfile, ProfileWarning, code_of};
+use crate::check::format::{Lines, Place};
+use crate::check::profile::CheckedProfile;
 use crate::explain::search::word_at;
-use crate::findings::lines::{Example, Shown};
+use crate::findings::lines::push_example;
 use crate::findings::parts::name_of;
+use crate::text::Text;
 use seccomp_oci::{Container, Profile, concerns_call};
-use seccomp_profile_checks::{Doubt, Origin};
+use seccomp_profile_checks::{Doubt, Origin, ProfileWarning, code_of};
 use seccomp_warnings::{Code, Comparison, Subject, said_text};
 use seccompiler::TargetArch;
 use std::alloc::{AllocError, Global};
@@ -42,27 +42,35 @@ pub(crate) fn push_profile_warnings(
     target: TargetArch,
     container: &Container,
     checked: &CheckedProfile,
-) -> Result<(), AllocError> {
+) {
     let alloc = lines.text.alloc();
     let mut ordered = BTreeMap::new(alloc);
-    for (nth, warning) in checked.warnings.iter().enumerate() {
-        let (entry, rank, part, call) = spot_of(target, warning, nth);
+    // Backwards, since the first of those with one place and code counts.
+    for nth in (0..checked.warnings.len()).rev() {
+        let warning = &checked.warnings[nth];
+        let (entry, rank, _, _) = spot_of(target, warning, nth);
         let order = (entry, rank, code_of(warning).name());
-        ordered.entry(order)?.or_insert((warning, part, call));
+        if ordered.insert(order, nth).is_err() {
+            lines.text.fail();
+        }
     }
-    for ((entry, _, code), (warning, part, call)) in ordered {
+    for nth in ordered.values() {
+        let Some(warning) = checked.warnings.get(*nth) else {
+            continue;
+        };
+        let (entry, _, part, call) = spot_of(target, warning, *nth);
         if let Some(entry) = entry {
             lines.key("syscalls");
             lines.item(entry);
         }
-        go_to(lines, part, code_of(warning));
+        let code = code_of(warning);
+        go_to(lines, part, code);
         lines.call = call;
         match said_of(alloc, target, container, &checked.profile, warning) {
-            Ok(said) => lines.push("warning", code, said.as_str()),
+            Ok(said) => lines.push("warning", code.name(), said.as_str()),
             Err(_) => lines.text.fail(),
         }
     }
-    Ok(())
 }
 
 // Goes on to a part, and to the one in it that a code is about.
@@ -165,14 +173,13 @@ fn said_of(
             )
         }
         ProfileWarning::Doubtful(Doubt::OpenOrder { first, call, .. }) => {
-            let shown = Shown {
-                target,
-                pointer: false,
-            };
-            let call = Example { shown, call: *call };
-            format!(in alloc;
-                "syscalls[{first}] matches {call} too and has another action, and the profile doesn't say which counts; write args that exclude each other"
-            )
+            let mut said = Text::new(alloc);
+            said.push_format(format!(in alloc; "syscalls[{first}] matches "));
+            push_example(&mut said, target, false, call);
+            said.push_str(
+                " too and has another action, and the profile doesn't say which counts; write args that exclude each other",
+            );
+            said.finish_string()
         }
         ProfileWarning::Doubtful(Doubt::SameConditions { first, .. }) => {
             format!(in alloc;

@@ -1,10 +1,13 @@
-use Rattle.std.proofs.Common.{subst, sym}
-use Rattle.seccomptool.specs.Commands.{IsJudged}
+use Rattle.std.proofs.Common.{rules, subst, sym}
+use Rattle.seccomptool.specs.Commands.{IsJudged, accepted, rejected}
 use Rattle.seccomptool.proofs.check.made.check_made.Goals as goal
+use Rattle.seccomptool.proofs.check.made.check_made.Goals.{in-Ok, in-Err}
 
 pub returns : goal.returns
-returns c = (
-  c.in_ok-subject.subject,
-  c.in_ok-subject.ensures,
-  subst (IsJudged c.args.asked.now c.in_ok-subject.subject c.args.given.now) (sym c.noting.ensures) c.in_ok-verdict.ensures,
-)
+returns c =
+    let IsJudgedAs = IsJudged c.args.asked.now c.in_ok-subject.subject c.args.given.now in
+    let judged : IsJudgedAs c.match-accepted.verdict = elim c.match-accepted.branch [
+      | in-Ok w ↦ rw w.verdict-is (accepted w.in-Ok.ensures.accepted)
+      | in-Err w ↦ rejected w.in-Err.error w.in-Err.ensures.rejected (search rules) w.verdict-is
+    ] in
+    (c.in_ok-subject.subject, c.in_ok-subject.ensures, subst IsJudgedAs (sym c.noting.ensures) judged)

@@ -1,6 +1,6 @@
 use Rattle.std.proofs.Common.{◌≡◌, length}
 use Rattle.seccomptool.proofs.stats.LongestWays.{AreLongest}
-use Rattle.seccomptool.proofs.stats.most_steps.Given as goal
+use Rattle.seccomptool.proofs.stats.measure_of.Given as goal
 
 -- the numbers from the place on are those of the longest ways
 abbrev pub invariant-loop-place : goal.invariant-loop-place

@@ -2,8 +2,8 @@ use Rattle.std.proofs.Common.{◌≡◌, ℕ, Bool, true, ◌&&◌, nat_eq, ap, 
 use Rattle.std.proofs.lemmas.Bool.Decides.{nat_tests}
 use Rattle.std.proofs.lemmas.Slice.Eq.{slice_eq-Decides}
 use Rattle.seccompiler.specs.declared.bpf.sock_filter.{sock_filter}
-use Rattle.seccomptool.proofs.findings.Ending.{same_holds}
-use Rattle.seccomptool.proofs.findings.try_comparisons.Goals as goal
+use Rattle.seccomptool.proofs.findings.Ending.{same_found}
+use Rattle.seccomptool.proofs.findings.answer_on.Goals as goal
 
 abbrev instruction : ℕ → ℕ → ℕ → ℕ → sock_filter
 instruction code jt jf k = record { code = code; jt = jt; jf = jf; k = k }
@@ -25,8 +25,9 @@ itself : (a : sock_filter) → are_equal a a ≡ true
 itself a = grind (arith, nat_tests)
 
 pub returns-then-eq : goal.returns-then-eq
-returns-then-eq g c =
-    let alike = slice_eq-Decides (λ a b. (same a b, λ is. subst (λ x. are_equal a x ≡ true) is (itself a))) c.args.new.now c.args.old.now
-    c.eq.result c.eq.ensures in
-    same_holds c.args.calls.now c.args.terms.relation c.args.new.now c.args.old.now c.requires.new_checked
-    (alike.0 c.if-eq.true)
+returns-then-eq c =
+    let new = c.args.new.now in
+    let old = c.args.old.now in
+    let alike = slice_eq-Decides (λ a b. (same a b, λ is. subst (λ x. are_equal a x ≡ true) is (itself a))) new old c.eq.result
+    c.eq.ensures in
+    same_found c.args.terms.target c.args.terms.relation c.args.part new old c.requires.new_checked (alike.0 c.if-eq.true)

@@ -163,7 +163,7 @@ fn diff_pair(
             answer: on_greater,
         },
     ];
-    let loads_pointer = loads_pointer(old) | loads_pointer(new);
+    let loads_pointer = loads_pointer(old) || loads_pointer(new);
     Ok(Diff::OfPair(Pair {
         old_name: by_old.name,
         new_name: by_new.name,

@@ -1,4 +1,4 @@
--- For `first_failing` and `reason_of`: what a search among entries has shown, and that there is one reason.
+-- For `failing` and `reason_of`: what a search among entries has shown, and that there is one reason.
 use Rattle.std.proofs.Common.{◌≡◌, ℕ, ℤ, ◌+◌, ◌<◌, ◌≤◌, List, [], ◌∷◌, length, map, take, Option, Some, None}
 use Rattle.std.proofs.Common.{true, nat_le, refl, sym, subst, ap, ◌∙◌, inl, inr, length-take-le, arith}
 use Rattle.std.specs.Prelude.{All, slice_get}

@@ -1,4 +1,4 @@
--- For `most_steps` and `most_behind`: ways through a program, from its end to its front, and the runs that take them.
+-- For `measure_of` and `most_behind`: ways through a program, from its end to its front, and the runs that take them.
 use Rattle.std.proofs.Common.{◌≡◌, ◌≢◌, ℕ, suc, ◌+◌, ◌<◌, ◌≤◌, ◌⊎◌, List, length, max, slice_set, get_or-set_same, get_or-set_other}
 use Rattle.std.proofs.Common.{Some, inl, inr, refl, sym, ◌∙◌, subst, arith}
 use Rattle.std.specs.Prelude.{slice_get, slice_index}

@@ -57,27 +57,21 @@ fn accepted(
 {
     let (alloc, arch, denied) = (lines.text.alloc(), asked.arch, asked.denied);
     match subject {
-        Subject::Policy => match checked(alloc, arch, &asked.allowed, given) {
-            Ok(checked) => {
-                push_warnings(lines, &checked.filters);
-                Ok(verdict_where(denied, checked.count))
-            }
-            Err(error) => Err(error),
-        },
-        Subject::Profile(container) => {
-            match profile_checked(alloc, arch, container, &asked.allowed, given) {
-                Ok(checked) => {
-                    let (listed, left_out) = (asked.reading.listed, &checked.compiled.left_out);
-                    push_profile_notes(&mut lines.notes, arch, lines.file, listed, left_out, &[]);
-                    push_profile_warnings(lines, arch, container, &checked);
-                    Ok(verdict_where(denied, checked.warnings.len()))
-                }
-                Err(error) => Err(error),
-            }
+        Subject::Policy => {
+            let checked = checked(alloc, arch, &asked.allowed, given)?;
+            push_warnings(lines, &checked.filters);
+            Ok(verdict_where(denied, checked.count))
         }
-        Subject::Program => match program_of(alloc, given) {
-            Ok(_program) => Ok(Verdict::Same),
-            Err(error) => Err(error),
-        },
+        Subject::Profile(container) => {
+            let checked = profile_checked(alloc, arch, container, &asked.allowed, given)?;
+            let (listed, left_out) = (asked.reading.listed, &checked.compiled.left_out);
+            push_profile_notes(&mut lines.notes, arch, lines.file, listed, left_out, &[]);
+            push_profile_warnings(lines, arch, container, &checked);
+            Ok(verdict_where(denied, checked.warnings.len()))
+        }
+        Subject::Program => {
+            let _program = program_of(alloc, given)?;
+            Ok(Verdict::Same)
+        }
     }
 }

@@ -11,7 +11,6 @@ pub mod Compile
 pub mod Ways
 pub mod Stats
 pub mod Check
-pub mod Reasons
 pub mod Explain
 pub mod Learn
 pub mod Record

@@ -1,6 +1,7 @@
 // Calls and their records, and numbers as they are written in words.
 
-ghost use Rattle.std.specs.Prelude.{ℕ, All, IfOk, IfErr, IfSome, IfNone};
+ghost use Rattle.std.specs.Prelude.{◌≡◌, ◌≤◌, ℕ, All, IfOk, IfErr, IfSome, IfNone};
+ghost use Rattle.seccompiler.specs.Machine.{word_at};
 ghost use Rattle.seccomptool.specs.Numbers.{IsNumber};
 ghost use Rattle.seccomptool.specs.Record.{IsCall, IsRecordOf, IsUncalled};
 
@@ -122,4 +123,12 @@ pub(crate) fn read_number(text: &str) -> Option<u64>
         None if text.len() > 1 && text.as_bytes()[0] == b'0' => None,
         None => read_digits(text, 10),
     }
+}
+
+// The 32-bit word of bytes `k` to `k + 3`.
+pub(crate) fn word_at(call: &[u8; 64], k: usize) -> u32
+    requires { k ≤ 60 }
+    ensures { result ≡ word_at call.now k }
+{
+    u32::from_le_bytes([call[k], call[k + 1], call[k + 2], call[k + 3]])
 }

@@ -9,7 +9,7 @@ ghost use Rattle.std.specs.List.{AllZip};
 ghost use Rattle.seccomp_compare.specs.Machine.{IsChecked};
 ghost use Rattle.seccomptool.specs.Explain.{IsReturned};
 
-use crate::explain::search::word_at;
+use crate::record::word_at;
 use crate::explain::{Explained, Why};
 use seccomp_compare::machine;
 use seccompiler::machine::Outcome;

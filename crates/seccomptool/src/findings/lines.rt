@@ -2,7 +2,7 @@
 
 ghost use Rattle.std.specs.Prelude.{◌≤◌, ⊤};
 
-use crate::explain::search::word_at;
+use crate::record::word_at;
 use crate::findings::parts::{X32, name_of};
 use crate::findings::{Answer, Finding, Part};
 use crate::json::{List, Object, OrNull, call_name};

@@ -2,7 +2,7 @@
 
 use crate::check::format::{Lines, Place};
 use crate::check::profile::CheckedProfile;
-use crate::explain::search::word_at;
+use crate::record::word_at;
 use crate::findings::lines::push_example;
 use crate::findings::parts::name_of;
 use crate::text::Text;

@@ -1,4 +1,0 @@
--- Lemmas for the functions of `explain`.
-pub mod EntrySearches
-pub mod Agreement
-pub mod Filters

@@ -7,6 +7,7 @@ use Rattle.seccompiler.specs.declared.backend.BackendError.{BackendError}
 use Rattle.seccompiler.specs.declared.error.Error.{Error}
 use Rattle.seccompiler.specs.declared.json.error.JsonFrontendError.{JsonFrontendError}
 use Rattle.seccompiler.specs.Texts.{json_text, IsJsonText, backend_text}
+use Rattle.seccompiler.specs.JsonSteps.{IsNoFailedRead}
 use Rattle.std.specs.declared.io.ErrorKind.TheVariants as kind
 use Rattle.seccompiler.specs.declared.backend.BackendError.TheVariants as backend
 use Rattle.seccompiler.specs.declared.error.Error.TheVariants as whole
@@ -55,3 +56,8 @@ abbrev pub IsNoMemoryInside : Error → Type 0
 IsNoMemoryInside (whole.Backend e) = e ≢ backend.OutOfMemory
 IsNoMemoryInside (whole.JsonFrontend e) = (e ≢ frontend.OutOfMemory) × IsNoMemoryInFrontend e
 IsNoMemoryInside e = ⊤
+
+-- The error is not that a reader failed.
+abbrev pub IsNoReader : Error → Type 0
+IsNoReader (whole.JsonFrontend e) = IsNoFailedRead e
+IsNoReader e = ⊤

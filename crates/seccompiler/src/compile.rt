@@ -6,7 +6,7 @@ ghost use Rattle.std.specs.HashMap as hash;
 ghost use Rattle.std.specs.List.Sorted.{IsStrictlySortedBy};
 ghost use Rattle.std.specs.Map.{keys_of};
 ghost use Rattle.seccompiler.specs.Machine.{IsChecked};
-ghost use Rattle.seccompiler.specs.Errors.{IsNoMemoryInside};
+ghost use Rattle.seccompiler.specs.Errors.{IsNoMemoryInside, IsNoReader};
 ghost use Rattle.seccompiler.specs.JsonAnswers.{OfValue};
 ghost use Rattle.seccompiler.specs.JsonFilters.{under};
 ghost use Rattle.seccompiler.specs.JsonPrograms.{AreProgramsOf, TellsFirstFault};
@@ -92,6 +92,7 @@ pub fn programs_of(
     ensures programs { IfOk result (λ m. OfValue text.now (AreProgramsOf arch (tree.get_by_text m))) }
     ensures checked { IfOk result (λ m. (name : List ℕ) → IfSome (tree.get_by_text m name) (λ program. IsChecked program.items)) }
     ensures fault { IfErr result (TellsFirstFault arch text.now) }
+    ensures no_reader { IfErr result IsNoReader }
     ensures memory { IfErr result IsNoMemoryInside }
 {
     let (_value, programs) = listed_programs(alloc, text, arch)?;
@@ -110,6 +111,7 @@ fn listed_programs(
     ensures programs { MatchResult result
         (λ made. IsStrictlySortedBy string_cmp (keys_of made.1.items) × OfValue text.now (AreProgramsOf arch (under made.1.items)))
         (TellsFirstFault arch text.now) }
+    ensures no_reader { IfErr result IsNoReader }
     ensures memory { IfErr result IsNoMemoryInside }
 {
     let (value, policies) = read_policies(alloc, arch, text)?;

@@ -6,7 +6,8 @@ use Rattle.std.proofs.lemmas.List.Elements.{All-contains}
 use Rattle.serde_json.specs.Data.{Data}
 use Rattle.seccompiler.proofs.ByName.{ByName, AreInOrder, AreMade, found_there}
 use Rattle.seccompiler.specs.Machine.{IsChecked}
-use Rattle.seccompiler.specs.Errors.{from_backend, from_frontend, IsNoMemoryInFrontend, IsNoMemoryInside}
+use Rattle.seccompiler.specs.Errors.{from_backend, from_frontend, IsNoMemoryInFrontend, IsNoMemoryInside, IsNoReader}
+use Rattle.seccompiler.specs.JsonSteps.{IsNoFailedRead}
 use Rattle.seccompiler.specs.JsonAnswers.{IsValueOf, HasPolicy, ArePoliciesOf, TellsFrontendFault}
 use Rattle.seccompiler.specs.JsonFilters.{under}
 use Rattle.seccompiler.specs.JsonPrograms.{AreProgramsOf, IsLeastTooLarge, TellsFirstFault}
@@ -72,6 +73,16 @@ told_by_frontend arch text e h = grind arith
 pub none_inside : (e : JsonFrontendError) → IsNoMemoryInFrontend e → IsNoMemoryInside (from_frontend e)
 none_inside f.OutOfMemory h = tt
 none_inside e h = (λ same. cc, h)
+
+-- If the front end's error is no failed read, the crate's is none.
+pub read_nothing : (e : JsonFrontendError) → IsNoFailedRead e → IsNoReader (from_frontend e)
+read_nothing f.OutOfMemory h = tt
+read_nothing e h = h
+
+-- A refusal of the backend is no failed read.
+pub no_reader_refused : (e : BackendError) → IsNoReader (from_backend e)
+no_reader_refused b.OutOfMemory = tt
+no_reader_refused e = tt
 
 -- None is inside a refusal of the backend.
 pub none_in_refusal : (e : BackendError) → IsNoMemoryInside (from_backend e)

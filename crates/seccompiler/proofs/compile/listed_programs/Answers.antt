@@ -4,13 +4,14 @@ use Rattle.seccompiler.specs.Policy.{Filter}
 use Rattle.seccompiler.specs.declared.bpf.sock_filter.{sock_filter}
 use Rattle.seccompiler.proofs.ByName.{at_next, making_none, making_more, making_done}
 use Rattle.seccompiler.proofs.compile.TextPrograms.{Compiles, are_programs, refusal_of, told_by_frontend, none_inside, none_in_refusal}
+use Rattle.seccompiler.proofs.compile.TextPrograms.{read_nothing, no_reader_refused}
 use Rattle.seccompiler.proofs.compile.listed_programs.Goals as goal
 
 pub returns-in_err-value : goal.returns-in_err-value
 returns-in_err-value c = let p = err_from_is_err_and c.from_residual.result c.from_residual.ensures.1 in
     let e = c.in_err-value.field-0.0 in
     let told = told_by_frontend c.args.arch c.args.text.now e c.in_err-value.ensures.0 in
-    rw (p.1, p.2) (record { programs = told; memory = none_inside e c.in_err-value.ensures.2 })
+    rw (p.1, p.2) (record { programs = told; no_reader = read_nothing e c.in_err-value.ensures.1; memory = none_inside e c.in_err-value.ensures.2 })
 
 pub loop-name-init : goal.loop-name-init
 loop-name-init c = making_none _ _ _ _ refl c.in-Ok.ensures.items (omega (
@@ -38,7 +39,7 @@ returns-in-Err c =
     let all = sym c.into_iter-name-iterator.ensures.into_iter_gives.0 ∙ at_next Compiles so_far e _ c.in-Some.ensures.steps.0 in
     let first = refusal_of c.args.arch read.0 c.in_ok-value.policies.items read.2 so_far.done e _ all c.in_ok-value.ensures.0
     c.loop-name.programs.items so_far.made c.args.text.now read.1 c.in-Err.error c.in-Err.ensures.refused in
-    rw c.from.ensures (record { programs = first; memory = none_in_refusal c.in-Err.error })
+    rw c.from.ensures (record { programs = first; no_reader = no_reader_refused c.in-Err.error; memory = none_in_refusal c.in-Err.error })
 
 pub returns : goal.returns
 returns c =
@@ -47,4 +48,4 @@ returns c =
     let all = making_done Compiles c.loop-name.invariant policies c.into_iter-name-iterator.ensures.into_iter_gives.0
     (grind (arith, c.in-None.ensures.steps.0)) c.in_ok-value.ensures.0 in
     let are = are_programs c.args.arch read.0 policies read.2 c.loop-name.programs.items all.0 in
-    record { programs = (all.1, (read.0, read.1, are)); memory = tt }
+    record { programs = (all.1, (read.0, read.1, are)); no_reader = tt; memory = tt }

@@ -14,4 +14,4 @@ returns-in-Ok c =
     let same = ordered _ m c.in_ok-_value.ensures.programs.0 made in
     let are = subst (λ find. OfValue c.args.text.now (AreProgramsOf c.args.arch find)) (λ i q. sym (same q) i)
     c.in_ok-_value.ensures.programs.1 in
-    record { programs = are; checked = all_checked c.args.arch (get_by_text m) are.0 are.2; fault = tt; memory = tt }
+    record { programs = are; checked = all_checked c.args.arch (get_by_text m) are.0 are.2; fault = tt; no_reader = tt; memory = tt }

@@ -1,4 +1,5 @@
-"""Holds the names and numbers of calls against other sources of the machine: the kernel's headers, through a C compiler, and the
+"""Holds the tables of call names against the files of tools/call_names, which have the Rust crate's pairs in its order: each pair is
+looked up, and texts that name no call. Then against other sources of the machine: the kernel's headers, through a C compiler, and the
 resolver of libseccomp, if they are installed. Both may be older than the tables, or newer, so a name that they lack is passed over."""
 
 import ctypes
@@ -6,7 +7,8 @@ import ctypes.util
 import re
 import subprocess
 
-from row_cases import ARCHITECTURES, names_of
+import driver_rows
+from row_cases import ARCHITECTURES, NAMES, names_of
 
 # The header of each architecture, and what its own header defines before it. Of x86_64 it is the machine's.
 WANTED = "-D__ARCH_WANT_NEW_STAT -D__ARCH_WANT_SET_GET_RLIMIT -D__ARCH_WANT_SYS_CLONE3 -D__ARCH_WANT_MEMFD_SECRET"
@@ -18,6 +20,15 @@ HEADERS = {
 
 # The least number of names that a source shares with a table.
 SHARED = 280
+
+# Texts that name no call on any architecture: before all names and behind them, and one byte, the case of one letter or the
+# length away from a name.
+ABSENT = ("", "zz", "closd", "closf", "blose", "close1", "clos", "lose", " close", "close ", "close\0", "Close", "closE", "CLOSE",
+          "_sysctk", "writew", "nosyscall")
+
+# A row of the constant of a table, and what a look-up answers.
+ROW = re.compile(r'^    \("(\w+)", (\d+)\),$', re.M)
+FOUND = re.compile(r"(none|[0-9]+), ([0-9]+) compared")
 
 # What a header defines that is no call.
 BORDERS = {"arch_specific_syscall", "syscalls"}
@@ -62,8 +73,30 @@ def compare_with(results, what, pairs, other):
     results.compare(f"{what}: other names of the table's numbers", ([],), ([it for it in others if it not in BORDERS],))
 
 
+def compare_table(results, arch):
+    """Compares an architecture's table with the file of its pairs, and looks up each name, each name without its last letter, and texts
+    that are no name. A look-up compares at most 9 names, and at least 8 if none is found at an end of the table."""
+    pairs = [(name, int(number)) for name, number in map(str.split, (NAMES / arch).read_text(encoding="ascii").splitlines())]
+    numbers = dict(pairs)
+    results.compare(f"{arch}: names, numbers", (len(pairs),) * 2, (len(numbers), len(set(numbers.values()))))
+    table = ROW.findall((driver_rows.TOP / f"crates/seccomp_tables/src/{arch}.rt").read_text(encoding="ascii"))
+    results.compare(f"{arch}: the table's pairs", (sorted(pairs),), ([(name, int(number)) for name, number in table],))
+    asked = [*dict.fromkeys([*numbers, *(name[:-1] for name in numbers), *ABSENT])]
+    rows = "\n".join(f"lookup {arch} {name} =>" for name in asked)
+    ran = subprocess.run([driver_rows.PROGRAM], input=rows, capture_output=True, text=True)
+    told = ran.stdout.split("\n")
+    results.compare(f"{arch}: look-ups", (0, len(asked)), (ran.returncode, len(told)))
+    for name, row in zip(asked, told):
+        found = FOUND.fullmatch(row.partition(" => ")[2])
+        number, compared = (found[1], int(found[2])) if found else (row, 0)
+        least = 8 if name in ABSENT else 1
+        results.compare(f"{arch}: {name!r}", (str(numbers.get(name, "none")), True), (number, least <= compared <= 9))
+
+
 def compare_tables(results):
-    """Compares each table with each source, and riscv64's with aarch64's, which has the same calls but for three."""
+    """Compares each table with its pairs, then with each source, and riscv64's with aarch64's, which has the same calls but for three."""
+    for arch in ARCHITECTURES:
+        compare_table(results, arch)
     tables = {arch: {name: number for number, name in names_of(arch).items()} for arch in ARCHITECTURES}
     generic = {name: number for name, number in tables["aarch64"].items() if name != "renameat"}
     results.compare("riscv64: aarch64", (tables["riscv64"],), ({**generic, "riscv_flush_icache": 259, "riscv_hwprobe": 258},))

@@ -29,8 +29,9 @@ length, operator and value. Questions are
     compare_program RELATION .., compare_tree RELATION ..
                                   of the filter's linear program or its tree, and the filter
     compare RELATION ..: CODE with CODE
-    condition, copied_rule, equal_rules, holds, action, architecture, number
+    condition, copied_rule, equal_rules, holds, action, architecture
                                   of what stands after
+    lookup ARCH NAME              the number of a call, and how many names were compared with its name
     compile_from_json, programs_of, compile, policies_of, filters_of ARCH TEXT
                                   programs or filters by name, with their lengths, or JSON filters with the number of their entries
     failing FAULT CALL ..         the same of readers that give a byte at a time and fail after each; FAULT may be `never`

@@ -45,8 +45,8 @@ from running import run
 
 ROWS = pathlib.Path(__file__).resolve().parent / "rows"
 
-# Names and numbers of calls, by architecture.
-PAIRS = pathlib.Path(__file__).resolve().parent.parent / "crates/seccomp_pairs/src/files.rt"
+# A file of names and numbers of calls for each architecture, as the Rust crate has them.
+NAMES = pathlib.Path(__file__).resolve().parent / "call_names"
 
 ARCHITECTURES = {"x86_64": 0xC000003E, "aarch64": 0xC00000B7, "riscv64": 0xC00000F3}
 CODES = {0x20: "LD", 0x54: "AND", 0x05: "JA", 0x06: "RET", 0x15: "JEQ", 0x25: "JGT", 0x35: "JGE"}
@@ -78,8 +78,8 @@ def matched(form, text):
 @functools.cache
 def names_of(arch):
     """Returns the names of an architecture's calls, by their numbers."""
-    text = re.search(rf'const {arch.upper()}: &str = "\\\n(.*?)";', PAIRS.read_text(), re.S)[1]
-    return {int(number): name for name, number in re.findall(r"^(\w+) (\d+)", text, re.M)}
+    lines = (NAMES / arch).read_text(encoding="ascii").splitlines()
+    return {int(number): name for name, number in map(str.split, lines)}
 
 
 def action(text):

@@ -89,13 +89,18 @@ fn architecture(alloc: Global, rest: &str) -> Result<String, Fault> {
     Ok(format!(in alloc; "{arch} {value:#010x}")?)
 }
 
-// The number of a name, such as `x86_64 close`.
-fn number_of(alloc: Global, rest: &str) -> Result<String, Fault> {
+// The number of a name, such as `x86_64 close`, by both calls, and how many names are compared.
+fn looked_up(alloc: Global, rest: &str) -> Result<String, Fault> {
     let (arch, name) = rest.split_once(' ').unwrap_or((rest, ""));
     let table = SyscallTable::new(TargetArch::from_text(alloc, arch)?);
-    match table.get_syscall_nr(name) {
-        Some(number) => Ok(format!(in alloc; "{number}")?),
-        None => Ok(String::from_str(alloc, "none")?),
+    let found = table.lookup(name);
+    if table.get_syscall_nr(name) != found.number {
+        return Err(Fault::Row);
+    }
+    let compared = found.compared;
+    match found.number {
+        Some(number) => Ok(format!(in alloc; "{number}, {compared} compared")?),
+        None => Ok(format!(in alloc; "none, {compared} compared")?),
     }
 }
 
@@ -135,7 +140,7 @@ pub(crate) fn of_row(alloc: Global, question: &str) -> Result<String, Fault> {
     match verb {
         "action" => word_of(alloc, rest),
         "architecture" => architecture(alloc, rest),
-        "number" => number_of(alloc, rest),
+        "lookup" => looked_up(alloc, rest),
         "condition" => condition_facts(alloc, rest),
         "equal_rules" => are_equal(alloc, rest),
         "copied_rule" => copied(alloc, &rule(alloc, rest)?),

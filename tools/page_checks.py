@@ -16,7 +16,6 @@ usage: tools/page_checks.py
 - docs/CHECKS.md has the codes of warnings in the order of the definitions, in its table and as sections, and the first
   line of each section, without its marks, is what the code's definition says; its tables of siblings and of signed
   arguments are those of crates/seccomp_warnings.
-- The picture in docs/ is what tools/make-picture makes of its source.
 - A line of proofs or definitions has at most 140 characters, in each crate.
 
 Prints each difference, and as its last line 'N passed, M failed'.
@@ -28,7 +27,6 @@ import itertools
 import os
 import pathlib
 import re
-import subprocess
 import sys
 
 from results import Results
@@ -258,13 +256,6 @@ def compare_lengths(results):
         results.compare(f"{what}: at most {most} words", (True,), (words <= most or words,))
 
 
-def compare_picture(results):
-    """Makes the picture anew."""
-    made = subprocess.run([sys.executable, TOP / "tools/make-picture", "--print"], capture_output=True, text=True)
-    same = made.stdout == (TOP / "docs/pipeline.svg").read_text(encoding="utf-8")
-    results.compare("docs/pipeline.svg is what tools/make-picture makes", (0, True), (made.returncode, same))
-
-
 def plain(text):
     """Returns a line of a page without the marks of code and of links."""
     return re.sub(r"\[([^\]]*)\]\([^)]*\)", r"\1", text).replace("`", "")
@@ -333,7 +324,6 @@ def compare_pages(results):
     compare_lengths(results)
     compare_codes(results)
     compare_tables(results)
-    compare_picture(results)
     compare_proofs(results)
 
 

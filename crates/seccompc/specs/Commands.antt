@@ -1,8 +1,15 @@
 -- What each command answers and writes.
-use Rattle.std.specs.Prelude.{ℕ, List, Option, Result, Ok, ⊤}
+use Rattle.std.specs.Prelude.{◌≡◌, ℕ, List, Option, Result, Ok, Err, ⊤}
+use Rattle.std.specs.IoError.{error_kind}
+use Rattle.std.specs.declared.io.Error.{Error as IoError}
+use Rattle.std.specs.declared.io.ErrorKind.TheVariants as kind
 use Rattle.seccompc.specs.Policies.{AnswersList, AnswersRun}
 use Rattle.seccompc.specs.Probe.{AnswersProbe}
+use Rattle.seccomp_command_line.specs.Errors.{IsReadFault}
 use Rattle.seccomp_command_line.specs.declared.error.ToolError.{ToolError}
+use Rattle.seccomp_command_line.specs.declared.error.ToolError.TheVariants.{OutOfMemory}
+use Rattle.seccompc.specs.declared.failure.Failure.{Failure}
+use Rattle.seccompc.specs.declared.failure.Failure.TheVariants.{Unopened, Engine}
 use Rattle.seccompc.specs.declared.words.Command.{Command}
 use Rattle.seccompc.specs.declared.words.Command.TheVariants.{Probe, List as Listing, Run}
 
@@ -14,10 +21,20 @@ AnswersCommand (Probe arch nr index value) file input answer old new = AnswersPr
 AnswersCommand (Listing arch) file input answer old new = AnswersList arch.now input answer old new
 AnswersCommand (Run arch named name) file input answer old new = AnswersRun arch.now file name.now input answer old new
 
--- The command is carried out without a fault, for some contents of FILE and of standard input.
-pub record IsPerformed (command : Command) : Type 0 where
+-- The answer of a command whose FILE is opened: it isn't that FILE couldn't be.
+abbrev pub AnswersOpened : Command → (file input : Option (List ℕ)) → Result ⊤ Failure → (old new : Option (List ℕ)) → Type 0
+AnswersOpened command file input (Ok done) old new = AnswersCommand command file input (Ok done) old new
+AnswersOpened command file input (Err (Engine e)) old new = AnswersCommand command file input (Err e) old new
+AnswersOpened command file input (Err Unopened) old new = ⊥
+
+-- The answer if opening FILE fails so: that it can't be opened, or, if memory runs out, that.
+abbrev pub IsUnopened : IoError → Result ⊤ Failure → Type 0
+IsUnopened e (Ok done) = ⊥
+IsUnopened e (Err Unopened) = IsReadFault e
+IsUnopened e (Err (Engine error)) = (error ≡ OutOfMemory) × (error_kind e ≡ kind.OutOfMemory)
+
+-- The command is carried out without a fault, for this standard input and some contents of FILE, and what is written grows by
+-- what it answers.
+pub record IsPerformed (command : Command) (input old new : Option (List ℕ)) : Type 0 where
   pub file : Option (List ℕ)
-  pub input : Option (List ℕ)
-  pub old : Option (List ℕ)
-  pub new : Option (List ℕ)
   pub answers : AnswersCommand command file input (Ok tt) old new

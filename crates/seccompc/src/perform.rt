@@ -1,16 +1,49 @@
 // A command, carried out on what is opened for it.
 
-ghost use Rattle.std.specs.Prelude.{IfErr};
-ghost use Rattle.seccompc.specs.Commands.{AnswersCommand};
+ghost use Rattle.std.specs.Prelude.{◌≡◌, IfOk, IfErr};
+ghost use Rattle.seccompc.specs.Commands.{AnswersCommand, AnswersOpened, IsUnopened};
 ghost use Rattle.seccomp_command_line.specs.Errors.{KeepsOutput};
 
+use crate::failure::Failure;
 use crate::list::list;
 use crate::probe::probe;
 use crate::run::run_policy;
 use crate::words::Command;
 use seccomp_command_line::error::ToolError;
 use std::alloc::Global;
-use std::io::{Read, Write};
+use std::io::{self, ErrorKind, Read, Write};
+
+/// Carries out a command on the file that it names, if that is opened.
+///
+/// The file is not read if the command names none.
+///
+/// # Errors
+///
+/// `Unopened` if the file can't be opened, and then nothing is read or written; or else those of [`perform`].
+/// If memory runs out while it is opened, that is the engine's `OutOfMemory`.
+pub fn perform_on<F: Read + Drop, I: Read + Drop, W: Write>(
+    alloc: Global,
+    command: Command<'_>,
+    file: io::Result<F>,
+    input: I,
+    out: &mut W,
+) -> Result<(), Failure>
+    // A file that is opened is not told as one that isn't.
+    ensures opened { IfOk file (λ opened. AnswersOpened command.entry (F.remaining opened) (I.remaining input) result (W.contents out.old) (W.contents out.new)) }
+    ensures unopened { IfErr file (λ e. IsUnopened e result) }
+    ensures unwritten { IfErr file (λ e. out.new ≡ out.old) }
+{
+    match file {
+        Ok(file) => match perform(alloc, command, file, input, out) {
+            Ok(()) => Ok(()),
+            Err(error) => Err(Failure::Engine(error)),
+        },
+        Err(error) if error.kind() == ErrorKind::OutOfMemory => {
+            Err(Failure::Engine(ToolError::OutOfMemory))
+        }
+        Err(_) => Err(Failure::Unopened),
+    }
+}
 
 /// Carries out a command: `probe` and `list` on the input, `run` on the policy of the file and on the
 /// records of the input.

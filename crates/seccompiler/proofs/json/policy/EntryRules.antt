@@ -1,5 +1,4 @@
--- For `JsonCompiler::make_seccomp_filter`, `JsonCompiler::widened`, `add_entry`, `seccomp_filter` and
--- `widened_numbers`: the conditions of an entry: nothing is wrong with them, or one fault is their first.
+-- For `JsonCompiler::make_seccomp_filter`: the conditions of an entry: nothing is wrong with them, or one fault is their first.
 use Rattle.std.proofs.Common.{◌≡◌, ◌≤◌, ◌<◌, List, [], ◌∷◌, refl, ◌⊎◌, inl, inr, arith}
 use Rattle.std.proofs.lemmas.Bool.{cases_lt}
 use Rattle.std.proofs.lemmas.List.Elements.{All-weaker}

@@ -1,4 +1,4 @@
--- For `add_entry`, `gather`, `chains_of_numbers` and `widened_numbers`: what is told of numbers, in an array over them.
+-- For `gather`, `chains_of_numbers` and `widened_numbers`: what is told of numbers, in an array over them.
 use Rattle.std.proofs.Common.{◌≡◌, ℕ, ◌+◌, ◌<◌, ◌≤◌, ℤ, pos, negsuc, List, [], ◌∷◌, ◌++◌, length, get_or, replicate, Bool, true, false}
 use Rattle.std.proofs.Common.{◌||◌, ◌&&◌, nat_lt, arith, w64, to_z, of_z, Some, cond}
 use Rattle.std.specs.Prelude.{slice_set}

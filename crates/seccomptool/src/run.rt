@@ -9,8 +9,8 @@ ghost use Rattle.std.specs.List.{AllZip};
 ghost use Rattle.seccomp_compare.specs.Machine.{IsChecked};
 ghost use Rattle.seccomptool.specs.Explain.{IsReturned};
 
-use crate::record::word_at;
 use crate::explain::{Explained, Why};
+use crate::record::word_at;
 use seccomp_compare::machine;
 use seccompiler::machine::Outcome;
 use seccompiler::{BpfProgramRef, TargetArch};

@@ -2,10 +2,10 @@
 
 ghost use Rattle.std.specs.Prelude.{◌≤◌, ⊤};
 
-use crate::record::word_at;
 use crate::findings::parts::{X32, name_of};
 use crate::findings::{Answer, Finding, Part};
 use crate::json::{List, Object, OrNull, call_name};
+use crate::record::word_at;
 use crate::text::Text;
 use seccomp_command_line::readable::TextKind;
 use seccomp_compare::rank;

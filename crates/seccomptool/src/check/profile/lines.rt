@@ -2,9 +2,9 @@
 
 use crate::check::format::{Lines, Place};
 use crate::check::profile::CheckedProfile;
-use crate::record::word_at;
 use crate::findings::lines::push_example;
 use crate::findings::parts::name_of;
+use crate::record::word_at;
 use crate::text::Text;
 use seccomp_oci::{Container, Profile, concerns_call};
 use seccomp_profile_checks::{Doubt, Origin, ProfileWarning, code_of};

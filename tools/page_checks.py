@@ -34,8 +34,8 @@ from results import Results
 TOP = pathlib.Path(__file__).resolve().parent.parent
 LINE = 140
 README_WORDS = 900
-PAGES_WORDS = 32000
-CHANGES_WORDS = 900
+PAGES_WORDS = 35000
+CHANGES_WORDS = 1500
 
 LINK = re.compile(r"\[[^\]]*\]\(<?([^()\s>]+)>?\)|(?:src|srcset)=\"([^\"]+)\"")
 CODE = re.compile(r"``.+?``|`[^`]+`")

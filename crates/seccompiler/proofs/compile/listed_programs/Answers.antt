@@ -11,7 +11,11 @@ pub returns-in_err-value : goal.returns-in_err-value
 returns-in_err-value c = let p = err_from_is_err_and c.from_residual.result c.from_residual.ensures.1 in
     let e = c.in_err-value.field-0.0 in
     let told = told_by_frontend c.args.arch c.args.text.now e c.in_err-value.ensures.0 in
-    rw (p.1, p.2) (record { programs = told; no_reader = read_nothing e c.in_err-value.ensures.1; memory = none_inside e c.in_err-value.ensures.2 })
+    rw (p.1, p.2) (record {
+      programs = told;
+      no_reader = read_nothing e c.in_err-value.ensures.1;
+      memory = none_inside e c.in_err-value.ensures.2;
+    })
 
 pub loop-name-init : goal.loop-name-init
 loop-name-init c = making_none _ _ _ _ refl c.in-Ok.ensures.items (omega (

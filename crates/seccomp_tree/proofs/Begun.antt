@@ -1,9 +1,9 @@
 -- Steps: what they have for a number, what is left of them there, one step more, and comparisons laid over them.
-use Rattle.seccomp_tree.proofs.Common.{SeccompCmpArgLen, if◌then◌else◌, length-append, sock_filter, Condition, nat_tests, All}
-use Rattle.seccomp_tree.proofs.Common.{take_rest, AreSteps, IsPushed, cases_lt, compares, found_in, is_plain, AreOver, part_of, All-nil, []}
+use Rattle.seccomp_tree.proofs.Common.{SeccompCmpArgLen, if◌then◌else◌, length-append, length-drop, sock_filter, Condition, nat_tests, All}
+use Rattle.seccomp_tree.proofs.Common.{take_rest, AreLaid, AreSteps, IsPushed, cases_lt, compares, found_in, is_plain, AreOver, part_of, All-nil, []}
 use Rattle.seccomp_tree.proofs.Common.{IsTurn, Target, get_or, length, nat_eq, nat_le, nat_lt, AllIn, arith, Bool, IsIn, List, Step, drop}
 use Rattle.seccomp_tree.proofs.Common.{refl, take, true, zero, ◌++◌, inl, inr, suc, ◌+◌, ◌-◌, ◌<◌, ◌^◌, ◌∙◌, ◌∷◌, ◌≡◌, ◌≢◌, ◌≤◌, ◌⊎◌, ℕ}
-use Rattle.seccomp_tree.specs.Code.{numbers_of}
+use Rattle.seccomp_tree.specs.Code.{AreFilled, filled_by, numbers_of}
 use mir.Val.{bool_byte}
 
 -- One target for all numbers.
@@ -109,6 +109,12 @@ pub left_all : {size number : ℕ} {steps : List Step} (rest : List Step) → Ar
 left_all [] h all = h.from
 left_all {size} (x ∷ after) h all = absurd (omega (arith, h.from.0, step_ends size x after h.from.1))
 
+-- at first all are left
+left_whole : (size : ℕ) (steps : List Step) → 0 < size → AreSteps size steps → AreLeft size steps 0 steps
+left_whole size [] some are = absurd (omega (arith, are))
+left_whole size (x ∷ steps) some are =
+    record { from = (omega (arith, are.0, step_ends size x steps are.1), are.1); same = λ a le lt. refl }
+
 -- What is left at the next number: the others, if the first ends there.
 abbrev pub HasMoved : ℕ → ℕ → List Step → List Step → Type 0
 HasMoved next end rest back = ((next ≡ end) × (back ≡ drop 1 rest)) ⊎ ((next ≢ end) × (back ≡ rest))
@@ -170,33 +176,112 @@ numbers_many l = grind arith
 -- ---- the loop of `laid`
 
 -- How many further parts of numbers that compare alike there are.
-abbrev pub parts_left : ℕ → ℕ → ℕ
-parts_left value number = if nat_lt number value then 2 else if nat_eq number value then 1 else 0
+abbrev pub parts_left : ℕ → ℕ → ℕ → ℕ
+parts_left size value number =
+    if nat_lt number value then 3 else if nat_eq number value then 2 else if nat_lt number size then 1 else 0
 
-pub record Laying (c : Condition) (target : Target) (others : List Step) (number : ℕ) (rest steps : List Step) : Type 0 where
-  pub left : AreLeft (numbers_of c.arg_len) others number rest
+pub record Laying (c : Condition) (target other : Target) (number : ℕ) (steps : List Step) : Type 0 where
+  pub fits : part_of c.arg_len c.value < numbers_of c.arg_len
+  pub within : number ≤ numbers_of c.arg_len
   pub are : AreSteps number steps
   pub each : (a : ℕ) → a < number
-      → found_in steps a ≡ (if compares c.operator a (part_of c.arg_len c.value) then target else found_in others a)
-  pub few : length steps + length rest + parts_left (part_of c.arg_len c.value) number ≤ length others + 2
+      → found_in steps a ≡ (if compares c.operator a (part_of c.arg_len c.value) then target else other)
+  pub few : length steps + parts_left (numbers_of c.arg_len) (part_of c.arg_len c.value) number ≤ 3
 
--- a step more: numbers that compare alike, and have one of the others' targets
-pub laying_on : {c : Condition} {target t : Target} {others steps more : List Step} {end number next : ℕ} (rest back : List Step)
-    (d : Step) → is_plain c.operator ≡ true → Laying c target others number rest steps → number < numbers_of c.arg_len
-    → end ≡ first_start (numbers_of c.arg_len) (drop 1 rest)
-    → IsTurn number (part_of c.arg_len c.value + (if nat_le (part_of c.arg_len c.value) number then 1 else 0)) end next
-    → t ≡ (if compares c.operator number (part_of c.arg_len c.value) then target else (get_or rest 0 d).target)
-    → IsPushed steps number t more → HasMoved next end rest back → Laying c target others next back more
-laying_on {c} {end = end} {number} {next} rest back d plain h some ends turn chosen pushed moved = record {
-  left = left_on next end rest back h.left some ends turn.above turn.within moved;
+pub laying_none : (c : Condition) (target other : Target) → part_of c.arg_len c.value < numbers_of c.arg_len → Laying c target other 0 []
+laying_none c target other fits = record {
+  fits = fits;
+  within = omega arith;
+  are = refl;
+  each = λ a lt. absurd (omega arith);
+  few = grind (arith, nat_tests, fits);
+}
+
+-- a step more: numbers that compare alike
+pub laying_on : {c : Condition} {target other t : Target} {steps more : List Step} {number next : ℕ} → is_plain c.operator ≡ true
+    → Laying c target other number steps → number < numbers_of c.arg_len
+    → IsTurn number (part_of c.arg_len c.value + (if nat_le (part_of c.arg_len c.value) number then 1 else 0)) (numbers_of c.arg_len) next
+    → t ≡ (if compares c.operator number (part_of c.arg_len c.value) then target else other) → IsPushed steps number t more
+    → Laying c target other next more
+laying_on {c} {number = number} {next} plain h some turn is pushed = record {
+  fits = h.fits;
+  within = turn.within;
   are = steps_more (number + 1) next _ (omega arith) (omega (arith, turn.above)) pushed.are;
   each = λ a lt. elim (cases_lt a number) [
     | inl below ↦ rw (pushed.below a below) (h.each a below)
     | inr le ↦
-        let other = left_has rest d a h.left some le (omega (arith, ends, turn.within)) in
         let v = part_of c.arg_len c.value in
         let same : compares c.operator a v ≡ compares c.operator number v = grind (arith, nat_tests, plain, turn.before, le, lt) in
-        rw (pushed.from a le, other, same) chosen
+        rw (pushed.from a le, same) is
   ];
-  few = grind (arith, nat_tests, h.few, pushed.few, turn.above, turn.stops, turn.within, moved);
+  few = grind (arith, nat_tests, h.fits, h.few, pushed.few, turn.above, turn.stops, turn.within);
 }
+
+pub laid_all : {c : Condition} {target other : Target} {number : ℕ} {steps : List Step} → Laying c target other number steps
+    → numbers_of c.arg_len ≤ number → is_plain c.operator ≡ true → AreLaid c target other steps
+laid_all {c} {number = number} h all plain =
+    let end : number ≡ numbers_of c.arg_len = omega (arith, h.within, all) in
+    record { are = rw end at h.are; each = λ a lt. h.each a (omega (arith, all)); few = omega (arith, h.few); plain = plain }
+
+-- ---- the loop of `filled`
+
+pub record Filling (size : ℕ) (front back : List Step) (number : ℕ) (front_rest back_rest steps : List Step) : Type 0 where
+  pub front_left : AreLeft size front number front_rest
+  pub back_left : AreLeft size back number back_rest
+  pub are : AreSteps number steps
+  pub each : (a : ℕ) → a < number → found_in steps a ≡ filled_by (found_in front a) (found_in back a)
+  pub few : length steps + length front_rest + length back_rest ≤ length front + length back
+  pub last : size ≤ number → length steps + 1 ≤ length front + length back
+
+pub filling_none : (size : ℕ) (front back : List Step) → 0 < size → AreSteps size front → AreSteps size back
+    → Filling size front back 0 front back []
+filling_none size front back some are back_are = record {
+  front_left = left_whole size front some are;
+  back_left = left_whole size back some back_are;
+  are = refl;
+  each = λ a lt. absurd (omega arith);
+  few = omega arith;
+  last = λ all. absurd (omega arith);
+}
+
+pub filling_up : {size number : ℕ} {front back front_rest back_rest steps : List Step} (next first_end back_end : ℕ)
+    → Filling size front back number front_rest back_rest steps → number < size → first_end ≡ first_start size (drop 1 front_rest)
+    → back_end ≡ first_start size (drop 1 back_rest) → (next < first_end → next ≡ back_end) → number < next
+filling_up {front_rest = front_rest} {back_rest} next first_end back_end h some ends last_ends which =
+    let f = left_end front_rest h.front_left some in
+    let b = left_end back_rest h.back_left some in
+    grind (arith, which, f.0, b.0, ends, last_ends)
+
+-- a step more: numbers that have one target in front, and one behind
+pub filling_on : {size number next : ℕ} {front back front_rest back_rest steps more : List Step} (front_back back_back : List Step)
+    (d e : Step) → Filling size front back number front_rest back_rest steps → number < size
+    → (first_end back_end : ℕ) → first_end ≡ first_start size (drop 1 front_rest) → back_end ≡ first_start size (drop 1 back_rest)
+    → (next ≤ first_end) × (next ≤ back_end) × (next < first_end → next ≡ back_end)
+    → IsPushed steps number (filled_by (get_or front_rest 0 d).target (get_or back_rest 0 e).target) more
+    → HasMoved next first_end front_rest front_back → HasMoved next back_end back_rest back_back
+    → Filling size front back next front_back back_back more
+filling_on {size} {number} {next} {front} {back} {front_rest} {back_rest} front_back back_back d e h some first_end back_end ends last_ends
+    turn pushed moved other =
+    let f = left_end front_rest h.front_left some in
+    let b = left_end back_rest h.back_left some in
+    let up = filling_up next first_end back_end h some ends last_ends turn.2 in record {
+      front_left = left_on next first_end front_rest front_back h.front_left some ends up turn.0 moved;
+      back_left = left_on next back_end back_rest back_back h.back_left some last_ends up turn.1 other;
+      are = steps_more (number + 1) next _ (omega arith) (omega (arith, up)) pushed.are;
+      each = λ a lt. elim (cases_lt a number) [
+        | inl below ↦ rw (pushed.below a below) (h.each a below)
+        | inr le ↦ rw (
+          pushed.from a le,
+          left_has front_rest d a h.front_left some le (omega (arith, ends, turn.0)),
+          left_has back_rest e a h.back_left some le (omega (arith, last_ends, turn.1)),
+        ) refl
+      ];
+      few = grind (arith, h.few, pushed.few, moved, other, turn.2, length-drop 1 front_rest, length-drop 1 back_rest, f.1.1, b.1.1);
+      last = λ all. grind (arith, h.few, pushed.few, f.1.1, b.1.1);
+    }
+
+pub filled_all : {l : SeccompCmpArgLen} {front back front_rest back_rest steps : List Step} {number : ℕ}
+    → Filling (numbers_of l) front back number front_rest back_rest steps → numbers_of l ≤ number → AreFilled l front back steps
+filled_all {l} {front_rest = front_rest} {number = number} h all =
+    let end : number ≡ numbers_of l = left_all front_rest h.front_left all in
+    record { are = rw end at h.are; each = λ a lt. h.each a (omega (arith, all)); few = h.last all }

@@ -1,16 +1,19 @@
 -- Conditions and rulings as targets: conditions of choices and masks; and rulings from the last to the first, each put in front.
-use Rattle.seccomp_tree.proofs.Common.{false_from_ne_true, get_or_read_under, SeccompCmpArgLen, condition_length, not_from_Decides, AreLaid}
-use Rattle.seccomp_tree.proofs.Common.{condition_steps, Decides-by_and, if◌then◌else◌, number_halves, operator_part, rules_length, AreSteps}
-use Rattle.seccomp_tree.proofs.Common.{argument_at, mask_halves, part_length, sock_filter, cases_Bool, false≢true, option_map, part_steps}
-use Rattle.seccomp_tree.proofs.Common.{Condition, RuleHolds, nat_tests, one_value, to_return, unwrap_or, word_fits, IsAnswer, IsRecord, inl}
-use Rattle.seccomp_tree.proofs.Common.{IsTested, MaskedEq, found_in, is_plain, list_all, Decides, bit_and, goes_on, nothing, part_of, AllIn}
+use Rattle.seccomp_tree.proofs.Common.{false_from_ne_true, get_or_read_under, condition_length, not_from_Decides, AreLaid}
+use Rattle.seccomp_tree.proofs.Common.{length-take-le, length-append, compares, ◌++◌, take}
+use Rattle.seccomp_tree.proofs.Common.{condition_steps, Decides-by_and, if◌then◌else◌, number_halves, operator_part, rules_length}
+use Rattle.seccomp_tree.proofs.Common.{argument_at, mask_halves, part_length, sock_filter, cases_Bool, false≢true, part_steps}
+use Rattle.seccomp_tree.proofs.Common.{Condition, RuleHolds, nat_tests, one_value, to_return, word_fits, IsAnswer, IsRecord, inl}
+use Rattle.seccomp_tree.proofs.Common.{IsTested, MaskedEq, is_plain, list_all, Decides, bit_and, goes_on, nothing, part_of, AllIn}
 use Rattle.seccomp_tree.proofs.Common.{word_at, AreMet, IsPart, Option, Ruling, Target, and_lt, begins, behind, get_or, joined, length, inr}
 use Rattle.seccomp_tree.proofs.Common.{nat_eq, passes, Dword, Equal, First, Grows, Holds, IsMet, Leads, Qword, Takes, alike, arith, false}
 use Rattle.seccomp_tree.proofs.Common.{holds, masks, stops, Bool, Give, IsIn, List, None, Some, Step, drop, here, load, mask, only, refl, ℕ}
 use Rattle.seccomp_tree.proofs.Common.{true, zero, ◌&&◌, suc, sym, ◌%◌, ◌*◌, ◌+◌, ◌-◌, ◌/◌, ◌<◌, ◌^◌, ◌∙◌, ◌∷◌, ◌≡◌, ◌≤◌, ◌⊎◌, At, [], ap}
 use Rattle.seccomp_tree.proofs.Runs.{leads_grown, starts_last, starts_more, grows_not, grows_one, grows_on, leads_by}
 use Rattle.seccomp_tree.proofs.{Begun.numbers_many, Begun.single, Trees.high_word, Trees.load_run, Trees.low_word}
-use Rattle.seccomp_tree.specs.Code.{numbers_of}
+use Rattle.seccomp_tree.specs.Code.{AreAlike, AreFilled, AreRunSteps, IsRun, chosen, filled_by, meets, numbers_of}
+use Rattle.seccomp_tree.specs.Decisions.{conditions_length}
+use Rattle.std.proofs.lemmas.List.{take-append-drop}
 
 pub holds_is : (q : List Condition) (r : List ℕ) → Decides (list_all (holds r) q) (RuleHolds q r)
 holds_is q r = Decides-by_and (holds r) (λ (c : Condition). Holds c r) (list_all (holds r))
@@ -22,27 +25,30 @@ rule_or_not q r = elim (cases_Bool (list_all (holds r) q)) [
   | inr not ↦ inr (not_from_Decides _ (holds_is q r) not)
 ]
 
--- laid steps have for the argument's part what the condition chooses
-pub laid_for : {c : Condition} {target : Target} {others steps : List Step} (q : List Condition) (r : List ℕ) → q ≡ c ∷ [] → IsRecord r
-    → AreLaid c target others steps → found_in steps (part_of c.arg_len (argument_at r c.arg_index))
-    ≡ (if list_all (holds r) q then target else found_in others (part_of c.arg_len (argument_at r c.arg_index)))
-laid_for {c} q r one rec h =
-    let same : operator_part c.arg_len c.operator ≡ c.operator = grind (arith, h.plain) in
+-- what is compared of an argument is a number of its length
+part_fits : (c : Condition) (r : List ℕ) → IsRecord r → part_of c.arg_len (argument_at r c.arg_index) < numbers_of c.arg_len
+part_fits c r rec =
     let byte = 16 + 8 * c.arg_index in
-    let each = h.each (part_of c.arg_len (argument_at r c.arg_index))
-    (grind (arith, number_halves r byte, word_fits r byte rec, word_fits r (byte + 4) rec)) in
-    rw (one, same) (grind (arith, each))
+    grind (arith, number_halves r byte, word_fits r byte rec, word_fits r (byte + 4) rec)
+
+-- a condition without a mask holds if its comparison does
+plain_holds : (c : Condition) (r : List ℕ) → is_plain c.operator ≡ true
+    → holds r c ≡ compares c.operator (part_of c.arg_len (argument_at r c.arg_index)) (part_of c.arg_len c.value)
+plain_holds c r plain =
+    let same : operator_part c.arg_len c.operator ≡ c.operator = grind (arith, plain) in rw same refl
 
 pub met_by_steps : {old new : List sock_filter} {c : Condition} {fit unfit t : Target} {steps : List Step}
-    → AreLaid c fit (single unfit) steps
+    → AreLaid c fit unfit steps
     → IsPart old c.arg_len (λ r. part_of c.arg_len (argument_at r c.arg_index)) steps t new → AreMet (c ∷ []) old fit unfit t new
 met_by_steps {new = new} {c} {steps = steps} h part = record {
   grows =
       let few : part_length c.arg_len (length steps) ≤ part_length c.arg_len 3 = grind (arith, h.few) in
       grows_on _ part.grows (grows_not new 0) (omega (arith, cost.1, few));
   inside = part.inside;
-  leads = λ r rec w n lead a small. starts_more _ (omega (arith, cost.0))
-      (leads_by (part.leads r rec w n 2 (omega (arith, h.few)) (rw (laid_for _ r refl rec h) lead) a small));
+  leads = λ r rec w n lead a small.
+      let laid = h.each _ (part_fits c r rec) in
+      let lead' = rw (plain_holds c r h.plain) at lead in
+      starts_more _ (omega (arith, cost.0)) (leads_by (part.leads r rec w n 2 (omega (arith, h.few)) (rw laid (grind arith)) a small));
 }
   where
     cost : (condition_steps c.arg_len c.operator ≡ part_steps c.arg_len 2)
@@ -157,23 +163,7 @@ front_is rulings n d some le is =
     ap (in_front rulings) at
     ∙ ap (λ (x : Ruling). x.conditions) (sym (get_or_read_under rulings (n - 1) (length rulings) d _ is (omega arith) refl))
 
--- How much of an argument a condition compares, and of which.
-abbrev pub compared : List Condition → SeccompCmpArgLen × ℕ
-compared q = unwrap_or (option_map (λ (c : Condition). (c.arg_len, c.arg_index)) (only q)) (Dword, 0)
-
--- Steps over what is compared of an argument go on as rulings do of which so many are entered.
-pub record IsBehind (old : List sock_filter) (default : ℕ) (like : SeccompCmpArgLen × ℕ) (entered : ℕ) (rulings : List Ruling)
-    (steps : List Step) (code : List sock_filter) : Type 0 where
-  pub before : ℕ
-  pub grows : Grows old before code
-  pub room : before + entered * part_length like.0 3 ≤ rules_length rulings
-  pub few : length steps ≤ 2 * entered + 1
-  pub are : AreSteps (numbers_of like.0) steps
-  pub inside : AllIn code (numbers_of like.0) steps
-  pub leads : (r : List ℕ) → IsRecord r → (n : ℕ) → Takes r entered rulings n
-      → Leads 0 code r (found_in steps (part_of like.0 (argument_at r like.1))) (first default rulings r) (n + 1)
-
--- So does a target, if none is entered.
+-- A target goes on as rulings do.
 pub record AreRules (old : List sock_filter) (rulings : List Ruling) (default : ℕ) (t : Target) (new : List sock_filter) : Type 0 where
   pub grows : Grows old (rules_length rulings) new
   pub inside : IsIn new t
@@ -187,30 +177,6 @@ answered_one default v rulings fits is = record {
   leads = λ r rec w n first takes a small. rw (one_first default v w rulings r is first) (to_return v a (n + 1) (omega arith));
 }
 
-module _ {old code : List sock_filter} {default : ℕ} where
-  pub behind_fresh : (like : SeccompCmpArgLen × ℕ) (j : ℕ) (rulings : List Ruling) (t : Target) → j ≡ 0
-      → AreRules old rulings default t code → IsBehind old default like j rulings (single t) code
-  behind_fresh like j rulings t none h = rw none record {
-    before = rules_length rulings;
-    grows = h.grows;
-    room = omega arith;
-    few = omega arith;
-    are = (refl, omega (arith, numbers_many like.0));
-    inside = λ a lt. h.inside;
-    leads = h.leads;
-  }
-
-  -- and the other way round
-  pub behind_none : {like : SeccompCmpArgLen × ℕ} {rulings : List Ruling} (steps : List Step) (y : Step)
-      → IsBehind old default like 0 rulings steps code → y ≡ get_or steps 0 y → AreRules old rulings default y.target code
-  behind_none {like} [] y h is = absurd (omega (arith, h.are, numbers_many like.0))
-  behind_none {like} {rulings} (x ∷ []) y h is = rw is record {
-    grows = grows_on _ h.grows (grows_not code 0) (omega (arith, h.room));
-    inside = h.inside 0 (omega (arith, numbers_many like.0));
-    leads = h.leads;
-  }
-  behind_none (x ∷ z ∷ steps) y h is = absurd (omega (arith, h.few))
-
 pub joined_none : (q : List Condition) (rulings : List Ruling) → only q ≡ None → joined q rulings ≡ 0
 joined_none q [] own = refl
 joined_none q (d ∷ rest) own = rw own refl
@@ -222,62 +188,205 @@ entered : {code : List sock_filter} {i n : ℕ} {t : Target} (default : ℕ) (d 
 entered default d rest r others (stops i e l h) a small = rw ((holds_is d.conditions r).1 h) (to_return d.value a 1 (omega arith))
 entered default d rest r others (passes i e l m not takes) a small = rw (not_held d.conditions r not) (others m takes a small)
 
-module _ {old code : List sock_filter} {default : ℕ} (d : Ruling) (rest : List Ruling) where
-  -- one by its conditions
-  pub rules_alone : {t u : Target} (new : List sock_filter) → only d.conditions ≡ None → AreRules old rest default t code
-      → AreMet d.conditions code (Give d.value) t u new → AreRules old (d ∷ rest) default u new
-  rules_alone {t} {u} new own x h = record {
-    grows = grows_on (rules_length (d ∷ rest)) x.grows h.grows (omega arith);
-    inside = h.inside;
-    leads = leads;
+-- one ruling by its conditions
+pub rules_alone : {old code : List sock_filter} {default : ℕ} {t u : Target} (new : List sock_filter) (d : Ruling) (rest : List Ruling)
+    → only d.conditions ≡ None → AreRules old rest default t code → AreMet d.conditions code (Give d.value) t u new
+    → AreRules old (d ∷ rest) default u new
+rules_alone {default = default} {t} {u} new d rest own x h = record {
+  grows = grows_on (rules_length (d ∷ rest)) x.grows h.grows (omega arith);
+  inside = h.inside;
+  leads = leads;
+}
+  where
+    leads : (r : List ℕ) → IsRecord r → (n : ℕ) → Takes r 0 (d ∷ rest) n → Leads 0 new r u (first default (d ∷ rest) r) (n + 1)
+    leads r rec n (begins e l k m le takes) a small = rw own (starts_more _ (omega arith) (h.leads r rec _ (m + 1)
+        (entered default d rest r (λ j takes'. x.leads r rec j (rw (joined_none d.conditions rest own) at takes')) takes) a small))
+
+-- ---- runs
+
+-- conditions that compare the same are alike to the same ones
+alike_on : (a b : Option Condition) (c : Condition) → alike a (Some c) ≡ true → alike a b ≡ true → alike b (Some c) ≡ true
+alike_on (Some x) (Some y) c h k = grind (arith, nat_tests, h, k)
+alike_on (Some x) None c h k = absurd (false≢true k)
+alike_on None b c h k = absurd (false≢true h)
+
+pub alike_self : (q : List Condition) (c : Condition) → only q ≡ Some c → alike (only q) (Some c) ≡ true
+alike_self q c is = rw is (grind (arith, nat_tests))
+
+pub joined_alike : (q : List Condition) (c : Condition) (rulings : List Ruling) → alike (only q) (Some c) ≡ true
+    → AreAlike c (take (joined q rulings) rulings)
+joined_alike q c [] h = tt
+joined_alike q c (d ∷ rest) h = elim (cases_Bool (alike (only q) (only d.conditions))) [
+  | inl is ↦
+      let own = alike_on (only q) (only d.conditions) c h is in
+      rw is (own, joined_alike d.conditions c rest own)
+  | inr not ↦ rw not tt
+]
+
+pub joined_few : (q : List Condition) (rulings : List Ruling) → joined q rulings ≤ length rulings
+joined_few q [] = omega arith
+joined_few q (d ∷ rest) = grind (arith, joined_few d.conditions rest)
+
+-- what the conditions are of a ruling that is alike
+alike_is : (q : List Condition) (o : Option Condition) (c : Condition) → only q ≡ o → alike o (Some c) ≡ true
+    → (x : Condition) × (q ≡ x ∷ []) × (is_plain x.operator ≡ true) × (x.arg_len ≡ c.arg_len) × (x.arg_index ≡ c.arg_index) × (o ≡ Some x)
+alike_is q None c is h = absurd (false≢true h)
+alike_is q (Some x) c is h =
+    let own = only_is q x is in
+    let same : (x.arg_index ≡ c.arg_index) × (x.arg_len ≡ c.arg_len) = grind (arith, nat_tests, h) in
+    (x, own.0, own.1, same.1, same.0, refl)
+
+-- so a ruling holds if its comparison does
+meets_one : (c x : Condition) (q : List Condition) (o : Option Condition) (r : List ℕ) → q ≡ x ∷ [] → is_plain x.operator ≡ true
+    → x.arg_len ≡ c.arg_len → x.arg_index ≡ c.arg_index → o ≡ Some x
+    → list_all (holds r) q ≡ meets o (part_of c.arg_len (argument_at r c.arg_index))
+meets_one c x q o r is plain long index own = rw (is, own, ← long, ← index) (grind (arith, plain_holds x r plain))
+
+meets_is : (c : Condition) (d : Ruling) (r : List ℕ) → alike (only d.conditions) (Some c) ≡ true
+    → list_all (holds r) d.conditions ≡ meets (only d.conditions) (part_of c.arg_len (argument_at r c.arg_index))
+meets_is c d r h =
+    let x = alike_is d.conditions (only d.conditions) c refl h in
+    meets_one c x.0 d.conditions (only d.conditions) r x.1 x.2 x.3 x.4 x.5
+
+-- a run takes as many instructions as its conditions by themselves
+length_one : (c x : Condition) (q : List Condition) → q ≡ x ∷ [] → is_plain x.operator ≡ true → x.arg_len ≡ c.arg_len
+    → conditions_length q ≡ part_length c.arg_len 3
+length_one c x q is plain long = rw (is, ← long) (grind (arith, plain))
+
+pub alike_length : (c : Condition) (run : List Ruling) → AreAlike c run → length run * part_length c.arg_len 3 ≤ rules_length run
+alike_length c [] h = omega arith
+alike_length c (d ∷ run) h =
+    let x = alike_is d.conditions (only d.conditions) c refl h.0 in
+    omega (arith, length_one c x.0 d.conditions x.1 x.2 x.3, alike_length c run h.1)
+
+-- the rulings of a run, and those behind it
+pub rules_parts : (n : ℕ) (rulings : List Ruling) → rules_length (take n rulings) + rules_length (drop n rulings) ≡ rules_length rulings
+rules_parts (suc n) (d ∷ rulings) = omega (arith, rules_parts n rulings)
+rules_parts (suc n) [] = refl
+rules_parts zero rulings = omega arith
+
+-- a run of rulings, by their comparisons, and what comes after
+run_leads : {code : List sock_filter} (default : ℕ) (c : Condition) (run back : List Ruling) (after : Target) (r : List ℕ) → AreAlike c run
+    → ((m : ℕ) → Takes r 0 back m → Leads 0 code r after (first default back r) (m + 1))
+    → (n : ℕ) → Takes r (length run) (run ++ back) n
+    → Leads 0 code r (filled_by (chosen run (part_of c.arg_len (argument_at r c.arg_index))) after) (first default (run ++ back) r) (n + 1)
+run_leads default c [] back after r alike others n takes = others n takes
+run_leads {code} default c (d ∷ run) back after r alike others n takes =
+    rw (← meets_is c d r alike.0) (by_case (list_all (holds r) d.conditions) (entered default d (run ++ back) r
+    (λ m t. run_leads default c run back after r alike.1 others m t) takes))
+  where
+    -- what is left if the first doesn't hold
+    left : Target
+    left = chosen run (part_of c.arg_len (argument_at r c.arg_index))
+
+    by_case : (b : Bool)
+        → Leads 0 code r (if b then Give d.value else filled_by left after) (first default (d ∷ (run ++ back)) r) (n + 1)
+        → Leads 0 code r (filled_by (if b then Give d.value else left) after) (first default (d ∷ (run ++ back)) r) (n + 1)
+    by_case true h = h
+    by_case false h = h
+
+-- a run in front of what comes after it
+pub rules_settled : {old code : List sock_filter} {default : ℕ} {c : Condition} {after t : Target} (new : List sock_filter) (d : Ruling)
+    (rest : List Ruling) → only d.conditions ≡ Some c → AreRules old (drop (joined d.conditions rest) rest) default after code
+    → IsRun c (d ∷ take (joined d.conditions rest) rest) code after t new → AreRules old (d ∷ rest) default t new
+rules_settled {old} {code} {default} {c} {after} {t} new d rest own x h = record {
+  grows = grows_on (rules_length (d ∷ rest)) x.grows h.grows (omega (arith, rules_parts (joined d.conditions rest) rest));
+  inside = h.inside;
+  leads = leads;
+}
+  where
+    long : length (take (joined d.conditions rest) rest) ≡ joined d.conditions rest
+    long = length-take-le (joined d.conditions rest) rest (joined_few d.conditions rest)
+
+    alike : AreAlike c (d ∷ take (joined d.conditions rest) rest)
+    alike = (alike_self d.conditions c own, joined_alike d.conditions c rest (alike_self d.conditions c own))
+
+    leads : (r : List ℕ) → IsRecord r → (n : ℕ) → Takes r 0 (d ∷ rest) n → Leads 0 new r t (first default (d ∷ rest) r) (n + 1)
+    leads r rec n (begins e l k m le takes) a small =
+        let whole = take-append-drop (joined d.conditions rest) rest in
+        let behind = rw (long, whole) at (run_leads default c (d ∷ take (joined d.conditions rest) rest)
+        (drop (joined d.conditions rest) rest) after r alike (x.leads r rec)) in
+        rw own (starts_more _ (omega arith) (leads_by (h.leads r rec _ (m + 1) k (omega (arith, le, long)) (behind m takes) a small)))
+
+-- ---- the steps of a run
+
+pub chosen_parts : (front back : List Ruling) (a : ℕ) → chosen (front ++ back) a ≡ filled_by (chosen front a) (chosen back a)
+chosen_parts [] back a = refl
+chosen_parts (d ∷ front) back a = by_case (meets (only d.conditions) a) (chosen_parts front back a)
+  where
+    by_case : (b : Bool) → chosen (front ++ back) a ≡ filled_by (chosen front a) (chosen back a)
+        → (if b then Give d.value else chosen (front ++ back) a) ≡ filled_by (if b then Give d.value else chosen front a) (chosen back a)
+    by_case true h = refl
+    by_case false h = h
+
+pub alike_take : (c : Condition) (n : ℕ) (run : List Ruling) → AreAlike c run → AreAlike c (take n run)
+alike_take c (suc n) (d ∷ run) h = (h.0, alike_take c n run h.1)
+alike_take c (suc n) [] h = tt
+alike_take c zero run h = tt
+
+pub alike_drop : (c : Condition) (n : ℕ) (run : List Ruling) → AreAlike c run → AreAlike c (drop n run)
+alike_drop c (suc n) (d ∷ run) h = alike_drop c n run h.1
+alike_drop c (suc n) [] h = tt
+alike_drop c zero run h = h
+
+pub run_open : (c : Condition) → AreRunSteps c [] (single (At 0))
+run_open c = record {
+  are = (refl, omega (arith, numbers_many c.arg_len));
+  each = λ a lt. refl;
+  small = λ a v lt is. absurd (cc);
+  few = omega arith;
+}
+
+pub run_one : (c x : Condition) (d : Ruling) (steps : List Step) → only d.conditions ≡ Some x → alike (only d.conditions) (Some c) ≡ true
+    → d.value < 2 ^ 32 → AreLaid x (Give d.value) (At 0) steps → AreRunSteps c (d ∷ []) steps
+run_one c x d steps own alike fits h =
+    let same : x.arg_len ≡ c.arg_len = grind (arith, nat_tests, rw own at alike) in record {
+      are = rw same at h.are;
+      each = λ a lt. rw own (h.each a (rw same lt));
+      small = λ a v lt is. grind (arith, h.each a (rw same lt), is, fits);
+      few = omega (arith, h.few);
+    }
+
+pub run_halves : (c : Condition) (n : ℕ) (run : List Ruling) (front back steps : List Step) → AreRunSteps c (take n run) front
+    → AreRunSteps c (drop n run) back → AreFilled c.arg_len front back steps → AreRunSteps c run steps
+run_halves c n run front back steps h k filled =
+    let long : length (take n run) + length (drop n run) ≡ length run =
+    sym (length-append (take n run) (drop n run)) ∙ ap length (take-append-drop n run) in record {
+      are = filled.are;
+      each = λ a lt. filled.each a lt ∙ rw (h.each a lt, k.each a lt, ← chosen_parts (take n run) (drop n run) a, take-append-drop n run) refl;
+      small = λ a v lt is. grind (arith, filled.each a lt, h.small a v lt, k.small a v lt, is);
+      few = omega (arith, filled.few, h.few, k.few, long);
+    }
+
+-- what a run gives, or else what comes after it, is in the code
+run_inside : (code : List sock_filter) (run : List Ruling) (a : ℕ) (after : Target) → IsIn code after
+    → ((v : ℕ) → chosen run a ≡ Give v → v < 2 ^ 32) → IsIn code (filled_by (chosen run a) after)
+run_inside code [] a after inside fits = inside
+run_inside code (d ∷ run) a after inside fits = by_case (meets (only d.conditions) a) fits (run_inside code run a after inside)
+  where
+    by_case : (b : Bool) → ((v : ℕ) → (if b then Give d.value else chosen run a) ≡ Give v → v < 2 ^ 32)
+        → (((v : ℕ) → chosen run a ≡ Give v → v < 2 ^ 32) → IsIn code (filled_by (chosen run a) after))
+        → IsIn code (filled_by (if b then Give d.value else chosen run a) after)
+    by_case true fits rest = fits d.value refl
+    by_case false fits rest = rest fits
+
+-- steps of a run, and for all other numbers what comes after it
+module _ {c : Condition} {run : List Ruling} {after : Target} {inner steps : List Step} (h : AreRunSteps c run inner)
+    (filled : AreFilled c.arg_len inner (single after) steps) where
+  pub run_few : length steps ≤ 2 * length run + 1
+  run_few = omega (arith, filled.few, h.few)
+
+  pub run_all_in : (code : List sock_filter) → IsIn code after → AllIn code (numbers_of c.arg_len) steps
+  run_all_in code inside a lt = rw (filled.each a lt, h.each a lt)
+      (run_inside code run a after inside (λ v is. h.small a v lt (h.each a lt ∙ is)))
+
+  pub is_run : {old new : List sock_filter} {t : Target} → 1 ≤ length run → AreAlike c run
+      → IsPart old c.arg_len (λ r. part_of c.arg_len (argument_at r c.arg_index)) steps t new → IsRun c run old after t new
+  is_run {old} {new} {t} some alike part = record {
+    grows =
+        let few : part_length c.arg_len (length steps) ≤ length run * part_length c.arg_len 3 = grind (arith, run_few, some) in
+        grows_on _ part.grows (grows_not new 0) (omega (arith, few, alike_length c run alike));
+    inside = part.inside;
+    leads = λ r rec w n k le lead. part.leads r rec w n k (omega (arith, run_few, le))
+        (rw (filled.each _ (part_fits c r rec), h.each _ (part_fits c r rec)) lead);
   }
-    where
-      leads : (r : List ℕ) → IsRecord r → (n : ℕ) → Takes r 0 (d ∷ rest) n → Leads 0 new r u (first default (d ∷ rest) r) (n + 1)
-      leads r rec n (begins e l k m le takes) a small = rw own (starts_more _ (omega arith) (h.leads r rec _ (m + 1)
-          (entered default d rest r (λ j takes'. x.leads r rec j (rw (joined_none d.conditions rest own) at takes')) takes) a small))
-
-  -- one laid over the steps, if it has one condition
-  module _ {c : Condition} (own : only d.conditions ≡ Some c) where
-    pub behind_laid : {j : ℕ} {steps laid : List Step} → d.value < 2 ^ 32 → IsBehind old default (c.arg_len, c.arg_index) j rest steps code
-        → AreLaid c (Give d.value) steps laid → IsBehind old default (c.arg_len, c.arg_index) (suc j) (d ∷ rest) laid code
-    behind_laid {j} {steps} {laid} fits x h = record {
-      before = x.before;
-      grows = x.grows;
-      room = grind (arith, only_is d.conditions c own, x.room);
-      few = omega (arith, h.few, x.few);
-      are = h.are;
-      inside = λ a lt. grind (arith, h.each a lt, fits, x.inside a lt);
-      leads = λ r rec n takes.
-          rw (laid_for d.conditions r (only_is d.conditions c own).0 rec h) (entered default d rest r (λ m. x.leads r rec m) takes);
-    }
-
-    -- its steps as a target
-    pub rules_settled : {steps : List Step} {t : Target} (new : List sock_filter)
-        → IsBehind old default (c.arg_len, c.arg_index) (suc (joined d.conditions rest)) (d ∷ rest) steps code
-        → IsPart code c.arg_len (λ r. part_of c.arg_len (argument_at r c.arg_index)) steps t new → AreRules old (d ∷ rest) default t new
-    rules_settled {steps} {t} new x part = record {
-      grows =
-          let most = suc (joined d.conditions rest) * part_length c.arg_len 3 in
-          let few : part_length c.arg_len (length steps) ≤ most = grind (arith, x.few) in
-          grows_on (rules_length (d ∷ rest)) x.grows part.grows (omega (arith, x.room, few));
-      inside = part.inside;
-      leads = leads;
-    }
-      where
-        leads : (r : List ℕ) → IsRecord r → (n : ℕ) → Takes r 0 (d ∷ rest) n → Leads 0 new r t (first default (d ∷ rest) r) (n + 1)
-        leads r rec n (begins e l k m le takes) a small = rw own (starts_more _ (omega arith)
-            (leads_by (part.leads r rec _ (m + 1) k (omega (arith, x.few, le)) (x.leads r rec m takes) a small)))
-
-    -- its steps behind a ruling that compares the same
-    pub behind_along : {steps : List Step} (p : List Condition) (o : Option Condition) → only p ≡ o → alike o (Some c) ≡ true
-        → IsBehind old default (c.arg_len, c.arg_index) (suc (joined d.conditions rest)) (d ∷ rest) steps code
-        → IsBehind old default (compared p) (joined p (d ∷ rest)) (d ∷ rest) steps code
-    behind_along p None front is h = absurd (false≢true is)
-    behind_along p (Some x) front is h =
-        let same : (x.arg_index ≡ c.arg_index) × (x.arg_len ≡ c.arg_len) = grind (arith, nat_tests, is) in
-        rw (front, own, is, same.0, same.1) h
-
--- those that are left of rulings are no longer
-pub rules_less : (n : ℕ) (rulings : List Ruling) → rules_length (drop n rulings) ≤ rules_length rulings
-rules_less (suc n) (d ∷ rulings) = omega (arith, rules_less n rulings)
-rules_less _ rulings = omega arith

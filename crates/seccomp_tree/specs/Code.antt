@@ -1,7 +1,7 @@
 -- What private functions promise each other: of steps that are looked up by a number, of code that is written from its end to its
 -- front, conditions, rulings and call numbers.
 use Rattle.std.specs.Prelude.{◌≡◌, ℕ, suc, ◌+◌, ◌-◌, ◌*◌, ◌<◌, ◌≤◌, ◌^◌, List, [], ◌∷◌, ◌++◌, length, drop, nat_eq, nat_le, nat_lt, not}
-use Rattle.std.specs.Prelude.{if◌then◌else◌, bit_and, slice_get, Some, Bool, true, ◌≢◌, false, ◌&&◌}
+use Rattle.std.specs.Prelude.{if◌then◌else◌, bit_and, slice_get, Some, None, Option, Bool, true, ◌≢◌, false, ◌&&◌, ⊤}
 use Rattle.std.specs.List.{list_all}
 use Rattle.seccompiler.specs.declared.bpf.sock_filter.{sock_filter}
 use Rattle.seccompiler.specs.Machine.{IsRecord, Does, IsFine, IsInRange, argument_at}
@@ -16,7 +16,8 @@ use Rattle.seccomp_tree.specs.declared.steps.Target.TheVariants.{Give, At}
 use Rattle.seccomp_tree.specs.declared.steps.Step.{Step}
 use Rattle.seccomp_tree.specs.declared.code.Test.{Test}
 use Rattle.seccomp_tree.specs.declared.code.Test.TheVariants.{Equal, AtLeast}
-use Rattle.seccomp_tree.specs.Decisions.{Ruling, First, Takes, conditions_length, conditions_steps, is_plain, part_length, part_steps}
+use Rattle.seccomp_tree.specs.Decisions.{Ruling, First, Takes, alike, conditions_length, conditions_steps, is_plain, only, part_length}
+use Rattle.seccomp_tree.specs.Decisions.{part_steps, rules_length}
 use Rattle.seccomp_tree.specs.Decided.{DecisionSet, default_for, rulings_for}
 use Rattle.seccomp_tree.specs.TreeProgram.{one_value}
 
@@ -179,14 +180,23 @@ pub record IsTurn (number cut end next : ℕ) : Type 0 where
   pub before : number < cut → next ≤ cut
   pub stops : next < end → next ≡ cut
 
--- The steps have the target for the numbers on which the condition's comparison holds, and else what others have; there are
--- at most two more.
-pub record AreLaid (c : Condition) (target : Target) (others steps : List Step) : Type 0 where
+-- The steps have the target for the numbers on which the condition's comparison holds, and else the other; there are at most three.
+pub record AreLaid (c : Condition) (target other : Target) (steps : List Step) : Type 0 where
   pub are : AreSteps (numbers_of c.arg_len) steps
   pub each : (a : ℕ) → a < numbers_of c.arg_len
-      → found_in steps a ≡ (if compares c.operator a (part_of c.arg_len c.value) then target else found_in others a)
-  pub few : length steps ≤ length others + 2
+      → found_in steps a ≡ (if compares c.operator a (part_of c.arg_len c.value) then target else other)
+  pub few : length steps ≤ 3
   pub plain : is_plain c.operator ≡ true
+
+-- The front's target, or the back's if the front leaves it open: no ruling goes on at the last instruction.
+abbrev pub filled_by : Target → Target → Target
+filled_by front back = if same front (At 0) then back else front
+
+-- The steps have what the front has, and what the back has for the numbers that the front leaves open.
+pub record AreFilled (l : SeccompCmpArgLen) (front back steps : List Step) : Type 0 where
+  pub are : AreSteps (numbers_of l) steps
+  pub each : (a : ℕ) → a < numbers_of l → found_in steps a ≡ filled_by (found_in front a) (found_in back a)
+  pub few : length steps + 1 ≤ length front + length back
 
 -- Whether the condition holds on the record.
 abbrev pub holds : List ℕ → Condition → Bool
@@ -204,6 +214,36 @@ abbrev pub AreMet : List Condition → List sock_filter → Target → Target �
 AreMet q = IsMet (λ r. list_all (holds r) q) (conditions_length q) (conditions_steps q)
 
 -- ---- rulings and calls
+
+-- Each ruling has one condition, without a mask, that compares the same as this one.
+abbrev pub AreAlike : Condition → List Ruling → Type 0
+AreAlike c [] = ⊤
+AreAlike c (d ∷ run) = (alike (only d.conditions) (Some c) ≡ true) × AreAlike c run
+
+-- Whether there is a condition, and its comparison holds for a number.
+abbrev pub meets : Option Condition → ℕ → Bool
+meets (Some c) a = compares c.operator a (part_of c.arg_len c.value)
+meets None a = false
+
+-- What the first ruling of a run gives whose comparison holds for a number; if none does, that is left open.
+abbrev pub chosen : List Ruling → ℕ → Target
+chosen [] a = At 0
+chosen (d ∷ run) a = if meets (only d.conditions) a then Give d.value else chosen run a
+
+-- The steps have what the run gives, and are at most two for each ruling, and one.
+pub record AreRunSteps (c : Condition) (run : List Ruling) (steps : List Step) : Type 0 where
+  pub are : AreSteps (numbers_of c.arg_len) steps
+  pub each : (a : ℕ) → a < numbers_of c.arg_len → found_in steps a ≡ chosen run a
+  pub small : (a v : ℕ) → a < numbers_of c.arg_len → found_in steps a ≡ Give v → v < 2 ^ 32
+  pub few : length steps ≤ 2 * length run + 1
+
+-- The target goes on as the run says for what the condition compares, and else as what comes after it.
+pub record IsRun (c : Condition) (run : List Ruling) (old : List sock_filter) (after t : Target) (new : List sock_filter) : Type 0 where
+  pub grows : Grows old (rules_length run) new
+  pub inside : IsIn new t
+  pub leads : (r : List ℕ) → IsRecord r → (w n k : ℕ) → 2 * length run + 1 ≤ 2 ^ k
+      → Leads 0 old r (filled_by (chosen run (part_of c.arg_len (argument_at r c.arg_index))) after) w n
+      → Leads 1 new r t w (n + part_steps c.arg_len k)
 
 -- The target goes on as the first of the rulings that holds says, or returns the default; if one value answers calls, it returns that.
 pub record IsAnswer (code : List sock_filter) (default : ℕ) (rulings : List Ruling) (t : Target) : Type 0 where

@@ -1,16 +1,16 @@
 // Conditions and rulings as targets: what a condition chooses, and what the first ruling that holds says.
 
-ghost use Rattle.std.specs.Prelude.{◌≡◌, ◌<◌, ◌≤◌, ◌%◌, ◌∷◌, [], Some, IfOk, IfErr, bit_and, nat_eq};
+ghost use Rattle.std.specs.Prelude.{◌≡◌, ◌<◌, ◌≤◌, ◌%◌, ◌∷◌, [], Some, IfOk, IfErr, bit_and, length, nat_eq};
 ghost use Rattle.seccompiler.specs.Machine.{greatest_length, word_at};
 ghost use Rattle.seccomp_tree.specs.declared.error.TreeError.TheVariants as tree;
 ghost use Rattle.seccomp_tree.specs.declared.steps.Target.TheVariants.{Give};
-ghost use Rattle.seccomp_tree.specs.Code.{AreMet, Grows, IsAnswer, IsIn, IsMet};
+ghost use Rattle.seccomp_tree.specs.Code.{AreAlike, AreMet, AreRunSteps, Grows, IsAnswer, IsIn, IsMet, IsRun};
 ghost use Rattle.seccomp_tree.specs.Decisions.{alike, only, rules_length};
 
 use crate::code::{Code, Test};
 use crate::decisions::Decision;
 use crate::error::TreeError;
-use crate::steps::{Target, WORDS, laid, one};
+use crate::steps::{OPEN, Step, Target, WORDS, filled, laid, one};
 use seccompiler::bpf::{BPF_MAX_LEN, LOAD, MASK, bpf_stmt};
 use seccompiler::{SeccompCmpArgLen, SeccompCmpOp, SeccompCondition};
 use std::alloc::{AllocError, Global};
@@ -33,27 +33,51 @@ impl Code {
             Some(first) if first.conditions.is_empty() => return Ok(Target::Give(first.value)),
             _ => {}
         }
-        // What comes after the rulings: steps over what the ruling in front of them compares, or one.
-        let mut steps = one(alloc, Target::Give(default))?;
+        // What comes after the rulings that are left, and where those end that compare the same as the one in front of them.
+        let mut after = Target::Give(default);
+        let mut end = rulings.len();
         for left in (0..rulings.len()).rev() {
             let ruling = &rulings[left];
-            let target = match only(ruling) {
-                None => self.conditions(alloc, &ruling.conditions, ruling.value, steps[0].target)?,
+            after = match only(ruling) {
+                None => self.conditions(alloc, &ruling.conditions, ruling.value, after)?,
                 Some(condition) => {
-                    steps = laid(alloc, &condition, Target::Give(ruling.value), &steps)?;
-                    // A program has fewer tests than so many steps need.
-                    if steps.len() > BPF_MAX_LEN {
-                        return Err(TreeError::TooLarge);
-                    }
                     if left > 0 && joins(&rulings[left - 1], &condition) {
                         continue;
                     }
-                    self.argument(alloc, condition.arg_len(), condition.arg_index(), &steps)?
+                    self.run(alloc, &condition, &rulings[left..end], after)?
                 }
             };
-            steps = one(alloc, target)?;
+            end = left;
         }
-        Ok(steps[0].target)
+        Ok(after)
+    }
+
+    // Goes on as the first ruling of a run says that holds, and else as what comes after it, whatever the accumulator holds.
+    fn run(
+        &mut self,
+        alloc: Global,
+        condition: &SeccompCondition,
+        run: &[Decision],
+        after: Target,
+    ) -> Result<Target, TreeError>
+        requires some { 1 ≤ length run.now }
+        requires alike { AreAlike condition.now run.now }
+        requires after { IsIn self.old after }
+        ensures run { IfOk result (λ t. IsRun condition.now run.now self.old after t self.new) }
+        ensures large { IfErr result (λ e. e ≡ tree.TooLarge → greatest_length < rules_length run.now) }
+    {
+        let (size, index) = (condition.arg_len(), condition.arg_index());
+        let steps = filled(
+            alloc,
+            size,
+            &run_steps(alloc, condition, run)?,
+            &one(alloc, after)?,
+        )?;
+        // A program has fewer tests than so many steps need.
+        if steps.len() > BPF_MAX_LEN {
+            return Err(TreeError::TooLarge);
+        }
+        Ok(self.argument(alloc, size, index, &steps)?)
     }
 
     // Returns the value if all conditions hold, and else goes on: the last of them first, since code is written from its
@@ -100,7 +124,7 @@ impl Code {
             }
             return self.masked(20 + 8 * index, (mask / WORDS) as u32, high_value, yes, no);
         }
-        let steps = laid(alloc, condition, yes, &one(alloc, no)?)?;
+        let steps = laid(alloc, condition, yes, no)?;
         self.argument(alloc, condition.arg_len(), condition.arg_index(), &steps)
     }
 
@@ -127,6 +151,30 @@ impl Code {
         self.push(bpf_stmt(LOAD, u32::from(byte)))?;
         Ok(Target::At(self.len() - 1))
     }
+}
+
+// Steps over what the rulings of a run compare: the value of the first whose comparison holds. Other numbers they leave open.
+fn run_steps(
+    alloc: Global,
+    like: &SeccompCondition,
+    run: &[Decision],
+) -> Result<Vec<Step>, AllocError>
+    requires { AreAlike like.now run.now }
+    ensures { IfOk result (λ steps. AreRunSteps like.now run.now steps.items) }
+{
+    if run.len() < 2 {
+        return match run.first() {
+            Some(ruling) => match only(ruling) {
+                Some(condition) => laid(alloc, &condition, Target::Give(ruling.value), OPEN),
+                None => one(alloc, OPEN),
+            },
+            None => one(alloc, OPEN),
+        };
+    }
+    let half = run.len() / 2;
+    let front = run_steps(alloc, like, &run[..half])?;
+    let back = run_steps(alloc, like, &run[half..])?;
+    filled(alloc, like.arg_len(), &front, &back)
 }
 
 // Whether a ruling has one condition, without a mask, that compares the same as the other.

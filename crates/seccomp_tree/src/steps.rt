@@ -1,7 +1,7 @@
 // What is looked up by a number: steps, each from its start up to the next one's; and comparisons laid over them.
 
 ghost use Rattle.std.specs.Prelude.{◌≡◌, ◌<◌, ◌∷◌, [], IfOk, true};
-ghost use Rattle.seccomp_tree.specs.Code.{AreLaid, AreSteps, IsPushed, IsTurn, compares, numbers_of};
+ghost use Rattle.seccomp_tree.specs.Code.{AreFilled, AreLaid, AreSteps, IsPushed, IsTurn, compares, filled_by, numbers_of};
 ghost use Rattle.seccomp_tree.specs.Decisions.{is_plain};
 
 use seccompiler::{SeccompCmpArgLen, SeccompCmpOp, SeccompCondition};
@@ -9,6 +9,9 @@ use std::alloc::{AllocError, Global};
 
 /// How many numbers there are of 32 bits.
 pub(crate) const WORDS: u64 = 0x1_0000_0000;
+
+/// What steps have for numbers that they leave open. No ruling goes on at the last instruction of a program.
+pub(crate) const OPEN: Target = Target::At(0);
 
 /// What a program does next.
 #[derive(Clone, Copy, Debug, PartialEq, Eq)]
@@ -45,33 +48,73 @@ pub(crate) fn push_step(steps: &mut Vec<Step>, start: u64, target: Target) -> Re
     Ok(())
 }
 
-/// Steps that have the target if the condition's comparison holds, and else what others have.
+/// Steps that have the target if the condition's comparison holds, and else the other.
 pub(crate) fn laid(
     alloc: Global,
     condition: &SeccompCondition,
     target: Target,
-    others: &[Step],
+    other: Target,
 ) -> Result<Vec<Step>, AllocError>
     requires plain { is_plain condition.now.operator ≡ true }
-    requires others { AreSteps (numbers_of condition.now.arg_len) others.now }
-    ensures { IfOk result (λ steps. AreLaid condition.now target others.now steps.items) }
+    ensures { IfOk result (λ steps. AreLaid condition.now target other steps.items) }
 {
-    let size = match condition.arg_len() {
-        SeccompCmpArgLen::Dword => 0x1_0000_0000,
-        SeccompCmpArgLen::Qword => 0x1_0000_0000_0000_0000,
-    };
+    let size = numbers_of(condition.arg_len());
     let value = u128::from(condition.value()) % size;
     let mut steps = Vec::new(alloc);
-    let (mut number, mut rest) = (0, others);
+    let mut number = 0;
     while number < size {
         let is_met = compares(condition.operator(), number, value);
-        let chosen = if is_met { target } else { rest[0].target };
-        push_step(&mut steps, number as u64, chosen)?;
-        let end = rest.get(1).map_or(size, |step| u128::from(step.start));
-        number = turn(number, value + u128::from(value <= number), end);
-        rest = &rest[usize::from(number == end)..];
+        push_step(
+            &mut steps,
+            number as u64,
+            if is_met { target } else { other },
+        )?;
+        number = turn(number, value + u128::from(value <= number), size);
     }
     Ok(steps)
+}
+
+/// Steps that have what the front has, and what the back has for numbers that the front leaves open.
+pub(crate) fn filled(
+    alloc: Global,
+    length: SeccompCmpArgLen,
+    front: &[Step],
+    back: &[Step],
+) -> Result<Vec<Step>, AllocError>
+    requires front { AreSteps (numbers_of length) front.now }
+    requires back { AreSteps (numbers_of length) back.now }
+    ensures { IfOk result (λ steps. AreFilled length front.now back.now steps.items) }
+{
+    let size = numbers_of(length);
+    let mut steps = Vec::new(alloc);
+    let (mut number, mut ahead, mut behind) = (0, front, back);
+    while number < size {
+        let target = filled_by(ahead[0].target, behind[0].target);
+        push_step(&mut steps, number as u64, target)?;
+        let end = ahead.get(1).map_or(size, |step| u128::from(step.start));
+        let other_end = behind.get(1).map_or(size, |step| u128::from(step.start));
+        number = end.min(other_end);
+        ahead = &ahead[usize::from(number == end)..];
+        behind = &behind[usize::from(number == other_end)..];
+    }
+    Ok(steps)
+}
+
+// The front's target, or the back's if the front leaves it open.
+fn filled_by(front: Target, back: Target) -> Target
+    ensures { result ≡ filled_by front back }
+{
+    if front == OPEN { back } else { front }
+}
+
+// How many numbers a length has.
+fn numbers_of(length: SeccompCmpArgLen) -> u128
+    ensures { result ≡ numbers_of length }
+{
+    match length {
+        SeccompCmpArgLen::Dword => 0x1_0000_0000,
+        SeccompCmpArgLen::Qword => 0x1_0000_0000_0000_0000,
+    }
 }
 
 /// The cut or the end, whichever comes first behind the number.

@@ -20,6 +20,6 @@ returns-in-MaskedEq c =
 
 pub returns : goal.returns
 returns c =
-    let h = rw (c.deref.ensures.value, c.in_ok-one.ensures) at c.in_ok-steps.ensures in
     IfOk-weaker c.argument.result _ _
-    (λ t k. met_by_steps h (rw (c.arg_len-2.ensures, c.arg_index.ensures.index, c.deref-2.ensures.value) at k)) c.argument.ensures
+    (λ t k. met_by_steps c.in_ok-steps.ensures (rw (c.arg_len-2.ensures, c.arg_index.ensures.index, c.deref.ensures.value) at k))
+    c.argument.ensures

@@ -1,8 +1,9 @@
-use Rattle.seccomp_tree.proofs.{Common.joined, Common.drop, Meeting.IsBehind, Meeting.compared, Meeting.in_front}
+use Rattle.seccomp_tree.proofs.{Common.joined, Common.drop, Common.◌+◌, Common.◌≡◌, Meeting.AreRules, Meeting.in_front}
 use Rattle.seccomp_tree.proofs.code.Code.rules.Given as goal
 
+-- the rulings end that are of one run with the one in front of them, and the target goes on as those behind
 abbrev pub invariant-loop-left : goal.invariant-loop-left
-invariant-loop-left l =
-    let front = in_front l.rulings l.left in
-    let rest = drop l.left l.rulings in
-    IsBehind l.initial.self l.default (compared front) (joined front rest) rest l.steps.items l.self
+invariant-loop-left l = record {
+  ends : l.end ≡ l.left + joined (in_front l.rulings l.left) (drop l.left l.rulings);
+  rules : AreRules l.initial.self (drop l.end l.rulings) l.default l.after l.self;
+}

@@ -7,7 +7,7 @@ use Rattle.seccompiler.specs.declared.error.Error.{Error}
 use Rattle.seccompiler.specs.declared.error.Error.TheVariants as library
 use Rattle.seccompiler.specs.declared.json.error.JsonFrontendError.{JsonFrontendError}
 use Rattle.seccompiler.specs.declared.json.error.JsonFrontendError.TheVariants as json
-use Rattle.seccompiler.specs.Errors.{IsNoMemoryInside}
+use Rattle.seccompiler.specs.Errors.{IsNoMemoryInside, IsNoReader}
 use Rattle.seccompiler.specs.JsonAnswers.{IsReadAs, IsValueOf, TellsFrontendFault}
 use Rattle.seccompiler.specs.JsonPrograms.{TellsFirstFault}
 use Rattle.seccomp_check.specs.Checks.{IsPlaced, IsRejection, TellsFaultOf, cause_told, frontend_cause, from_library}
@@ -38,6 +38,7 @@ module _ (target : TargetArch) (text : List ℕ) where
       record { refusal = e; first = first; cause = cause; kind = is; placed = (value.0, value.1, found value.0 value.1.is_read) }
 
   -- The first fault as the library reports it.
-  pub is_plain : (e : Error) → IsNoMemoryInside e → TellsFirstFault target text e → IsRejection target text (from_library e)
-  is_plain library.OutOfMemory memory first = tt
-  is_plain e memory first = ((λ same. cc), memory, first)
+  pub is_plain : (e : Error) → IsNoMemoryInside e → IsNoReader e → TellsFirstFault target text e
+      → IsRejection target text (from_library e)
+  is_plain library.OutOfMemory memory reader first = tt
+  is_plain e memory reader first = record { memory = λ same. cc; none_inside = memory; no_reader = reader; first = first }

@@ -9,7 +9,7 @@ use Rattle.seccompiler.specs.declared.error.Error.{Error}
 use Rattle.seccompiler.specs.declared.error.Error.TheVariants as library
 use Rattle.seccompiler.specs.declared.json.error.JsonFrontendError.{JsonFrontendError}
 use Rattle.seccompiler.specs.declared.json.error.JsonFrontendError.TheVariants as frontend
-use Rattle.seccompiler.specs.Errors.{IsNoMemoryInside}
+use Rattle.seccompiler.specs.Errors.{IsNoMemoryInside, IsNoReader}
 use Rattle.seccompiler.specs.JsonAnswers.{OfValue}
 use Rattle.seccompiler.specs.JsonFilters.{AreAll}
 use Rattle.seccompiler.specs.JsonPrograms.{IsProgramOf, TellsFirstFault}
@@ -75,9 +75,16 @@ pub record RefusesFirst (target : TargetArch) (filters : List (String Global × 
 abbrev pub IsFirstRefused : TargetArch → List (String Global × JsonFilter) → JsonFrontendError → Type 0
 IsFirstRefused target filters e = (e ≡ frontend.OutOfMemory) ⊎ RefusesFirst target filters e
 
+-- The library's refusal reports the first fault of the text: it is no failed read, and no lack of memory is in it.
+pub record IsRefusedFor (target : TargetArch) (text : List ℕ) (e : Error) : Type 0 where
+  pub memory : e ≢ library.OutOfMemory
+  pub none_inside : IsNoMemoryInside e
+  pub no_reader : IsNoReader e
+  pub first : TellsFirstFault target text e
+
 -- The first fault is reported: with its place, or as the library reports it. Lack of memory may come in place of both.
 abbrev pub IsRejection : TargetArch → List ℕ → Rejection → Type 0
-IsRejection target text (Library e) = (e ≢ library.OutOfMemory) × IsNoMemoryInside e × TellsFirstFault target text e
+IsRejection target text (Library e) = IsRefusedFor target text e
 IsRejection target text (Placed told fault) = IsPlaced target text (string_bytes told) × (string_bytes told ≡ fault_text fault)
 IsRejection target text OutOfMemory = ⊤
 

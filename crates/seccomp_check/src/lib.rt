@@ -30,7 +30,7 @@ mod walk;
 
 ghost use Rattle.std.specs.Prelude.{◌≡◌, IfSome, IfOk, IfErr, string_bytes};
 ghost use Rattle.serde_json.specs.Data.{Data};
-ghost use Rattle.seccompiler.specs.Errors.{IsNoMemoryInside};
+ghost use Rattle.seccompiler.specs.Errors.{IsNoMemoryInside, IsNoReader};
 ghost use Rattle.seccompiler.specs.JsonAnswers.{OfValue, IsReadAs};
 ghost use Rattle.seccompiler.specs.JsonPrograms.{TellsFirstFault};
 ghost use Rattle.seccompiler.specs.JsonSteps.{AreFilters};
@@ -145,7 +145,7 @@ pub fn cause_of(target: TargetArch, refusal: &Error) -> Option<Cause>
 
 // The refusal with its place, or as it is if none is found.
 fn placed(alloc: Global, target: TargetArch, text: &[u8], refusal: Error) -> Rejection
-    ensures { IsNoMemoryInside refusal → TellsFirstFault target text.now refusal → IsRejection target text.now result }
+    ensures { IsNoMemoryInside refusal → IsNoReader refusal → TellsFirstFault target text.now refusal → IsRejection target text.now result }
 {
     let Some(cause) = cause_of(target, &refusal) else {
         return refusal.into();

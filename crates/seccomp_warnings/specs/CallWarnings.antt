@@ -7,7 +7,7 @@ use Rattle.seccomp_warnings.specs.declared.code.Code.TheVariants as code
 use Rattle.seccomp_warnings.specs.declared.unlisted.Unlisted.{Unlisted}
 use Rattle.seccomp_warnings.specs.declared.unlisted.Unlisted.TheVariants as unlisted
 use Rattle.seccomp_warnings.specs.declared.judgement.Judgement.{Judgement}
-use Rattle.seccomp_warnings.specs.declared.verdict.Verdict.TheVariants as verdict
+use Rattle.seccomp_verdicts.specs.declared.verdict.Verdict.TheVariants as verdict
 
 -- ---- the entries of a filter
 

@@ -1,6 +1,6 @@
 -- What is so of an entry of a filter beside the others: whether it is needed, and of which other entries it matters that they are there.
 use Rattle.std.specs.Prelude.{◌≡◌, ℕ, ℤ, ◌↔◌, List, [], ◌∷◌, if◌then◌else◌, Any, Bool, true, false, Contains}
-use Rattle.std.specs.Prelude.{IfNone, IfSome, IsSomeAnd, IsTrue, Some, codes, map, slice_get}
+use Rattle.std.specs.Prelude.{IfNone, IfSome, IsSomeAnd, IsTrue, Some, codes, length, map, slice_get}
 use Rattle.std.specs.BTreeSet.{BTreeSet, contains}
 use Rattle.std.specs.Ordering.{int_cmp}
 use Rattle.std.specs.Str.{bytes_eq}
@@ -8,8 +8,12 @@ use Rattle.seccompiler.specs.Architecture.{table_of}
 use Rattle.seccompiler.specs.JsonTypes.{JsonRule, JsonFilter}
 use Rattle.seccompiler.specs.SyscallTable.{number_of}
 use Rattle.seccompiler.specs.declared.backend.TargetArch.{TargetArch}
+use Rattle.seccomp_entries.specs.Entries.{Lowered}
+use Rattle.seccomp_entries.specs.Policies.{IsLoweredPolicy}
+use Rattle.seccomp_verdicts.specs.Verdicts.{AreTrue}
+use Rattle.seccomp_verdicts.specs.WithoutEntry.{SayOfDecisions}
+use Rattle.seccomp_verdicts.specs.declared.verdict.Verdict.{Verdict}
 use Rattle.seccomp_warnings.specs.CallWarnings.{HasArgs, IsDeniedAlone}
-use Rattle.seccomp_warnings.specs.Verdicts.{AreVerdicts}
 use Rattle.seccomp_warnings.specs.declared.judgement.Judgement.{Judgement}
 
 -- The calls by which what the call of this name does can be done too. docs/CHECKS.md says how.
@@ -55,6 +59,15 @@ pub record IsJudgement (arch : TargetArch) (j : JsonFilter) (entry : JsonRule) (
   pub differs : IsTrue own.differs ↔ IsWithAndWithoutArgs arch j.rules entry
   pub found : IfSome own.sibling (λ other. IsUndoneBy arch j entry other.now)
   pub none : IfNone own.sibling ((other : List ℕ) → IsUndoneBy arch j entry other → ⊥)
+
+-- There is a verdict for each of the entries of a filter, in their order. Each is true of the filter in one form, and says what that
+-- decides with and without the entry.
+pub record AreVerdicts (arch : TargetArch) (j : JsonFilter) (verdicts : List Verdict) : Type 0 where
+  pub many : length verdicts ≡ length j.rules
+  pub lowered : Lowered
+  pub is_lowered : IsLoweredPolicy arch j lowered
+  pub are_true : AreTrue arch lowered.entries verdicts
+  pub decide : SayOfDecisions lowered verdicts
 
 -- There is a judgement for each of the entries of a filter, in their order, and each is true.
 pub record AreJudgements (arch : TargetArch) (j : JsonFilter) (judgements : List Judgement) : Type 0 where

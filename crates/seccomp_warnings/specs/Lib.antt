@@ -4,11 +4,7 @@ pub mod AnyArgument
 pub mod Arguments
 pub mod CallWarnings
 pub mod Judgements
-pub mod Verdicts
-pub mod VerdictPolicies
 pub mod Warnings
 -- Between layers.
 pub mod Parts
-pub mod VerdictParts
-pub mod Filed
 pub mod Halves

@@ -8,7 +8,7 @@ use crate::action::permits;
 use crate::code::Code;
 use crate::judgement::Judgement;
 use crate::unlisted::Unlisted;
-use crate::verdict::Verdict;
+use seccomp_verdicts::Verdict;
 use seccompiler::{JsonFilter, JsonRule};
 
 // Whether the entry has this call's name.

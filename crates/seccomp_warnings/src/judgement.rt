@@ -6,12 +6,12 @@ ghost use Rattle.seccompiler.specs.JsonSteps.{IsPolicyRefusal};
 ghost use Rattle.seccompiler.specs.Policy.{Filter};
 ghost use Rattle.seccompiler.specs.JsonTypes.{JsonRule};
 ghost use Rattle.seccomp_warnings.specs.Judgements as spec;
-ghost use Rattle.seccomp_warnings.specs.Judgements.{AreJudgements, IsJudgement, IsOfNumber, IsSetOf, IsUndoneBy, IsWithAndWithoutArgs};
-ghost use Rattle.seccomp_warnings.specs.Verdicts.{AreVerdicts};
+ghost use Rattle.seccomp_warnings.specs.Judgements.{AreJudgements, AreVerdicts, IsJudgement, IsOfNumber, IsSetOf, IsUndoneBy, IsWithAndWithoutArgs};
 
 use crate::call::is_denied_alone;
 use crate::sibling::unnamed_sibling;
-use crate::verdict::{Verdict, verdicts_of};
+use seccomp_entries::lowered_policy;
+use seccomp_verdicts::{Verdict, verdicts_of};
 use seccompiler::{JsonFilter, JsonFrontendError, JsonRule, SyscallTable, TargetArch};
 use std::alloc::{AllocError, Global};
 use std::collections::BTreeSet;
@@ -28,12 +28,11 @@ pub struct Judgement {
     pub sibling: Option<&'static str>,
 }
 
-/// A judgement for each entry of a filter, in their order; each is true. The verdicts are those of
-/// [`verdicts_of`](crate::verdict::verdicts_of).
+/// A judgement for each entry of a filter, in their order; each is true. The verdicts are those of [`verdicts_of`].
 ///
 /// # Errors
 ///
-/// Those of [`verdicts_of`](crate::verdict::verdicts_of).
+/// Those of [`lowered_policy`].
 pub fn judgements_of(
     alloc: Global,
     arch: TargetArch,
@@ -43,7 +42,8 @@ pub fn judgements_of(
     ensures policy { OnOk result ((policy : Filter) × IsPolicyOf arch filter.now policy) }
     ensures refusal { IfErr result (IsPolicyRefusal arch filter.now) }
 {
-    let verdicts = verdicts_of(alloc, arch, filter)?;
+    let lowered = lowered_policy(alloc, arch, filter)?;
+    let verdicts = verdicts_of(alloc, arch, lowered.entries.as_slice())?;
     Ok(judgements_by(alloc, arch, filter, &verdicts)?)
 }
 

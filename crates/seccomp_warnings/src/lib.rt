@@ -19,20 +19,13 @@
 
 mod action;
 mod argument;
-mod beside;
 mod call;
 pub mod code;
 mod condition;
-mod cover;
-mod entry;
-mod filed;
 pub mod judgement;
-mod met;
-mod own;
 mod sibling;
 mod text;
 pub mod unlisted;
-pub mod verdict;
 mod walk;
 pub mod warning;
 
@@ -41,6 +34,5 @@ pub use crate::code::Code;
 pub use crate::judgement::{Judgement, judgements_of};
 pub use crate::text::{part_of, said_text};
 pub use crate::unlisted::Unlisted;
-pub use crate::verdict::{Verdict, verdicts_of};
 pub use crate::walk::warnings_of;
 pub use crate::warning::{Actions, Comparison, Subject, Warning};

@@ -1,13 +1,12 @@
 use Rattle.std.proofs.Common.{◌≡◌, ◌+◌, ◌<◌, ◌∷◌, ◌++◌, [], ℕ, List, Some, length, map, take, get_or, false, true, ap, sym, refl, ◌∙◌}
 use Rattle.std.proofs.Common.{subst, arith, length-append}
 use Rattle.std.specs.Prelude.{IsSomeAnd, slice_get}
-use Rattle.std.proofs.lemmas.List.{length-map, map-append, take_more}
+use Rattle.std.proofs.lemmas.List.{map-append, take_more}
 use Rattle.std.proofs.lemmas.Option.{slice_get_read}
 use Rattle.seccompiler.specs.JsonTypes.{JsonRule, JsonFilter}
 use Rattle.seccomp_warnings.specs.Judgements.{IsJudgement, IsSetOf}
-use Rattle.seccomp_warnings.specs.Verdicts.{entry_of}
 use Rattle.seccomp_warnings.specs.declared.judgement.Judgement.{Judgement}
-use Rattle.seccomp_warnings.specs.declared.verdict.Verdict.{Verdict}
+use Rattle.seccomp_verdicts.specs.declared.verdict.Verdict.{Verdict}
 use Rattle.seccomp_warnings.proofs.Judged.{each_push}
 use Rattle.seccomp_warnings.proofs.judgement.judgements_by.Goals as goal
 
@@ -34,9 +33,8 @@ loop-place-preserved c =
     let vs : List Verdict = c.args.verdicts.now in
     let entries : List JsonRule = c.args.filter.now.rules in
     let many : length js ≡ place = c.loop-place.invariant.many in
-    let long : length (map (entry_of c.args.arch) entries) ≡ length entries = length-map entries (entry_of c.args.arch) in
     let before : place < length vs = c.loop-place-test.true in
-    let as_many : length vs ≡ length (map (entry_of c.args.arch) entries) = c.requires.many in
+    let as_many : length vs ≡ length entries = c.requires.many in
     let within : place < length entries = omega arith in
     let entry : JsonRule = c.index.result.now in
     let is : entry ≡ get_or entries place entry =

@@ -200,22 +200,24 @@ static inline int64_t seccompiler_rules_add_array(struct seccompiler_rules *filt
 
 /* The same of conditions that are passed one by one. */
 static inline int64_t seccompiler_rules_add_list(struct seccompiler_rules *filter, int64_t number, const char *call,
-                                                 size_t count, va_list list)
+                                                 int count, va_list list)
 {
     struct seccompiler_condition conditions[64];
 
-    if (count > 64)
-        return filter->error != 0 ? filter->error : seccompiler_rules_fail(filter, SECCOMPILER_NO_ROOM, call, -1);
-    for (size_t k = 0; k < count; k++)
+    if (filter->error != 0)
+        return filter->error;
+    if (count < 0 || count > 64)
+        return seccompiler_rules_fail(filter, count < 0 ? SECCOMPILER_BAD_COUNTS : SECCOMPILER_NO_ROOM, call, -1);
+    for (int k = 0; k < count; k++)
         conditions[k] = va_arg(list, struct seccompiler_condition);
-    return seccompiler_rules_add_array(filter, number, call, conditions, count);
+    return seccompiler_rules_add_array(filter, number, call, conditions, (size_t)count);
 }
 
 /*
  * Adds a rule for the call of this name. `count` says how many conditions follow, 0 to 64. They are made by
  * seccompiler_argument or seccompiler_masked_argument.
  *
- * Returns 0, or the filter's first error.
+ * Returns 0, or the filter's first error: BAD_COUNTS if `count` is below 0, NO_ROOM if it is above 64 or the filter is full.
  */
 static inline int64_t seccompiler_rules_add(struct seccompiler_rules *filter, const char *call, int count, ...)
 {
@@ -225,7 +227,7 @@ static inline int64_t seccompiler_rules_add(struct seccompiler_rules *filter, co
     if (number < 0)
         return filter->error != 0 ? filter->error : seccompiler_rules_fail(filter, number, call, -1);
     va_start(list, count);
-    answer = seccompiler_rules_add_list(filter, number, call, (size_t)count, list);
+    answer = seccompiler_rules_add_list(filter, number, call, count, list);
     va_end(list);
     return answer;
 }
@@ -239,7 +241,7 @@ static inline int64_t seccompiler_rules_add_number(struct seccompiler_rules *fil
 
     snprintf(call, sizeof call, "%lld", (long long)number);
     va_start(list, count);
-    answer = seccompiler_rules_add_list(filter, number, call, (size_t)count, list);
+    answer = seccompiler_rules_add_list(filter, number, call, count, list);
     va_end(list);
     return answer;
 }
@@ -270,6 +272,8 @@ static inline int64_t seccompiler_rules_compile(const struct seccompiler_rules *
                                            filter->architecture, layout, program, capacity);
     if (filter->error == SECCOMPILER_NO_ROOM)
         strcpy(sentence, "There is no room for more in the filter.");
+    else if (filter->error == SECCOMPILER_BAD_COUNTS)
+        strcpy(sentence, "The count of conditions is below 0.");
     else if (answer < 0)
         seccompiler_strerror(answer, sentence, sizeof sentence);
     seccompiler_rules_say(message, message_capacity, filter->place, filter->error != 0 ? ": " : "", sentence);

@@ -3,6 +3,7 @@
  * added in any order have to decide as the rules do one by one, and errors have their places. tools/check-library builds it
  * with each compiler. Prints each difference, and as its last line 'N passed, M failed'.
  */
+#include <limits.h>
 #include <linux/audit.h>
 
 #include "seccompiler_file.h"
@@ -132,6 +133,16 @@ static void check_errors(void)
        "rule 0, read, condition 1: The argument of a condition is above 5.", "an argument that isn't");
     make_rules(0);
     is(seccompiler_rules_add(&filter, "read", 65, good), SECCOMPILER_NO_ROOM, message, "more conditions than it takes");
+    for (int is_number = 0; is_number < 2; is_number++) {
+        make_rules(0);
+        if (is_number)
+            seccompiler_rules_add_number(&filter, 0, INT_MIN);
+        else
+            seccompiler_rules_add(&filter, "read", -1, good);
+        is(seccompiler_rules_compile(&filter, 0, program, 4096, message, sizeof message), SECCOMPILER_BAD_COUNTS,
+           is_number ? "rule 0, 0: The count of conditions is below 0." : "rule 0, read: The count of conditions is below 0.",
+           "fewer conditions than none");
+    }
     make_rules(0);
     for (int k = 0; k <= SECCOMPILER_RULES_MOST_CALLS; k++)
         seccompiler_rules_add_number(&filter, k, 0);

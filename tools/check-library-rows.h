@@ -6,6 +6,7 @@
 #define CHECK_LIBRARY_ROWS_H
 
 #include <seccompiler.h>
+#include <seccompiler_file.h>
 
 #include <linux/audit.h>
 #include <linux/seccomp.h>
@@ -82,6 +83,7 @@ static const int64_t CODES[][2] = {
     {SECCOMPILER_BAD_ORDER, -18},
     {SECCOMPILER_BAD_NUMBER, -19},
     {SECCOMPILER_UNDECIDED, -20},
+    {SECCOMPILER_NO_FILE, -100},
     {SECCOMPILER_ALIKE, 0},
     {SECCOMPILER_AT_MOST_AS_PERMISSIVE, 1},
     {SECCOMPILER_ALL_CALLS, 0},
@@ -96,30 +98,34 @@ static const int64_t CODES[][2] = {
     {SECCOMPILER_MASKED_EQ, 6},
 };
 
-/* What the codes from -1 downwards mean, and numbers that are no codes. */
-static const char *const SENTENCES[] = {
-    "Out of memory.",
-    "Unknown architecture.",
-    "Unknown layout.",
-    "The policy is rejected.",
-    "The policy has no such filter.",
-    "The program would have more than 4096 instructions.",
-    "The program has more instructions than the array.",
-    "The instructions are no program that may be run.",
-    "Unknown relation.",
-    "Unknown system call.",
-    "Unknown action.",
-    "The counts don't add up to the rules or the conditions.",
-    "The argument of a condition is above 5.",
-    "The length of a condition is neither 4 nor 8.",
-    "The operator of a condition is above 6.",
-    "A rule has no conditions.",
-    "The two actions are the same.",
-    "The numbers of the chains don't ascend; sort their rules with them.",
-    "The number of a chain is below 0 or above 4294967295.",
-    "The comparison is undecided.",
+/* What each code of the headers means, and numbers that are no codes. tools/check-library compares the names with the headers. */
+static const struct {
+    int64_t code;
+    const char *text;
+} SENTENCES[] = {
+    {SECCOMPILER_OUT_OF_MEMORY, "Out of memory."},
+    {SECCOMPILER_UNKNOWN_ARCHITECTURE, "Unknown architecture."},
+    {SECCOMPILER_UNKNOWN_LAYOUT, "Unknown layout."},
+    {SECCOMPILER_REJECTED, "The policy is rejected."},
+    {SECCOMPILER_NO_FILTER, "The policy has no such filter."},
+    {SECCOMPILER_TOO_LARGE, "The program would have more than 4096 instructions."},
+    {SECCOMPILER_NO_ROOM, "The program has more instructions than the array."},
+    {SECCOMPILER_NOT_CHECKED, "The instructions are no program that may be run."},
+    {SECCOMPILER_UNKNOWN_RELATION, "Unknown relation."},
+    {SECCOMPILER_UNKNOWN_CALL, "Unknown system call."},
+    {SECCOMPILER_UNKNOWN_ACTION, "Unknown action."},
+    {SECCOMPILER_BAD_COUNTS, "The counts don't add up to the rules or the conditions."},
+    {SECCOMPILER_BAD_ARGUMENT, "The argument of a condition is above 5."},
+    {SECCOMPILER_UNKNOWN_LENGTH, "The length of a condition is neither 4 nor 8."},
+    {SECCOMPILER_UNKNOWN_OPERATOR, "The operator of a condition is above 6."},
+    {SECCOMPILER_EMPTY_RULE, "A rule has no conditions."},
+    {SECCOMPILER_EQUAL_ACTIONS, "The two actions are the same."},
+    {SECCOMPILER_BAD_ORDER, "The numbers of the chains don't ascend; sort their rules with them."},
+    {SECCOMPILER_BAD_NUMBER, "The number of a chain is below 0 or above 4294967295."},
+    {SECCOMPILER_UNDECIDED, "The comparison is undecided."},
+    {SECCOMPILER_NO_FILE, "The file can't be read."},
 };
-static const int64_t NO_CODES[] = {0, 1, 24, -21, INT64_MAX, INT64_MIN};
+static const int64_t NO_CODES[] = {0, 1, 24, -21, -99, -101, INT64_MAX, INT64_MIN};
 
 /* Calls, and what the README's policy decides for them on x86_64. */
 static const struct {

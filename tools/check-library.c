@@ -503,10 +503,11 @@ static void check_codes(void)
 {
     for (size_t i = 0; i < sizeof CODES / sizeof *CODES; i++)
         equal(CODES[i][0], CODES[i][1], "a name of the header");
-    for (int64_t i = 0; i < (int64_t)(sizeof SENTENCES / sizeof *SENTENCES); i++) {
+    for (size_t i = 0; i < sizeof SENTENCES / sizeof *SENTENCES; i++) {
+        const char *text = SENTENCES[i].text;
         mark_message();
-        equal(seccompiler_strerror(-1 - i, message, sizeof message), strlen(SENTENCES[i]), SENTENCES[i]);
-        check(is_told(SENTENCES[i]), SENTENCES[i]);
+        equal(seccompiler_strerror(SENTENCES[i].code, message, sizeof message), (int64_t)strlen(text), text);
+        check(is_told(text), text);
     }
     for (size_t i = 0; i < sizeof NO_CODES / sizeof *NO_CODES; i++) {
         mark_message();

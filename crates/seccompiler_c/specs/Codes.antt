@@ -27,6 +27,7 @@ code_number code.EqualActions = neg_ℤ (pos 17)
 code_number code.BadOrder = neg_ℤ (pos 18)
 code_number code.BadNumber = neg_ℤ (pos 19)
 code_number code.Undecided = neg_ℤ (pos 20)
+code_number code.NoFile = neg_ℤ (pos 100)
 
 -- What a code means.
 abbrev pub code_text : Code → List ℕ
@@ -50,6 +51,7 @@ code_text code.EqualActions = codes "The two actions are the same."
 code_text code.BadOrder = codes "The numbers of the chains don't ascend; sort their rules with them."
 code_text code.BadNumber = codes "The number of a chain is below 0 or above 4294967295."
 code_text code.Undecided = codes "The comparison is undecided."
+code_text code.NoFile = codes "The file can't be read."
 
 -- The sentence of a number: what the code means whose number it is; or that there is none.
 pub data IsSentence (number : ℤ) (said : List ℕ) : Type 0 where

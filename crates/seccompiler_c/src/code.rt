@@ -5,7 +5,7 @@ ghost use Rattle.seccompiler_c.specs.Codes.{code_number, code_text};
 
 use crate::codes::{
     SECCOMPILER_BAD_ARGUMENT, SECCOMPILER_BAD_COUNTS, SECCOMPILER_BAD_NUMBER,
-    SECCOMPILER_BAD_ORDER, SECCOMPILER_EMPTY_RULE, SECCOMPILER_EQUAL_ACTIONS,
+    SECCOMPILER_BAD_ORDER, SECCOMPILER_EMPTY_RULE, SECCOMPILER_EQUAL_ACTIONS, SECCOMPILER_NO_FILE,
     SECCOMPILER_NO_FILTER, SECCOMPILER_NO_ROOM, SECCOMPILER_NOT_CHECKED, SECCOMPILER_OUT_OF_MEMORY,
     SECCOMPILER_REJECTED, SECCOMPILER_TOO_LARGE, SECCOMPILER_UNDECIDED, SECCOMPILER_UNKNOWN_ACTION,
     SECCOMPILER_UNKNOWN_ARCHITECTURE, SECCOMPILER_UNKNOWN_CALL, SECCOMPILER_UNKNOWN_LAYOUT,
@@ -55,6 +55,8 @@ pub(crate) enum Code {
     BadNumber,
     /// A comparison found no answer.
     Undecided,
+    /// A file can't be read.
+    NoFile,
 }
 
 impl Code {
@@ -84,6 +86,7 @@ impl Code {
             SECCOMPILER_BAD_ORDER => Some(Code::BadOrder),
             SECCOMPILER_BAD_NUMBER => Some(Code::BadNumber),
             SECCOMPILER_UNDECIDED => Some(Code::Undecided),
+            SECCOMPILER_NO_FILE => Some(Code::NoFile),
             _ => None,
         }
     }
@@ -115,6 +118,7 @@ impl Code {
             Code::BadOrder => SECCOMPILER_BAD_ORDER,
             Code::BadNumber => SECCOMPILER_BAD_NUMBER,
             Code::Undecided => SECCOMPILER_UNDECIDED,
+            Code::NoFile => SECCOMPILER_NO_FILE,
         }
     }
 
@@ -143,6 +147,7 @@ impl Code {
             Code::BadOrder => "The numbers of the chains don't ascend; sort their rules with them.",
             Code::BadNumber => "The number of a chain is below 0 or above 4294967295.",
             Code::Undecided => "The comparison is undecided.",
+            Code::NoFile => "The file can't be read.",
         }
     }
 }

@@ -60,6 +60,9 @@ pub const SECCOMPILER_BAD_NUMBER: i64 = -19;
 /// A comparison looked at as many sets of calls as was allowed, and found neither answer.
 pub const SECCOMPILER_UNDECIDED: i64 = -20;
 
+/// A file can't be read. No function here returns it: it is `seccompiler_file.h`'s own.
+pub const SECCOMPILER_NO_FILE: i64 = -100;
+
 /// The version of the interface, 1.0: the first number times 65536, and the second one.
 pub const SECCOMPILER_VERSION: u32 = 0x1_0000;
 

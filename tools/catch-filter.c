@@ -429,7 +429,9 @@ static void fail_option(const char *word, int letter, const char *what)
 
 static int print(const char *text)
 {
-    return fputs(text, stdout) >= 0 && fflush(stdout) == 0 ? CAUGHT : TROUBLE;
+    if (fputs(text, stdout) < 0 || fflush(stdout) != 0)
+        fail("standard output", "can't be written", errno);
+    return CAUGHT;
 }
 
 int main(int argc, char **argv)

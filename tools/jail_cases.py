@@ -231,6 +231,14 @@ LINES = [
     ("has no end: JAIL --oci p touch run", "", "p", EXPECTED + "more than 32768 bytes"),
     ("isn't there: JAIL --oci p touch run", "", "seccomptool", errno.ENOENT),
     ("JAIL --version", "NAME VERSION\n"),
+    # What can't be written ends with an exit status of the jailer's own.
+    ("JAIL --help >/dev/full", "", "standard output", errno.ENOSPC),
+    ("JAIL --version >/dev/full", "", "standard output", errno.ENOSPC),
+    ("JAIL --help >/dev/full 2>&1; echo $?", "125\n"),
+    ("JAIL 2>/dev/full; echo $?", "125\n"),
+    ("JAIL missing.json a touch run 2>/dev/full; echo $?", "125\n"),
+    ("JAIL one.json -- ./missing 2>/dev/full; echo $?", "127\n"),
+    ("JAIL one.json -- ./list.json 2>/dev/full; echo $?", "126\n"),
 ]
 # What stands for seccomptool: lines of a shell. The first of them writes an instruction, which allows all calls.
 TOOLS = {

@@ -107,6 +107,10 @@ def try_command(results, program, folder):
         (["-o"], "catch-filter: -o: expected an argument\n" + usage, 2),
     ):
         results.compare(f"catch-filter {words[:2]}", ("", text, wanted), run([program, *words], folder))
+    for name, text, wanted in ((program.name, ": can't be written", 2), ("call", "", 125)):
+        line = f"{name}: standard output{text}: No space left on device\n"
+        found = run(["sh", "-c", '"$1" --help >/dev/full', "sh", program.parent / name], folder)
+        results.compare(f"{name} --help >/dev/full", ("", line, wanted), found)
     before = sorted(folder.iterdir())
     (folder / "full.1.bpf").mkdir()
     text = "catch-filter: full.1.bpf: can't be written: Is a directory\n"

@@ -1,8 +1,7 @@
 /*
  * The AUDIT_ARCH_* value of the architecture that a program is built for, and the architecture's name.
  *
- * Filters are compiled for three architectures. The archive that programs link is built only for x86_64, so for now
- * only the first of these branches is used.
+ * Filters are compiled for three architectures. The archive that programs link is built for the first two.
  */
 
 #ifndef ARCHITECTURE_H

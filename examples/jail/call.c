@@ -48,6 +48,14 @@ static _Noreturn void fail(const char *word, const char *reason)
     exit(FAILED);
 }
 
+/* Writes what was printed. If it can't be written, ends with the reason. */
+static int finish(int is_printed)
+{
+    if (!is_printed || fflush(stdout) != 0)
+        fail("standard output", strerror(errno));
+    return 0;
+}
+
 /* Reads a number of 64 bits; a sign negates it, as in -1. If the word isn't a number, ends with the reason. */
 static unsigned long number_of(const char *word, const char *reason)
 {
@@ -76,9 +84,9 @@ int main(int count, char **words)
     long result;
 
     if (count == 2 && strcmp(words[1], "--help") == 0)
-        return printf("%s%s", usage, help) < 0 || fflush(stdout) != 0 ? FAILED : 0;
+        return finish(printf("%s%s", usage, help) >= 0);
     if (count == 2 && strcmp(words[1], "--version") == 0)
-        return puts("call " VERSION) < 0 || fflush(stdout) != 0 ? FAILED : 0;
+        return finish(puts("call " VERSION) >= 0);
     if (count < 2 || count > 2 + ARGUMENTS) {
         fputs(usage, stderr);
         return FAILED;
@@ -90,8 +98,6 @@ int main(int count, char **words)
     errno = 0;
     result = syscall(number, arguments[0], arguments[1], arguments[2], arguments[3], arguments[4], arguments[5]);
     if (result == -1 && errno != 0)
-        printf("errno %d: %s\n", errno, strerror(errno));
-    else
-        printf("%ld\n", result);
-    return fflush(stdout) == 0 ? 0 : FAILED;
+        return finish(printf("errno %d: %s\n", errno, strerror(errno)) >= 0);
+    return finish(printf("%ld\n", result) >= 0);
 }

@@ -117,6 +117,14 @@ static _Noreturn void fail(int status, const char *what)
     fail_for(status, what, strerror(errno));
 }
 
+/* Prints two texts on standard output; if they can't be written, reports why, and ends. */
+static int print(const char *first, const char *second)
+{
+    if (fputs(first, stdout) < 0 || fputs(second, stdout) < 0 || fflush(stdout) != 0)
+        fail(FAILED, "standard output");
+    return 0;
+}
+
 /* Opens the standard streams that are closed, so that no other file becomes one of them. */
 static void open_streams(void)
 {
@@ -371,9 +379,9 @@ int main(int count, char **words)
 
     open_streams();
     if (count == 2 && strcmp(words[1], "--help") == 0)
-        return printf("%s%s", usage, help) < 0 || fflush(stdout) != 0 ? FAILED : 0;
+        return print(usage, help);
     if (count == 2 && strcmp(words[1], "--version") == 0)
-        return puts("jail " VERSION) < 0 || fflush(stdout) != 0 ? FAILED : 0;
+        return print("jail ", VERSION "\n");
     words += count > 0;
     while (*words != NULL && take_option(*words, &policy.options))
         words++;

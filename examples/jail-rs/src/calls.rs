@@ -1,7 +1,7 @@
 //! The two calls that the standard library doesn't offer. All `unsafe` code of the jailer is here.
 
-use std::ffi::{c_int, c_long};
 use std::io;
+use std::os::raw::{c_int, c_long};
 
 extern "C" {
     fn signal(number: c_int, handler: usize) -> usize;

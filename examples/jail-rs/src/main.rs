@@ -16,9 +16,10 @@ use seccompiler::{
     apply_filter_with_flags, compile_from_json_in, sock_filter, BpfMap, BpfProgram, Layout,
 };
 use std::env::{self, consts::ARCH};
-use std::ffi::{c_ulong, OsStr, OsString};
+use std::ffi::{OsStr, OsString};
 use std::fs::{self, File};
-use std::io::{self, Read};
+use std::io::{self, Read, Write};
+use std::os::raw::c_ulong;
 use std::os::unix::ffi::OsStrExt;
 use std::os::unix::process::{CommandExt, ExitStatusExt};
 use std::process::{Command, ExitCode, Stdio};
@@ -158,6 +159,14 @@ fn command_of(words: &[OsString]) -> Result<&[OsString], Failure> {
     }
 }
 
+/// Returns a path and the command after it.
+fn path_and_command(words: &[OsString]) -> Result<(&OsString, &[OsString]), Failure> {
+    match words {
+        [path, command @ ..] => Ok((path, command_of(command)?)),
+        [] => Err(Failure::Words),
+    }
+}
+
 /// What is to be run, and under what: a path, its programs, and the command.
 type Jailed<'a> = (&'a OsStr, Programs, &'a [OsString]);
 
@@ -168,10 +177,10 @@ fn of_policy(words: &[OsString], layout: Layout) -> Result<Jailed<'_>, Failure> 
         [front, ..] if front.as_bytes().starts_with(b"--") => return Err(Failure::Words),
         _ => words,
     };
-    let [path, names, command @ ..] = words else {
-        return Err(Failure::Words);
+    let (path, names, command) = match words {
+        [path, names, command @ ..] => (path, names, command_of(command)?),
+        _ => return Err(Failure::Words),
     };
-    let command = command_of(command)?;
     let programs = compiled(path, layout)?;
     let programs = match names == "--" {
         true => only(path, programs)?,
@@ -182,10 +191,7 @@ fn of_policy(words: &[OsString], layout: Layout) -> Result<Jailed<'_>, Failure> 
 
 /// Takes the program of a file.
 fn of_program(words: &[OsString]) -> Result<Jailed<'_>, Failure> {
-    let [path, command @ ..] = words else {
-        return Err(Failure::Words);
-    };
-    let command = command_of(command)?;
+    let (path, command) = path_and_command(words)?;
     let bytes = File::open(path).and_then(read_program);
     let bytes = bytes.map_err(|error| Failure::File(path.clone(), error))?;
     Ok((path, program_of(path, &bytes)?, command))
@@ -198,10 +204,7 @@ fn of_profile(words: &[OsString]) -> Result<Jailed<'_>, Failure> {
     while words.get(count).map_or(false, is_option) {
         count += 2;
     }
-    let [path, command @ ..] = words.get(count..).unwrap_or(&[]) else {
-        return Err(Failure::Words);
-    };
-    let command = command_of(command)?;
+    let (path, command) = path_and_command(words.get(count..).unwrap_or(&[]))?;
     let bytes = compiled_profile(&words[..count], path)?;
     Ok((path, program_of(path, &bytes)?, command))
 }
@@ -227,17 +230,30 @@ fn jail(words: &[OsString]) -> Result<(), Failure> {
     Err(Failure::Command(command[0].clone(), error))
 }
 
+/// Prints a text. If it can't be written, a line on standard error says why.
+fn print(text: &str) -> ExitCode {
+    let mut output = io::stdout();
+    let written = output.write_all(text.as_bytes());
+    match written.and_then(|()| output.flush()) {
+        Ok(()) => ExitCode::SUCCESS,
+        Err(error) => report(&Failure::File("standard output".into(), error)),
+    }
+}
+
+/// Reports a failure. If it can't be written, only the exit status says that there is one.
+fn report(failure: &Failure) -> ExitCode {
+    let _ = io::stderr().write_all(failure.to_string().as_bytes());
+    ExitCode::from(failure.status())
+}
+
 fn main() -> ExitCode {
     let words: Vec<OsString> = env::args_os().skip(1).collect();
     match &words[..] {
-        [word] if word == "--help" => print!("{USAGE}{HELP}"),
-        [word] if word == "--version" => println!("jail-rs {}", env!("CARGO_PKG_VERSION")),
-        _ => {
-            if let Err(failure) = jail(&words) {
-                eprint!("{failure}");
-                return ExitCode::from(failure.status());
-            }
-        }
+        [word] if word == "--help" => print(&format!("{USAGE}{HELP}")),
+        [word] if word == "--version" => print(&format!("jail-rs {}\n", env!("CARGO_PKG_VERSION"))),
+        _ => match jail(&words) {
+            Ok(()) => ExitCode::SUCCESS,
+            Err(failure) => report(&failure),
+        },
     }
-    ExitCode::SUCCESS
 }

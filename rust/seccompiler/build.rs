@@ -7,13 +7,15 @@
 //! 2. the folder into which `rt lib` writes, if this crate is part of the repository;
 //! 3. the folder that pkg-config prints for `seccompiler`.
 //!
-//! A package has `libseccompiler.a`, which is whole. `rt lib` makes `libseccompiler_c.a`, which also needs an archive of
-//! the kit, by which it asks for memory. That is in the folder that `RATTLE_KIT` names, or in the kit of `rt`.
+//! A package has `libseccompiler.a`, which is whole, for x86_64 or for aarch64; one for another architecture than that of
+//! the target is passed over. `rt lib` makes `libseccompiler_c.a` for x86_64, which also needs an archive of the kit, by
+//! which it asks for memory. That is in the folder that `RATTLE_KIT` names, or in the kit of `rt`.
 //!
 //! If the library isn't found, a warning says what to do. Then only linking fails: `cargo check`, `doc` and `clippy`
 //! work.
 
 use std::env;
+use std::fs;
 use std::path::{Path, PathBuf};
 use std::process::Command;
 
@@ -46,6 +48,13 @@ fn kit() -> Option<PathBuf> {
     Some(top.join("c")).filter(|folder| folder.join("liblibc_c.a").exists())
 }
 
+/// Returns whether an archive's first object is for the machine of this number, `e_machine` of `elf(5)`.
+fn is_for(archive: &Path, machine: u16) -> bool {
+    let bytes = fs::read(archive).unwrap_or_default();
+    let object = bytes.windows(20).find(|it| it.starts_with(b"\x7fELF"));
+    object.map_or(false, |it| it[18..] == machine.to_le_bytes())
+}
+
 /// Returns the folders in which the library may be, in the order in which they are searched.
 fn places() -> Vec<PathBuf> {
     if let Some(named) = env::var_os("SECCOMPILER_LIB") {
@@ -69,16 +78,24 @@ fn link(folder: &Path, archive: &str) {
 /// Links the library, or says what to do.
 fn link_library() -> Result<(), String> {
     let target = |part| env::var(part).unwrap_or_default();
-    if target("CARGO_CFG_TARGET_OS") != "linux" || target("CARGO_CFG_TARGET_ARCH") != "x86_64" {
-        return Err("The proved library runs only on Linux on x86_64.".to_string());
-    }
+    let (system, architecture) = (
+        target("CARGO_CFG_TARGET_OS"),
+        target("CARGO_CFG_TARGET_ARCH"),
+    );
+    let machine = match (system.as_str(), architecture.as_str()) {
+        ("linux", "x86_64") => 62,
+        ("linux", "aarch64") => 183,
+        _ => {
+            return Err("The proved library runs only on Linux on x86_64 and aarch64.".to_string())
+        }
+    };
     let places = places();
     for folder in &places {
-        if folder.join(WHOLE).exists() {
+        if is_for(&folder.join(WHOLE), machine) {
             link(folder, WHOLE);
             return Ok(());
         }
-        if folder.join(BARE).exists() {
+        if is_for(&folder.join(BARE), machine) {
             let kit = kit().ok_or(
                 "The archive of `rt lib` needs liblibc_c.a of the Rattle kit: put `rt` on the path, or set \
                  RATTLE_KIT to the kit's folder.",
@@ -93,7 +110,7 @@ fn link_library() -> Result<(), String> {
         .map(|it| format!("\n  {}", it.display()))
         .collect();
     Err(format!(
-        "{ADVICE}\nNeither {WHOLE} nor {BARE} is in any of{tried}"
+        "{ADVICE}\nNeither {WHOLE} nor {BARE} for {architecture} is in any of{tried}"
     ))
 }
 

@@ -3,8 +3,8 @@
 use crate::program::BpfProgramRef;
 use crate::sys;
 use crate::{Error, Result};
-use std::ffi::c_ulong;
 use std::io;
+use std::os::raw::c_ulong;
 
 const SECCOMP_FILTER_FLAG_TSYNC: c_ulong = 1;
 const EINVAL: i32 = 22;
@@ -63,9 +63,8 @@ pub fn apply_filter_with_flags(bpf_filter: BpfProgramRef<'_>, flags: c_ulong) ->
     if bpf_filter.is_empty() {
         return Err(Error::EmptyFilter);
     }
-    let Ok(length) = u16::try_from(bpf_filter.len()) else {
-        return Err(Error::Seccomp(io::Error::from_raw_os_error(EINVAL)));
-    };
+    let length = u16::try_from(bpf_filter.len())
+        .map_err(|_| Error::Seccomp(io::Error::from_raw_os_error(EINVAL)))?;
     sys::set_no_new_privs().map_err(Error::Prctl)?;
     match sys::set_mode_filter(bpf_filter, length, flags) {
         Ok(0) => Ok(()),

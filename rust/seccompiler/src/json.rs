@@ -20,7 +20,8 @@ const MESSAGE_PER_BYTE: usize = 4;
 const SHORT_MESSAGE: usize = 256;
 
 /// How a message begins if the text isn't JSON.
-const NO_JSON: [&str; 2] = ["Error parsing Json: ", "Repeated key"];
+const PARSING: &str = "Error parsing Json: ";
+const REPEATED: &str = "Repeated key";
 
 /// Why a text gives no filters.
 ///
@@ -30,8 +31,8 @@ const NO_JSON: [&str; 2] = ["Error parsing Json: ", "Repeated key"];
 pub enum JsonFrontendError {
     /// The reader failed.
     Read(io::Error),
-    /// The text isn't JSON in UTF-8, nests too deep, or repeats a key. The sentence says which.
-    Json(String),
+    /// The text isn't JSON in UTF-8, nests too deep, or repeats a key.
+    Json(NoJson),
     /// The text is JSON, but not a policy for the architecture: the path of the place, and what is wrong there.
     Policy(String),
 }
@@ -40,7 +41,8 @@ impl error::Error for JsonFrontendError {
     fn source(&self) -> Option<&(dyn error::Error + 'static)> {
         match self {
             JsonFrontendError::Read(error) => Some(error),
-            _ => None,
+            JsonFrontendError::Json(error) => Some(error),
+            JsonFrontendError::Policy(_) => None,
         }
     }
 }
@@ -48,9 +50,41 @@ impl error::Error for JsonFrontendError {
 impl fmt::Display for JsonFrontendError {
     fn fmt(&self, f: &mut fmt::Formatter<'_>) -> fmt::Result {
         match self {
-            JsonFrontendError::Read(error) => write!(f, "Error parsing Json: {error}"),
-            JsonFrontendError::Json(text) | JsonFrontendError::Policy(text) => f.write_str(text),
+            JsonFrontendError::Read(error) => write!(f, "{PARSING}{error}"),
+            JsonFrontendError::Json(error) if error.is_repeated => write!(f, "{error}"),
+            JsonFrontendError::Json(error) => write!(f, "{PARSING}{error}"),
+            JsonFrontendError::Policy(text) => f.write_str(text),
         }
+    }
+}
+
+/// Why a text isn't JSON without repeated keys: what is wrong, and the line and column if the library says them.
+///
+/// In the crate this is an error of `serde_json`.
+#[derive(Debug)]
+pub struct NoJson {
+    is_repeated: bool,
+    text: String,
+}
+
+impl NoJson {
+    /// Returns what a message of the library says of a text that isn't JSON, or the message if it says something else.
+    fn of(mut text: String) -> std::result::Result<Self, String> {
+        let is_repeated = text.starts_with(REPEATED);
+        if text.starts_with(PARSING) {
+            text.drain(..PARSING.len());
+        } else if !is_repeated {
+            return Err(text);
+        }
+        Ok(NoJson { is_repeated, text })
+    }
+}
+
+impl error::Error for NoJson {}
+
+impl fmt::Display for NoJson {
+    fn fmt(&self, f: &mut fmt::Formatter<'_>) -> fmt::Result {
+        f.write_str(&self.text)
     }
 }
 
@@ -252,10 +286,10 @@ impl<'a> Policy<'a> {
             (TOO_LARGE, length) => {
                 BackendError::FilterTooLarge(length.unwrap_or(BPF_MAX_LEN + 1)).into()
             }
-            _ if NO_JSON.iter().any(|front| message.starts_with(front)) => {
-                JsonFrontendError::Json(message).into()
-            }
-            _ => JsonFrontendError::Policy(message).into(),
+            _ => match NoJson::of(message) {
+                Ok(error) => JsonFrontendError::Json(error).into(),
+                Err(message) => JsonFrontendError::Policy(message).into(),
+            },
         }
     }
 }

@@ -42,9 +42,9 @@
 //!
 //! `json` has `compile_from_json`, and `serde` has `Deserialize` of operators, lengths and actions.
 //!
-//! The crate runs on Linux on x86_64, for which the library's archive is built. Hosts of aarch64 and riscv64 are missing:
-//! on them, and if the library isn't found, `cargo check`, `doc` and `clippy` work, and linking fails. Filters are
-//! compiled for x86_64, aarch64 and riscv64.
+//! The crate runs on Linux on x86_64 and aarch64, for which packages have the library. Hosts of riscv64 are missing: on
+//! them, and if the library isn't found, `cargo check`, `doc` and `clippy` work, and linking fails. Filters are compiled
+//! for x86_64, aarch64 and riscv64.
 //!
 //! # Examples
 //!
@@ -95,7 +95,7 @@ pub use condition::SeccompCondition;
 pub use filter::SeccompFilter;
 pub use install::{apply_filter, apply_filter_all_threads, apply_filter_with_flags};
 #[cfg(feature = "json")]
-pub use json::{compile_from_json, compile_from_json_in, JsonFrontendError};
+pub use json::{compile_from_json, compile_from_json_in, JsonFrontendError, NoJson};
 pub use program::{
     check, compare, run, sock_filter, BpfProgram, BpfProgramRef, Calls, Comparison, Layout,
     ProgramError, Relation,
@@ -104,9 +104,9 @@ pub use rule::SeccompRule;
 
 use std::collections::HashMap;
 use std::error;
-use std::ffi::c_long;
 use std::fmt;
 use std::io;
+use std::os::raw::c_long;
 
 /// Programs under the names of their filters, which are mostly those of kinds of threads.
 pub type BpfMap = HashMap<String, BpfProgram>;

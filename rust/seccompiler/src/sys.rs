@@ -6,10 +6,10 @@
 //! which are borrowed for the call. No tool checks that the declarations are those of the header: compare them.
 
 use crate::program::sock_filter;
-#[cfg(feature = "json")]
-use std::ffi::c_char;
-use std::ffi::{c_int, c_long, c_ulong};
 use std::io;
+#[cfg(feature = "json")]
+use std::os::raw::c_char;
+use std::os::raw::{c_int, c_long, c_ulong};
 
 /// `struct seccompiler_chain`: the rules for one call.
 #[derive(Clone, Copy)]
@@ -383,7 +383,7 @@ pub(crate) fn set_mode_filter(
     // SAFETY: the kernel reads `lent` and the instructions, which it names with their length, and keeps
     // neither.
     match unsafe { syscall(SYS_SECCOMP, SECCOMP_SET_MODE_FILTER, flags, lent) } {
-        ..=-1 => Err(io::Error::last_os_error()),
+        answer if answer < 0 => Err(io::Error::last_os_error()),
         answer => Ok(answer),
     }
 }

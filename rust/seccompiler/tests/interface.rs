@@ -7,9 +7,9 @@ use seccompiler::{
 };
 use std::collections::{BTreeMap, HashMap};
 use std::error;
-use std::ffi::{c_long, c_uchar, c_uint, c_ushort};
 use std::fmt::{Debug, Display};
 use std::io;
+use std::os::raw::{c_long, c_uchar, c_uint, c_ushort};
 
 /// The types and the calls, as a caller may write them out.
 const _: fn(u8, SeccompCmpArgLen, SeccompCmpOp, u64) -> Result<SeccompCondition, BackendError> =

@@ -163,8 +163,9 @@ fn what_is_no_policy_is_told() {
     ];
     for (text, told) in rows {
         let error = refused(text.as_bytes());
-        let Error::JsonFrontend(inner) = &error else {
-            panic!("{error:?}");
+        let inner = match &error {
+            Error::JsonFrontend(inner) => inner,
+            _ => panic!("{error:?}"),
         };
         assert_eq!(inner.to_string(), told);
         assert!(matches!(inner, JsonFrontendError::Policy(text) if text == told));
@@ -195,7 +196,18 @@ fn what_is_no_json_is_told() {
         let front = "Json Frontend error: Error parsing Json: ";
         assert!(text_of_error.starts_with(front), "{text_of_error}");
         assert!(text_of_error.len() > front.len(), "{text_of_error}");
+        // As in the crate, where it is serde_json's error, what is wrong is the end of the chain.
+        let last = error.source().and_then(|it| it.source());
+        let last = last.expect("what is wrong with the text");
+        assert_eq!(last.to_string(), text_of_error[front.len()..]);
+        assert!(last.source().is_none(), "{last:?}");
     }
+    let error = refused(br#"{"a": 1, "a": 1}"#);
+    let text = "Json Frontend error: Repeated key in Json.";
+    assert_eq!(error.to_string(), text);
+    let last = error.source().and_then(|it| it.source());
+    let last = last.expect("what is wrong with the text");
+    assert_eq!(last.to_string(), "Repeated key in Json.");
 }
 
 /// 1000 rules of one condition take 5 instructions each, and 7 are around them; the first such filter by name is reported.

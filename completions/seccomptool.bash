@@ -1,7 +1,8 @@
 # Completions of seccomptool for bash: source this file, or install it as share/bash-completion/completions/seccomptool.
 # SPDX-License-Identifier: Apache-2.0 OR BSD-3-Clause
 #
-# Commands, options and their values are those of the program's own help, and filters those of a policy on the line.
+# Commands, options and their values are those of the program's own help, filters those of a policy on the line, and calls those that
+# the program knows.
 
 # Prints the program that answers for the command of this name. The script at the top of the repository would prove and
 # build the program first, so only the built one answers there.
@@ -69,10 +70,29 @@ _seccomptool_add_filters() {
     done
 }
 
+# Adds the names of the calls of the architecture on the line: those that the program learns of a log of all their numbers.
+_seccomptool_add_calls() {
+    local arch=x86_64 value=c000003e at names
+    for ((at = 2; at < COMP_CWORD; at++)); do
+        if [[ ${COMP_WORDS[at]} == @(-a|--arch) ]]; then
+            arch=${COMP_WORDS[at + 1]}
+            [[ $arch != = ]] || arch=${COMP_WORDS[at + 2]}
+        fi
+    done
+    case $arch in
+    aarch64 | arm64) value=c00000b7 ;;
+    riscv64) value=c00000f3 ;;
+    esac
+    mapfile -t names < <(printf "type=1326 audit(0.0:0): arch=$value syscall=%d\n" {0..1023} | "$1" learn -a "$arch" 2> /dev/null |
+        sed -nE 's/.*"syscall": "([a-z0-9_]+)".*/\1/p')
+    _seccomptool_add "${names[@]}"
+}
+
 # Adds what may stand for the option's value or the argument of this name in a help, with - where that is standard input.
 _seccomptool_add_of() {
     case $1 in
     FILTER) _seccomptool_add_filters "$2" ;;
+    CALL) _seccomptool_add_calls "$2" ;;
     FILE | NEW | OLD | POLICY | SUBJECT | TRACE) _seccomptool_add_files ;;
     esac
     [[ -z $1 ]] || ! grep -q "^ *[<[]$1[]>].* - for standard input" <<< "$3" || _seccomptool_add -

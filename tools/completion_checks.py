@@ -10,7 +10,10 @@ function and prints COMPREPLY. What is wanted comes from the programs' help and 
 - the commands are exactly those that the help lists, and each command's options exactly those of its own help;
 - an option's values are those that its help lists; a file is completed if the help names one, and `-` beside it
   if the help says that it is standard input; nothing is completed for any other argument;
-- filters are those of the policy on the line, and what their names hold isn't run by the shell;
+- filters are those of the policy on the line, and what their names hold isn't run by the shell; calls are those of
+  tools/call_names;
+- of the jailer, which is linked with nothing here, options are those of its help, and filters those of the policy; then
+  the command is completed as any command is. zsh takes its completions, and not its own for the jail of FreeBSD;
 - the scripts at the top of the repository, which would build the programs, aren't run.
 
 Prints each difference, and as its last line 'N passed, M failed'.
@@ -75,8 +78,15 @@ def commands_of(text):
     return re.findall(r"^  ([a-z]+)\b", listed[1] if listed else "", re.M)
 
 
+def calls_of(arch):
+    """Returns the names of the calls of an architecture."""
+    return sorted(it.split()[0] for it in (TOP / f"tools/call_names/{arch}").read_text().splitlines())
+
+
 def wanted_for(kind, files, text=""):
     """Returns what is completed if a help names this kind of argument. Bash itself quotes the names of files."""
+    if kind == "CALL":
+        return calls_of("x86_64")
     is_input = re.search(rf"^ +[<\[]{kind}[>\]].* - for standard input", text, re.M) is not None
     return sorted([*(files if kind in FILES else []), *(["-"] if is_input else [])])
 
@@ -162,18 +172,38 @@ def compare_seccompc(results, folder):
 # What zsh and fish complete for a line, one word below the other: zsh's function calls others, which print what they are given.
 ASKED_OF = {
     "zsh": ("""_describe() { print -l -- ${(P)2%%:*} }; compadd() { shift; print -l -- $@ }; _files() { print -l -- * }
-            file=$1; shift; words=("$@"); CURRENT=$#; source $file""", "_seccomptool"),
-    "fish": ("""source $argv[1]; complete -C"$(string join ' ' -- $argv[2..])" | string replace -r '\\t.*' ''""", "seccomptool.fish"),
+            _normal() { print -l -- "$CURRENT of $words" }; _message() { }
+            file=$1; shift; words=("$@"); CURRENT=$#; source $file""", "_{}"),
+    "fish": ("""source $argv[1]; complete -C"$(string join ' ' -- $argv[2..])" | string replace -r '\\t.*' ''""", "{}.fish"),
 }
+# What zsh would complete jail by, after it has looked for completions in these folders.
+TAKEN_BY_ZSH = """fpath=($1 $fpath); autoload -Uz compinit; compinit -D -u; autoload +X $_comps[jail]
+print -- $functions_source[$_comps[jail]]"""
 
 
-def completed_by(shell, folder, *words):
+def completed_by(shell, folder, *words, program="seccomptool"):
     """Returns what this shell completes for the last of these words after the program, in order."""
     script, name = ASKED_OF[shell]
     command = {"zsh": ["zsh", "-f", "-c", script, "zsh"], "fish": ["fish", "-N", "-c", script]}[shell]
-    command += [TOP / f"completions/{name}", "./seccomptool", *words]
+    command += [TOP / "completions" / name.format(program), f"./{program}", *words]
     ran = subprocess.run(command, cwd=folder, capture_output=True, text=True, timeout=SECONDS, env={**os.environ, "HOME": str(folder)})
     return sorted(ran.stdout.splitlines()) + ran.stderr.splitlines()
+
+
+def compare_arguments_of(results, folder, shell, files):
+    """Compares what zsh or fish completes for calls, for files, and for each word of seccompc."""
+    for words, wanted in (
+        (["call", ""], calls_of("x86_64")), (["call", "-a", "arm64", ""], calls_of("aarch64")), (["call", "read", ""], files),
+        (["explain", ""], files), (["explain", "-f", "main", "given", ""], calls_of("x86_64")),
+    ):
+        results.compare(f"{shell}: seccomptool {words}", (wanted,), (completed_by(shell, folder, *words),))
+    architectures = completed(folder, "seccompc", "run", "")
+    for words, wanted in (
+        ([""], ["list", "probe", "run"]), (["list", ""], architectures), (["run", ""], architectures), (["run", "x86_64", ""], files),
+        (["list", "x86_64", ""], []),
+    ):
+        given = completed_by(shell, folder, *words, program="seccompc")
+        results.compare(f"{shell}: seccompc {words}", (wanted,), (given,))
 
 
 def compare_shell(results, folder, shell):
@@ -183,6 +213,7 @@ def compare_shell(results, folder, shell):
         return
     commands = commands_of(printed(folder, "./seccomptool --help"))
     files = sorted(it.name for it in folder.iterdir())
+    compare_arguments_of(results, folder, shell, files)
     for words in ([""], ["help", ""]):
         results.compare(f"{shell}: seccomptool {words}", (sorted(commands),), (completed_by(shell, folder, *words),))
     for command in (it for it in commands if it != "help"):
@@ -190,7 +221,7 @@ def compare_shell(results, folder, shell):
         options = sorted(option for _, option, _, _ in found)
         given = [it for it in completed_by(shell, folder, command, "--") if it.startswith("--")]
         results.compare(f"{shell}: seccomptool {command} --", (options,), (given,))
-        for short, option, kind, values in found:
+        for short, option, kind, values in (it for it in found if it[2] != "FILTER"):
             wanted = sorted(values.split(", ")) if values else files
             for form in (it for it in (short, option) if it and kind):
                 given = completed_by(shell, folder, command, form, "")
@@ -211,7 +242,44 @@ def compare_filters(results, folder):
             results.compare(f"seccomptool {command}: filters that begin with m", (["main"],), (given,))
     given = completed(folder, "seccompc", "run", "x86_64", "policy.json", "")
     results.compare("seccompc run: filters", (stated,), (given,))
+    for shell in (it for it in ASKED_OF if shutil.which(it) is not None):
+        for program, words in (("seccompc", ["run", "x86_64", "policy.json", ""]), ("seccomptool", ["show", "policy.json", "-f", ""])):
+            given = completed_by(shell, folder, *words, program=program)
+            results.compare(f"{shell}: {program}: filters", (sorted(FILTERS),), (given,))
     results.compare("a filter's name is run by the shell", (False,), ((folder / "made").exists(),))
+
+
+def compare_jail(results, folder):
+    """Compares what the shells complete for the jailer: options of its help, files, filters, and then a command."""
+    source = (TOP / "examples/jail/jail.c").read_text()
+    options = re.findall(r'^    "  (--[a-z-]+) +', source, re.M) + ["--program", "--oci"]
+    files = sorted(it.name for it in folder.iterdir())
+    named = [it for it in FILTERS if "$" not in it]
+    (folder / "two.json").write_text(json.dumps({name: ENTRIES for name in named}))
+    files = sorted([*files, "two.json"])
+    rows = [
+        ([""], files), (["--tree", "--log", ""], files), (["-"], sorted(options)), (["--program", ""], files), (["--oci", ""], files),
+        (["--oci", "-"], ["--cap", "--kernel"]), (["--oci", "--cap", ""], []), (["--oci", "--kernel", "6.1", ""], files),
+        (["two.json", ""], sorted(named)), (["two.json", "main,"], sorted(f"main,{it}" for it in named)), (["--", "two.json", ""], sorted(named)),
+    ]
+    for words, wanted in rows:
+        given = completed(folder, "jail", *words)
+        results.compare(f"jail {words}", (sorted(it if it in files else quoted(it) for it in wanted),), (given,))
+        for shell in (it for it in ASKED_OF if shutil.which(it) is not None):
+            given = completed_by(shell, folder, *words, program="jail")
+            results.compare(f"{shell}: jail {words}", ([it for it in wanted if it[0] != "."],), (given,))
+    for front in (["two.json", "main"], ["two.json", "main", "--"], ["two.json", "--"], ["--program", "given"], ["--log", "--oci", "given", "--"]):
+        results.compare(f"jail {front}: a command", (True,), ("readlink" in completed(folder, "jail", *front, "readl"),))
+        if shutil.which("fish") is not None:
+            given = completed_by("fish", folder, *front, "readl", program="jail")
+            results.compare(f"fish: jail {front}: a command", (True,), ("readlink" in given,))
+        if shutil.which("zsh") is not None:
+            given = completed_by("zsh", folder, *front, "cat", "", program="jail")
+            results.compare(f"zsh: jail {front}: a command", (["2 of cat "],), (given,))
+    if shutil.which("zsh") is not None:
+        given = subprocess.run(["zsh", "-f", "-c", TAKEN_BY_ZSH, "zsh", TOP / "completions"], capture_output=True, text=True, check=False)
+        results.compare("zsh: jail is completed by", (f"{TOP}/completions/_jail\n",), (given.stdout,))
+    (folder / "two.json").unlink()
 
 
 def compare_scripts(results, folder):
@@ -238,6 +306,9 @@ def compare_completions(results, programs):
         for shell in ASKED_OF:
             compare_shell(results, folder, shell)
         compare_filters(results, folder)
+        (folder / "jail").symlink_to("/bin/true")
+        compare_jail(results, folder)
+        (folder / "jail").unlink()
         for name in NAMES:
             (folder / name).unlink()
         compare_scripts(results, folder)

@@ -3,7 +3,8 @@
 //! If the environment variable `SECCOMPILER_LIB` is set, the library is in the folder that it names. Otherwise these
 //! folders are searched, in this order:
 //!
-//! 1. `lib` of the package or the installation that this crate is part of;
+//! 1. `lib` of the package or the installation that this crate is part of, and the folder there that Debian has for the
+//!    architecture;
 //! 2. the folder into which `rt lib` writes, if this crate is part of the repository;
 //! 3. the folder that pkg-config prints for `seccompiler`.
 //!
@@ -24,6 +25,7 @@ const WHOLE: &str = "libseccompiler.a";
 const BARE: &str = "libseccompiler_c.a";
 
 const INSTALLED: &str = "../../../../lib";
+const OF_DEBIAN: &str = "-linux-gnu";
 const BUILT: &str = "../../crates/seccompiler_c/out";
 
 const ADVICE: &str = "\
@@ -55,14 +57,16 @@ fn is_for(archive: &Path, machine: u16) -> bool {
     object.map_or(false, |it| it[18..] == machine.to_le_bytes())
 }
 
-/// Returns the folders in which the library may be, in the order in which they are searched.
-fn places() -> Vec<PathBuf> {
+/// Returns the folders in which the library for an architecture may be, in the order in which they are searched.
+fn places(architecture: &str) -> Vec<PathBuf> {
     if let Some(named) = env::var_os("SECCOMPILER_LIB") {
         return vec![PathBuf::from(named)];
     }
     let own = PathBuf::from(env::var_os("CARGO_MANIFEST_DIR").expect("cargo sets it"));
     let told = printed("pkg-config", &["--variable=libdir", "seccompiler"]);
-    let places = [own.join(INSTALLED), own.join(BUILT)];
+    let installed = own.join(INSTALLED);
+    let of_debian = installed.join(format!("{architecture}{OF_DEBIAN}"));
+    let places = [installed, of_debian, own.join(BUILT)];
     places.into_iter().chain(told.map(PathBuf::from)).collect()
 }
 
@@ -89,7 +93,7 @@ fn link_library() -> Result<(), String> {
             return Err("The proved library runs only on Linux on x86_64 and aarch64.".to_string())
         }
     };
-    let places = places();
+    let places = places(&architecture);
     for folder in &places {
         if is_for(&folder.join(WHOLE), machine) {
             link(folder, WHOLE);

@@ -3,6 +3,7 @@
 use crate::error::ToolError;
 use std::fs::File;
 use std::io::{ErrorKind, Read};
+use std::os::unix::fs::MetadataExt;
 use std::{fs, io};
 
 // All that stands at a path, or that standard input gives if it is `-`; nothing if there is no path.
@@ -22,22 +23,44 @@ pub(crate) fn whole_of(rt: &HostRuntime, path: Option<&str>) -> Result<Vec<u8>, 
     }
 }
 
-// Whether both paths lead to one file; the first one leads to standard input if it is `-`.
+// Whether what is read at the first path, or from standard input if that is `-`, is the file to which the second path leads: by its
+// device and number there, since one file may have several paths, and standard input none. What is no file isn't written over.
 pub(crate) fn is_same(rt: &HostRuntime, first: &str, second: &str) -> bool {
-    match (fs::canonicalize(rt, first), fs::canonicalize(rt, second)) {
-        (Ok(one), Ok(other)) => first != "-" && one == other,
+    let read = if first == "-" { "/dev/stdin" } else { first };
+    match (fs::metadata(rt, read), fs::metadata(rt, second)) {
+        (Ok(one), Ok(other)) => {
+            other.is_file() && one.dev() == other.dev() && one.ino() == other.ino()
+        }
         _ => false,
     }
 }
 
 // Writes a file whole: beside its place at first, and then in place of an older one, which stays as it was where anything fails.
-// What is no file, as a device, is written as it is.
+// What is no file, as a device, is written as it is. A symbolic link stays, also one that leads to no file yet.
 pub(crate) fn write_whole(rt: &HostRuntime, path: &str, bytes: &[u8]) -> io::Result<()> {
     match fs::canonicalize(rt, path) {
         Ok(older) if older.is_file(rt) => replace(rt, older.as_str(), bytes),
         Ok(_) => fs::write(rt, path, bytes),
+        Err(_) if is_link(rt, path) => write_through(rt, path, bytes),
         Err(_) => replace(rt, path, bytes),
     }
+}
+
+// Whether a symbolic link is at a path.
+fn is_link(rt: &HostRuntime, path: &str) -> bool {
+    matches!(fs::symlink_metadata(rt, path), Ok(found) if found.is_symlink())
+}
+
+// Writes the file to which a symbolic link leads and which isn't there yet: it is empty at first. Nothing is left of it where anything
+// fails.
+fn write_through(rt: &HostRuntime, link: &str, bytes: &[u8]) -> io::Result<()> {
+    fs::write(rt, link, &[])?;
+    let path = fs::canonicalize(rt, link)?;
+    let replaced = replace(rt, path.as_str(), bytes);
+    if replaced.is_err() {
+        let _ = fs::remove_file(rt, path.as_str());
+    }
+    replaced
 }
 
 // Puts a new file at a path.
@@ -50,10 +73,14 @@ fn replace(rt: &HostRuntime, path: &str, bytes: &[u8]) -> io::Result<()> {
     replaced
 }
 
-// Makes an empty file beside a path, under a name that no file has.
+// Makes an empty file in the folder of a path, under a name that no file has. It is short whatever the name of the path is, and there
+// are more than runs that were killed leave.
 fn beside(rt: &HostRuntime, path: &str) -> io::Result<String> {
-    for number in 0..100 {
-        let name = format!(in rt.alloc(); "{path}.{number}.new")?;
+    for number in 0..1_000_000 {
+        let name = match path.rsplit_once('/') {
+            Some((folder, _)) => format!(in rt.alloc(); "{folder}/.seccomptool-{number}.new")?,
+            None => format!(in rt.alloc(); ".seccomptool-{number}.new")?,
+        };
         match File::create_new(rt, name.as_str()) {
             Ok(_) => return Ok(name),
             Err(error) if error.kind() == ErrorKind::AlreadyExists => {}

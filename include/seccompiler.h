@@ -5,7 +5,7 @@
  * The functions of the library for C, version 1.0 of its interface. What each returns, and what it then leaves
  * in the caller's memory, is proved: docs/PROMISES.md says what, and docs/C.md how the library is built and linked.
  * What is said here of memory, threads, stack and system calls, and of how long messages are, is not proved.
- * The library runs on Linux on x86_64, and compiles for three architectures.
+ * The library runs on Linux on x86_64 and aarch64, and compiles for three architectures.
  *
  * EXAMPLE
  *

@@ -40,7 +40,8 @@ def told(words):
     return out.splitlines() if status == 0 else []
 
 
-def symbols_of(path, *options):
-    """Returns the names of a library's symbols that `nm` prints, without their versions, what names these, and what may be missing."""
-    lines = [it.split() for it in told(["nm", *options, path])]
+def symbols_of(path, *options, tools=""):
+    """Returns the names of a library's symbols that `nm` prints, without their versions, what names these, and what may be missing.
+    The commands of another architecture have a name of `tools` in front."""
+    lines = [it.split() for it in told([f"{tools}nm", *options, path])]
     return sorted(it[-1].partition("@")[0] for it in lines if len(it) > 1 and it[-2] not in "wA")

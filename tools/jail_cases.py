@@ -1,6 +1,7 @@
 """What tools/try-jail runs: policies, commands, and what they have to answer."""
 
 import errno
+import json
 import os
 import signal
 
@@ -91,6 +92,14 @@ POLICIES = {
     "no-filters.json": {},
     "comma.json": {"a,b": CALLS, "a": CALLS},
 }
+
+
+def write_policies(folder, more=()):
+    """Writes the policies of the cases, and more, into a folder."""
+    for name, content in {**POLICIES, **dict(more)}.items():
+        content = content if isinstance(content, (str, bytes)) else json.dumps(content)
+        (folder / name).write_bytes(content.encode() if isinstance(content, str) else content)
+
 
 NO_FILTER = "No filter has this name: "
 PARSING = "Error parsing Json: .."

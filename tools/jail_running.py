@@ -13,14 +13,15 @@ BUILD_SECONDS = 1800
 
 
 class Jailer:
-    """One of the two programs, which run a command under a filter."""
+    """One of the two programs, which run a command under a filter; on an emulator, if its words are given."""
 
-    def __init__(self, program, layout=()):
-        self.words = [program, *layout]
+    def __init__(self, program, layout=(), emulator=()):
+        self.words = [*emulator, program, *layout]
         self.name = program.name
+        self.shown = " ".join([*emulator[:1], self.name, *layout])
 
     def __str__(self):
-        return " ".join([self.name, *self.words[1:]])
+        return self.shown
 
     def error(self, number):
         """Returns the text of an error number, as the program says it."""

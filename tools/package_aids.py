@@ -13,10 +13,10 @@ echo "${COMPREPLY[@]}"
 """
 
 
-def check_hardening(results, path):
-    """Looks at what a program is hardened by, as `readelf` and `nm` have it."""
-    text = "\n".join(told(["readelf", "-hldW", path]))
-    symbols = symbols_of(path, "-D", "--undefined-only")
+def check_hardening(results, path, tools=""):
+    """Looks at what a program is hardened by, as `readelf` and `nm` have it. A shadow stack is of x86_64 alone."""
+    text = "\n".join(told([f"{tools}readelf", "-hldW", path]))
+    symbols = symbols_of(path, "-D", "--undefined-only", tools=tools)
     flags = re.search(r"\(FLAGS_1\)(.*)$", text, re.M)
     marks = {
         "loaded at any address": re.search(r"^ *Type: +DYN ", text, re.M) and flags and "PIE" in flags[1],
@@ -24,7 +24,7 @@ def check_hardening(results, path):
         "relocations read-only": "GNU_RELRO" in text,
         "a guarded stack": "__stack_chk_fail" in symbols,
         "checked functions": any(it.endswith("_chk") for it in symbols),
-        "a shadow stack": "SHSTK" in "\n".join(told(["readelf", "-nW", path])),
+        "a shadow stack": tools or "SHSTK" in "\n".join(told(["readelf", "-nW", path])),
     }
     results.compare(f"{path.name} isn't hardened by", [], [what for what, holds in marks.items() if not holds])
 
@@ -50,6 +50,6 @@ def check_aids(results, unpacked):
     for header in sorted((unpacked / "include").iterdir()):
         results.compare(f"{header.name}: the licence", f"/* {licence} */", header.read_text().splitlines()[0])
     check_pages(results, unpacked)
-    for program, command in (("seccomptool", "compile"), ("seccompc", "probe")):
+    for program, command in (("seccomptool", "compile"), ("seccompc", "probe"), ("jail", "share")):
         out, err, status = run(["bash", "--norc", "-c", ASKED, "bash", program], unpacked)
         results.compare(f"completions of {program}", (True, "", 0), (command in out.split(), err, status))

@@ -19,7 +19,7 @@ DEBIAN = f'[source.crates-io]\nreplace-with = "debian"\n[source.debian]\ndirecto
 WANTING = {"libc": ("libc", 'libc = "0.2"\n'), "deserialize": ("serde", 'serde = "1"\n')}
 IN_KERNEL = {"kernel", "threads"}
 # What the front page of the crate's documentation says of hosts, and the terms that it explains.
-HOSTS = r"The crate runs on Linux on (\w+), [^.]*\. Hosts of (\w+) and (\w+) are missing"
+HOSTS = r"The crate runs on Linux on (\w+) and (\w+), [^.]*\. Hosts of (\w+) are missing"
 TERMS = ["condition", "rule", "filter", "match action", "mismatch action", "BPF program", "installs"]
 
 
@@ -67,7 +67,7 @@ def write_project(unpacked, place):
         (place / f"tests/{test}.rs").unlink()
 
 
-def check_alone(results, unpacked, folder, environment):
+def check_alone(results, unpacked, folder, environment, for_aarch64):
     """Builds the crate alone: with a library that is named, and without one, when the crate says what to do and only what links
     fails."""
     alone = folder / "alone"
@@ -84,22 +84,25 @@ def check_alone(results, unpacked, folder, environment):
             out, err, status = run(["cargo", command, "--offline", "--features", "json"], alone, **environment, **more)
             found = "isn't found" in err and "SECCOMPILER_LIB" in err and "rt lib" in err, status
             results.compare(f"cargo {command} without a library: {err[-500:]}", (True, wanted), found)
-    check_front_page(results, alone, named)
+    check_front_page(results, alone, {"x86_64": unpacked, "aarch64": for_aarch64})
 
 
-def check_front_page(results, alone, named):
-    """Compares the hosts that the front page of the documentation names with those for which the build script links the library,
-    and looks for the terms."""
+def check_front_page(results, alone, packages):
+    """Compares the hosts that the front page of the documentation names with those for which the build script links the library of
+    a package, and looks for the terms. It links none for another host."""
     path = alone / "target/doc/seccompiler/index.html"
     page = path.read_text(encoding="utf-8") if path.exists() else ""
     text = " ".join(html.unescape(re.sub(r"<[^>]*>", "", page)).split())
     script = next((alone / "target/debug/build").glob("seccompiler-*/build-script-build"), alone / "none")
     links = {}
+    there = {host: it for host, it in packages.items() if it is not None}
     for host in ("x86_64", "aarch64", "riscv64"):
-        out, _, status = run([script], alone, CARGO_CFG_TARGET_OS="linux", CARGO_CFG_TARGET_ARCH=host, **named)
-        links[host] = status, "rustc-link-search" in out
+        for other, package in there.items():
+            more = {"SECCOMPILER_LIB": str(package / "lib"), "CARGO_CFG_TARGET_OS": "linux", "CARGO_CFG_TARGET_ARCH": host}
+            out, _, status = run([script], alone, **more)
+            links[host, other] = status, "rustc-link-search" in out
     hosts = re.search(HOSTS, text)
-    said = {host: (0, place == 0) for place, host in enumerate(hosts.groups())} if hosts else "none"
+    said = {(host, it): (0, place < 2 and host == it) for place, host in enumerate(hosts.groups()) for it in there} if hosts else "none"
     results.compare("the hosts that the crate's front page names", said, links)
     explained = re.findall(r"<em>([^<]*)</em>", page)
     results.compare("the terms that the crate's front page explains", TERMS, explained)
@@ -119,7 +122,26 @@ def check_style(results, place, environment):
             results.compare(" ".join(words), ("", "", 0), run(words, place, **environment))
 
 
-def check_crate(results, unpacked, folder, why):
+def check_old(results, unpacked, folder, environment):
+    """Lets Debian's own rustc compile the crate, if it is installed: that of Debian 12 is the oldest that it is for."""
+    words = ["--edition", "2021", "--crate-type", "lib", "--crate-name", "seccompiler", "--cfg", 'feature="json"', "--emit=metadata"]
+    if not pathlib.Path("/usr/bin/rustc").exists():
+        print("Debian's rustc isn't installed, so the crate isn't compiled by it")
+        return
+    for words in ([*words, "src/lib.rs"], ["--edition", "2021", "--emit=metadata", "build.rs"]):
+        found = run(["/usr/bin/rustc", "-D", "warnings", *words, "--out-dir", folder], unpacked / CRATE)
+        results.compare(f"Debian's rustc {words[-1]}", ("", "", 0), found)
+
+
+def run_tests(results, place, environment, *words, but=()):
+    """Runs each test of a project, but some."""
+    for test in sorted(it.stem for it in (place / "tests").glob("*.rs") if it.stem not in but):
+        out, err, status = run(["cargo", "test", "--offline", *words, "--test", test], place, **environment)
+        passed = re.search(r"^test result: ok\. [1-9]\d* passed; 0 failed; 0 ignored", out, re.M) is not None
+        results.compare(f"the crate's test {test}: {err[-500:]}{out[-1500:]}", (True, 0), (passed, status))
+
+
+def check_crate(results, unpacked, folder, why, for_aarch64):
     """Runs the tests of the Rust crate over the package."""
     environment = cargo_environment()
     if environment is None:
@@ -127,12 +149,8 @@ def check_crate(results, unpacked, folder, why):
         return
     place, more = folder / "fresh", {**environment, "RUSTFLAGS": "-D warnings", "RUST_BACKTRACE": "0"}
     write_project(unpacked, place)
-    for test in sorted(it.stem for it in (place / "tests").glob("*.rs")):
-        if why is not None and test in IN_KERNEL:
-            continue
-        out, err, status = run(["cargo", "test", "--offline", "--test", test], place, **more)
-        passed = re.search(r"^test result: ok\. [1-9]\d* passed; 0 failed; 0 ignored", out, re.M) is not None
-        results.compare(f"the crate's test {test}: {err[-500:]}{out[-1500:]}", (True, 0), (passed, status))
+    run_tests(results, place, more, but=IN_KERNEL if why is not None else ())
     check_page(results, unpacked, folder, why, more)
-    check_alone(results, unpacked, folder, more)
+    check_alone(results, unpacked, folder, more, for_aarch64)
+    check_old(results, unpacked, folder, more)
     check_style(results, place, more)

@@ -5,7 +5,7 @@ import os
 import re
 import shutil
 
-from commands import ENVIRONMENT, VERSION, run, shell_of
+from commands import ENVIRONMENT, VERSION, run, shell_of, symbols_of
 from console_blocks import blocks_of, compare_block, is_jailed
 from page_checks import anchors_of
 
@@ -16,10 +16,15 @@ LINK = re.compile(r"\]\(([^()\s]+)\)")
 ELSEWHERE = re.compile(r"^\$ (tools/|bench/|rt |cargo|git |\.ci/|examples/jail/build)", re.M)
 
 # Where what Debian's packages have lies in the other.
-MOVED = "share/zsh/vendor-completions/", "share/zsh/site-functions/"
+MOVED = re.compile(r"(?<=^share/zsh/)vendor-completions(?=/)|(?<=^lib/)[a-z0-9_]+-linux-gnu/")
+PLACES = {"vendor-completions": "site-functions"}
 # What they have in another form, or alone.
 OWN = re.compile(r"share/doc/[^/]*/(copyright|changelog\.gz|changelog\.Debian\.gz)$")
-LEFT_OUT = re.compile(r"share/doc/seccompiler/(CHANGELOG\.md|LICENSE-[A-Z0-9a-z-]*|NOTICE)$|README$")
+LEFT_OUT = re.compile(r"share/doc/seccompiler/(CHANGELOG\.md|LICENSE-[A-Z0-9a-z-]*|NOTICE|licences/.*)$|README$|share/seccompiler/rust/.*/LICENSE")
+# What says where files lie.
+PLACING = ["lib/cmake/seccompiler/seccompiler-config.cmake", "lib/pkgconfig/seccompiler.pc", "share/doc/seccompiler/README"]
+TOOLS = {"x86_64-linux-gnu": "", "aarch64-linux-gnu": "aarch64-linux-gnu-"}
+DEBIAN = {"x86_64": "amd64", "aarch64": "arm64"}
 
 
 def check_links(results, unpacked):
@@ -75,8 +80,9 @@ def files_below(top):
     return files
 
 
-def check_debian(results, unpacked, packages, folder):
-    """Unpacks Debian's packages into one folder, and compares its files with the package's; lets lintian look for errors."""
+def check_debian(results, unpacked, packages, folder, machine="x86_64"):
+    """Unpacks Debian's packages into one folder, and compares its files with the package's; lets lintian look for errors and
+    warnings."""
     if not packages:
         print("dpkg-deb isn't installed, so no packages of Debian's kind are made")
         return
@@ -84,11 +90,30 @@ def check_debian(results, unpacked, packages, folder):
     for package in packages:
         results.compare(f"dpkg-deb -x {package.name}", ("", "", 0), run(["dpkg-deb", "-x", package, root], folder))
         if shutil.which("lintian", path=ENVIRONMENT["PATH"]):
-            words = ["lintian", "--allow-root", "--fail-on", "error", "--tag-display-limit", "0", "-L", "error", package]
+            words = ["lintian", "--allow-root", "--fail-on", "error,warning", "--tag-display-limit", "0", "-L", ">=warning", package]
             results.compare(f"lintian {package.name}", ("", "", 0), run(words, folder))
-    found = {it.replace(*MOVED): content for it, content in files_below(root / "usr").items() if not OWN.match(it)}
+    below = files_below(root / "usr").items()
+    found = {MOVED.sub(lambda it: PLACES.get(it[0], ""), it): content for it, content in below if not OWN.match(it)}
     wanted = {it: content for it, content in files_below(unpacked).items() if not LEFT_OUT.match(it)}
-    results.compare("the files of Debian's packages", sorted(wanted), sorted(found))
-    results.compare("files that differ there", [], [it for it in wanted if wanted[it] != found.get(it)])
-    names = [f"{it}_{VERSION}-1_amd64.deb" for it in ("libseccompiler-dev", "seccompiler")]
+    results.compare("the files of Debian's packages", sorted({*wanted, PLACING[2]}), sorted(found))
+    differing = sorted(it for it in wanted if wanted[it] != found.get(it))
+    results.compare("files that differ there", PLACING[:2], differing)
+    names = [f"{it}_{VERSION}-1_{DEBIAN[machine]}.deb" for it in ("libseccompiler-dev", "libseccompiler1", "seccompiler-tools")]
     results.compare("Debian's packages", names, sorted(it.name for it in packages))
+    check_installed_texts(results, root, folder, packages)
+
+
+def check_installed_texts(results, root, folder, packages):
+    """Looks at the texts of Debian's packages: each path that they name is there, and each function has its line of symbols."""
+    texts = [*(root / "usr/share/doc").glob("*/copyright"), root / "usr/share/doc/seccompiler/README"]
+    for text in texts:
+        name, content = text.relative_to(root), text.read_text(encoding="utf-8")
+        paths = set(re.findall(r"/usr/share/(?:doc/)?seccomp[\w./-]*\w", content))
+        results.compare(f"{name}: paths", [], [it for it in paths if not (root / it[1:]).exists()])
+        results.compare(f"{name}: relative paths", [], re.findall(r"(?<![\w/])(?:bin|share|include|lib)/\S*", content))
+    (shared,) = (it for it in packages if it.name.startswith("libseccompiler1_"))
+    run(["dpkg-deb", "-e", shared, folder / "control"], folder)
+    lines = (folder / "control/symbols").read_text().splitlines()
+    (library,) = (root / "usr/lib").glob("*/libseccompiler.so.1")
+    wanted = sorted(it for it in symbols_of(library, "-D", "--defined-only", tools=TOOLS[library.parent.name]))
+    results.compare("the symbols of libseccompiler1", wanted, [it.split("@")[0].strip() for it in lines if it.startswith(" seccompiler_")])

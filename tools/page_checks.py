@@ -33,7 +33,7 @@ from results import Results
 
 TOP = pathlib.Path(__file__).resolve().parent.parent
 LINE = 140
-README_WORDS = 900
+README_WORDS = 800
 PAGES_WORDS = 35000
 CHANGES_WORDS = 1500
 

@@ -372,8 +372,9 @@ int64_t seccompiler_compare(const struct sock_filter *program, size_t count,
 int64_t seccompiler_call_number(uint32_t architecture, const char *name, size_t name_length);
 
 /*
- * Writes the message of a code into the front of `message`: a sentence in ASCII with a NUL byte at its end, cut
- * if the buffer is too short. For a number that is no code it is "Unknown code.".
+ * Writes the message of a code, also of SECCOMPILER_NO_FILE of seccompiler_file.h, into the front of `message`: a
+ * sentence in ASCII with a NUL byte at its end, cut if the buffer is too short. For a number that is no code it is
+ * "Unknown code.".
  *
  * Returns the length of the whole message in bytes, 1 to 100, cut or not.
  */

@@ -25,8 +25,15 @@ CASES = [
     beside("replaced", "chmod 640 older &&", "read.json -o older", "stat -c %a older; ls",
            0, "640\nolder\nread.json\n"),
     beside("linked", "ln -s older link &&", "read.json -o link", "readlink link; wc -c < older", 0, f"older\n{len(TREE)}\n"),
-    beside("dangling", "ln -s newer link &&", "read.json -o link", "wc -c < link", 0, f"{len(TREE)}\n"),
-    beside("taken", "touch older.0.new &&", "read.json -o older", "ls; wc -c < older", 0, f"older\nolder.0.new\nread.json\n{len(TREE)}\n"),
+    beside("dangling", "ln -s newer link &&", "read.json -o link", "readlink link; wc -c < newer; ls -A", 0,
+           f"newer\n{len(TREE)}\nlink\nnewer\nolder\nread.json\n"),
+    beside("astray", "ln -s missing/newer link &&", "read.json -o link", "readlink link; ls -A", 2, "missing/newer\nlink\nolder\nread.json\n",
+           TOOL + "link: " + MISSING),
+    # What runs that were killed have left doesn't keep others from writing, and a name may be as long as any.
+    beside("taken", "touch $(seq -f .seccomptool-%g.new 0 149) &&", "read.json -o older", "ls; ls -A | wc -l; wc -c < older", 0,
+           f"older\nread.json\n152\n{len(TREE)}\n"),
+    *[beside(f"long-{length}", "", f"read.json -o $(printf %0{length}d 0)", f"wc -c < $(printf %0{length}d 0); ls -A | wc -l", 0,
+             f"{len(TREE)}\n3\n") for length in (250, 255)],
     beside("made", "", "read.json -o made.bpf", "ls; wc -c < made.bpf", 0, f"made.bpf\nolder\nread.json\n{len(TREE)}\n"),
     # An older file stays if anything fails, and nothing is left beside it.
     beside("faulty", "", "../no-json.json -o older", "ls; cat older", 2, "older\nread.json\nolder\n",
@@ -41,6 +48,10 @@ CASES = [
       for number, (policy, output) in enumerate([
           ("read.json", "read.json"), ("read.json", "./read.json"), ("read.json", "../onto-2/read.json"), ("link", "read.json"),
           ("read.json", "link")])],
+    *[beside(f"own-input-{number}", "ln read.json other && ln -s read.json link &&", f"- -o {output} < {given}", "cmp read.json ../read.json; ls", 2,
+             "link\nolder\nother\nread.json\n", TOOL + f"{output}: " + ONTO)
+      for number, (given, output) in enumerate([("read.json", "read.json"), ("read.json", "other"), ("other", "link")])],
+    beside("hard-link", "ln read.json other &&", "read.json -o other", "cmp read.json ../read.json", 2, "", TOOL + "other: " + ONTO),
     # So is a record.
     Case("call --record -o made.bin read && ./seccomptool call --record read | cmp -s - made.bin; status=$?; rm made.bin; (exit $status)", 0, "", ""),
     *[Case(f"call -o {it} read", 2, "", "error: the following required arguments were not provided:\n  --record\n..")

@@ -9,30 +9,24 @@ use seccompiler::json::filters_of;
 use seccompiler::{JsonFrontendError, TargetArch};
 use std::alloc::{AllocError, Global};
 
-// Tells a failure, and the file that it is in. Fails if there is no memory for the line.
-pub(crate) fn tell(
-    rt: &HostRuntime,
-    inputs: Inputs<'_>,
-    error: &ToolError,
-) -> Result<(), AllocError> {
+// Tells a failure, and the file that it is in.
+pub(crate) fn tell(rt: &HostRuntime, inputs: Inputs<'_>, error: &ToolError) {
     let path = match error {
         ToolError::OutOfMemory | ToolError::UnknownCall(_, _) | ToolError::Told(_) => None,
         ToolError::Second(_) => Some(inputs.second.unwrap_or("-")),
         _ => Some(inputs.first.unwrap_or("-")),
     };
-    let line = failure(rt.alloc(), path, error)?;
-    let _ = eprint!(rt; "{line}");
-    Ok(())
+    let _ = match failure(rt.alloc(), path, error) {
+        Ok(line) => eprint!(rt; "{line}"),
+        Err(_) => eprintln!(rt; "seccomptool: Out of memory."),
+    };
 }
 
-// Tells notes: lines of text. Fails if there is no memory for them.
-pub(crate) fn tell_notes(rt: &HostRuntime, notes: &[u8]) -> Result<(), AllocError> {
-    if notes.is_empty() {
-        return Ok(());
+// Tells notes: lines of text.
+pub(crate) fn tell_notes(rt: &HostRuntime, notes: &[u8]) {
+    if let Ok(lines) = readable(rt.alloc(), notes, TextKind::Lines) {
+        let _ = eprint!(rt; "{lines}");
     }
-    let lines = readable(rt.alloc(), notes, TextKind::Lines)?;
-    let _ = eprint!(rt; "{lines}");
-    Ok(())
 }
 
 // The line of a failure: the program, the path of what it is in, and the error.

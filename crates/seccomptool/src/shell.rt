@@ -83,12 +83,8 @@ fn misused(rt: &HostRuntime, error: &clap::Error) -> ExitCode
             ExitCode::from(2)
         }
         _ => {
-            let told = match format!(in rt.alloc(); "{error}") {
-                Ok(told) => tell_notes(rt, told.as_bytes()).is_ok(),
-                Err(_) => false,
-            };
-            if !told {
-                let _ = eprintln!(rt; "seccomptool: Out of memory.");
+            if let Ok(told) = format!(in rt.alloc(); "{error}") {
+                tell_notes(rt, told.as_bytes());
             }
             ExitCode::from(2)
         }
@@ -118,38 +114,18 @@ fn carry_out_each(
 {
     let mut status: u8 = 0;
     let mut gathered = Vec::new(rt.alloc());
-    let mut lacks_memory = false;
     for inputs in &asked.inputs {
-        let own = carry_out(
-            rt,
-            asked,
-            *inputs,
-            to_terminal,
-            progress,
-            &mut gathered,
-            &mut lacks_memory,
-        );
+        let own = carry_out(rt, asked, *inputs, to_terminal, progress, &mut gathered);
         status = status.max(own);
     }
     if gathers(asked) {
-        status = status.max(write_gathered(rt, &gathered, &mut lacks_memory));
+        status = status.max(write_gathered(rt, &gathered));
     }
     status
 }
 
-// Tells a failure, but want of memory only the first time.
-fn tell_once(rt: &HostRuntime, inputs: Inputs<'_>, error: &ToolError, lacks_memory: &mut bool) {
-    if !matches!(error, ToolError::OutOfMemory) && tell(rt, inputs, error).is_ok() {
-        return;
-    }
-    if !*lacks_memory {
-        let _ = eprintln!(rt; "seccomptool: Out of memory.");
-    }
-    *lacks_memory = true;
-}
-
 // Writes what is gathered of all that a command is carried out on. The status is that of trouble if that fails.
-fn write_gathered(rt: &HostRuntime, gathered: &[u8], lacks_memory: &mut bool) -> u8
+fn write_gathered(rt: &HostRuntime, gathered: &[u8]) -> u8
     ensures { (result ≡ 0) ⊎ (result ≡ 2) }
 {
     let written = match list_text(rt.alloc(), "diagnostics", gathered) {
@@ -161,7 +137,7 @@ fn write_gathered(rt: &HostRuntime, gathered: &[u8], lacks_memory: &mut bool) ->
         first: None,
         second: None,
     };
-    tell_once(rt, none, &error, lacks_memory);
+    tell(rt, none, &error);
     TROUBLE
 }
 
@@ -183,24 +159,20 @@ fn carry_out(
     to_terminal: bool,
     progress: &mut Watch<'_>,
     gathered: &mut Vec<u8>,
-    lacks_memory: &mut bool,
 ) -> u8
     ensures ended { result ≤ 3 }
     ensures performed { EndsWith asked.now result }
 {
     match carried_out(rt, asked, inputs, to_terminal, progress, gathered) {
         Ok(made) => {
-            if tell_notes(rt, &made.notes).is_err() {
-                tell_once(rt, inputs, &ToolError::OutOfMemory, lacks_memory);
-                return TROUBLE;
-            }
+            tell_notes(rt, &made.notes);
             if made.is_cut {
                 return TROUBLE;
             }
             status_of(made.verdict)
         }
         Err(error) => {
-            tell_once(rt, inputs, &error, lacks_memory);
+            tell(rt, inputs, &error);
             TROUBLE
         }
     }

@@ -38,12 +38,13 @@ def texts_of(page, kind, package="PACKAGE"):
 
 
 def check_page(results, unpacked, folder, why, environment):
-    """Builds the page's new project and program, and the function of the README, and runs the program if the kernel takes filters."""
+    """Builds the page's new project and program, and the functions of both READMEs, and runs the program if the kernel takes filters."""
     place, beside = folder / "new", (unpacked / PAGE).parent.parent
     (place / "src").mkdir(parents=True)
     (place / "Cargo.toml").write_text(PROJECT + texts_of(unpacked / PAGE, "toml", unpacked)[1])
     (place / "src/main.rs").write_text(texts_of(unpacked / PAGE, "rs")[0])
-    (place / "src/lib.rs").write_text("#![allow(dead_code)]\n" + texts_of(TOP / "README.md", "rs")[0])
+    functions = [texts_of(it, "rs")[0] for it in (TOP / "README.md", unpacked / CRATE / "README.md")]
+    (place / "src/lib.rs").write_text("#![allow(dead_code)]\n{}mod of_crate {{\n{}}}\n".format(*functions))
     words = ["cargo", "run" if why is None else "build", "--offline", "--quiet", "--manifest-path", place / "Cargo.toml"]
     wanted = (beside / "examples/cat-policy.json").read_text() if why is None else ""
     results.compare("SWITCHING.md: the new project", (wanted, "", 0), run(words, beside, **environment))

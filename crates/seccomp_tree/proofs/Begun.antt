@@ -1,6 +1,7 @@
 -- Steps: what they have for a number, what is left of them there, one step more, and comparisons laid over them.
 use Rattle.seccomp_tree.proofs.Common.{SeccompCmpArgLen, if◌then◌else◌, length-append, length-drop, sock_filter, Condition, nat_tests, All}
-use Rattle.seccomp_tree.proofs.Common.{take_rest, AreLaid, AreSteps, IsPushed, cases_lt, compares, found_in, is_plain, AreOver, part_of, All-nil, []}
+use Rattle.seccomp_tree.proofs.Common.{take_rest, AreLaid, AreSteps, IsPushed, cases_lt, compares, found_in, is_plain}
+use Rattle.seccomp_tree.proofs.Common.{AreOver, part_of, All-nil, []}
 use Rattle.seccomp_tree.proofs.Common.{IsTurn, Target, get_or, length, nat_eq, nat_le, nat_lt, AllIn, arith, Bool, IsIn, List, Step, drop}
 use Rattle.seccomp_tree.proofs.Common.{refl, take, true, zero, ◌++◌, inl, inr, suc, ◌+◌, ◌-◌, ◌<◌, ◌^◌, ◌∙◌, ◌∷◌, ◌≡◌, ◌≢◌, ◌≤◌, ◌⊎◌, ℕ}
 use Rattle.seccomp_tree.specs.Code.{AreFilled, filled_by, numbers_of}

@@ -353,7 +353,8 @@ run_halves c n run front back steps h k filled =
     let long : length (take n run) + length (drop n run) ≡ length run =
     sym (length-append (take n run) (drop n run)) ∙ ap length (take-append-drop n run) in record {
       are = filled.are;
-      each = λ a lt. filled.each a lt ∙ rw (h.each a lt, k.each a lt, ← chosen_parts (take n run) (drop n run) a, take-append-drop n run) refl;
+      each = λ a lt. filled.each a lt
+          ∙ rw (h.each a lt, k.each a lt, ← chosen_parts (take n run) (drop n run) a, take-append-drop n run) refl;
       small = λ a v lt is. grind (arith, filled.each a lt, h.small a v lt, k.small a v lt, is);
       few = omega (arith, filled.few, h.few, k.few, long);
     }

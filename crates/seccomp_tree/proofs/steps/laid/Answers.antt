@@ -8,7 +8,8 @@ size_is : (c : After-new-steps) → c.numbers_of-size.result ≡ numbers_of c.ar
 size_is c = c.numbers_of-size.ensures ∙ search rules
 
 -- what counts of the value
-value_is : (c : After-new-steps) → c.from.result % c.numbers_of-size.result ≡ part_of c.args.condition.now.arg_len c.args.condition.now.value
+value_is : (c : After-new-steps)
+    → c.from.result % c.numbers_of-size.result ≡ part_of c.args.condition.now.arg_len c.args.condition.now.value
 value_is c = rw (c.from.ensures, c.value.ensures, size_is c) (grind (arith, rw c.value.ensures at c.value.type_inv))
 
 pub loop-number-init : goal.loop-number-init

@@ -48,7 +48,8 @@ module _ (c : After-only) (d : Ruling) (is : d ≡ c.index-rulings-left.result) 
   run_is : take (c.loop-left.end - (c.loop-left.left - 1)) (drop (c.loop-left.left - 1) c.args.rulings.now)
       ≡ d ∷ take (joined d.conditions (rest c)) (rest c)
   run_is =
-      let many : c.loop-left.end - (c.loop-left.left - 1) ≡ suc (joined d.conditions (rest c)) = omega (arith, ends, c.loop-left-test.true) in
+      let many : c.loop-left.end - (c.loop-left.left - 1) ≡ suc (joined d.conditions (rest c)) =
+          omega (arith, ends, c.loop-left-test.true) in
       rw (from_here, many) refl
 
   -- what is behind it
@@ -113,7 +114,8 @@ loop-left-preserved-then-joins c =
     let given = own b _ is _ c.in-Some-only.is in
     let at = front_is c.args.rulings.now (c.loop-left.left - 1) _ c.if-left-gt0.true (omega arith) c.index-rulings-left-then-left-gt0.is in
     record {
-      ends = rw (from_here b _ is, at) (rw (given, sym c.joins.ensures ∙ c.if-joins.true) (omega (arith, ends b _ is, c.loop-left-test.true)));
+      ends = rw (from_here b _ is, at)
+          (rw (given, sym c.joins.ensures ∙ c.if-joins.true) (omega (arith, ends b _ is, c.loop-left-test.true)));
       rules = c.loop-left.invariant.rules;
     }
 

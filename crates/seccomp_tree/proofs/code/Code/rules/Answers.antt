@@ -49,7 +49,7 @@ module _ (c : After-only) (d : Ruling) (is : d ≡ c.index-rulings-left.result) 
       ≡ d ∷ take (joined d.conditions (rest c)) (rest c)
   run_is =
       let many : c.loop-left.end - (c.loop-left.left - 1) ≡ suc (joined d.conditions (rest c)) =
-          omega (arith, ends, c.loop-left-test.true) in
+      omega (arith, ends, c.loop-left-test.true) in
       rw (from_here, many) refl
 
   -- what is behind it

@@ -6,3 +6,6 @@ pub mod Masks
 pub mod StepsOnSets
 pub mod RecordSets
 pub mod TasksLeft
+pub mod ArgumentFacts
+pub mod Zipped
+pub mod RulesUnder

@@ -8,3 +8,5 @@ pub mod CompareFilters
 pub mod WordSets
 pub mod RecordSets
 pub mod CompareTasks
+pub mod Spans
+pub mod Rules

@@ -28,10 +28,14 @@
 #![tactic(auto)]
 
 mod calls;
+mod cover;
+mod facts;
 mod filters;
 mod follow;
 pub mod machine;
+mod rules;
 mod sets;
+mod spans;
 mod tasks;
 mod values;
 
@@ -42,6 +46,7 @@ ghost use Rattle.seccomp_compare.specs.Compare.{Compares, Related, rank};
 
 pub use calls::Calls;
 pub use filters::{compare_filters, compare_program};
+pub use rules::is_related_on;
 use seccompiler::BackendError;
 use seccompiler::bpf::BpfProgramRef;
 use std::alloc::Global;

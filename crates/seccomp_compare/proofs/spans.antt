@@ -1,0 +1,2 @@
+-- Lemmas for the functions of `spans`.
+pub mod Points

@@ -6,6 +6,10 @@ use Rattle.seccomp_tree.proofs.Common.{IsTree, IsTurn, Target, get_or, length, n
 use Rattle.seccomp_tree.proofs.Common.{arith, false, loads, subst, Give, IsIn, List, Step, Test, drop, load, refl, take, true, zero, All, ℕ}
 use Rattle.seccomp_tree.proofs.Common.{inl, inr, row, suc, sym, ◌%◌, ◌*◌, ◌+◌, ◌-◌, ◌/◌, ◌<◌, ◌^◌, ◌∷◌, ◌≡◌, ◌≤◌, ◌⊎◌, ap}
 use Rattle.seccomp_tree.proofs.Begun.{first_start, found_first, steps_more, HasMoved, left_all, left_end, left_has, AreLeft, left_on, parts}
+use Rattle.seccomp_tree.specs.Code.{IsMiddle}
+use Rattle.std.proofs.Math.Pow.{pow_mono}
+use Rattle.std.proofs.Common.{max}
+use Rattle.seccomp_tree.proofs.Common.{one-le-pow}
 use Rattle.seccomp_tree.proofs.{Begun.single, Runs.is_in_grown, Runs.leads_grown, Runs.starts_last, Runs.starts_more, Runs.grows_not}
 use Rattle.seccomp_tree.proofs.Runs.{grows_one, runs_last, grows_on, leads_by, last_in}
 
@@ -28,9 +32,27 @@ rest_of code n t steps some lt all_in over inside =
     rw (take_rest steps n) (omega (arith, long), (omega (arith, long), (others, are_in)))
 
 -- the number of halvings of a half is one less
-pub halvings : (n m k : ℕ) → 2 ≤ n → n ≤ 2 ^ k → m ≤ n - n / 2 → (j : ℕ) × (k ≡ suc j) × (m ≤ 2 ^ j)
-halvings n m zero some le half = absurd (omega arith)
-halvings n m (suc k) some le half = (k, refl, omega (arith, pow-succ' 2 k))
+pub halvings : (most k : ℕ) → 2 ≤ most → most ≤ 2 ^ k → (j : ℕ) × (k ≡ suc j) × (most - most / 2 ≤ 2 ^ j)
+halvings most zero some le = absurd (omega arith)
+halvings most (suc k) some le = (k, refl, omega (arith, pow-succ' 2 k))
+
+-- the next power of two is no greater than any other
+pub least_power : (n most j k : ℕ) → most ≡ 2 ^ j → most / 2 < max 1 n → n ≤ 2 ^ k → most ≤ 2 ^ k
+least_power n most j k is low le = elim (cases_lt k j) [
+  | inl lt ↦
+      let half : j ≡ suc (j - 1) = omega (arith, lt) in
+      absurd (omega (
+        arith,
+        is,
+        low,
+        le,
+        pow-succ' 2 (j - 1),
+        ap (λ i. 2 ^ i) half,
+        pow_mono {i = k} {j = j - 1} (omega (arith, lt)),
+        one-le-pow k 2 (omega arith),
+      ))
+  | inr ge ↦ omega (arith, is, pow_mono {i = j} {j = k} ge)
+]
 
 -- a row has fewer tests than steps
 pub row_few : (steps : List Step) → 1 ≤ length steps → row steps + 1 ≤ length steps
@@ -47,16 +69,16 @@ plain_goes : {most : ℕ} (old new : List sock_filter) (t : Target) (m : ℕ) �
 plain_goes old new t m g r a w n small h = starts_more (n + m) (omega arith) (leads_grown g h)
 
 -- one step is its target
-pub tree_single : (code : List sock_filter) (steps : List Step) (d : Step) → length steps ≡ 1 → All (λ x. IsIn code x.target) steps
-    → IsTree code steps (get_or steps 0 d).target code
-tree_single code (x ∷ []) d one inside = record {
+pub tree_single : (code : List sock_filter) (steps : List Step) (most : ℕ) (d : Step) → length steps ≡ 1
+    → All (λ x. IsIn code x.target) steps → IsTree code steps most (get_or steps 0 d).target code
+tree_single code (x ∷ []) most d one inside = record {
   grows = grows_not code _;
   inside = inside 0 d (omega arith);
   last = λ two. absurd (omega arith);
   leads = λ k le. plain_goes code code x.target (2 * k) (grows_not code 0);
   soon = λ few. plain_goes code code x.target 0 (grows_not code 0);
 }
-tree_single code _ d one inside = absurd (omega arith)
+tree_single code _ most d one inside = absurd (omega arith)
 
 -- a test between what goes on as some steps say, and what does as others
 test_goes : {old both new : List sock_filter} {test : Test} {k : ℕ} {u v t : Target} (steps high low : List Step) (m : ℕ)
@@ -69,70 +91,72 @@ test_goes {test = test} {k = k} steps high low m is above below h r a w n small 
     ])))
 
 -- a test of a row, and the rest of it
-row_tree : {old mid new : List sock_filter} {rest : List Step} {test : Test} {k : ℕ} {u v x t : Target} (steps : List Step)
-    → IsTree old rest x mid → IsTested mid test k u v t new → row steps ≡ suc (row rest) → row steps ≤ 6 → 1 ≤ length rest
-    → length rest < length steps → GoesOn old steps (suc (row rest)) t new → IsTree old steps t new
-row_tree {new = new} {t = t} steps tree h one six some less run = record {
+row_tree : {old mid new : List sock_filter} {rest : List Step} {test : Test} {k : ℕ} {u v x t : Target} (steps : List Step) (most : ℕ)
+    → length steps ≤ most → IsTree old rest most x mid → IsTested mid test k u v t new → row steps ≡ suc (row rest) → row steps ≤ 6
+    → 1 ≤ length rest → length rest < length steps → GoesOn old steps (suc (row rest)) t new → IsTree old steps most t new
+row_tree {new = new} {t = t} steps most all tree h one six some less run = record {
   grows = grows_on _ tree.grows h.grows (omega arith);
   inside = last_in new t h.last h.some;
   last = λ two. h.last;
   leads = λ j le r a w n small lead.
-      starts_more (n + 2 * j) (omega (arith, one, row_halvings steps j (omega arith) six le)) (run r a w n small lead);
+      starts_more (n + 2 * j) (omega (arith, one, row_halvings steps j (omega arith) six (omega (arith, all, le)))) (run r a w n small lead);
   soon = λ few. rw one run;
 }
 
 -- the two tests that begin a row
-pub tree_out : {old mid new : List sock_filter} {x t : Target} (steps : List Step) (d : Step) → AreOver (2 ^ 32) steps
-    → second_stands_out steps ≡ true → row steps ≤ 6 → IsTree old (drop 2 steps) x mid
-    → IsTested mid Equal ((get_or steps 1 d).start) (get_or steps 1 d).target x t new → IsTree old steps t new
-tree_out {old} {mid} (a ∷ b ∷ c ∷ steps) d over out six tree h =
+pub tree_out : {old mid new : List sock_filter} {x t : Target} (steps : List Step) (most : ℕ) (d : Step) → length steps ≤ most
+    → AreOver (2 ^ 32) steps → second_stands_out steps ≡ true → row steps ≤ 6 → IsTree old (drop 2 steps) most x mid
+    → IsTested mid Equal ((get_or steps 1 d).start) (get_or steps 1 d).target x t new → IsTree old steps most t new
+tree_out {old} {mid} (a ∷ b ∷ c ∷ steps) most d all over out six tree h =
     let one : row (a ∷ b ∷ c ∷ steps) ≡ suc (row (c ∷ steps)) = grind (arith, out) in
-    row_tree (a ∷ b ∷ c ∷ steps) tree h one six (omega arith) (omega arith)
+    row_tree (a ∷ b ∷ c ∷ steps) most all tree h one six (omega arith) (omega arith)
     (test_goes (a ∷ b ∷ c ∷ steps) (single b.target) (c ∷ steps) (row (c ∷ steps))
     (λ i small. grind (arith, nat_tests, out, over, found_first (2 ^ 32) c steps i over.1.1.1.1))
     (plain_goes old mid b.target (row (c ∷ steps)) tree.grows) (tree.soon (omega (arith, one))) h)
-tree_out _ d over out six tree h = absurd (cc)
+tree_out _ most d all over out six tree h = absurd (cc)
 
-pub tree_first : {old mid new : List sock_filter} {x t : Target} (steps : List Step) (d : Step) → 2 ≤ length steps
-    → AreOver (2 ^ 32) steps → second_stands_out steps ≡ false → row steps ≤ 6 → IsTree old (drop 1 steps) x mid
-    → IsTested mid AtLeast ((get_or steps 1 d).start) x (get_or steps 0 d).target t new → IsTree old steps t new
-tree_first {old} {mid} (a ∷ b ∷ steps) d some over out six tree h =
+pub tree_first : {old mid new : List sock_filter} {x t : Target} (steps : List Step) (most : ℕ) (d : Step) → length steps ≤ most
+    → 2 ≤ length steps → AreOver (2 ^ 32) steps → second_stands_out steps ≡ false → row steps ≤ 6 → IsTree old (drop 1 steps) most x mid
+    → IsTested mid AtLeast ((get_or steps 1 d).start) x (get_or steps 0 d).target t new → IsTree old steps most t new
+tree_first {old} {mid} (a ∷ b ∷ steps) most d all some over out six tree h =
     let one : row (a ∷ b ∷ steps) ≡ suc (row (b ∷ steps)) = grind (arith, out) in
-    row_tree (a ∷ b ∷ steps) tree h one six (omega arith) (omega arith)
+    row_tree (a ∷ b ∷ steps) most all tree h one six (omega arith) (omega arith)
     (test_goes (a ∷ b ∷ steps) (b ∷ steps) (single a.target) (row (b ∷ steps)) (λ i small. refl)
     (tree.soon (omega (arith, one))) (plain_goes old mid a.target (row (b ∷ steps)) tree.grows) h)
-tree_first _ d some over out six tree h = absurd (omega arith)
+tree_first _ most d all some over out six tree h = absurd (omega arith)
 
 -- a test in front of two halves
-pub tree_halves : {old mid both new : List sock_filter} {u v t : Target} (steps : List Step) (n : ℕ) (d : Step) → n ≡ length steps / 2
-    → AreOver (2 ^ 32) steps → 2 ≤ length steps → 6 < row steps → IsTree old (drop n steps) u mid → IsTree mid (take n steps) v both
-    → IsTested both AtLeast ((get_or steps n d).start) u v t new → IsTree old steps t new
-tree_halves {new = new} {t = t} steps n d half over some long upper lower h =
+pub tree_halves : {old mid both new : List sock_filter} {u v t : Target} (steps : List Step) (most n : ℕ) (d : Step)
+    → IsMiddle (length steps) most n → length steps ≤ most → AreOver (2 ^ 32) steps → 2 ≤ length steps → 6 < row steps
+    → IsTree old (drop n steps) (most - most / 2) u mid → IsTree mid (take n steps) (most - most / 2) v both
+    → IsTested both AtLeast ((get_or steps n d).start) u v t new → IsTree old steps most t new
+tree_halves {new = new} {t = t} steps most n d half all over some long upper lower h =
     let high = length-drop n steps in
-    let low = length-take-le n steps (omega arith) in record {
-      grows = grows_on _ (grows_on (3 * (length steps - 2)) upper.grows lower.grows (omega (arith, high, low))) h.grows (omega arith);
+    let low = length-take-le n steps (omega (arith, half.within)) in record {
+      grows = grows_on _ (grows_on (3 * (length steps - 2)) upper.grows lower.grows (omega (arith, high, low, half.some, half.within))) h.grows
+          (omega arith);
       inside = last_in new t h.last h.some;
       last = λ two. h.last;
       leads = λ k le r a w m small lead.
-          let j = halvings (length steps) (length steps - length steps / 2) k some le (omega arith) in
+          let j = halvings most k (omega (arith, all, some)) le in
           starts_more (m + 2 * k) (omega (arith, j.1)) (test_goes steps (drop n steps) (take n steps) (suc (2 * j.0))
-          (λ a fits. (parts (2 ^ 32) n steps d (omega arith) (omega arith) over).found a)
+          (λ a fits. (parts (2 ^ 32) n steps d half.some half.within over).found a)
           (λ r a w m small own. starts_more (m + suc (2 * j.0)) (omega arith)
-          (leads_grown lower.grows (leads_by (upper.leads j.0 (omega (arith, high, j.2)) r a w m small own))))
+          (leads_grown lower.grows (leads_by (upper.leads j.0 j.2 r a w m small own))))
           (λ r a w m small own. starts_more (m + suc (2 * j.0)) (omega arith)
-          (lower.leads j.0 (omega (arith, low, j.2)) r a w m small (leads_grown upper.grows own))) h r a w m small lead);
+          (lower.leads j.0 j.2 r a w m small (leads_grown upper.grows own))) h r a w m small lead);
       soon = λ few. absurd (omega arith);
     }
 
 -- one step needs no load
-pub word_one : {old new : List sock_filter} {t : Target} (steps : List Step) (byte : ℕ) → length steps ≡ 1 → IsTree old steps t new
-    → IsPart old Dword (λ r. word_at r byte) steps t new
-word_one {new = new} (x ∷ []) byte one h = record {
+pub word_one : {old new : List sock_filter} {t : Target} (steps : List Step) (most byte : ℕ) → length steps ≡ 1
+    → ((k : ℕ) → length steps ≤ 2 ^ k → most ≤ 2 ^ k) → IsTree old steps most t new → IsPart old Dword (λ r. word_at r byte) steps t new
+word_one {new = new} (x ∷ []) most byte one least h = record {
   grows = grows_on _ h.grows (grows_not new 0) (omega arith);
   inside = h.inside;
-  leads = λ r is w n k le always a small. starts_more (n + (1 + 2 * k)) (omega arith) (h.leads k le r a w n small (always a small));
+  leads = λ r is w n k le always a small. starts_more (n + (1 + 2 * k)) (omega arith) (h.leads k (least k le) r a w n small (always a small));
 }
-word_one _ byte one h = absurd (omega arith)
+word_one _ most byte one least h = absurd (omega arith)
 
 -- a run that loads a word of the record
 pub load_run : (r : List ℕ) (code : List sock_filter) (byte a w n : ℕ) → IsRecord r → byte ≤ 60 → Returns r code (word_at r byte) w n
@@ -140,16 +164,16 @@ pub load_run : (r : List ℕ) (code : List sock_filter) (byte a w n : ℕ) → I
 load_run r code byte a w n is inside h = goes_on (load byte) code a (word_at r byte) w n 0
     (λ p. loads refl (omega (arith, is.long)) (omega arith) refl) (word_fits r byte is) h
 
-pub word_more : {old mid new : List sock_filter} {steps : List Step} {u t : Target} (byte : ℕ) → byte ≤ 60 → 2 ≤ length steps
-    → IsTree old steps u mid → new ≡ load byte ∷ mid → t ≡ At (length new - 1) → IsPart old Dword (λ r. word_at r byte) steps t new
-word_more {mid = mid} {new = new} {steps = steps} {t = t} byte inside some h written last = record {
+pub word_more : {old mid new : List sock_filter} {steps : List Step} {u t : Target} (most byte : ℕ) → byte ≤ 60 → 2 ≤ length steps
+    → ((k : ℕ) → length steps ≤ 2 ^ k → most ≤ 2 ^ k) → IsTree old steps most u mid → new ≡ load byte ∷ mid → t ≡ At (length new - 1) → IsPart old Dword (λ r. word_at r byte) steps t new
+word_more {mid = mid} {new = new} {steps = steps} {t = t} most byte inside some least h written last = record {
   grows = rw written (grows_on (3 * length steps - 2) h.grows (grows_one mid (load byte)) (omega arith));
   inside = last_in new t last (omega (arith, ap length written));
   leads = λ r is w n k le always a small.
       let v = word_at r byte in
       let fits = word_fits r byte is in
       let x = rw (h.last some) at h.inside in
-      let begins = h.leads k le r v w n fits (always v fits) in
+      let begins = h.leads k (least k le) r v w n fits (always v fits) in
       starts_more (n + (1 + 2 * k)) (omega arith) (starts_last last (omega (arith, ap length written))
       (subst (λ l. Returns r l a w (suc (n + 2 * k))) (sym written)
       (load_run r mid byte a w (n + 2 * k) is inside (runs_last (h.last some) (omega (arith, x)) begins))));

@@ -1,6 +1,6 @@
 -- What private functions promise each other: of steps that are looked up by a number, of code that is written from its end to its
 -- front, conditions, rulings and call numbers.
-use Rattle.std.specs.Prelude.{◌≡◌, ℕ, suc, ◌+◌, ◌-◌, ◌*◌, ◌<◌, ◌≤◌, ◌^◌, List, [], ◌∷◌, ◌++◌, length, drop, nat_eq, nat_le, nat_lt, not}
+use Rattle.std.specs.Prelude.{◌≡◌, ℕ, suc, ◌+◌, ◌-◌, ◌*◌, ◌/◌, ◌<◌, ◌≤◌, ◌^◌, List, [], ◌∷◌, ◌++◌, length, drop, nat_eq, nat_le, nat_lt, not}
 use Rattle.std.specs.Prelude.{if◌then◌else◌, bit_and, slice_get, Some, None, Option, Bool, true, ◌≢◌, false, ◌&&◌, ⊤}
 use Rattle.std.specs.List.{list_all}
 use Rattle.seccompiler.specs.declared.bpf.sock_filter.{sock_filter}
@@ -139,12 +139,21 @@ pub record IsTested (old : List sock_filter) (test : Test) (k : ℕ) (yes no t :
 abbrev pub GoesOn : List sock_filter → List Step → ℕ → Target → List sock_filter → Type 0
 GoesOn old steps m t new = (r : List ℕ) (a w n : ℕ) → a < 2 ^ 32 → Starts 0 old r (found_in steps a) a w n → Starts 1 new r t a w (n + m)
 
--- It takes two steps for each halving; as many as it has tests if it is a row of few.
-pub record IsTree (old : List sock_filter) (steps : List Step) (t : Target) (new : List sock_filter) : Type 0 where
+-- Where so many steps are halved, each half no longer than half of a number; near their middle.
+pub record IsMiddle (len most half : ℕ) : Type 0 where
+  pub some : 1 ≤ half
+  pub within : half < len
+  pub low : half ≤ most - most / 2
+  pub high : len - half ≤ most - most / 2
+  pub near : half ≤ len / 2 + 2
+  pub near_back : len / 2 ≤ half + 2
+
+-- It takes two steps for each halving of a number that is no less than the steps; as many as it has tests if it is a row of few.
+pub record IsTree (old : List sock_filter) (steps : List Step) (most : ℕ) (t : Target) (new : List sock_filter) : Type 0 where
   pub grows : Grows old (3 * (length steps - 1)) new
   pub inside : IsIn new t
   pub last : 2 ≤ length steps → t ≡ At (length new - 1)
-  pub leads : (k : ℕ) → length steps ≤ 2 ^ k → GoesOn old steps (2 * k) t new
+  pub leads : (k : ℕ) → most ≤ 2 ^ k → GoesOn old steps (2 * k) t new
   pub soon : row steps ≤ 6 → GoesOn old steps (row steps) t new
 
 -- The target goes on as the steps say for a number of the record, whatever the accumulator holds, in the machine's steps for a

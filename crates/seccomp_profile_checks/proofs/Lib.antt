@@ -1,3 +1,4 @@
--- What holds of lists.
+-- What holds of lists, and of effective entries.
 pub mod Places
-pub mod Picked
+pub mod Settled
+pub mod Actions

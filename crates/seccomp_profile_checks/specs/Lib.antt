@@ -1,3 +1,6 @@
 -- The definitions that the contracts cite.
 pub mod Doubts
+pub mod Effective
+pub mod Parts
+pub mod Told
 pub mod Warnings

@@ -1,19 +1,16 @@
--- The warnings of a profile: each is true of the profile or of a filter.
-use Rattle.std.specs.Prelude.{◌≢◌, All, Contains, List, [], ⊤}
+-- The warnings of a profile: those of its own, and those of its parts.
+use Rattle.std.specs.Prelude.{◌≡◌, ◌≢◌, ◌++◌, All, Contains, List, [], map, ⊤}
 use Rattle.seccompiler.specs.declared.backend.TargetArch.{TargetArch}
-use Rattle.seccompiler.specs.JsonTypes.{JsonFilter}
 use Rattle.seccomp_oci.specs.Types.{Container, Profile}
 use Rattle.seccomp_profile_checks.specs.Doubts.{IsDoubt}
+use Rattle.seccomp_profile_checks.specs.Told.{AreToldOfProfile}
 use Rattle.seccomp_profile_checks.specs.declared.doubts.Doubt.{Doubt}
 use Rattle.seccomp_profile_checks.specs.declared.doubts.Doubt.TheVariants as doubt
+use Rattle.seccomp_profile_checks.specs.declared.told.Told.{Told}
 use Rattle.seccomp_profile_checks.specs.declared.warnings.ProfileWarning.{ProfileWarning}
 use Rattle.seccomp_profile_checks.specs.declared.warnings.ProfileWarning.TheVariants.{Doubtful, Flags, UnknownKey, OfEntries}
-use Rattle.seccomp_warnings.specs.Judgements.{AreJudgements}
-use Rattle.seccomp_warnings.specs.Warnings.{IsSo}
 use Rattle.seccomp_warnings.specs.declared.code.Code.{Code}
 use Rattle.seccomp_warnings.specs.declared.code.Code.TheVariants as code
-use Rattle.seccomp_warnings.specs.declared.judgement.Judgement.{Judgement}
-use Rattle.seccomp_warnings.specs.declared.warning.Warning.{Warning}
 
 -- ---- codes
 
@@ -34,17 +31,12 @@ code_of (OfEntries w origin) = w.code
 
 -- ---- warnings
 
--- The warning is true of some filter, with some judgements of its entries, which are true.
-abbrev pub IsTrueOfSome : TargetArch → Warning → Type 0
-IsTrueOfSome arch w = (j : JsonFilter) × (judgements : List Judgement) × AreJudgements arch j judgements × IsSo judgements j w
-
--- What the warning says of a profile is so; or it is true of some filter. That this is one of the profile's entries is tested, and
--- so is that the profile has the key.
+-- What a warning of its own says of a profile is so. That the profile has the key is tested.
 abbrev pub IsSoOfProfile : TargetArch → Container → Profile → ProfileWarning → Type 0
 IsSoOfProfile arch container p (Doubtful d) = IsDoubt arch container p d
 IsSoOfProfile arch container p Flags = p.flags ≢ []
 IsSoOfProfile arch container p (UnknownKey key) = ⊤
-IsSoOfProfile arch container p (OfEntries w origin) = IsTrueOfSome arch w
+IsSoOfProfile arch container p (OfEntries w origin) = ⊥
 
 -- It is so, and its code isn't allowed.
 pub record IsTold (arch : TargetArch) (container : Container) (p : Profile) (allowed : List Code) (w : ProfileWarning) : Type 0 where
@@ -54,3 +46,16 @@ pub record IsTold (arch : TargetArch) (container : Container) (p : Profile) (all
 -- If all so far is told, all is still told with what is added.
 abbrev pub AreStillTold : TargetArch → Container → Profile → (allowed : List Code) → (old new : List ProfileWarning) → Type 0
 AreStillTold arch container p allowed old new = All (IsTold arch container p allowed) old → All (IsTold arch container p allowed) new
+
+-- What is told of a part, as a warning of the profile.
+abbrev pub of_told : Told → ProfileWarning
+of_told t = OfEntries t.warning t.origin
+
+-- The warnings of a profile: some of its own, each of which is so, and then exactly what is told of its parts.
+pub record AreProfileWarnings (arch : TargetArch) (container : Container) (allowed : List Code) (p : Profile) (all : List ProfileWarning)
+    : Type 0 where
+  pub own : List ProfileWarning
+  pub own_are : All (IsTold arch container p allowed) own
+  pub told : List Told
+  pub are_told : AreToldOfProfile arch container allowed p told
+  pub all_are : all ≡ own ++ map of_told told

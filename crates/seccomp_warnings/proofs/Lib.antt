@@ -1,5 +1,5 @@
 -- Lemmas: of conditions, for `condition`; of entries, their numbers and judgements, for `judgement` and `sibling`; and of the
--- warnings of a filter, for `walk`.
+-- warnings of a part, for `walk`.
 pub mod ConstantConditions
 pub mod HighHalves
 pub mod Quantified

@@ -1,26 +1,28 @@
 -- For `judgement` and `sibling`: the numbers of entries in a set, and judgements, one by one.
 use Rattle.std.proofs.Common.{◌≡◌, ℕ, ℤ, ◌+◌, ◌↔◌, ◌<◌, List, [], ◌∷◌, ◌++◌, Bool, Some, length, map, take, get_or, sym, ap, ◌∙◌}
 use Rattle.std.proofs.Common.{subst, inl, inr, ⊎_elim}
-use Rattle.std.proofs.Common.{Option, None, arith}
+use Rattle.std.proofs.Common.{Option, None, arith, false, refl}
 use Rattle.std.specs.Borrow.{Bor}
-use Rattle.std.specs.Prelude.{All, Any, Contains, IfNone, IfSome}
-use Rattle.std.proofs.lemmas.List.{get_or-map, length-map, take_more}
-use Rattle.std.proofs.lemmas.List.Elements.{Contains-append_left, Contains-push, Contains-push_cases}
-use Rattle.seccompiler.specs.JsonTypes.{JsonRule}
+use Rattle.std.specs.Prelude.{All, Any, Contains, IfNone, IfSome, IsTrue}
+use Rattle.std.proofs.lemmas.Bool.{false≢true}
+use Rattle.std.proofs.lemmas.List.{get_or_default, get_or-map, length-map, take_more}
+use Rattle.std.proofs.lemmas.List.Elements.{All-push, Contains-append_left, Contains-push, Contains-push_cases}
+use Rattle.seccomp_entries.specs.Entries.{Entry}
 use Rattle.seccompiler.specs.declared.backend.TargetArch.{TargetArch}
-use Rattle.seccomp_warnings.specs.Judgements.{IsOfNumber}
+use Rattle.seccomp_warnings.specs.CallWarnings.{IsNumberOf}
+use Rattle.seccomp_warnings.specs.Judgements.{HasNoneUnnamed, IsOfNumber, IsSibling, IsUnnamed, all_undone, siblings_of}
 use Rattle.seccomp_warnings.proofs.Quantified.{any_append, any_one}
 
-module _ (arch : TargetArch) (w : Bool) where
+module _ (w : Bool) where
   -- The numbers are those of the entries.
-  abbrev pub HasNumbers : List JsonRule → List ℤ → Type 0
-  HasNumbers es numbers = (n : ℤ) → Contains numbers n ↔ Any (IsOfNumber arch w n) es
+  abbrev pub HasNumbers : List Entry → List ℤ → Type 0
+  HasNumbers es numbers = (n : ℤ) → Contains numbers n ↔ Any (IsOfNumber w n) es
 
   -- One entry more, of a number.
-  pub some_more : (es : List JsonRule) (e : JsonRule) (numbers : List ℤ) (number : ℤ) → HasNumbers es numbers
-      → ((n : ℤ) → (number ≡ n) ↔ IsOfNumber arch w n e) → HasNumbers (es ++ e ∷ []) (numbers ++ number ∷ [])
+  pub some_more : (es : List Entry) (e : Entry) (numbers : List ℤ) (number : ℤ) → HasNumbers es numbers
+      → ((n : ℤ) → (number ≡ n) ↔ IsOfNumber w n e) → HasNumbers (es ++ e ∷ []) (numbers ++ number ∷ [])
   some_more es e numbers number so_far own n =
-      let P = IsOfNumber arch w n in (
+      let P = IsOfNumber w n in (
         λ has. (any_append P es (e ∷ [])).1 (⊎_elim (λ before. inl ((so_far n).0 before)) (λ here. inr ((any_one P e).1 ((own n).0 here)))
             (Contains-push_cases numbers number n has)),
         λ any. ⊎_elim (λ before. Contains-append_left numbers (number ∷ []) n ((so_far n).1 before))
@@ -29,20 +31,20 @@ module _ (arch : TargetArch) (w : Bool) where
       )
 
   -- One entry more, of none.
-  pub none_more : (es : List JsonRule) (e : JsonRule) (numbers : List ℤ) → HasNumbers es numbers
-      → ((n : ℤ) → IsOfNumber arch w n e → ⊥) → HasNumbers (es ++ e ∷ []) numbers
+  pub none_more : (es : List Entry) (e : Entry) (numbers : List ℤ) → HasNumbers es numbers
+      → ((n : ℤ) → IsOfNumber w n e → ⊥) → HasNumbers (es ++ e ∷ []) numbers
   none_more es e numbers so_far none n =
-      let P = IsOfNumber arch w n in (
+      let P = IsOfNumber w n in (
         λ has. (any_append P es (e ∷ [])).1 (inl ((so_far n).0 has)),
         λ any. ⊎_elim (so_far n).1 (λ here. absurd (none n ((any_one P e).0 here))) ((any_append P es (e ∷ [])).0 any),
       )
 
   -- Those of a front.
-  pub front_more : (es : List JsonRule) (at : ℕ) (e : JsonRule) (numbers : List ℤ) → at < length es → e ≡ get_or es at e
+  pub front_more : (es : List Entry) (at : ℕ) (e : Entry) (numbers : List ℤ) → at < length es → e ≡ get_or es at e
       → HasNumbers (take at es ++ e ∷ []) numbers → HasNumbers (take (at + 1) es) numbers
   front_more es at e numbers room is has =
-      let more : take (at + 1) es ≡ take at es ++ e ∷ [] = take_more es at e room ∙ ap (λ (x : JsonRule). take at es ++ x ∷ []) (sym is) in
-      subst (λ (xs : List JsonRule). HasNumbers xs numbers) (sym more) has
+      let more : take (at + 1) es ≡ take at es ++ e ∷ [] = take_more es at e room ∙ ap (λ (x : Entry). take at es ++ x ∷ []) (sym is) in
+      subst (λ (xs : List Entry). HasNumbers xs numbers) (sym more) has
 
 -- ---- what is found of names
 
@@ -68,3 +70,44 @@ contained_now names name (k, within, is) = (
 -- What none of a list has isn't so of one that it contains.
 pub none_of_all : {X : Type 0} (P : X → Type 0) (xs : List X) → All (λ x. P x → ⊥) xs → (x : X) → Contains xs x → P x → ⊥
 none_of_all P xs none x (k, within, is) has = none k x within (subst P (sym is) has)
+
+-- One of the names at a place has more.
+pub any_here : {X : Type 0} (P : X → Type 0) (xs : List X) (k : ℕ) (d : X) → k < length xs → P (get_or xs k d) → Any P xs
+any_here P xs k d within has = (k, get_or xs k d, within, get_or_default xs k (get_or xs k d) d within, has)
+
+-- Each of a front and one more.
+pub all_more : {X : Type 0} (P : X → Type 0) (xs : List X) (k : ℕ) (d : X) → k < length xs → All P (take k xs) → P (get_or xs k d)
+    → All P (take (k + 1) xs)
+all_more P xs k d within all has = subst (All P) (sym (take_more xs k d within)) (All-push P (take k xs) (get_or xs k d) all has)
+
+-- What some name of a list has, one of its texts has.
+pub any_now : (P : List ℕ → Type 0) (names : List (Bor (List ℕ))) → Any (λ n. P n.now) names → Any P (map (λ n. n.now) names)
+any_now P names (k, name, within, is, has) = (
+  k,
+  name.now,
+  (let long : length (map (λ (n : Bor (List ℕ)). n.now) names) ≡ length names =
+      length-map names (λ (n : Bor (List ℕ)). n.now) in omega arith),
+  get_or-map (λ (n : Bor (List ℕ)). n.now) names k name name.now within ∙ ap (λ (n : Bor (List ℕ)). n.now) is,
+  has,
+)
+
+-- ---- siblings by their names
+
+-- Where none is found, none is unnamed.
+pub none_found : {X : Type 0} (arch : TargetArch) (number : ℕ) (entries : List Entry) (name : List ℕ) (found : Option X)
+    → ((x : X) → found ≡ Some x → ⊥) → IfNone found (All (λ other. IsUnnamed arch entries other → ⊥) (siblings_of name))
+    → HasNoneUnnamed arch number entries name
+none_found arch number entries name None not none = record { none = λ is. none }
+none_found arch number entries name (Some x) not none = absurd (not x refl)
+
+-- Where the call has another name, none is.
+pub none_named : (arch : TargetArch) (number : ℕ) (entries : List Entry) (name : List ℕ) (has : Bool) → has ≡ false
+    → (IsTrue has ↔ IsNumberOf arch name number) → HasNoneUnnamed arch number entries name
+none_named arch number entries name has fails is = record { none = λ own. absurd (false≢true (sym fails ∙ is.1 own)) }
+
+-- Where no name of a list has one, a number has none.
+pub none_sibling : (arch : TargetArch) (number : ℕ) (entries : List Entry) → All (HasNoneUnnamed arch number entries) all_undone
+    → (other : List ℕ) → IsSibling arch number other → IsUnnamed arch entries other → ⊥
+none_sibling arch number entries all other (k, name, within, is, own) unnamed =
+    let none = subst (HasNoneUnnamed arch number entries) is (all k name within) in
+    none_of_all (IsUnnamed arch entries) (siblings_of name) (none.none own.0) other own.1 unnamed

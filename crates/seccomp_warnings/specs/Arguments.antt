@@ -1,9 +1,12 @@
 -- What is so of the arguments of calls, by the manual pages of the calls (section 2), that the author of a filter may not mean.
-use Rattle.std.specs.Prelude.{◌≡◌, ◌≢◌, ◌==◌, if◌then◌else◌, ℕ, ◌+◌, ◌^◌, ◌<◌, List, [], ◌∷◌, IsTrue, bit_and, codes, ⊤}
+use Rattle.std.specs.Prelude.{◌≡◌, ◌≢◌, ◌==◌, if◌then◌else◌, ℕ, ◌+◌, ◌^◌, ◌<◌, pos, List, [], ◌∷◌, Bool, IsTrue, bit_and, codes, ⊤}
 use Rattle.std.specs.List.{list_any}
-use Rattle.std.specs.Str.{bytes_eq}
+use Rattle.seccompiler.specs.Architecture.{table_of}
+use Rattle.seccompiler.specs.JsonPolicyOf.{is_number}
+use Rattle.seccompiler.specs.SyscallTable.{number_of}
 use Rattle.seccompiler.specs.declared.backend.SeccompCmpOp.{SeccompCmpOp}
 use Rattle.seccompiler.specs.declared.backend.SeccompCmpOp.TheVariants.{Ge, Gt, Le, Lt}
+use Rattle.seccompiler.specs.declared.backend.TargetArch.{TargetArch}
 use Rattle.seccomp_warnings.specs.ActionWarnings.{Permits}
 use Rattle.seccomp_warnings.specs.AnyArgument.{Decides}
 use Rattle.seccomp_warnings.specs.declared.code.Code.{Code}
@@ -53,9 +56,12 @@ read_calls index =
     if index == 2 then codes "mmap" ∷ codes "mprotect" ∷ codes "pkey_mprotect" ∷ []
     else []
 
--- The name is one of these.
-abbrev pub IsAmong : List ℕ → List (List ℕ) → Type 0
-IsAmong name names = IsTrue (list_any (bytes_eq name) names)
+-- Whether the call of this number has one of these names.
+abbrev pub is_among : TargetArch → ℕ → List (List ℕ) → Bool
+is_among arch number names = list_any (λ name. is_number (pos number) (number_of (table_of arch) name)) names
+
+abbrev pub IsAmong : TargetArch → ℕ → List (List ℕ) → Type 0
+IsAmong arch number names = IsTrue (is_among arch number names)
 
 -- The condition denies its own value, and lets it through with this flag, which the value hasn't.
 pub record IsEvadedBy (actions : Actions) (c : Comparison) (flag : ℕ) : Type 0 where
@@ -64,18 +70,19 @@ pub record IsEvadedBy (actions : Actions) (c : Comparison) (flag : ℕ) : Type 0
   pub denied : Decides (λ action. Permits action → ⊥) actions c c.value
   pub let_through : Decides Permits actions c (c.value + flag)
 
--- A flag that the call takes in the argument of this index, and that changes nothing of what it is denied for; 0 if none is known.
-abbrev pub flag_of : (name : List ℕ) → (index : ℕ) → ℕ
-flag_of name index =
-    if list_any (bytes_eq name) (close_on_exec_calls index) then 0x80000
-    else if list_any (bytes_eq name) (files_calls index) then 0x400
-    else if list_any (bytes_eq name) (read_calls index) then 1
+-- A flag that the call of this number takes in the argument of this index, and that changes nothing of what it is denied for; 0 if
+-- none is known.
+abbrev pub flag_of : TargetArch → (number index : ℕ) → ℕ
+flag_of arch number index =
+    if is_among arch number (close_on_exec_calls index) then 0x80000
+    else if is_among arch number (files_calls index) then 0x400
+    else if is_among arch number (read_calls index) then 1
     else 0
 
 -- A caller gets past the condition by such a flag.
-pub record IsFlagEvaded (actions : Actions) (name : List ℕ) (c : Comparison) : Type 0 where
-  pub known : flag_of name c.arg_index ≢ 0
-  pub evaded : IsEvadedBy actions c (flag_of name c.arg_index)
+pub record IsFlagEvaded (actions : Actions) (arch : TargetArch) (number : ℕ) (c : Comparison) : Type 0 where
+  pub known : flag_of arch number c.arg_index ≢ 0
+  pub evaded : IsEvadedBy actions c (flag_of arch number c.arg_index)
 
 -- The operator asks for the order of numbers.
 abbrev pub IsOrder : SeccompCmpOp → Type 0
@@ -85,9 +92,9 @@ IsOrder Le = ⊤
 IsOrder Lt = ⊤
 IsOrder operator = ⊥
 
--- What a code says of a condition on an argument of this call is so, in a filter of these actions.
-abbrev pub IsSoOfArgument : Code → Actions → (name : List ℕ) → Comparison → Type 0
-IsSoOfArgument code.FlagEvades actions name c = IsFlagEvaded actions name c
-IsSoOfArgument code.PointerCompared actions name c = (c.value ≢ 0) × IsAmong name (pointer_calls c.arg_index)
-IsSoOfArgument code.SignedCompared actions name c = IsOrder c.operator × IsAmong name (signed_calls c.arg_index)
-IsSoOfArgument other actions name c = ⊥
+-- What a code says of a condition on an argument of the call of this number is so, in a part of these actions.
+abbrev pub IsSoOfArgument : Code → Actions → TargetArch → (number : ℕ) → Comparison → Type 0
+IsSoOfArgument code.FlagEvades actions arch number c = IsFlagEvaded actions arch number c
+IsSoOfArgument code.PointerCompared actions arch number c = (c.value ≢ 0) × IsAmong arch number (pointer_calls c.arg_index)
+IsSoOfArgument code.SignedCompared actions arch number c = IsOrder c.operator × IsAmong arch number (signed_calls c.arg_index)
+IsSoOfArgument other actions arch number c = ⊥

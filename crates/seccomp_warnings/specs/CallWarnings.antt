@@ -1,103 +1,115 @@
--- What is so of the calls that a filter names, and of those that it doesn't, that its author may not mean.
-use Rattle.std.specs.Prelude.{◌≡◌, ℕ, ◌⊎◌, List, [], ◌∷◌, Any, IsSome, IsSomeAnd, IsTrue, codes, slice_get}
-use Rattle.seccompiler.specs.JsonTypes.{JsonRule, JsonFilter}
+-- What is so of the calls that entries are for, and of those that none is for, that a part's author may not mean.
+use Rattle.std.specs.Prelude.{◌≡◌, ℕ, pos, ◌⊎◌, List, [], ◌∷◌, Any, IsSome, IsSomeAnd, IsTrue, Some, codes, slice_get}
+use Rattle.seccompiler.specs.declared.backend.TargetArch.{TargetArch}
+use Rattle.seccompiler.specs.Architecture.{table_of}
+use Rattle.seccompiler.specs.SyscallTable.{number_of}
+use Rattle.seccomp_entries.specs.Entries.{Entry}
+use Rattle.seccomp_verdicts.specs.declared.verdict.Verdict.TheVariants as verdict
 use Rattle.seccomp_warnings.specs.ActionWarnings.{Permits}
+use Rattle.seccomp_warnings.specs.Parts.{Part}
 use Rattle.seccomp_warnings.specs.declared.code.Code.{Code}
 use Rattle.seccomp_warnings.specs.declared.code.Code.TheVariants as code
 use Rattle.seccomp_warnings.specs.declared.unlisted.Unlisted.{Unlisted}
 use Rattle.seccomp_warnings.specs.declared.unlisted.Unlisted.TheVariants as unlisted
 use Rattle.seccomp_warnings.specs.declared.judgement.Judgement.{Judgement}
-use Rattle.seccomp_verdicts.specs.declared.verdict.Verdict.TheVariants as verdict
 
--- ---- the entries of a filter
+-- ---- the entries of a part
 
--- The entry names this call.
-abbrev pub Names : List ℕ → JsonRule → Type 0
-Names name entry = entry.syscall ≡ name
+-- The call of this name has this number on the architecture.
+abbrev pub IsNumberOf : TargetArch → List ℕ → ℕ → Type 0
+IsNumberOf arch name number = number_of (table_of arch) name ≡ Some (pos number)
 
--- The entry asks something of the call's arguments.
-abbrev pub HasArgs : JsonRule → Type 0
-HasArgs entry = IsSome entry.conditions
+-- The entry is for the call of this name.
+abbrev pub Names : TargetArch → List ℕ → Entry → Type 0
+Names arch name e = IsNumberOf arch name e.number
+
+-- The entry asks nothing of the call's arguments.
+abbrev pub HasNoArgs : Entry → Type 0
+HasNoArgs e = e.conditions ≡ []
 
 -- The entry matches every call of this name.
-abbrev pub MatchesEach : List ℕ → JsonRule → Type 0
-MatchesEach name entry = Names name entry × (HasArgs entry → ⊥)
+abbrev pub MatchesEach : TargetArch → List ℕ → Entry → Type 0
+MatchesEach arch name e = Names arch name e × HasNoArgs e
 
--- Some entry names the call.
-abbrev pub NamesCall : JsonFilter → List ℕ → Type 0
-NamesCall j name = Any (Names name) j.rules
+-- Some entry is for the call.
+abbrev pub NamesCall : Part → List ℕ → Type 0
+NamesCall p name = Any (Names p.target_arch name) p.entries
 
--- No entry names the call, and the filter denies what no entry matches.
-abbrev pub IsDeniedUnlisted : JsonFilter → List ℕ → Type 0
-IsDeniedUnlisted j name = (Permits j.mismatch_action → ⊥) × (NamesCall j name → ⊥)
+-- Some entry matches every call of this name.
+abbrev pub MatchesEachCall : Part → List ℕ → Type 0
+MatchesEachCall p name = Any (MatchesEach p.target_arch name) p.entries
 
--- Every call of this name is denied: an entry matches each, and the filter denies what entries match; or no entry names it, and the
--- filter denies what no entry matches.
-abbrev pub DeniesEach : List ℕ → JsonFilter → Type 0
-DeniesEach name j = ((Permits j.match_action → ⊥) × Any (MatchesEach name) j.rules) ⊎ IsDeniedUnlisted j name
+-- No entry is for the call, and what no entry matches is denied.
+abbrev pub IsDeniedUnlisted : Part → List ℕ → Type 0
+IsDeniedUnlisted p name = (Permits p.actions.mismatch → ⊥) × (NamesCall p name → ⊥)
 
--- ---- the calls that no entry names
+-- Every call of this name is denied: an entry matches each, and what entries match is denied; or no entry is for it, and what no
+-- entry matches is denied.
+abbrev pub DeniesEach : List ℕ → Part → Type 0
+DeniesEach name p = ((Permits p.actions.matching → ⊥) × MatchesEachCall p name) ⊎ IsDeniedUnlisted p name
+
+-- ---- the calls that no entry is for
 
 -- The calls that are looked for, in the order in which they are asked about.
 abbrev pub all_unlisted : List Unlisted
 all_unlisted = unlisted.Exit ∷ unlisted.ExitGroup ∷ unlisted.RtSigreturn ∷ unlisted.Clone3 ∷ unlisted.Execve ∷ unlisted.RestartSyscall ∷ []
 
--- The filter allows what it lists, among it set_tid_address, which a program calls once, as it starts, and it denies the calls by
--- which a program is started.
-abbrev pub IsUnstartable : JsonFilter → Type 0
-IsUnstartable j = Permits j.match_action × NamesCall j (codes "set_tid_address") × IsDeniedUnlisted j (codes "execve")
-    × (NamesCall j (codes "execveat") → ⊥)
+-- What is listed is allowed, among it set_tid_address, which a program calls once, as it starts, and the calls by which a program
+-- is started are denied.
+abbrev pub IsUnstartable : Part → Type 0
+IsUnstartable p = Permits p.actions.matching × NamesCall p (codes "set_tid_address") × IsDeniedUnlisted p (codes "execve")
+    × (NamesCall p (codes "execveat") → ⊥)
 
--- The filter allows what it lists, among it a call that Linux goes on with by restart_syscall after the process was stopped and
--- continued (restart_syscall(2)), and it denies that one.
-abbrev pub IsUnrestartable : JsonFilter → Type 0
-IsUnrestartable j = Permits j.match_action × IsDeniedUnlisted j (codes "restart_syscall")
-    × (NamesCall j (codes "nanosleep") ⊎ NamesCall j (codes "clock_nanosleep") ⊎ NamesCall j (codes "poll") ⊎ NamesCall j (codes "futex"))
+-- What is listed is allowed, among it a call that Linux goes on with by restart_syscall after the process was stopped and
+-- continued (restart_syscall(2)), and that one is denied.
+abbrev pub IsUnrestartable : Part → Type 0
+IsUnrestartable p = Permits p.actions.matching × IsDeniedUnlisted p (codes "restart_syscall")
+    × (NamesCall p (codes "nanosleep") ⊎ NamesCall p (codes "clock_nanosleep") ⊎ NamesCall p (codes "poll") ⊎ NamesCall p (codes "futex"))
 
--- Calls that an entry matches are denied, and an entry names clone; the others are let through, and no entry names clone3.
-abbrev pub IsCloneEvaded : JsonFilter → Type 0
-IsCloneEvaded j = Permits j.mismatch_action × (Permits j.match_action → ⊥) × NamesCall j (codes "clone")
-    × (NamesCall j (codes "clone3") → ⊥)
+-- Calls that an entry matches are denied, and an entry is for clone; the others are let through, and no entry is for clone3.
+abbrev pub IsCloneEvaded : Part → Type 0
+IsCloneEvaded p = Permits p.actions.mismatch × (Permits p.actions.matching → ⊥) × NamesCall p (codes "clone")
+    × (NamesCall p (codes "clone3") → ⊥)
 
--- What a code says of a call that no entry of the filter names is so.
-abbrev pub IsSoOfUnlisted : Code → JsonFilter → Unlisted → Type 0
-IsSoOfUnlisted code.KillsExit j unlisted.Exit = IsDeniedUnlisted j (codes "exit")
-IsSoOfUnlisted code.KillsExit j unlisted.ExitGroup = IsDeniedUnlisted j (codes "exit_group")
-IsSoOfUnlisted code.KillsExit j unlisted.RtSigreturn = IsDeniedUnlisted j (codes "rt_sigreturn")
-IsSoOfUnlisted code.CloneByClone3 j unlisted.Clone3 = IsCloneEvaded j
-IsSoOfUnlisted code.NoExecve j unlisted.Execve = IsUnstartable j
-IsSoOfUnlisted code.NoRestart j unlisted.RestartSyscall = IsUnrestartable j
-IsSoOfUnlisted other j call = ⊥
+-- What a code says of a call that no entry is for is so.
+abbrev pub IsSoOfUnlisted : Code → Part → Unlisted → Type 0
+IsSoOfUnlisted code.KillsExit p unlisted.Exit = IsDeniedUnlisted p (codes "exit")
+IsSoOfUnlisted code.KillsExit p unlisted.ExitGroup = IsDeniedUnlisted p (codes "exit_group")
+IsSoOfUnlisted code.KillsExit p unlisted.RtSigreturn = IsDeniedUnlisted p (codes "rt_sigreturn")
+IsSoOfUnlisted code.CloneByClone3 p unlisted.Clone3 = IsCloneEvaded p
+IsSoOfUnlisted code.NoExecve p unlisted.Execve = IsUnstartable p
+IsSoOfUnlisted code.NoRestart p unlisted.RestartSyscall = IsUnrestartable p
+IsSoOfUnlisted other p call = ⊥
 
 -- ---- what is so of an entry
 
--- By this call a thread or a process ends, or a signal handler returns (exit(2), exit_group(2), sigreturn(2)).
-abbrev pub IsExit : List ℕ → Type 0
-IsExit name = (name ≡ codes "exit") ⊎ (name ≡ codes "exit_group") ⊎ (name ≡ codes "rt_sigreturn")
+-- By its call a thread or a process ends, or a signal handler returns (exit(2), exit_group(2), sigreturn(2)).
+abbrev pub IsExit : TargetArch → Entry → Type 0
+IsExit arch e = Names arch (codes "exit") e ⊎ Names arch (codes "exit_group") e ⊎ Names arch (codes "rt_sigreturn") e
 
--- The match action denies, and the entry matches each call of one of these names. By an errno a process ends by a signal too.
-abbrev pub KillsAtExit : JsonFilter → JsonRule → Type 0
-KillsAtExit j entry = (Permits j.match_action → ⊥) × (HasArgs entry → ⊥) × IsExit entry.syscall
+-- What entries match is denied, and the entry matches each call of one of these names. By an errno a process ends by a signal too.
+abbrev pub KillsAtExit : Part → Entry → Type 0
+KillsAtExit p e = (Permits p.actions.matching → ⊥) × HasNoArgs e × IsExit p.target_arch e
 
 -- Calls that an entry matches are let through, and this one matches each clone3; the others are denied, and no entry matches
 -- each clone.
-abbrev pub LetsClone3Through : JsonFilter → JsonRule → Type 0
-LetsClone3Through j entry = Permits j.match_action × (Permits j.mismatch_action → ⊥) × MatchesEach (codes "clone3") entry
-    × (Any (MatchesEach (codes "clone")) j.rules → ⊥)
+abbrev pub LetsClone3Through : Part → Entry → Type 0
+LetsClone3Through p e = Permits p.actions.matching × (Permits p.actions.mismatch → ⊥) × MatchesEach p.target_arch (codes "clone3") e
+    × (MatchesEachCall p (codes "clone") → ⊥)
 
--- Calls that an entry matches are denied, the others are let through, and this entry matches each call of its name.
-abbrev pub IsDeniedAlone : JsonFilter → JsonRule → Type 0
-IsDeniedAlone j entry = (Permits j.match_action → ⊥) × Permits j.mismatch_action × (HasArgs entry → ⊥)
+-- Calls that an entry matches are denied, the others are let through, and this entry matches each of its calls.
+abbrev pub IsDeniedAlone : Part → Entry → Type 0
+IsDeniedAlone p e = (Permits p.actions.matching → ⊥) × Permits p.actions.mismatch × HasNoArgs e
 
--- What a code says of an entry of the filter is so.
-abbrev pub IsSoOfRule : Code → JsonFilter → JsonRule → Type 0
-IsSoOfRule code.KillsExit j entry = KillsAtExit j entry
-IsSoOfRule code.CloneByClone3 j entry = LetsClone3Through j entry
-IsSoOfRule other j entry = ⊥
+-- What a code says of an entry of the part is so.
+abbrev pub IsSoOfRule : Code → Part → Entry → Type 0
+IsSoOfRule code.KillsExit p e = KillsAtExit p e
+IsSoOfRule code.CloneByClone3 p e = LetsClone3Through p e
+IsSoOfRule other p e = ⊥
 
--- The filter has an entry at the place, of which what a code says is so.
-abbrev pub IsSoOfEntry : Code → JsonFilter → ℕ → Type 0
-IsSoOfEntry kind j place = IsSomeAnd (slice_get j.rules place) (IsSoOfRule kind j)
+-- The part has an entry at the place, of which what a code says is so.
+abbrev pub IsSoOfEntry : Code → Part → ℕ → Type 0
+IsSoOfEntry kind p place = IsSomeAnd (slice_get p.entries place) (IsSoOfRule kind p)
 
 -- What a code says of an entry with this judgement is so.
 abbrev pub IsOfJudgement : Code → Judgement → Type 0

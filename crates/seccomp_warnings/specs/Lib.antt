@@ -1,10 +1,11 @@
--- The definitions that the contracts cite: which warnings a filter has.
+-- The definitions that the contracts cite: which warnings a part has.
 pub mod ActionWarnings
 pub mod AnyArgument
 pub mod Arguments
 pub mod CallWarnings
 pub mod Judgements
+pub mod Parts
 pub mod Warnings
 -- Between layers.
-pub mod Parts
+pub mod Walks
 pub mod Halves

@@ -1,13 +1,23 @@
--- What the private functions of `walk` promise each other.
-use Rattle.std.specs.Prelude.{◌≡◌, List, ◌++◌}
+-- The parts of policies and profiles of which warnings are told.
+use Rattle.std.specs.Prelude.{◌≡◌, List}
+use Rattle.seccompiler.specs.declared.backend.TargetArch.{TargetArch}
 use Rattle.seccompiler.specs.JsonTypes.{JsonFilter}
-use Rattle.seccomp_warnings.specs.Warnings.{ArePicked, IsGiven}
-use Rattle.seccomp_warnings.specs.declared.code.Code.{Code}
-use Rattle.seccomp_warnings.specs.declared.judgement.Judgement.{Judgement}
-use Rattle.seccomp_warnings.specs.declared.warning.Warning.{Warning}
+use Rattle.seccomp_entries.specs.Entries.{Entry, Lowered}
+use Rattle.seccomp_entries.specs.Policies.{DecidesAs, IsLoweredPolicy}
+use Rattle.seccomp_warnings.specs.declared.warning.Actions.{Actions}
 
--- The warnings grew by those of some that are true of a filter, and aren't allowed.
-pub record AddsPicked (allowed : List Code) (judgements : List Judgement) (j : JsonFilter) (asked old new : List Warning) : Type 0 where
-  pub picked : List Warning
-  pub are : ArePicked (IsGiven allowed judgements j) asked picked
-  pub added : new ≡ old ++ picked
+-- Entries that stand beside each other, with two actions: that of the calls that some entry matches, and that of the rest.
+pub record Part : Type 0 where
+  pub target_arch : TargetArch
+  pub actions : Actions
+  pub entries : List Entry
+
+-- A filter of a policy is one part: all its entries in one form, which decide as its policy, with both its actions.
+pub record IsPartOfPolicy (target : TargetArch) (j : JsonFilter) (p : Part) : Type 0 where
+  pub lowered : Lowered
+  pub is_lowered : IsLoweredPolicy target j lowered
+  pub decides : DecidesAs target j lowered
+  pub target_arch : p.target_arch ≡ target
+  pub mismatch : p.actions.mismatch ≡ j.mismatch_action
+  pub matching : p.actions.matching ≡ j.match_action
+  pub entries : p.entries ≡ lowered.entries

@@ -1,17 +1,16 @@
 // What is so of the arguments of calls, by the manual pages of the calls (section 2).
 
 ghost use Rattle.std.specs.Prelude.{◌≡◌, ◌↔◌, IsFalse, IsTrue, map};
-ghost use Rattle.std.specs.List.{list_any};
-ghost use Rattle.std.specs.Str.{bytes_eq};
 ghost use Rattle.seccomp_warnings.specs.ActionWarnings.{Permits};
 ghost use Rattle.seccomp_warnings.specs.AnyArgument.{Decides, HoldsFor, condition_in};
 ghost use Rattle.seccomp_warnings.specs.Arguments as spec;
 
 use crate::action::permits;
+use crate::call::is_number_of;
 use crate::code::Code;
 use crate::condition::part_of;
 use crate::warning::{Actions, Comparison};
-use seccompiler::SeccompCmpOp;
+use seccompiler::{SeccompCmpOp, TargetArch};
 
 // The calls whose argument of this index is an address.
 fn pointer_calls(index: u8) -> &'static [&'static str]
@@ -92,27 +91,27 @@ fn read_calls(index: u8) -> &'static [&'static str]
     }
 }
 
-// Whether the name is one of these.
-fn is_among(name: &str, names: &[&str]) -> bool
-    ensures { result ≡ list_any (bytes_eq name.now) (map (λ n. n.now) names.now) }
+// Whether the call of this number has one of these names.
+fn is_among(arch: TargetArch, number: u32, names: &[&str]) -> bool
+    ensures { result ≡ spec.is_among arch number (map (λ n. n.now) names.now) }
 {
-    for one in names {
-        if name == *one {
+    for name in names {
+        if is_number_of(arch, name, number) {
             return true;
         }
     }
     false
 }
 
-// A flag that a call takes in the argument of this index, and that changes nothing of what it is denied for; 0 if none is known.
-fn flag_of(name: &str, index: u8) -> u64
-    ensures { result ≡ spec.flag_of name.now index }
+// A flag that the call takes in the argument of this index, and that changes nothing of what it is denied for; 0 if none is known.
+fn flag_of(arch: TargetArch, number: u32, index: u8) -> u64
+    ensures { result ≡ spec.flag_of arch number index }
 {
-    if is_among(name, close_on_exec_calls(index)) {
+    if is_among(arch, number, close_on_exec_calls(index)) {
         0x8_0000
-    } else if is_among(name, files_calls(index)) {
+    } else if is_among(arch, number, files_calls(index)) {
         0x400
-    } else if is_among(name, read_calls(index)) {
+    } else if is_among(arch, number, read_calls(index)) {
         1
     } else {
         0
@@ -167,10 +166,10 @@ fn is_evaded_by(actions: Actions, comparison: Comparison, flag: u64) -> bool
 }
 
 // Whether a caller gets past the condition on an argument of this call by a flag.
-fn is_evaded(actions: Actions, name: &str, comparison: Comparison) -> bool
-    ensures { IsTrue result ↔ spec.IsFlagEvaded actions name.now comparison }
+fn is_evaded(actions: Actions, arch: TargetArch, number: u32, comparison: Comparison) -> bool
+    ensures { IsTrue result ↔ spec.IsFlagEvaded actions arch number comparison }
 {
-    let flag = flag_of(name, comparison.arg_index);
+    let flag = flag_of(arch, number, comparison.arg_index);
     flag != 0 && is_evaded_by(actions, comparison, flag)
 }
 
@@ -184,21 +183,23 @@ fn is_order(operator: SeccompCmpOp) -> bool
     )
 }
 
-// Whether what a code says is so of a condition on an argument of this call, in a filter of these actions.
+// Whether what a code says is so of a condition on an argument of the call of this number, in a part of these actions.
 pub(crate) fn is_so_of_call(
     code: Code,
     actions: Actions,
-    name: &str,
+    arch: TargetArch,
+    number: u32,
     comparison: Comparison,
 ) -> bool
-    ensures { IsTrue result ↔ spec.IsSoOfArgument code actions name.now comparison }
+    ensures { IsTrue result ↔ spec.IsSoOfArgument code actions arch number comparison }
 {
     let index = comparison.arg_index;
     match code {
-        Code::FlagEvades => is_evaded(actions, name, comparison),
-        Code::PointerCompared => comparison.value != 0 && is_among(name, pointer_calls(index)),
+        Code::FlagEvades => is_evaded(actions, arch, number, comparison),
+        Code::PointerCompared => comparison.value != 0
+            && is_among(arch, number, pointer_calls(index)),
         Code::SignedCompared => {
-            is_order(comparison.operator) && is_among(name, signed_calls(index))
+            is_order(comparison.operator) && is_among(arch, number, signed_calls(index))
         }
         _ => false,
     }

@@ -1,174 +1,211 @@
-// What is so of the calls that a filter names, and of those that it doesn't.
+// What is so of the calls that entries are for, and of those that none is for.
 
-ghost use Rattle.std.specs.Prelude.{◌↔◌, Any, IsTrue};
+ghost use Rattle.std.specs.Prelude.{◌≡◌, ◌↔◌, ℤ, pos, Any, IsTrue};
+ghost use Rattle.seccompiler.specs.Architecture.{table_of};
+ghost use Rattle.seccompiler.specs.JsonPolicyOf.{is_number};
+ghost use Rattle.seccompiler.specs.SyscallTable.{number_of};
 ghost use Rattle.seccomp_warnings.specs.ActionWarnings.{Permits};
-ghost use Rattle.seccomp_warnings.specs.CallWarnings.{DeniesEach, HasArgs, IsCloneEvaded, IsDeniedAlone, IsDeniedUnlisted, IsExit, IsJudged, IsOfJudgement, IsSoOfEntry, IsSoOfRule, IsSoOfUnlisted, IsUnrestartable, IsUnstartable, KillsAtExit, LetsClone3Through, MatchesEach, Names, NamesCall};
+ghost use Rattle.seccomp_warnings.specs.CallWarnings.{DeniesEach, HasNoArgs, IsCloneEvaded, IsDeniedAlone, IsDeniedUnlisted, IsExit, IsJudged, IsNumberOf, IsOfJudgement, IsSoOfEntry, IsSoOfRule, IsSoOfUnlisted, IsUnrestartable, IsUnstartable, KillsAtExit, LetsClone3Through, MatchesEach, MatchesEachCall, Names, NamesCall};
 
 use crate::action::permits;
 use crate::code::Code;
 use crate::judgement::Judgement;
+use crate::part::Part;
 use crate::unlisted::Unlisted;
+use seccomp_entries::Entry;
 use seccomp_verdicts::Verdict;
-use seccompiler::{JsonFilter, JsonRule};
+use seccompiler::{SyscallTable, TargetArch};
 
-// Whether the entry has this call's name.
-fn names(entry: &JsonRule, name: &str) -> bool
-    ensures { IsTrue result ↔ Names name.now entry.now }
+// Whether the call of this name has this number.
+pub(crate) fn is_number_of(arch: TargetArch, name: &str, number: u32) -> bool
+    ensures test { result ≡ is_number (pos number) (number_of (table_of arch) name.now) }
+    ensures is { IsTrue result ↔ IsNumberOf arch name.now number }
 {
-    entry.syscall.as_str() == name
+    Some(i64::from(number)) == SyscallTable::new(arch).get_syscall_nr(name)
 }
 
-// Whether the entry has conditions.
-fn has_args(entry: &JsonRule) -> bool
-    ensures { IsTrue result ↔ HasArgs entry.now }
+// Whether the entry is for the call of this name.
+fn names(arch: TargetArch, entry: &Entry, name: &str) -> bool
+    ensures { IsTrue result ↔ Names arch name.now entry.now }
 {
-    entry.conditions.is_some()
+    is_number_of(arch, name, entry.number)
+}
+
+// Whether the entry has no conditions.
+pub(crate) fn has_no_args(entry: &Entry) -> bool
+    ensures { IsTrue result ↔ HasNoArgs entry.now }
+{
+    entry.conditions.is_empty()
 }
 
 // Whether the entry matches every call of this name.
-fn matches_each(entry: &JsonRule, name: &str) -> bool
-    ensures { IsTrue result ↔ MatchesEach name.now entry.now }
+fn matches_each(arch: TargetArch, entry: &Entry, name: &str) -> bool
+    ensures { IsTrue result ↔ MatchesEach arch name.now entry.now }
 {
-    names(entry, name) && !has_args(entry)
+    names(arch, entry, name) && has_no_args(entry)
 }
 
-// Whether some entry names the call.
-fn is_named(entries: &[JsonRule], name: &str) -> bool
-    ensures { IsTrue result ↔ Any (Names name.now) entries.now }
+// Whether the entry is for the calls of this number.
+fn is_of(entry: &Entry, number: i64) -> bool
+    ensures { IsTrue result ↔ (pos entry.now.number ≡ number) }
 {
-    entries.iter().any(|entry| names(entry, name))
+    i64::from(entry.number) == number
+}
+
+// Whether some entry is for the calls of this number.
+fn has_number(entries: &[Entry], number: i64) -> bool
+    ensures { IsTrue result ↔ Any (λ e. pos e.number ≡ number) entries.now }
+{
+    entries.iter().any(|entry| is_of(entry, number))
+}
+
+// Whether some entry matches every call of this number.
+fn has_each(entries: &[Entry], number: i64) -> bool
+    ensures { IsTrue result ↔ Any (λ e. (pos e.number ≡ number) × HasNoArgs e) entries.now }
+{
+    entries
+        .iter()
+        .any(|entry| is_of(entry, number) && has_no_args(entry))
+}
+
+// Whether some entry is for the call.
+fn names_call(part: &Part, name: &str) -> bool
+    ensures { IsTrue result ↔ NamesCall part.now name.now }
+{
+    match SyscallTable::new(part.target_arch).get_syscall_nr(name) {
+        Some(number) => has_number(part.entries.as_slice(), number),
+        None => false,
+    }
 }
 
 // Whether some entry matches every call of this name.
-fn is_matched(entries: &[JsonRule], name: &str) -> bool
-    ensures { IsTrue result ↔ Any (MatchesEach name.now) entries.now }
+fn matches_each_call(part: &Part, name: &str) -> bool
+    ensures { IsTrue result ↔ MatchesEachCall part.now name.now }
 {
-    entries.iter().any(|entry| matches_each(entry, name))
+    match SyscallTable::new(part.target_arch).get_syscall_nr(name) {
+        Some(number) => has_each(part.entries.as_slice(), number),
+        None => false,
+    }
 }
 
-// Whether some entry of the filter names the call.
-fn names_call(filter: &JsonFilter, name: &str) -> bool
-    ensures { IsTrue result ↔ NamesCall filter.now name.now }
+/// Whether every call of this name is denied: by an entry without conditions, or since no entry is for the call.
+pub fn denies_each(part: &Part, name: &str) -> bool
+    ensures { IsTrue result ↔ DeniesEach name.now part.now }
 {
-    is_named(&filter.rules, name)
-}
-
-/// Whether the filter denies every call of this name: by an entry without conditions, or since no entry names the call.
-pub fn denies_each(filter: &JsonFilter, name: &str) -> bool
-    ensures { IsTrue result ↔ DeniesEach name.now filter.now }
-{
-    is_denied_by_entry(filter, name) || is_denied_unlisted(filter, name)
+    is_denied_by_entry(part, name) || is_denied_unlisted(part, name)
 }
 
 // Whether calls that entries match are denied, and an entry matches every call of this name.
-fn is_denied_by_entry(filter: &JsonFilter, name: &str) -> bool
-    ensures { IsTrue result ↔ ((Permits filter.now.match_action → ⊥) × Any (MatchesEach name.now) filter.now.rules) }
+fn is_denied_by_entry(part: &Part, name: &str) -> bool
+    ensures { IsTrue result ↔ ((Permits part.now.actions.matching → ⊥) × MatchesEachCall part.now name.now) }
 {
-    !permits(filter.match_action) && is_matched(&filter.rules, name)
+    !permits(part.actions.matching) && matches_each_call(part, name)
 }
 
-// Whether calls that no entry matches are denied, and no entry names the call.
-fn is_denied_unlisted(filter: &JsonFilter, name: &str) -> bool
-    ensures { IsTrue result ↔ IsDeniedUnlisted filter.now name.now }
+// Whether calls that no entry matches are denied, and no entry is for the call.
+fn is_denied_unlisted(part: &Part, name: &str) -> bool
+    ensures { IsTrue result ↔ IsDeniedUnlisted part.now name.now }
 {
-    !permits(filter.mismatch_action) && !names_call(filter, name)
+    !permits(part.actions.mismatch) && !names_call(part, name)
 }
 
-// Whether the filter is one of a program that starts under it, and lets no program be started.
-fn is_unstartable(filter: &JsonFilter) -> bool
-    ensures { IsTrue result ↔ IsUnstartable filter.now }
+// Whether the part is that of a program that starts under it, and lets no program be started.
+fn is_unstartable(part: &Part) -> bool
+    ensures { IsTrue result ↔ IsUnstartable part.now }
 {
-    permits(filter.match_action)
-        && names_call(filter, "set_tid_address")
-        && is_denied_unlisted(filter, "execve")
-        && !names_call(filter, "execveat")
+    permits(part.actions.matching)
+        && names_call(part, "set_tid_address")
+        && is_denied_unlisted(part, "execve")
+        && !names_call(part, "execveat")
 }
 
-// Whether the filter lists a call that Linux goes on with by restart_syscall, and denies that one.
-fn is_unrestartable(filter: &JsonFilter) -> bool
-    ensures { IsTrue result ↔ IsUnrestartable filter.now }
+// Whether a call is listed that Linux goes on with by restart_syscall, and that one is denied.
+fn is_unrestartable(part: &Part) -> bool
+    ensures { IsTrue result ↔ IsUnrestartable part.now }
 {
-    permits(filter.match_action)
-        && is_denied_unlisted(filter, "restart_syscall")
-        && (names_call(filter, "nanosleep")
-            || names_call(filter, "clock_nanosleep")
-            || names_call(filter, "poll")
-            || names_call(filter, "futex"))
+    permits(part.actions.matching)
+        && is_denied_unlisted(part, "restart_syscall")
+        && (names_call(part, "nanosleep")
+            || names_call(part, "clock_nanosleep")
+            || names_call(part, "poll")
+            || names_call(part, "futex"))
 }
 
-// Whether clone is denied by entries, and clone3 is let through as no entry names it.
-fn is_clone_evaded(filter: &JsonFilter) -> bool
-    ensures { IsTrue result ↔ IsCloneEvaded filter.now }
+// Whether clone is denied by entries, and clone3 is let through as no entry is for it.
+fn is_clone_evaded(part: &Part) -> bool
+    ensures { IsTrue result ↔ IsCloneEvaded part.now }
 {
-    permits(filter.mismatch_action)
-        && !permits(filter.match_action)
-        && names_call(filter, "clone")
-        && !names_call(filter, "clone3")
+    permits(part.actions.mismatch)
+        && !permits(part.actions.matching)
+        && names_call(part, "clone")
+        && !names_call(part, "clone3")
 }
 
-// Whether what a code says is so of a call that no entry of the filter names.
-pub(crate) fn is_so_of_unlisted(code: Code, filter: &JsonFilter, call: Unlisted) -> bool
-    ensures { IsTrue result ↔ IsSoOfUnlisted code filter.now call }
+// Whether what a code says is so of a call that no entry is for.
+pub(crate) fn is_so_of_unlisted(code: Code, part: &Part, call: Unlisted) -> bool
+    ensures { IsTrue result ↔ IsSoOfUnlisted code part.now call }
 {
     match (code, call) {
-        (Code::KillsExit, Unlisted::Exit) => is_denied_unlisted(filter, "exit"),
-        (Code::KillsExit, Unlisted::ExitGroup) => is_denied_unlisted(filter, "exit_group"),
-        (Code::KillsExit, Unlisted::RtSigreturn) => is_denied_unlisted(filter, "rt_sigreturn"),
-        (Code::CloneByClone3, Unlisted::Clone3) => is_clone_evaded(filter),
-        (Code::NoExecve, Unlisted::Execve) => is_unstartable(filter),
-        (Code::NoRestart, Unlisted::RestartSyscall) => is_unrestartable(filter),
+        (Code::KillsExit, Unlisted::Exit) => is_denied_unlisted(part, "exit"),
+        (Code::KillsExit, Unlisted::ExitGroup) => is_denied_unlisted(part, "exit_group"),
+        (Code::KillsExit, Unlisted::RtSigreturn) => is_denied_unlisted(part, "rt_sigreturn"),
+        (Code::CloneByClone3, Unlisted::Clone3) => is_clone_evaded(part),
+        (Code::NoExecve, Unlisted::Execve) => is_unstartable(part),
+        (Code::NoRestart, Unlisted::RestartSyscall) => is_unrestartable(part),
         _ => false,
     }
 }
 
-// Whether a thread or a process ends by this call, or a signal handler returns.
-fn is_exit(name: &str) -> bool
-    ensures { IsTrue result ↔ IsExit name.now }
+// Whether a thread or a process ends by the entry's call, or a signal handler returns.
+fn is_exit(arch: TargetArch, entry: &Entry) -> bool
+    ensures { IsTrue result ↔ IsExit arch entry.now }
 {
-    name == "exit" || name == "exit_group" || name == "rt_sigreturn"
+    names(arch, entry, "exit")
+        || names(arch, entry, "exit_group")
+        || names(arch, entry, "rt_sigreturn")
 }
 
 // Whether the entry denies each call by which a thread or a process ends, or a signal handler returns.
-fn kills_at_exit(filter: &JsonFilter, entry: &JsonRule) -> bool
-    ensures { IsTrue result ↔ KillsAtExit filter.now entry.now }
+fn kills_at_exit(part: &Part, entry: &Entry) -> bool
+    ensures { IsTrue result ↔ KillsAtExit part.now entry.now }
 {
-    !permits(filter.match_action) && !has_args(entry) && is_exit(entry.syscall.as_str())
+    !permits(part.actions.matching) && has_no_args(entry) && is_exit(part.target_arch, entry)
 }
 
-// Whether the entry lets every clone3 through, if the filter doesn't let every clone through.
-fn lets_clone3_through(filter: &JsonFilter, entry: &JsonRule) -> bool
-    ensures { IsTrue result ↔ LetsClone3Through filter.now entry.now }
+// Whether the entry lets every clone3 through, if not every clone is let through.
+fn lets_clone3_through(part: &Part, entry: &Entry) -> bool
+    ensures { IsTrue result ↔ LetsClone3Through part.now entry.now }
 {
-    permits(filter.match_action)
-        && !permits(filter.mismatch_action)
-        && matches_each(entry, "clone3")
-        && !is_matched(&filter.rules, "clone")
+    permits(part.actions.matching)
+        && !permits(part.actions.mismatch)
+        && matches_each(part.target_arch, entry, "clone3")
+        && !matches_each_call(part, "clone")
 }
 
-// Whether the filter denies what entries match and lets the rest through, and the entry matches each call of its name.
-pub(crate) fn is_denied_alone(filter: &JsonFilter, entry: &JsonRule) -> bool
-    ensures { IsTrue result ↔ IsDeniedAlone filter.now entry.now }
+// Whether what entries match is denied and the rest let through, and the entry matches each of its calls.
+pub(crate) fn is_denied_alone(part: &Part, entry: &Entry) -> bool
+    ensures { IsTrue result ↔ IsDeniedAlone part.now entry.now }
 {
-    !permits(filter.match_action) && permits(filter.mismatch_action) && !has_args(entry)
+    !permits(part.actions.matching) && permits(part.actions.mismatch) && has_no_args(entry)
 }
 
-// Whether what a code says is so of an entry of the filter.
-fn is_so_of_rule(code: Code, filter: &JsonFilter, entry: &JsonRule) -> bool
-    ensures { IsTrue result ↔ IsSoOfRule code filter.now entry.now }
+// Whether what a code says is so of an entry of the part.
+fn is_so_of_rule(code: Code, part: &Part, entry: &Entry) -> bool
+    ensures { IsTrue result ↔ IsSoOfRule code part.now entry.now }
 {
     match code {
-        Code::KillsExit => kills_at_exit(filter, entry),
-        Code::CloneByClone3 => lets_clone3_through(filter, entry),
+        Code::KillsExit => kills_at_exit(part, entry),
+        Code::CloneByClone3 => lets_clone3_through(part, entry),
         _ => false,
     }
 }
 
-// Whether the filter has an entry at the place, of which what a code says is so.
-pub(crate) fn is_so_of_entry(code: Code, filter: &JsonFilter, place: usize) -> bool
-    ensures { IsTrue result ↔ IsSoOfEntry code filter.now place }
+// Whether the part has an entry at the place, of which what a code says is so.
+pub(crate) fn is_so_of_entry(code: Code, part: &Part, place: usize) -> bool
+    ensures { IsTrue result ↔ IsSoOfEntry code part.now place }
 {
-    match filter.rules.get(place) {
-        Some(entry) => is_so_of_rule(code, filter, entry),
+    match part.entries.get(place) {
+        Some(entry) => is_so_of_rule(code, part, entry),
         None => false,
     }
 }

@@ -1,102 +1,82 @@
-// What is so of the entries of a filter beside each other.
+// What is so of the entries of a part beside each other.
 
-ghost use Rattle.std.specs.Prelude.{◌≡◌, ◌↔◌, ℕ, ℤ, Any, IfErr, IfNone, IfOk, IfSome, IsTrue, List, OnOk, Some, true, false, slice_get};
-ghost use Rattle.seccompiler.specs.JsonPolicyOf.{IsPolicyOf};
-ghost use Rattle.seccompiler.specs.JsonSteps.{IsPolicyRefusal};
-ghost use Rattle.seccompiler.specs.Policy.{Filter};
-ghost use Rattle.seccompiler.specs.JsonTypes.{JsonRule};
-ghost use Rattle.seccomp_warnings.specs.Judgements as spec;
+ghost use Rattle.std.specs.Prelude.{◌≡◌, ◌↔◌, ℕ, ℤ, IfNone, IfOk, IfSome, IsTrue, List, Some, false, true};
+ghost use Rattle.seccomp_entries.specs.Entries.{Entry as EntryValue};
 ghost use Rattle.seccomp_warnings.specs.Judgements.{AreJudgements, AreVerdicts, IsJudgement, IsOfNumber, IsSetOf, IsUndoneBy, IsWithAndWithoutArgs};
 
-use crate::call::is_denied_alone;
+use crate::call::{has_no_args, is_denied_alone};
+use crate::part::Part;
 use crate::sibling::unnamed_sibling;
-use seccomp_entries::lowered_policy;
+use seccomp_entries::Entry;
 use seccomp_verdicts::{Verdict, verdicts_of};
-use seccompiler::{JsonFilter, JsonFrontendError, JsonRule, SyscallTable, TargetArch};
 use std::alloc::{AllocError, Global};
 use std::collections::BTreeSet;
 
-/// What is so of an entry of a filter beside the others.
+/// What is so of an entry beside the others.
 #[derive(Clone, Copy, Debug)]
 pub struct Judgement {
-    /// Whether the filter needs it.
+    /// Whether it is needed.
     pub verdict: Verdict,
     /// Whether it has no conditions, and another entry of its call has some.
     pub differs: bool,
-    /// If the entry denies each call of its name: a call by which the same can be done, and which is let through since
+    /// If the entry denies each of its calls: a call by which the same can be done, and which is let through since
     /// no entry is for it.
     pub sibling: Option<&'static str>,
 }
 
-/// A judgement for each entry of a filter, in their order; each is true. The verdicts are those of [`verdicts_of`].
+/// A judgement for each entry of a part, in their order; each is true. The verdicts are those of [`verdicts_of`].
 ///
 /// # Errors
 ///
-/// Those of [`lowered_policy`].
-pub fn judgements_of(
-    alloc: Global,
-    arch: TargetArch,
-    filter: &JsonFilter,
-) -> Result<Vec<Judgement>, JsonFrontendError>
-    ensures judgements { IfOk result (λ judgements. AreJudgements arch filter.now judgements.items) }
-    ensures policy { OnOk result ((policy : Filter) × IsPolicyOf arch filter.now policy) }
-    ensures refusal { IfErr result (IsPolicyRefusal arch filter.now) }
+/// An error is returned if memory runs out.
+pub(crate) fn judgements_of(alloc: Global, part: &Part) -> Result<Vec<Judgement>, AllocError>
+    ensures { IfOk result (λ judgements. AreJudgements part.now judgements.items) }
 {
-    let lowered = lowered_policy(alloc, arch, filter)?;
-    let verdicts = verdicts_of(alloc, arch, lowered.entries.as_slice())?;
-    Ok(judgements_by(alloc, arch, filter, &verdicts)?)
+    let verdicts = verdicts_of(alloc, part.target_arch, part.entries.as_slice())?;
+    judgements_by(alloc, part, &verdicts)
 }
 
 // The judgements with these verdicts.
 fn judgements_by(
     alloc: Global,
-    arch: TargetArch,
-    filter: &JsonFilter,
+    part: &Part,
     verdicts: &[Verdict],
 ) -> Result<Vec<Judgement>, AllocError>
-    requires { AreVerdicts arch filter.now verdicts.now }
-    ensures { IfOk result (λ judgements. AreJudgements arch filter.now judgements.items) }
+    requires { AreVerdicts part.now verdicts.now }
+    ensures { IfOk result (λ judgements. AreJudgements part.now judgements.items) }
 {
-    let named = numbers_of(alloc, arch, false, &filter.rules)?;
-    let with_args = numbers_of(alloc, arch, true, &filter.rules)?;
+    let named = numbers_of(alloc, false, &part.entries)?;
+    let with_args = numbers_of(alloc, true, &part.entries)?;
     let mut judgements = Vec::with_capacity(alloc, verdicts.len())?;
     for place in 0..verdicts.len() {
         let verdict = verdicts[place];
-        let judgement = judgement_of(
-            arch,
-            filter,
-            &named,
-            &with_args,
-            verdict,
-            &filter.rules[place],
-        );
+        let judgement = judgement_of(part, &named, &with_args, verdict, &part.entries[place]);
         judgements.push(judgement)?;
     }
     Ok(judgements)
 }
 
-// The number of the entry's call; none if only an entry with conditions is asked for and it has none.
-fn number_asked(arch: TargetArch, with_args: bool, entry: &JsonRule) -> Option<i64>
-    ensures { (number : ℤ) → (result ≡ Some number) ↔ IsOfNumber arch with_args number entry.now }
+// The number of the entry; none if only an entry with conditions is asked for and it has none.
+fn number_asked(with_args: bool, entry: &Entry) -> Option<i64>
+    ensures { (number : ℤ) → (result ≡ Some number) ↔ IsOfNumber with_args number entry.now }
 {
-    if with_args && entry.conditions.is_none() {
+    if with_args && has_no_args(entry) {
         return None;
     }
-    SyscallTable::new(arch).get_syscall_nr(entry.syscall.as_str())
+    Some(i64::from(entry.number))
 }
 
 // The numbers of entries, or of those alone that have conditions.
 fn numbers_of(
     alloc: Global,
-    arch: TargetArch,
     with_args: bool,
-    entries: &[JsonRule],
+    entries: &[Entry],
 ) -> Result<BTreeSet<i64>, AllocError>
-    ensures { IfOk result (IsSetOf arch with_args entries.now) }
+    ensures { IfOk result (IsSetOf with_args entries.now) }
 {
     let mut numbers = Vec::with_capacity(alloc, entries.len())?;
     for entry in entries {
-        if let Some(number) = number_asked(arch, with_args, entry) {
+        if let Some(number) = number_asked(with_args, entry) {
             numbers.push(number)?;
         }
     }
@@ -105,48 +85,39 @@ fn numbers_of(
 
 // The judgement of an entry with this verdict.
 fn judgement_of(
-    arch: TargetArch,
-    filter: &JsonFilter,
+    part: &Part,
     named: &BTreeSet<i64>,
     with_args: &BTreeSet<i64>,
     verdict: Verdict,
-    entry: &JsonRule,
+    entry: &Entry,
 ) -> Judgement
-    requires named { IsSetOf arch false filter.now.rules named.now }
-    requires with_args { IsSetOf arch true filter.now.rules with_args.now }
+    requires named { IsSetOf false part.now.entries named.now }
+    requires with_args { IsSetOf true part.now.entries with_args.now }
     ensures verdict { result.verdict ≡ verdict }
-    ensures judged { IsJudgement arch filter.now entry.now result }
+    ensures judged { IsJudgement part.now entry.now result }
 {
     Judgement {
         verdict,
-        differs: is_differing(arch, with_args, entry),
-        sibling: sibling_of(arch, filter, named, entry),
+        differs: is_differing(with_args, entry),
+        sibling: sibling_of(part, named, entry),
     }
 }
 
 // Whether the entry has no conditions, and its number is among these.
-fn is_differing(arch: TargetArch, with_args: &BTreeSet<i64>, entry: &JsonRule) -> bool
-    ensures { (entries : List JsonRule) → IsSetOf arch true entries with_args.now → (IsTrue result ↔ IsWithAndWithoutArgs arch entries entry.now) }
+fn is_differing(with_args: &BTreeSet<i64>, entry: &Entry) -> bool
+    ensures { (entries : List EntryValue) → IsSetOf true entries with_args.now → (IsTrue result ↔ IsWithAndWithoutArgs entries entry.now) }
 {
-    match SyscallTable::new(arch).get_syscall_nr(entry.syscall.as_str()) {
-        Some(number) => entry.conditions.is_none() && with_args.contains(&number),
-        None => false,
-    }
+    has_no_args(entry) && with_args.contains(&i64::from(entry.number))
 }
 
 // A call that is let through, and by which the same can be done as by those that the entry denies.
-fn sibling_of(
-    arch: TargetArch,
-    filter: &JsonFilter,
-    named: &BTreeSet<i64>,
-    entry: &JsonRule,
-) -> Option<&'static str>
-    requires { IsSetOf arch false filter.now.rules named.now }
-    ensures found { IfSome result (λ other. IsUndoneBy arch filter.now entry.now other.now) }
-    ensures none { IfNone result ((other : List ℕ) → IsUndoneBy arch filter.now entry.now other → ⊥) }
+fn sibling_of(part: &Part, named: &BTreeSet<i64>, entry: &Entry) -> Option<&'static str>
+    requires { IsSetOf false part.now.entries named.now }
+    ensures found { IfSome result (λ other. IsUndoneBy part.now entry.now other.now) }
+    ensures none { IfNone result ((other : List ℕ) → IsUndoneBy part.now entry.now other → ⊥) }
 {
-    if !is_denied_alone(filter, entry) {
+    if !is_denied_alone(part, entry) {
         return None;
     }
-    unnamed_sibling(arch, named, entry.syscall.as_str())
+    unnamed_sibling(part.target_arch, named, entry.number)
 }

@@ -1,18 +1,17 @@
-//! Warnings of a policy: places at which it may not say what its author means.
+//! Warnings of parts of policies and profiles: places that may not say what their author means.
 //!
-//! A policy with a warning is valid. [`judgements_of`] says what is so of entries beside the others, [`warnings_of`]
-//! gives the filter's warnings, each with its [`Code`] and what it is about, and [`said_text`] is what is said of it.
-//! `docs/CHECKS.md` has a section for each code.
+//! A policy or a profile with a warning is valid. A [`Part`] has entries that stand beside each other with two actions; a filter of
+//! a policy is one, by [`policy_part`]. [`warnings_of`] gives the warnings of a part, each with its [`Code`] and what it is about,
+//! and [`said_text`] is what is said of it. `docs/CHECKS.md` has a section for each code.
 //!
 //! ```
-//! use seccomp_warnings::{Code, Warning, judgements_of, warnings_of};
-//! use seccompiler::{JsonFilter, TargetArch};
+//! use seccomp_warnings::{Code, Warned, policy_warnings_of};
+//! use seccompiler::{JsonFilter, JsonFrontendError, TargetArch};
 //! use std::alloc::Global;
 //!
 //! /// The warnings of a filter, all but those of `allows-by-default`.
-//! fn warnings_here(alloc: Global, filter: &JsonFilter) -> Result<Vec<Warning>, seccompiler::Error> {
-//!     let judgements = judgements_of(alloc, TargetArch::x86_64, filter)?;
-//!     Ok(warnings_of(alloc, filter, &judgements, &[Code::AllowsByDefault])?)
+//! fn warnings_here(alloc: Global, filter: &JsonFilter) -> Result<Warned, JsonFrontendError> {
+//!     policy_warnings_of(alloc, TargetArch::x86_64, filter, &[Code::AllowsByDefault])
 //! }
 //! ```
 #![tactic(auto)]
@@ -23,6 +22,7 @@ mod call;
 pub mod code;
 mod condition;
 pub mod judgement;
+mod part;
 mod sibling;
 mod text;
 pub mod unlisted;
@@ -31,8 +31,9 @@ pub mod warning;
 
 pub use crate::call::denies_each;
 pub use crate::code::Code;
-pub use crate::judgement::{Judgement, judgements_of};
+pub use crate::judgement::Judgement;
+pub use crate::part::{Part, policy_part};
 pub use crate::text::{part_of, said_text};
 pub use crate::unlisted::Unlisted;
-pub use crate::walk::warnings_of;
-pub use crate::warning::{Actions, Comparison, Subject, Warning};
+pub use crate::walk::{policy_warnings_of, warnings_of};
+pub use crate::warning::{Actions, Comparison, Subject, Warned, Warning};

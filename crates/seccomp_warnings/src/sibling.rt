@@ -1,12 +1,24 @@
 // Calls by which the same can be done.
 
-ghost use Rattle.std.specs.Prelude.{◌≡◌, ◌↔◌, All, Contains, IfNone, IfSome, IsTrue, List, false, map};
-ghost use Rattle.seccompiler.specs.JsonTypes.{JsonRule};
+ghost use Rattle.std.specs.Prelude.{◌≡◌, ◌↔◌, ℕ, All, Any, Contains, IfNone, IfSome, IsTrue, List, false, map};
+ghost use Rattle.seccomp_entries.specs.Entries.{Entry};
+ghost use Rattle.seccomp_warnings.specs.CallWarnings.{IsNumberOf};
 ghost use Rattle.seccomp_warnings.specs.Judgements as spec;
-ghost use Rattle.seccomp_warnings.specs.Judgements.{IsSetOf, IsUnnamed};
+ghost use Rattle.seccomp_warnings.specs.Judgements.{HasNoneUnnamed, IsSetOf, IsSibling, IsUnnamed};
 
+use crate::call::is_number_of;
 use seccompiler::{SyscallTable, TargetArch};
 use std::collections::BTreeSet;
+
+// The calls of which another one can do the same.
+fn all_undone() -> &'static [&'static str]
+    ensures { map (λ n. n.now) result.now ≡ spec.all_undone }
+{
+    &[
+        "open", "openat", "execve", "mount", "ptrace", "mprotect", "kill", "unshare", "socket",
+        "connect",
+    ]
+}
 
 // The calls by which what the call of this name does can be done too.
 fn siblings_of(name: &str) -> &'static [&'static str]
@@ -39,7 +51,7 @@ fn siblings_of(name: &str) -> &'static [&'static str]
 
 // Whether the architecture has the call, and its number isn't among these.
 fn is_unnamed(arch: TargetArch, named: &BTreeSet<i64>, name: &str) -> bool
-    ensures { (entries : List JsonRule) → IsSetOf arch false entries named.now → (IsTrue result ↔ IsUnnamed arch entries name.now) }
+    ensures { (entries : List Entry) → IsSetOf false entries named.now → (IsTrue result ↔ IsUnnamed arch entries name.now) }
 {
     match SyscallTable::new(arch).get_syscall_nr(name) {
         Some(number) => !named.contains(&number),
@@ -53,8 +65,8 @@ fn first_unnamed(
     named: &BTreeSet<i64>,
     names: &[&'static str],
 ) -> Option<&'static str>
-    ensures found { (entries : List JsonRule) → IsSetOf arch false entries named.now → IfSome result (λ other. Contains names.now other × IsUnnamed arch entries other.now) }
-    ensures none { (entries : List JsonRule) → IsSetOf arch false entries named.now → IfNone result (All (λ other. IsUnnamed arch entries other.now → ⊥) names.now) }
+    ensures found { (entries : List Entry) → IsSetOf false entries named.now → IfSome result (λ other. Contains names.now other × IsUnnamed arch entries other.now) }
+    ensures none { (entries : List Entry) → IsSetOf false entries named.now → IfNone result (All (λ other. IsUnnamed arch entries other.now → ⊥) names.now) }
 {
     for name in names {
         if is_unnamed(arch, named, name) {
@@ -65,13 +77,41 @@ fn first_unnamed(
 }
 
 // The first call by which what the call of this name does can be done too, and of which that is so.
+fn unnamed_of(arch: TargetArch, named: &BTreeSet<i64>, name: &str) -> Option<&'static str>
+    ensures found { (entries : List Entry) → IsSetOf false entries named.now → IfSome result (λ other. Contains (spec.siblings_of name.now) other.now × IsUnnamed arch entries other.now) }
+    ensures none { (entries : List Entry) → IsSetOf false entries named.now → IfNone result (All (λ other. IsUnnamed arch entries other → ⊥) (spec.siblings_of name.now)) }
+{
+    first_unnamed(arch, named, siblings_of(name))
+}
+
+// The first such call, if the call of this number has one of these names.
+fn first_sibling(
+    arch: TargetArch,
+    named: &BTreeSet<i64>,
+    number: u32,
+    names: &[&'static str],
+) -> Option<&'static str>
+    ensures found { (entries : List Entry) → IsSetOf false entries named.now → IfSome result (λ other. Any (λ name. IsNumberOf arch name.now number × Contains (spec.siblings_of name.now) other.now) names.now × IsUnnamed arch entries other.now) }
+    ensures none { (entries : List Entry) → IsSetOf false entries named.now → IfNone result (All (λ name. HasNoneUnnamed arch number entries name.now) names.now) }
+{
+    for name in names {
+        if is_number_of(arch, name, number) {
+            if let Some(found) = unnamed_of(arch, named, name) {
+                return Some(found);
+            }
+        }
+    }
+    None
+}
+
+// The first call by which what the call of this number does can be done too, and of which that is so.
 pub(crate) fn unnamed_sibling(
     arch: TargetArch,
     named: &BTreeSet<i64>,
-    name: &str,
+    number: u32,
 ) -> Option<&'static str>
-    ensures found { (entries : List JsonRule) → IsSetOf arch false entries named.now → IfSome result (λ other. Contains (spec.siblings_of name.now) other.now × IsUnnamed arch entries other.now) }
-    ensures none { (entries : List JsonRule) → IsSetOf arch false entries named.now → IfNone result (All (λ other. IsUnnamed arch entries other → ⊥) (spec.siblings_of name.now)) }
+    ensures found { (entries : List Entry) → IsSetOf false entries named.now → IfSome result (λ other. IsSibling arch number other.now × IsUnnamed arch entries other.now) }
+    ensures none { (entries : List Entry) → IsSetOf false entries named.now → IfNone result ((other : List ℕ) → IsSibling arch number other → IsUnnamed arch entries other → ⊥) }
 {
-    first_unnamed(arch, named, siblings_of(name))
+    first_sibling(arch, named, number, all_undone())
 }

@@ -1,154 +1,177 @@
-// The warnings of a filter, in the order of the policy's text.
+// The warnings of a part, in the order of its entries.
 
-ghost use Rattle.std.specs.Prelude.{◌≡◌, ◌↔◌, ◌⊎◌, map, IfOk, OnOk, IsTrue, option_map};
-ghost use Rattle.seccomp_warnings.specs.Warnings.{AreWarnings, IsGiven, IsSo, IsSoOfEntryArgument, about, actions_of, calls_asked, entries_asked, entry_asked, args_asked, conditions_asked, condition_asked};
+ghost use Rattle.std.specs.Prelude.{◌≡◌, ◌↔◌, ◌⊎◌, map, IfErr, IfOk, OnOk, IsTrue};
+ghost use Rattle.seccompiler.specs.JsonPolicyOf.{IsPolicyOf};
+ghost use Rattle.seccompiler.specs.JsonSteps.{IsPolicyRefusal};
+ghost use Rattle.seccompiler.specs.Policy.{Filter};
+ghost use Rattle.seccomp_warnings.specs.Warnings.{AreTrueWarnings, AreWarned, AreWarnings, IsGiven, IsSo, IsSoOfEntryArgument, about, calls_asked, entries_asked, entry_asked, conditions_asked, condition_asked};
 ghost use Rattle.seccomp_warnings.specs.CallWarnings.{IsJudged, IsSoOfEntry, all_unlisted};
-ghost use Rattle.seccomp_warnings.specs.Parts.{AddsPicked};
+ghost use Rattle.seccomp_warnings.specs.Walks.{AddsPicked};
 
 use crate::action::{is_so_of_action, is_so_of_both};
 use crate::argument::is_so_of_call;
 use crate::call::{is_judged, is_so_of_entry, is_so_of_unlisted};
 use crate::code::{Code, is_among};
 use crate::condition::is_so_of_condition;
-use crate::judgement::Judgement;
+use crate::judgement::{Judgement, judgements_of};
+use crate::part::{Part, policy_part};
 use crate::unlisted::Unlisted;
-use crate::warning::{Actions, Comparison, Subject, Warning};
-use seccompiler::{JsonCondition, JsonFilter, JsonRule};
+use crate::warning::{Comparison, Subject, Warned, Warning};
+use seccomp_entries::Entry;
+use seccompiler::{JsonFilter, JsonFrontendError, SeccompCondition, TargetArch};
 use std::alloc::{AllocError, Global};
 
-/// The warnings of a filter: exactly those that are true of it and whose codes aren't allowed.
-///
-/// The judgements, those of [`judgements_of`](crate::judgement::judgements_of), say what is so of entries beside the others.
-///
-/// Warnings come in the order of the policy's text: those of the mismatch action, with its calls that no entry
-/// names; those of the match action; then, entry by entry, those of the entry and of its conditions. Those of
-/// one place are in the order of `Code::all`.
+/// The warnings of a filter of a policy: those of its part.
 ///
 /// # Errors
 ///
-/// `AllocError` if memory runs out.
-pub fn warnings_of(
+/// Those of [`policy_part`].
+pub fn policy_warnings_of(
     alloc: Global,
+    target: TargetArch,
     filter: &JsonFilter,
+    allowed: &[Code],
+) -> Result<Warned, JsonFrontendError>
+    ensures warnings { IfOk result (AreTrueWarnings target allowed.now filter.now) }
+    ensures policy { OnOk result ((policy : Filter) × IsPolicyOf target filter.now policy) }
+    ensures refusal { IfErr result (IsPolicyRefusal target filter.now) }
+{
+    let part = policy_part(alloc, target, filter)?;
+    Ok(warnings_of(alloc, &part, allowed)?)
+}
+
+/// The warnings of a part: exactly those that are true of it and whose codes aren't allowed, beside what is so of its entries beside
+/// each other.
+///
+/// Warnings come in this order: those of the mismatch action, with its calls that no entry is for; those of the match action; then,
+/// entry by entry, those of the entry and of its conditions. Those of one place are in the order of `Code::all`.
+///
+/// # Errors
+///
+/// An error is returned if memory runs out.
+pub fn warnings_of(alloc: Global, part: &Part, allowed: &[Code]) -> Result<Warned, AllocError>
+    ensures { IfOk result (AreWarned allowed.now part.now) }
+{
+    let judgements = judgements_of(alloc, part)?;
+    let warnings = warnings_with(alloc, part, &judgements, allowed)?;
+    Ok(Warned {
+        judgements,
+        warnings,
+    })
+}
+
+// The warnings of a part with these judgements.
+fn warnings_with(
+    alloc: Global,
+    part: &Part,
     judgements: &[Judgement],
     allowed: &[Code],
 ) -> Result<Vec<Warning>, AllocError>
-    ensures { IfOk result (λ warnings. AreWarnings allowed.now judgements.now filter.now warnings.items) }
+    ensures { IfOk result (λ warnings. AreWarnings allowed.now judgements.now part.now warnings.items) }
 {
     let mut warnings = Vec::new(alloc);
-    let mismatch = Subject::MismatchAction(filter.mismatch_action);
+    let mismatch = Subject::MismatchAction(part.actions.mismatch);
     push_those(
         &mut warnings,
         allowed,
         judgements,
-        filter,
+        part,
         Code::of_mismatch(),
         mismatch,
     )?;
-    push_calls(&mut warnings, allowed, judgements, filter)?;
-    let matching = Subject::MatchAction(filter.match_action);
+    push_calls(&mut warnings, allowed, judgements, part)?;
+    let matching = Subject::MatchAction(part.actions.matching);
     push_those(
         &mut warnings,
         allowed,
         judgements,
-        filter,
+        part,
         Code::of_match(),
         matching,
     )?;
-    push_entries(&mut warnings, allowed, judgements, filter, &filter.rules)?;
+    push_entries(&mut warnings, allowed, judgements, part, &part.entries)?;
     Ok(warnings)
 }
 
-// The actions of a filter.
-fn actions_of(filter: &JsonFilter) -> Actions
-    ensures { result ≡ actions_of filter.now }
-{
-    Actions {
-        mismatch: filter.mismatch_action,
-        matching: filter.match_action,
-    }
-}
-
 // Whether what a code says is so of the entry at a place, by itself or by its judgement.
-fn is_so_of_place(code: Code, judgements: &[Judgement], filter: &JsonFilter, place: usize) -> bool
-    ensures { IsTrue result ↔ (IsSoOfEntry code filter.now place ⊎ IsJudged code judgements.now place) }
+fn is_so_of_place(code: Code, judgements: &[Judgement], part: &Part, place: usize) -> bool
+    ensures { IsTrue result ↔ (IsSoOfEntry code part.now place ⊎ IsJudged code judgements.now place) }
 {
-    is_so_of_entry(code, filter, place) || is_judged(code, judgements, place)
+    is_so_of_entry(code, part, place) || is_judged(code, judgements, place)
 }
 
-// Whether what a code says is so of the argument of a condition of the filter.
-fn is_so_of_argument(code: Code, filter: &JsonFilter, comparison: Comparison) -> bool
-    ensures { IsTrue result ↔ IsSoOfEntryArgument code filter.now comparison }
+// Whether what a code says is so of the argument of a condition of the part.
+fn is_so_of_argument(code: Code, part: &Part, comparison: Comparison) -> bool
+    ensures { IsTrue result ↔ IsSoOfEntryArgument code part.now comparison }
 {
-    match filter.rules.get(comparison.entry) {
-        Some(entry) => {
-            is_so_of_call(code, actions_of(filter), entry.syscall.as_str(), comparison)
-        }
+    match part.entries.get(comparison.entry) {
+        Some(entry) => is_so_of_call(
+            code,
+            part.actions,
+            part.target_arch,
+            entry.number,
+            comparison,
+        ),
         None => false,
     }
 }
 
-// Whether a warning is true of the filter.
-fn is_so(judgements: &[Judgement], filter: &JsonFilter, warning: Warning) -> bool
-    ensures { IsTrue result ↔ IsSo judgements.now filter.now warning }
+// Whether a warning is true of the part.
+fn is_so(judgements: &[Judgement], part: &Part, warning: Warning) -> bool
+    ensures { IsTrue result ↔ IsSo judgements.now part.now warning }
 {
     match warning.subject {
         Subject::MismatchAction(action) => is_so_of_action(warning.code, action),
         Subject::MatchAction(action) => {
-            is_so_of_action(warning.code, action) || is_so_of_both(warning.code, actions_of(filter))
+            is_so_of_action(warning.code, action) || is_so_of_both(warning.code, part.actions)
         }
-        Subject::MismatchCall(call) => is_so_of_unlisted(warning.code, filter, call),
-        Subject::Entry(place) => is_so_of_place(warning.code, judgements, filter, place),
+        Subject::MismatchCall(call) => is_so_of_unlisted(warning.code, part, call),
+        Subject::Entry(place) => is_so_of_place(warning.code, judgements, part, place),
         Subject::Condition(comparison) => {
-            is_so_of_condition(warning.code, actions_of(filter), comparison)
-                || is_so_of_argument(warning.code, filter, comparison)
+            is_so_of_condition(warning.code, part.actions, comparison)
+                || is_so_of_argument(warning.code, part, comparison)
         }
     }
 }
 
-// Whether a warning is true of the filter, and its code isn't allowed.
-fn is_given(
-    allowed: &[Code],
-    judgements: &[Judgement],
-    filter: &JsonFilter,
-    warning: Warning,
-) -> bool
-    ensures { IsTrue result ↔ IsGiven allowed.now judgements.now filter.now warning }
+// Whether a warning is true of the part, and its code isn't allowed.
+fn is_given(allowed: &[Code], judgements: &[Judgement], part: &Part, warning: Warning) -> bool
+    ensures { IsTrue result ↔ IsGiven allowed.now judgements.now part.now warning }
 {
-    is_so(judgements, filter, warning) && !is_among(allowed, warning.code)
+    is_so(judgements, part, warning) && !is_among(allowed, warning.code)
 }
 
-// Adds the warnings of these codes that are so of a part of the filter.
+// Adds the warnings of these codes that are so of a part of the part.
 fn push_those(
     warnings: &mut Vec<Warning>,
     allowed: &[Code],
     judgements: &[Judgement],
-    filter: &JsonFilter,
+    part: &Part,
     codes: &[Code],
     subject: Subject,
 ) -> Result<(), AllocError>
-    ensures { OnOk result (AddsPicked allowed.now judgements.now filter.now (map (about subject) codes.now) warnings.old.items warnings.new.items) }
+    ensures { OnOk result (AddsPicked allowed.now judgements.now part.now (map (about subject) codes.now) warnings.old.items warnings.new.items) }
 {
     for code in codes {
         let warning = Warning {
             code: *code,
             subject,
         };
-        if is_given(allowed, judgements, filter, warning) {
+        if is_given(allowed, judgements, part, warning) {
             warnings.push(warning)?;
         }
     }
     Ok(())
 }
 
-// Adds the warnings of the calls that no entry names.
+// Adds the warnings of the calls that no entry is for.
 fn push_calls(
     warnings: &mut Vec<Warning>,
     allowed: &[Code],
     judgements: &[Judgement],
-    filter: &JsonFilter,
+    part: &Part,
 ) -> Result<(), AllocError>
-    ensures { OnOk result (AddsPicked allowed.now judgements.now filter.now (calls_asked all_unlisted) warnings.old.items warnings.new.items) }
+    ensures { OnOk result (AddsPicked allowed.now judgements.now part.now (calls_asked all_unlisted) warnings.old.items warnings.new.items) }
 {
     for call in Unlisted::all() {
         let subject = Subject::MismatchCall(*call);
@@ -156,7 +179,7 @@ fn push_calls(
             warnings,
             allowed,
             judgements,
-            filter,
+            part,
             Code::of_unlisted(),
             subject,
         )?;
@@ -169,27 +192,27 @@ fn push_condition(
     warnings: &mut Vec<Warning>,
     allowed: &[Code],
     judgements: &[Judgement],
-    filter: &JsonFilter,
+    part: &Part,
     entry: usize,
     place: usize,
-    condition: &JsonCondition,
+    condition: &SeccompCondition,
 ) -> Result<(), AllocError>
-    ensures { OnOk result (AddsPicked allowed.now judgements.now filter.now (condition_asked entry place condition.now) warnings.old.items warnings.new.items) }
+    ensures { OnOk result (AddsPicked allowed.now judgements.now part.now (condition_asked entry place condition.now) warnings.old.items warnings.new.items) }
 {
     let comparison = Comparison {
         entry,
         place,
-        arg_index: condition.arg_index,
-        arg_len: condition.arg_len,
-        operator: condition.operator,
-        value: condition.value,
+        arg_index: condition.arg_index(),
+        arg_len: condition.arg_len(),
+        operator: condition.operator(),
+        value: condition.value(),
     };
     let subject = Subject::Condition(comparison);
     push_those(
         warnings,
         allowed,
         judgements,
-        filter,
+        part,
         Code::of_conditions(),
         subject,
     )
@@ -200,37 +223,16 @@ fn push_conditions(
     warnings: &mut Vec<Warning>,
     allowed: &[Code],
     judgements: &[Judgement],
-    filter: &JsonFilter,
+    part: &Part,
     entry: usize,
-    conditions: &[JsonCondition],
+    conditions: &[SeccompCondition],
 ) -> Result<(), AllocError>
-    ensures { OnOk result (AddsPicked allowed.now judgements.now filter.now (conditions_asked entry 0 conditions.now) warnings.old.items warnings.new.items) }
+    ensures { OnOk result (AddsPicked allowed.now judgements.now part.now (conditions_asked entry 0 conditions.now) warnings.old.items warnings.new.items) }
 {
     for (place, condition) in conditions.iter().enumerate() {
-        push_condition(
-            warnings, allowed, judgements, filter, entry, place, condition,
-        )?;
+        push_condition(warnings, allowed, judgements, part, entry, place, condition)?;
     }
     Ok(())
-}
-
-// Adds the warnings of the conditions of the entry at a place.
-fn push_args(
-    warnings: &mut Vec<Warning>,
-    allowed: &[Code],
-    judgements: &[Judgement],
-    filter: &JsonFilter,
-    entry: usize,
-    rule: &JsonRule,
-) -> Result<(), AllocError>
-    ensures { OnOk result (AddsPicked allowed.now judgements.now filter.now (args_asked entry rule.now.conditions) warnings.old.items warnings.new.items) }
-{
-    match &rule.conditions {
-        Some(conditions) => push_conditions(
-            warnings, allowed, judgements, filter, entry, conditions,
-        ),
-        None => Ok(()),
-    }
 }
 
 // Adds the warnings of the entry at a place, and of its conditions.
@@ -238,22 +240,22 @@ fn push_entry(
     warnings: &mut Vec<Warning>,
     allowed: &[Code],
     judgements: &[Judgement],
-    filter: &JsonFilter,
+    part: &Part,
     entry: usize,
-    rule: &JsonRule,
+    own: &Entry,
 ) -> Result<(), AllocError>
-    ensures { OnOk result (AddsPicked allowed.now judgements.now filter.now (entry_asked entry rule.now) warnings.old.items warnings.new.items) }
+    ensures { OnOk result (AddsPicked allowed.now judgements.now part.now (entry_asked entry own.now) warnings.old.items warnings.new.items) }
 {
     let subject = Subject::Entry(entry);
     push_those(
         warnings,
         allowed,
         judgements,
-        filter,
+        part,
         Code::of_entries(),
         subject,
     )?;
-    push_args(warnings, allowed, judgements, filter, entry, rule)?;
+    push_conditions(warnings, allowed, judgements, part, entry, &own.conditions)?;
     Ok(())
 }
 
@@ -262,13 +264,13 @@ fn push_entries(
     warnings: &mut Vec<Warning>,
     allowed: &[Code],
     judgements: &[Judgement],
-    filter: &JsonFilter,
-    entries: &[JsonRule],
+    part: &Part,
+    entries: &[Entry],
 ) -> Result<(), AllocError>
-    ensures { OnOk result (AddsPicked allowed.now judgements.now filter.now (entries_asked 0 entries.now) warnings.old.items warnings.new.items) }
+    ensures { OnOk result (AddsPicked allowed.now judgements.now part.now (entries_asked 0 entries.now) warnings.old.items warnings.new.items) }
 {
     for (place, entry) in entries.iter().enumerate() {
-        push_entry(warnings, allowed, judgements, filter, place, entry)?;
+        push_entry(warnings, allowed, judgements, part, place, entry)?;
     }
     Ok(())
 }

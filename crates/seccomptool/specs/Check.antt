@@ -25,11 +25,11 @@ use Rattle.seccomptool.specs.declared.findings.Verdict.TheVariants.{Same, Differ
 pub record AreWarningsOf (target : TargetArch) (allowed : List Code) (named : String Global × JsonFilter) (own : FilterWarnings)
     : Type 0 where
   pub name : string_bytes own.name ≡ string_bytes named.0
-  pub warnings : AreTrueWarnings target allowed named.1 own.warnings.items
+  pub warnings : AreTrueWarnings target allowed named.1 own.warned
 
 -- How many warnings the filters have.
 abbrev pub count_of : List FilterWarnings → ℕ
-count_of all = sum_by (λ (own : FilterWarnings). length own.warnings.items) all
+count_of all = sum_by (λ (own : FilterWarnings). length own.warned.warnings.items) all
 
 -- They are those of these filters, in their order, and there are so many.
 pub record AreWarningsIn (target : TargetArch) (allowed : List Code) (filters : List (String Global × JsonFilter)) (checked : CheckedPolicy)

@@ -1,21 +1,21 @@
 -- What `check` gives of a profile.
-use Rattle.std.specs.Prelude.{ℕ, Bool, false, All, List, ⊤}
+use Rattle.std.specs.Prelude.{ℕ, Bool, false, List, ⊤}
 use Rattle.seccompiler.specs.declared.backend.TargetArch.{TargetArch}
 use Rattle.seccomp_oci.specs.CompiledProfile.{IsCompileFault, IsCompiledProfile}
 use Rattle.seccomp_oci.specs.ProfileText.{IsProfileText}
 use Rattle.seccomp_oci.specs.Types.{Container}
-use Rattle.seccomp_profile_checks.specs.Warnings.{IsTold}
+use Rattle.seccomp_profile_checks.specs.Warnings.{AreProfileWarnings}
 use Rattle.seccomp_warnings.specs.declared.code.Code.{Code}
 use Rattle.seccomptool.specs.declared.check.profile.CheckedProfile.{CheckedProfile}
 use Rattle.seccomptool.specs.declared.error.ToolError.{ToolError}
 use Rattle.seccomptool.specs.declared.error.ToolError.TheVariants.{Profile as OfProfile, OutOfMemory}
 
--- The profile is that of the text, and is compiled, and these are warnings of it.
+-- The profile is that of the text, and is compiled, and these are its warnings.
 pub record IsProfileCheckOf (target : TargetArch) (container : Container) (allowed : List Code) (text : List ℕ)
     (checked : CheckedProfile) : Type 0 where
   pub compiled : IsCompiledProfile target container false text checked.compiled
   pub of_text : IsProfileText text checked.profile
-  pub told : All (IsTold target container checked.profile allowed) checked.warnings.items
+  pub warnings : AreProfileWarnings target container allowed checked.profile checked.warnings.items
 
 -- Why a profile is rejected: what its compiler finds; or want of memory.
 abbrev pub IsRefusedProfile : TargetArch → Container → (strict : Bool) → (text : List ℕ) → ToolError → Type 0

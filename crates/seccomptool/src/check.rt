@@ -14,7 +14,7 @@ ghost use Rattle.seccomptool.specs.Check.{AreWarningsIn, IsCheckOf, IsRefusal};
 use crate::error::ToolError;
 use crate::findings::Verdict;
 use seccomp_check::{Rejection, check};
-use seccomp_warnings::{Code, Judgement, Warning, judgements_of, warnings_of};
+use seccomp_warnings::{Code, Warned, policy_warnings_of};
 use seccompiler::{JsonFilterMap, JsonFrontendError, TargetArch};
 use std::alloc::Global;
 
@@ -23,10 +23,8 @@ use std::alloc::Global;
 pub struct FilterWarnings {
     /// The name.
     pub name: String,
-    /// What is so of its entries beside each other.
-    pub judgements: Vec<Judgement>,
-    /// The warnings.
-    pub warnings: Vec<Warning>,
+    /// The warnings, and what is so of its entries beside each other.
+    pub warned: Warned,
 }
 
 /// The warnings of all filters of a policy.
@@ -90,18 +88,13 @@ pub(crate) fn warnings_in(
     let mut all = Vec::new(alloc);
     let mut count: usize = 0;
     for (name, filter) in &filters.0 {
-        let judgements = judgements_of(alloc, target, filter)?;
-        let warnings = warnings_of(alloc, filter, &judgements, allowed)?;
-        let Some(sum) = count.checked_add(warnings.len()) else {
+        let warned = policy_warnings_of(alloc, target, filter, allowed)?;
+        let Some(sum) = count.checked_add(warned.warnings.len()) else {
             return Err(JsonFrontendError::OutOfMemory);
         };
         count = sum;
         let name = name.clone()?;
-        all.push(FilterWarnings {
-            name,
-            judgements,
-            warnings,
-        })?;
+        all.push(FilterWarnings { name, warned })?;
     }
     Ok(CheckedPolicy {
         filters: all,

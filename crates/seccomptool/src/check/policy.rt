@@ -7,7 +7,7 @@ use seccomp_warnings::{Code, Subject, Warning, part_of, said_text};
 /// Adds what is said of the warnings of all filters.
 pub(crate) fn push_warnings(lines: &mut Lines<'_>, all: &[FilterWarnings]) {
     for own in all {
-        for warning in &own.warnings {
+        for warning in &own.warned.warnings {
             push_warning(lines, own, *warning);
         }
     }
@@ -27,7 +27,8 @@ fn push_warning(lines: &mut Lines<'_>, own: &FilterWarnings, warning: Warning) {
         Subject::Entry(entry) => {
             lines.key("filter");
             lines.item(entry);
-            if let (Code::SiblingAllowed, Some(judgement)) = (code, own.judgements.get(entry)) {
+            let judgement = own.warned.judgements.get(entry);
+            if let (Code::SiblingAllowed, Some(judgement)) = (code, judgement) {
                 lines.call = judgement.sibling;
             }
         }

@@ -1,19 +1,13 @@
-use Rattle.std.specs.Prelude.{All}
-use Rattle.std.proofs.lemmas.List.Elements.{All-nil}
-use Rattle.seccomp_profile_checks.specs.Warnings.{IsTold}
+use Rattle.std.proofs.Common.{◌++◌, ◌∙◌, List, ap, map}
+use Rattle.seccomp_profile_checks.specs.Warnings.{of_told}
+use Rattle.seccomp_profile_checks.specs.declared.told.Told.{Told}
 use Rattle.seccomp_profile_checks.proofs.warnings.profile_warnings_of.Goals as goal
-use Rattle.seccomp_profile_checks.proofs.warnings.profile_warnings_of.Goals.{then-not-is_empty, else-not-is_empty}
 
 pub returns : goal.returns
-returns c =
-    let IsToldHere = IsTold c.args.target c.args.container.now c.args.profile.now c.args.allowed.now in
-    let none : All IsToldHere c.new.result.items = rw c.new.ensures.items (All-nil IsToldHere) in
-    let before = c.push_unknown_keys.ensures (c.loop-doubt.invariant none) in
-    let all : All IsToldHere c.if-not-is_empty.found.warnings.items = elim c.if-not-is_empty.branch [
-      | then-not-is_empty w ↦ rw w.found-is (w.push-then-not-is_empty.ensures before)
-      | else-not-is_empty w ↦ rw w.found-is before
-    ] in
-    c.push_of_entries.ensures all
-
-pub loop-doubt-preserved : goal.loop-doubt-preserved
-loop-doubt-preserved c = λ told. c.push.ensures (c.loop-doubt.invariant told)
+returns c = record {
+  own = c.in_ok-own.own.items;
+  own_are = c.in_ok-own.ensures;
+  told = c.in_ok-told.told.items;
+  are_told = c.in_ok-told.ensures;
+  all_are = c.in_ok-all.ensures ∙ ap (λ (ts : List Told). c.in_ok-own.own.items ++ map of_told ts) c.deref.ensures.value;
+}

@@ -3,7 +3,8 @@ use Rattle.std.proofs.Common.{subst, arith, length-append}
 use Rattle.std.specs.Prelude.{IsSomeAnd, slice_get}
 use Rattle.std.proofs.lemmas.List.{map-append, take_more}
 use Rattle.std.proofs.lemmas.Option.{slice_get_read}
-use Rattle.seccompiler.specs.JsonTypes.{JsonRule, JsonFilter}
+use Rattle.seccomp_entries.specs.Entries.{Entry}
+use Rattle.seccomp_warnings.specs.Parts.{Part}
 use Rattle.seccomp_warnings.specs.Judgements.{IsJudgement, IsSetOf}
 use Rattle.seccomp_warnings.specs.declared.judgement.Judgement.{Judgement}
 use Rattle.seccomp_verdicts.specs.declared.verdict.Verdict.{Verdict}
@@ -12,35 +13,35 @@ use Rattle.seccomp_warnings.proofs.judgement.judgements_by.Goals as goal
 
 pub judgement_of-judgement-requires-clause-named : goal.judgement_of-judgement-requires-clause-named
 judgement_of-judgement-requires-clause-named c =
-    let same : c.deref.result.now ≡ c.args.filter.now.rules = c.deref.ensures.value ∙ ap (λ (j : JsonFilter). j.rules) c.filter.view_is in
-    subst (λ (es : List JsonRule). IsSetOf c.args.arch false es c.in_ok-named.named) same c.in_ok-named.ensures
+    let same : c.deref.result.now ≡ c.args.part.now.entries = c.deref.ensures.value ∙ ap (λ (p : Part). p.entries) c.part.view_is in
+    subst (λ (es : List Entry). IsSetOf false es c.in_ok-named.named) same c.in_ok-named.ensures
 
 pub judgement_of-judgement-requires-clause-with_args : goal.judgement_of-judgement-requires-clause-with_args
 judgement_of-judgement-requires-clause-with_args c =
-    let same : c.deref-2.result.now ≡ c.args.filter.now.rules = c.deref-2.ensures.value
-    ∙ ap (λ (j : JsonFilter). j.rules) c.filter.view_is in
-    subst (λ (es : List JsonRule). IsSetOf c.args.arch true es c.in_ok-with_args.with_args) same c.in_ok-with_args.ensures
+    let same : c.deref-2.result.now ≡ c.args.part.now.entries = c.deref-2.ensures.value
+    ∙ ap (λ (p : Part). p.entries) c.part.view_is in
+    subst (λ (es : List Entry). IsSetOf true es c.in_ok-with_args.with_args) same c.in_ok-with_args.ensures
 
 pub loop-place-preserved : goal.loop-place-preserved
 loop-place-preserved c =
-    let filter : JsonFilter = c.args.filter.now in
+    let part : Part = c.args.part.now in
     let js : List Judgement = c.loop-place.judgements.items in
     let j : Judgement = c.judgement_of-judgement.result in
     let new : List Judgement = c.push.new.self.items in
     let pushed : new ≡ js ++ j ∷ [] = c.in_ok-push.ensures.items in
-    let P = λ (k : ℕ) (own : Judgement). IsSomeAnd (slice_get filter.rules k) (λ e. IsJudgement c.args.arch filter e own) in
+    let P = λ (k : ℕ) (own : Judgement). IsSomeAnd (slice_get part.entries k) (λ e. IsJudgement part e own) in
     let place = c.loop-place.place in
     let vs : List Verdict = c.args.verdicts.now in
-    let entries : List JsonRule = c.args.filter.now.rules in
+    let entries : List Entry = c.args.part.now.entries in
     let many : length js ≡ place = c.loop-place.invariant.many in
     let before : place < length vs = c.loop-place-test.true in
-    let as_many : length vs ≡ length entries = c.requires.many in
+    let as_many : length vs ≡ length entries = c.requires.are_true.many in
     let within : place < length entries = omega arith in
-    let entry : JsonRule = c.index.result.now in
+    let entry : Entry = c.index.result.now in
     let is : entry ≡ get_or entries place entry =
-    c.index.ensures ∙ ap (λ (f : JsonFilter). get_or f.rules place entry) c.filter.view_is in
+    c.index.ensures ∙ ap (λ (p : Part). get_or p.entries place entry) c.part.view_is in
     let got = sym (slice_get_read entries (length entries) place entry refl within is) in
-    let here = subst (λ o. IsSomeAnd o (λ e. IsJudgement c.args.arch c.args.filter.now e j)) got c.judgement_of-judgement.ensures.judged in
+    let here = subst (λ o. IsSomeAnd o (λ e. IsJudgement c.args.part.now e j)) got c.judgement_of-judgement.ensures.judged in
     record {
       many = ap (λ (l : List Judgement). length l) pushed ∙ length-append js (j ∷ []) ∙ ap (λ k. k + 1) many;
       verdicts = ap (map (λ (own : Judgement). own.verdict)) pushed ∙ map-append (λ (own : Judgement). own.verdict) js (j ∷ [])

@@ -10,5 +10,5 @@ invariant-loop-place l = record {
   many : length l.judgements.items ≡ l.place;
   verdicts : map (λ own. own.verdict) l.judgements.items ≡ take l.place l.verdicts;
   each : (k : ℕ) (own : Judgement) → slice_get l.judgements.items k ≡ Some own
-      → IsSomeAnd (slice_get l.filter.rules k) (λ entry. IsJudgement l.arch l.filter entry own);
+      → IsSomeAnd (slice_get l.part.entries k) (λ e. IsJudgement l.part e own);
 }

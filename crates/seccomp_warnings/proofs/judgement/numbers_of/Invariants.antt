@@ -6,4 +6,4 @@ use Rattle.seccomp_warnings.proofs.judgement.numbers_of.Given as goal
 -- those of the entries so far
 abbrev pub invariant-loop-entry : goal.invariant-loop-entry
 invariant-loop-entry l =
-    (number : ℤ) → Contains l.numbers.items number ↔ Any (IsOfNumber l.arch l.with_args number) (take l.entry-index l.entries)
+    (number : ℤ) → Contains l.numbers.items number ↔ Any (IsOfNumber l.with_args number) (take l.entry-index l.entries)

@@ -3,7 +3,7 @@ use Rattle.seccomp_warnings.proofs.walk.push_entries.Goals as goal
 
 pub loop-place-preserved : goal.loop-place-preserved
 loop-place-preserved c =
-    entries_more c.args.allowed.now c.args.judgements.now c.args.filter.now c.loop-place.place c.args.entries.now
+    entries_more c.args.allowed.now c.args.judgements.now c.args.part.now c.loop-place.place c.args.entries.now
     c.index-entries-place.result
     c.args.warnings.now.items
     c.loop-place.warnings.items

@@ -1,40 +1,11 @@
-use Rattle.std.proofs.Common.{map, subst, ◌++◌, List}
-use Rattle.seccompiler.specs.JsonTypes.{JsonFilter}
-use Rattle.seccomp_warnings.specs.CallWarnings.{all_unlisted}
-use Rattle.seccomp_warnings.specs.Warnings.{ArePicked, IsGiven, about, asked_of, calls_asked, entries_asked, match_codes, mismatch_codes}
-use Rattle.seccomp_warnings.specs.Parts.{AddsPicked}
-use Rattle.seccomp_warnings.specs.declared.warning.Subject.{Subject}
-use Rattle.seccomp_warnings.specs.declared.warning.Subject.TheVariants.{MismatchAction, MatchAction}
-use Rattle.seccomp_warnings.specs.declared.warning.Warning.{Warning}
-use Rattle.seccomp_warnings.proofs.Picked.{adds_more, all_picked, of_codes}
+use Rattle.std.proofs.Common.{List, subst}
+use Rattle.seccomp_warnings.specs.Warnings.{AreWarnings}
+use Rattle.seccomp_warnings.specs.declared.judgement.Judgement.{Judgement}
 use Rattle.seccomp_warnings.proofs.walk.warnings_of.Goals as goal
 
 pub returns : goal.returns
-returns c =
-    let allowed = c.args.allowed.now in
-    let judgements = c.args.judgements.now in
-    let filter : JsonFilter = c.args.filter.now in
-    let own = c.filter.inside in
-    let begun : List Warning = c.new-warnings.result.items in
-    let first : List Warning = c.push_those.new.warnings.items in
-    let second : List Warning = c.push_calls.new.warnings.items in
-    let third : List Warning = c.push_those-2.new.warnings.items in
-    let all : List Warning = c.push_entries.new.warnings.items in
-    let mismatch : Subject = MismatchAction own.mismatch_action in
-    let matching : Subject = MatchAction own.match_action in
-    let of_mismatch =
-    of_codes allowed judgements filter mismatch _ mismatch_codes begun first c.of_mismatch.ensures c.in_ok-push_those.ensures in
-    let of_match = of_codes allowed judgements filter matching _ match_codes second third c.of_match.ensures c.in_ok-push_those-2.ensures in
-    let of_entries = subst (λ rs. AddsPicked allowed judgements filter (entries_asked 0 rs) third all) c.deref.ensures.value
-    c.in_ok-push_entries.ensures in
-    let first_asked = map (about mismatch) mismatch_codes in
-    let second_asked = calls_asked all_unlisted in
-    let third_asked = map (about matching) match_codes in
-    let last_asked = entries_asked 0 own.rules.items in
-    let adds = adds_more allowed judgements filter first_asked (second_asked ++ third_asked ++ last_asked) begun first all of_mismatch
-    (adds_more allowed judgements filter second_asked (third_asked ++ last_asked) first second all c.in_ok-push_calls.ensures
-    (adds_more allowed judgements filter third_asked last_asked second third all of_match of_entries)) in
-    let asked = first_asked ++ second_asked ++ third_asked ++ last_asked in
-    subst (λ j. ArePicked (IsGiven allowed judgements filter) (asked_of j) all) c.filter.view_is
-    (all_picked allowed judgements filter asked all
-    (subst (λ b. AddsPicked allowed judgements filter asked b all) c.new-warnings.ensures.items adds))
+returns c = record {
+  judgements = c.in_ok-judgements.ensures;
+  warnings = subst (λ (js : List Judgement). AreWarnings c.args.allowed.now js c.args.part.now c.in_ok-warnings.warnings.items)
+      c.deref.ensures.value c.in_ok-warnings.ensures;
+}

@@ -3,7 +3,6 @@ use Rattle.std.specs.List.{AllZip}
 use Rattle.std.proofs.lemmas.List.Sums.{sum_by_push}
 use Rattle.std.proofs.lemmas.Slice.Zip.{all_zipped_more}
 use Rattle.seccompiler.specs.JsonTypes.{JsonFilter}
-use Rattle.seccomp_warnings.specs.Judgements.{AreJudgements}
 use Rattle.seccomptool.specs.Check.{AreWarningsOf, count_of}
 use Rattle.seccomptool.specs.declared.check.FilterWarnings.{FilterWarnings}
 use Rattle.seccomptool.proofs.check.warnings_in.Goals as goal
@@ -14,14 +13,13 @@ loop-name-preserved c =
     let done : List (String Global × JsonFilter) = l.invariant.done in
     let filter = c.in-Some.filter.now in
     let e : String Global × JsonFilter = (c.in-Some.name.now, filter) in
-    let warnings = c.in_ok-warnings.warnings in
-    let own : FilterWarnings = record { name = c.in_ok-name.name; judgements = c.in_ok-judgements.judgements; warnings = warnings } in
-    let are_judged = subst (AreJudgements c.args.target filter) (sym c.deref.ensures.value) c.in_ok-judgements.ensures.judgements in
+    let warned = c.in_ok-warned.warned in
+    let own : FilterWarnings = record { name = c.in_ok-name.name; warned = warned } in
     let are : AreWarningsOf c.args.target c.args.allowed.now e own = record {
       name = c.in_ok-name.ensures.cases;
-      warnings = record { judgements = c.deref.result.now; are_true = are_judged; warnings_are = c.in_ok-warnings.ensures };
+      warnings = c.in_ok-warned.ensures.warnings;
     } in
-    let counted = λ (o : FilterWarnings). length o.warnings.items in
+    let counted = λ (o : FilterWarnings). length o.warned.warnings.items in
     record {
       done = done ++ e ∷ [];
       whole = l.invariant.whole ∙ ap (λ (es : List (String Global × JsonFilter)). done ++ es) c.in-Some.ensures.steps
@@ -29,6 +27,6 @@ loop-name-preserved c =
       each = subst (AllZip (AreWarningsOf c.args.target c.args.allowed.now) (done ++ e ∷ [])) (sym c.in_ok-push.ensures.items)
           (all_zipped_more (AreWarningsOf c.args.target c.args.allowed.now) done l.all.items e own l.invariant.each are);
       count_is = c.in-Some-checked_add.ensures.1 ∙ ap (λ n. n + c.len.result) l.invariant.count_is
-          ∙ ap (λ n. count_of l.all.items + n) (c.len.ensures ∙ warnings.ok.0) ∙ sym (sum_by_push counted l.all.items own)
+          ∙ ap (λ n. count_of l.all.items + n) (c.len.ensures ∙ warned.warnings.ok.0) ∙ sym (sum_by_push counted l.all.items own)
           ∙ ap count_of (sym c.in_ok-push.ensures.items);
     }

@@ -4,5 +4,5 @@ pub returns-clause-checked : goal.returns-clause-checked
 returns-clause-checked c = record {
   compiled = c.in_ok-compiled.ensures.compiled;
   of_text = c.in-Ok.ensures.read;
-  told = c.in-Ok-profile_warnings_of.ensures;
+  warnings = c.in-Ok-profile_warnings_of.ensures;
 }

@@ -1,5 +1,5 @@
 use Rattle.seccomp_profile_checks.specs.Warnings.{AreStillTold}
-use Rattle.seccomp_profile_checks.proofs.warnings.profile_warnings_of.Given as goal
+use Rattle.seccomp_profile_checks.proofs.warnings.own_warnings.Given as goal
 
 abbrev pub invariant-loop-doubt : goal.invariant-loop-doubt
 invariant-loop-doubt l =

@@ -1,0 +1,18 @@
+use Rattle.std.proofs.Common.{List, subst}
+use Rattle.std.specs.List.{AllZip}
+use Rattle.std.proofs.lemmas.List.{take_all}
+use Rattle.seccompiler.specs.declared.backend.SeccompAction.{SeccompAction}
+use Rattle.seccomp_profile_checks.specs.Parts.{IsPartOfAction}
+use Rattle.seccomp_profile_checks.proofs.Actions.{zip_more}
+use Rattle.seccomp_profile_checks.proofs.parts.parts_of_actions.Goals as goal
+
+pub loop-action-preserved : goal.loop-action-preserved
+loop-action-preserved c =
+    zip_more (IsPartOfAction c.args.target c.args.effective.now) c.args.actions.now c.loop-action.action-index _ c.loop-action.parts.items
+    c.push.new.self.items c.in_ok-part_of_action.field-0 c.loop-action-test.true c.in_ok-push.ensures.items c.loop-action.invariant
+    c.in_ok-part_of_action.ensures
+
+pub returns : goal.returns
+returns c =
+    subst (λ (each : List SeccompAction). AllZip (IsPartOfAction c.args.target c.args.effective.now) each c.loop-action.parts.items)
+    (take_all c.loop-action.action-index c.args.actions.now c.loop-action-test.false) c.loop-action.invariant

@@ -1,0 +1,198 @@
+// The parts of a profile of which warnings are told.
+
+ghost use Rattle.std.specs.Prelude.{◌≡◌, ◌↔◌, ◌⊎◌, Contains, IfOk, IsFalse, IsTrue};
+ghost use Rattle.std.specs.List.{AllZip};
+ghost use Rattle.seccomp_oci.specs.Types.{AllOnArguments};
+ghost use Rattle.seccompiler.specs.declared.backend.SeccompAction.TheVariants.{Allow};
+ghost use Rattle.seccomp_profile_checks.specs.Parts.{AreActionsOf, AreOfAction, AreParts, AreWithDefault, IsPartOfAction, IsPartOfDefault, origin_of};
+
+use crate::effective::{copy_of, effective_of};
+use seccomp_entries::Entry;
+use seccomp_oci::{Container, Profile, lowered_profile};
+use seccomp_warnings::{Actions, Part};
+use seccompiler::{SeccompAction, TargetArch};
+use std::alloc::{AllocError, Global};
+
+/// Where an entry is from.
+#[derive(Clone, Copy, Debug)]
+pub struct Origin {
+    /// The place of its entry in the profile, from 0.
+    pub entry: usize,
+    /// The place of its only condition among those of that entry, if each of them has an entry of its own.
+    pub condition: Option<usize>,
+    /// The number of its calls.
+    pub number: u32,
+}
+
+/// Where an entry is from.
+pub(crate) fn origin_of(entry: &Entry) -> Origin
+    ensures { result ≡ origin_of entry.now }
+{
+    Origin {
+        entry: entry.place,
+        condition: entry.alternative,
+        number: entry.number,
+    }
+}
+
+/// The parts of a profile that `check` warns about. They are no program of the profile:
+/// [`decisions_of_profile`](seccomp_oci::decisions_of_profile) gives what it decides.
+///
+/// An entry of the profile in one form is *effective* if none in front of it has its number and no conditions. Each action but
+/// `allow` has a part of the effective entries with it, beside which all else is allowed. If the default action isn't to allow, a
+/// last part allows what any effective entry is for, and has the default action for all else.
+///
+/// # Errors
+///
+/// `AllocError` if memory runs out.
+pub fn parts_of(
+    alloc: Global,
+    target: TargetArch,
+    container: &Container,
+    profile: &Profile,
+) -> Result<Vec<Part>, AllocError>
+    requires { AllOnArguments profile.now.entries }
+    ensures { IfOk result (λ parts. AreParts target container.now profile.now parts.items) }
+{
+    let lowered = lowered_profile(alloc, target, container, profile)?;
+    let effective = effective_of(alloc, lowered.entries.as_slice())?;
+    let actions = actions_of(alloc, &effective)?;
+    let own = parts_of_actions(alloc, target, &effective, &actions)?;
+    let parts = with_default(own, target, profile.default, effective)?;
+    Ok(parts)
+}
+
+// These parts, and behind them that of the default action, unless this is to allow.
+fn with_default(
+    own: Vec<Part>,
+    target: TargetArch,
+    default: SeccompAction,
+    effective: Vec<Entry>,
+) -> Result<Vec<Part>, AllocError>
+    ensures { IfOk result (λ parts. AreWithDefault target effective.items default own.items parts.items) }
+{
+    if is_same(default, SeccompAction::Allow) {
+        return Ok(own);
+    }
+    let mut parts = own;
+    parts.push(default_part(target, default, effective))?;
+    Ok(parts)
+}
+
+// Whether both are the same action.
+fn is_same(first: SeccompAction, second: SeccompAction) -> bool
+    ensures { IsTrue result ↔ (first ≡ second) }
+{
+    first == second
+}
+
+// Whether the action is one of these.
+fn is_among(actions: &[SeccompAction], action: SeccompAction) -> bool
+    ensures { IsTrue result ↔ Contains actions.now action }
+{
+    actions.contains(&action)
+}
+
+// Whether the action is to allow, or is one of these.
+fn is_known(actions: &[SeccompAction], action: SeccompAction) -> bool
+    ensures { IsTrue result ↔ ((action ≡ Allow) ⊎ Contains actions.now action) }
+{
+    is_same(action, SeccompAction::Allow) || is_among(actions, action)
+}
+
+// The actions of entries but for allow, each once.
+fn actions_of(alloc: Global, entries: &[Entry]) -> Result<Vec<SeccompAction>, AllocError>
+    ensures { IfOk result (λ actions. AreActionsOf entries.now actions.items) }
+{
+    let mut actions = Vec::new(alloc);
+    for entry in entries {
+        let action = action_of(entry);
+        if is_known(&actions, action) {
+            continue;
+        }
+        actions.push(action)?;
+    }
+    Ok(actions)
+}
+
+// The action of an entry.
+fn action_of(entry: &Entry) -> SeccompAction
+    ensures { result ≡ entry.now.action }
+{
+    entry.action
+}
+
+// The parts of these actions.
+fn parts_of_actions(
+    alloc: Global,
+    target: TargetArch,
+    effective: &[Entry],
+    actions: &[SeccompAction],
+) -> Result<Vec<Part>, AllocError>
+    ensures { IfOk result (λ parts. AllZip (IsPartOfAction target effective.now) actions.now parts.items) }
+{
+    let mut parts = Vec::new(alloc);
+    for action in actions {
+        parts.push(part_of_action(alloc, target, effective, *action)?)?;
+    }
+    Ok(parts)
+}
+
+// The part of an action.
+fn part_of_action(
+    alloc: Global,
+    target: TargetArch,
+    effective: &[Entry],
+    action: SeccompAction,
+) -> Result<Part, AllocError>
+    ensures { IfOk result (IsPartOfAction target effective.now action) }
+{
+    let entries = entries_of_action(alloc, effective, action)?;
+    Ok(Part {
+        target_arch: target,
+        actions: Actions {
+            mismatch: SeccompAction::Allow,
+            matching: action,
+        },
+        entries,
+    })
+}
+
+// The part of the default action.
+fn default_part(target: TargetArch, default: SeccompAction, effective: Vec<Entry>) -> Part
+    ensures { IsPartOfDefault target effective.items default result }
+{
+    Part {
+        target_arch: target,
+        actions: Actions {
+            mismatch: default,
+            matching: SeccompAction::Allow,
+        },
+        entries: effective,
+    }
+}
+
+// Whether the entry has another action.
+fn is_other(entry: &Entry, action: SeccompAction) -> bool
+    ensures { IsFalse result ↔ (entry.now.action ≡ action) }
+{
+    !is_same(entry.action, action)
+}
+
+// Of the entries those with this action.
+fn entries_of_action(
+    alloc: Global,
+    entries: &[Entry],
+    action: SeccompAction,
+) -> Result<Vec<Entry>, AllocError>
+    ensures { IfOk result (λ own. AreOfAction action entries.now own.items) }
+{
+    let mut own = Vec::new(alloc);
+    for entry in entries {
+        if is_other(entry, action) {
+            continue;
+        }
+        own.push(copy_of(alloc, entry)?)?;
+    }
+    Ok(own)
+}

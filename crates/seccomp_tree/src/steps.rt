@@ -60,7 +60,7 @@ pub(crate) fn laid(
 {
     let size = numbers_of(condition.arg_len());
     let value = u128::from(condition.value()) % size;
-    let mut steps = Vec::new(alloc);
+    let mut steps = Vec::with_capacity(alloc, 3)?;
     let mut number = 0;
     while number < size {
         let is_met = compares(condition.operator(), number, value);
@@ -86,7 +86,7 @@ pub(crate) fn filled(
     ensures { IfOk result (λ steps. AreFilled length front.now back.now steps.items) }
 {
     let size = numbers_of(length);
-    let mut steps = Vec::new(alloc);
+    let mut steps = Vec::with_capacity(alloc, front.len() + back.len())?;
     let (mut number, mut ahead, mut behind) = (0, front, back);
     while number < size {
         let target = filled_by(ahead[0].target, behind[0].target);

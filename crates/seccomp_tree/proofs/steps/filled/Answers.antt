@@ -1,11 +1,11 @@
 use Rattle.seccomp_tree.proofs.Common.{arith, rules, drop, ◌∙◌, ◌≡◌}
 use Rattle.seccomp_tree.proofs.Begun.{numbers_many, filling_none, filling_on, filling_up, first_start, filled_all, byte_is, moves}
 use Rattle.seccomp_tree.specs.Code.{numbers_of}
-use Rattle.seccomp_tree.proofs.steps.filled.Goals.{After-new-steps, After-from}
+use Rattle.seccomp_tree.proofs.steps.filled.Goals.{After-from}
 use Rattle.seccomp_tree.proofs.steps.filled.Goals as goal
 
 pub loop-number-init : goal.loop-number-init
-loop-number-init c = rw c.new-steps.ensures.items (filling_none (numbers_of c.args.length) c.args.front.now c.args.back.now
+loop-number-init c = rw c.in_ok-steps.ensures.items (filling_none (numbers_of c.args.length) c.args.front.now c.args.back.now
     (omega (arith, numbers_many c.args.length)) c.requires.front c.requires.back)
 
 -- where the next steps start

@@ -10,7 +10,8 @@ use Rattle.std.proofs.lemmas.List.{get_or_default}
 use Rattle.std.proofs.lemmas.List.Elements.{All-nil}
 use Rattle.seccompiler.specs.Architecture.{audit_word}
 use Rattle.seccompiler.specs.Machine.{IsRecord, argument_at, word_at}
-use Rattle.seccompiler.specs.Policy.{Chain, ChainMatches, Condition, Filter, Holds, IsDecision, Matches, Rule, RuleHolds, chain_under, chains_of}
+use Rattle.seccompiler.specs.Policy.{Chain, ChainMatches, Condition, Filter, Holds, IsDecision, Matches, Rule, RuleHolds}
+use Rattle.seccompiler.specs.Policy.{chain_under, chains_of}
 use Rattle.seccompiler.specs.Policy.{other_architecture, policy_matches, policy_differs, word_of}
 use Rattle.seccomp_compare.specs.Compare.{Related}
 use Rattle.seccomp_compare.specs.Rules.{AreRelatedOn, AreRulesIn, AreRulesOf}

@@ -99,7 +99,8 @@ row_tree {new = new} {t = t} steps most all tree h one six some less run = recor
   inside = last_in new t h.last h.some;
   last = λ two. h.last;
   leads = λ j le r a w n small lead.
-      starts_more (n + 2 * j) (omega (arith, one, row_halvings steps j (omega arith) six (omega (arith, all, le)))) (run r a w n small lead);
+      starts_more (n + 2 * j) (omega (arith, one, row_halvings steps j (omega arith) six (omega (arith, all, le))))
+      (run r a w n small lead);
   soon = λ few. rw one run;
 }
 
@@ -133,7 +134,8 @@ pub tree_halves : {old mid both new : List sock_filter} {u v t : Target} (steps 
 tree_halves {new = new} {t = t} steps most n d half all over some long upper lower h =
     let high = length-drop n steps in
     let low = length-take-le n steps (omega (arith, half.within)) in record {
-      grows = grows_on _ (grows_on (3 * (length steps - 2)) upper.grows lower.grows (omega (arith, high, low, half.some, half.within))) h.grows
+      grows = grows_on _ (grows_on (3 * (length steps - 2)) upper.grows lower.grows
+          (omega (arith, high, low, half.some, half.within))) h.grows
           (omega arith);
       inside = last_in new t h.last h.some;
       last = λ two. h.last;
@@ -154,7 +156,8 @@ pub word_one : {old new : List sock_filter} {t : Target} (steps : List Step) (mo
 word_one {new = new} (x ∷ []) most byte one least h = record {
   grows = grows_on _ h.grows (grows_not new 0) (omega arith);
   inside = h.inside;
-  leads = λ r is w n k le always a small. starts_more (n + (1 + 2 * k)) (omega arith) (h.leads k (least k le) r a w n small (always a small));
+  leads = λ r is w n k le always a small.
+      starts_more (n + (1 + 2 * k)) (omega arith) (h.leads k (least k le) r a w n small (always a small));
 }
 word_one _ most byte one least h = absurd (omega arith)
 
@@ -165,7 +168,8 @@ load_run r code byte a w n is inside h = goes_on (load byte) code a (word_at r b
     (λ p. loads refl (omega (arith, is.long)) (omega arith) refl) (word_fits r byte is) h
 
 pub word_more : {old mid new : List sock_filter} {steps : List Step} {u t : Target} (most byte : ℕ) → byte ≤ 60 → 2 ≤ length steps
-    → ((k : ℕ) → length steps ≤ 2 ^ k → most ≤ 2 ^ k) → IsTree old steps most u mid → new ≡ load byte ∷ mid → t ≡ At (length new - 1) → IsPart old Dword (λ r. word_at r byte) steps t new
+    → ((k : ℕ) → length steps ≤ 2 ^ k → most ≤ 2 ^ k) → IsTree old steps most u mid → new ≡ load byte ∷ mid
+    → t ≡ At (length new - 1) → IsPart old Dword (λ r. word_at r byte) steps t new
 word_more {mid = mid} {new = new} {steps = steps} {t = t} most byte inside some least h written last = record {
   grows = rw written (grows_on (3 * length steps - 2) h.grows (grows_one mid (load byte)) (omega arith));
   inside = last_in new t last (omega (arith, ap length written));

@@ -8,7 +8,8 @@ use Rattle.seccomp_compare.proofs.facts.push_or_meet.Goals as goal
 pub returns-in-Some : goal.returns-in-Some
 returns-in-Some c = λ r all of_fact of_last. (
   all,
-  says_both c.args.fact c.args.last c.in-Some.both r (c.meet.ensures.one (rw c.in-Some.is refl)) c.in-Some.ensures.index c.in-Some.ensures.both
+  says_both c.args.fact c.args.last c.in-Some.both r (c.meet.ensures.one (rw c.in-Some.is refl))
+      c.in-Some.ensures.index c.in-Some.ensures.both
       of_fact of_last,
 )
 

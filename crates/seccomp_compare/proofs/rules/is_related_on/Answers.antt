@@ -22,7 +22,8 @@ returns c =
     let both_match = subst (λ n. Related relation n (word_of g.match_action)) matched
     (subst (λ n. Related relation c.from-matched.result n) other_matched (c.is_related.ensures.0 c.if-not-is_related.false)) in
     let none_match = subst (λ n. Related relation n (word_of g.mismatch_action)) default
-    (subst (λ n. Related relation c.from-default.result n) other_default (c.is_related-else-not-is_related.ensures.0 c.if-not-is_related-2.false)) in
+    (subst (λ n. Related relation c.from-default.result n) other_default
+    (c.is_related-else-not-is_related.ensures.0 c.if-not-is_related-2.false)) in
     let first = same_apart relation _ _ _ _ _ _ rules others matched other_default c.deref.ensures.value c.deref-2.ensures.value
     (c.in_ok-are_apart.ensures c.if-not-branch.false) in
     IfOk-weaker c.are_apart-2.result _ _ (λ is second yes.

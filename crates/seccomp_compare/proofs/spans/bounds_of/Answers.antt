@@ -36,5 +36,6 @@ returns-in-MaskedEq-clause-same c = λ x fits.
     let bits : bit_and (bit_and c.value.result size) (bit_and m size) ≡ bit_and (bit_and condition.value size) (bit_and m size) =
     ap (λ n. bit_and (bit_and n size) (bit_and m size)) c.value.ensures in
     masked condition m size x c.spanning-in-MaskedEq.result (sym c.operator.ensures ∙ c.in-MaskedEq.is) (parts x fits)
-    (parts m (search rules)) (parts condition.value (search rules)) (ap (λ (s : Span). s.is_outside) shape) (ap (λ (s : Span). s.mask) shape)
+    (parts m (search rules)) (parts condition.value (search rules)) (ap (λ (s : Span). s.is_outside) shape)
+    (ap (λ (s : Span). s.mask) shape)
     (ap (λ (s : Span). s.least) shape ∙ bits) (ap (λ (s : Span). s.most) shape ∙ bits)

@@ -8,4 +8,5 @@ returns c = λ x says.
     let span = c.args.span in
     let is : c.is_point.result ≡ true = search rules in
     let bits = known_bits span x (c.is_point.ensures.within is) (c.is_point.ensures.one is) says in
-    known span.index _ _ x span.is_outside (c.is_point.ensures.within is) (known_bit x span.mask span.least c.args.mask bits c.if-span-mask.false)
+    known span.index _ _ x span.is_outside (c.is_point.ensures.within is)
+    (known_bit x span.mask span.least c.args.mask bits c.if-span-mask.false)

@@ -50,12 +50,15 @@ tree-requires-then-stands_out t c =
 pub returns-then-stands_out : goal.returns-then-stands_out
 returns-then-stands_out t c =
     let steps = c.args.steps.now in
-    IfOk-weaker c.test-then-stands_out.result _ _ (λ u h. tree_out steps c.args.most _ c.requires.few c.requires.over (sym c.stands_out.ensures ∙ c.if-stands_out.true)
-    (omega (arith, c.tests-needed.ensures, c.if-needed-gt6.false)) (rw (take_rest steps 2) at c.in_ok-rest.ensures) h) c.test-then-stands_out.ensures
+    IfOk-weaker c.test-then-stands_out.result _ _ (λ u h. tree_out steps c.args.most _ c.requires.few c.requires.over
+    (sym c.stands_out.ensures ∙ c.if-stands_out.true)
+    (omega (arith, c.tests-needed.ensures, c.if-needed-gt6.false)) (rw (take_rest steps 2) at c.in_ok-rest.ensures) h)
+    c.test-then-stands_out.ensures
 
 pub returns : goal.returns
 returns t c =
     let steps = c.args.steps.now in
     IfOk-weaker c.test-2.result _ _
-    (λ u h. tree_first steps c.args.most _ c.requires.few (omega (arith, c.requires.some)) c.requires.over (sym c.stands_out.ensures ∙ c.if-stands_out.false)
+    (λ u h. tree_first steps c.args.most _ c.requires.few (omega (arith, c.requires.some)) c.requires.over
+    (sym c.stands_out.ensures ∙ c.if-stands_out.false)
     (omega (arith, c.tests-needed.ensures, c.if-needed-gt6.false)) (rw (take_rest steps 1) at c.in_ok-rest-2.ensures) h) c.test-2.ensures

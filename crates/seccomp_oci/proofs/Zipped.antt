@@ -1,11 +1,11 @@
--- For the functions of `concerns` and `decisions`: two lists whose elements belong together one by one.
+-- For the functions of `concerns` and `lowered`: two lists whose elements belong together one by one.
 use Rattle.std.proofs.Common.{◌≡◌, ◌<◌, ℕ, zero, suc, ◌+◌, List, [], ◌∷◌, ◌++◌, length, get_or, take, refl, sym, subst, ap, arith}
 use Rattle.std.specs.List.{AllZip}
 use Rattle.seccomp_oci.proofs.Quantified.{more_read}
 
 module _ {X Y : Type 0} (R : X → Y → Type 0) where
   -- One element more of both.
-  pub zip_push : (xs : List X) (ys : List Y) (x : X) (y : Y) → AllZip R xs ys → R x y → AllZip R (xs ++ x ∷ []) (ys ++ y ∷ [])
+  zip_push : (xs : List X) (ys : List Y) (x : X) (y : Y) → AllZip R xs ys → R x y → AllZip R (xs ++ x ∷ []) (ys ++ y ∷ [])
   zip_push [] [] x y zip here = (here, tt)
   zip_push [] (z ∷ ys) x y zip here = absurd zip
   zip_push (w ∷ xs) [] x y zip here = absurd zip

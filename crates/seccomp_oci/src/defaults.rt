@@ -14,47 +14,6 @@ use seccomp_tree::DefaultValue;
 use seccompiler::{SeccompAction, TargetArch};
 use std::alloc::{AllocError, Global};
 
-/// The default action of the calls of a number.
-pub(crate) fn default_for(
-    arch: TargetArch,
-    container: &Container,
-    profile: &Profile,
-    number: u32,
-) -> SeccompAction
-    ensures { IsDefault arch container.now profile.now number result }
-{
-    let greatest = named_in(arch, container, profile);
-    let above = is_above(greatest, number);
-    default_by(arch, profile.default, above, number)
-}
-
-// Whether a number is above the greatest, if there is one.
-fn is_above(greatest: Option<u32>, number: u32) -> bool
-    ensures { result ≡ is_above greatest number }
-{
-    match greatest {
-        Some(greatest) => greatest < number,
-        None => false,
-    }
-}
-
-// The default action of a number that is above all that are named, or isn't.
-fn default_by(arch: TargetArch, default: SeccompAction, above: bool, number: u32) -> SeccompAction
-    ensures { result ≡ default_of arch default above number }
-{
-    match arch {
-        TargetArch::x86_64 if 0x4000_0000 <= number => {
-            if number < 0xffff_ffff {
-                SeccompAction::KillThread
-            } else {
-                default
-            }
-        }
-        _ if above => SeccompAction::Errno(38),
-        _ => default,
-    }
-}
-
 /// The default values, by ranges of numbers.
 pub(crate) fn defaults_of(
     alloc: Global,

@@ -1,2 +1,2 @@
 -- Lemmas for the functions of `doubts`.
-pub mod Behind
+pub mod Own

@@ -16,7 +16,7 @@ use Rattle.seccomp_warnings.specs.declared.code.Code.TheVariants as code
 
 abbrev pub doubt_code : Doubt → Code
 doubt_code (doubt.EqualsDefault place) = code.NoEffect
-doubt_code (doubt.Behind place number) = code.NoEffect
+doubt_code (doubt.Behind first second number) = code.NoEffect
 doubt_code (doubt.OpenOrder first second call) = code.OpenOrder
 doubt_code (doubt.SameConditions first second number) = code.RefusedByLibseccomp
 doubt_code (doubt.LargeErrno place) = code.RefusedByLibseccomp

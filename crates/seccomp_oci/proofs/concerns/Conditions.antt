@@ -1,6 +1,5 @@
--- For `comparison` and the rulings of a profile: conditions of the library, beside those of an entry.
-use Rattle.std.proofs.Common.{◌↔◌, ℕ, List, [], ◌∷◌, All, map, subst, sym, Vec, Global, inl, inr}
-use Rattle.std.specs.Prelude.{Any}
+-- For `comparison` and `lowered_profile`: conditions of the library, beside those of an entry.
+use Rattle.std.proofs.Common.{◌↔◌, ℕ, List, [], ◌∷◌, All, Option, Some, None, map, sym, Vec, Global}
 use Rattle.std.proofs.lemmas.List.Elements.{All-cons, All-head, All-nil, All-tail}
 use Rattle.seccompiler.specs.declared.backend.SeccompCmpArgLen.TheVariants.{Qword}
 use Rattle.seccompiler.specs.Machine.{argument_at}
@@ -9,8 +8,7 @@ use Rattle.seccomp_profiles.specs.declared.types.Argument.{Argument}
 use Rattle.seccomp_profiles.specs.declared.types.Operator.{Operator}
 use Rattle.seccomp_profiles.specs.declared.types.Operator.TheVariants.{Ne, Lt, Le, Eq, Ge, Gt, MaskedEq}
 use Rattle.seccomp_oci.specs.Decision.{AreMet, all_met, one_met, IsMet, Meets}
-use Rattle.seccomp_oci.specs.OwnDecisions.{apart, AreListsOf, compared_by, condition_of, together}
-use Rattle.seccomp_oci.proofs.Quantified.{all_one, any_cases, any_head, any_nil, any_one, any_tail}
+use Rattle.seccomp_oci.specs.Conditions.{AreConditionsOf, alone, compared_by, condition_of, together}
 
 -- The library's operator compares as the profile's one does.
 pub compared_meets : (o : Operator) (v w x : ℕ) → Compares (compared_by o v w).0 x (compared_by o v w).1 ↔ Meets o x v w
@@ -40,9 +38,6 @@ condition_holds r a = by_operator a.operator a.value a.value_two (argument_at r 
 abbrev pub lists_of : List (Vec Condition Global) → List (List Condition)
 lists_of all = map (λ (cs : Vec Condition Global). cs.items) all
 
-abbrev pub SomeHold : List ℕ → List (List Condition) → Type 0
-SomeHold r all = Any (λ cs. RuleHolds cs r) all
-
 -- All conditions hold where all are met.
 all_hold : (r : List ℕ) (args : List Argument) → RuleHolds (map condition_of args) r ↔ All (IsMet r) args
 all_hold r [] = (λ all. All-nil (IsMet r), λ all. All-nil (λ c. Holds c r))
@@ -55,43 +50,31 @@ all_hold r (a ∷ args) =
           (rest.1 (All-tail (IsMet r) a args all)),
     )
 
-abbrev alone : Argument → List Condition
-alone a = condition_of a ∷ []
+-- A record that meets conditions of an entry meets the entry's.
+pub from_conditions : (r : List ℕ) (args : List Argument) (o : Option ℕ) (cs : List Condition) → AreConditionsOf args o cs
+    → RuleHolds cs r → AreMet r args
+from_conditions r args o cs (together share) holds = all_met share ((all_hold r args).0 holds)
+from_conditions r args o cs (alone share k a within is) holds =
+    one_met share (k, a, within, sym is, (condition_holds r a).0 (All-head (λ c. Holds c r) (condition_of a) [] holds))
 
--- One list of a condition holds where one condition is met.
-one_holds : (r : List ℕ) (args : List Argument) → SomeHold r (map alone args) ↔ Any (IsMet r) args
-one_holds r [] = (
-  λ any. absurd (any_nil (λ cs. RuleHolds cs r) any),
-  λ any. absurd (any_nil (IsMet r) any),
-)
-one_holds r (a ∷ args) =
-    let here = condition_holds r a in
-    let one = all_one (λ c. Holds c r) (condition_of a) in
-    let rest = one_holds r args in (
-      λ any. elim (any_cases (λ cs. RuleHolds cs r) (alone a) (map alone args) any) [
-        | inl now ↦ any_head (IsMet r) a args (here.0 (one.0 now))
-        | inr later ↦ any_tail (IsMet r) a args (rest.0 later)
-      ],
-      λ any. elim (any_cases (IsMet r) a args any) [
-        | inl now ↦ any_head (λ cs. RuleHolds cs r) (alone a) (map alone args) (one.1 (here.1 now))
-        | inr later ↦ any_tail (λ cs. RuleHolds cs r) (alone a) (map alone args) (rest.1 later)
-      ],
-    )
+-- Conditions of an entry, which hold on the record.
+pub record HasConditions (r : List ℕ) (args : List Argument) : Type 0 where
+  pub alternative : Option ℕ
+  pub conditions : List Condition
+  pub are : AreConditionsOf args alternative conditions
+  pub hold : RuleHolds conditions r
 
--- One of an entry's lists holds where a record meets its conditions.
-pub lists_met : (r : List ℕ) (args : List Argument) (lists : List (List Condition)) → AreListsOf args lists
-    → SomeHold r lists ↔ AreMet r args
-lists_met r args lists (together share is) = subst (λ all. SomeHold r all ↔ AreMet r args) (sym is) (
-  λ any. all_met share ((all_hold r args).0 ((any_one (λ cs. RuleHolds cs r) (map condition_of args)).0 any)),
-  λ met. (any_one (λ cs. RuleHolds cs r) (map condition_of args)).1 ((all_hold r args).1 (each_met met)),
-)
-  where
-    each_met : AreMet r args → All (IsMet r) args
-    each_met (all_met not all) = all
-    each_met (one_met shared any) = absurd (share shared)
-lists_met r args lists (apart share is) = subst (λ all. SomeHold r all ↔ AreMet r args) (sym is)
-    (λ any. one_met share ((one_holds r args).0 any), λ met. (one_holds r args).1 (any_met met))
-  where
-    any_met : AreMet r args → Any (IsMet r) args
-    any_met (all_met not all) = absurd (not share)
-    any_met (one_met shared any) = any
+-- Where a record meets an entry's, it meets some.
+pub some_conditions : (r : List ℕ) (args : List Argument) → AreMet r args → HasConditions r args
+some_conditions r args (all_met share all) = record {
+  alternative = None;
+  conditions = map condition_of args;
+  are = together share;
+  hold = (all_hold r args).1 all;
+}
+some_conditions r args (one_met share (k, a, within, is, met)) = record {
+  alternative = Some k;
+  conditions = condition_of a ∷ [];
+  are = alone share k a within (sym is);
+  hold = All-cons (λ c. Holds c r) (condition_of a) [] ((condition_holds r a).1 met) (All-nil (λ c. Holds c r));
+}

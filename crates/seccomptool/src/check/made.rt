@@ -66,7 +66,7 @@ fn accepted(
             let checked = profile_checked(alloc, arch, container, &asked.allowed, given)?;
             let (listed, left_out) = (asked.reading.listed, &checked.compiled.left_out);
             push_profile_notes(&mut lines.notes, arch, lines.file, listed, left_out, &[]);
-            push_profile_warnings(lines, arch, container, &checked);
+            push_profile_warnings(lines, arch, &checked);
             Ok(verdict_where(denied, checked.warnings.len()))
         }
         Subject::Program => {

@@ -1,7 +1,7 @@
 use Rattle.std.proofs.Common.{◌∙◌, ◌∷◌, [], ap, sym}
 use Rattle.std.proofs.lemmas.Bool.{true≢false}
 use Rattle.std.proofs.lemmas.Result.{IfOk-weaker}
-use Rattle.seccomp_oci.specs.OwnDecisions.{apart, together}
+use Rattle.seccomp_oci.specs.Concerns.{apart, together}
 use Rattle.seccomp_oci.proofs.concerns.Conditions.{lists_of}
 use Rattle.seccomp_oci.proofs.concerns.alternatives_of.Goals as goal
 

@@ -1,6 +1,6 @@
 use Rattle.std.proofs.Common.{ap, ◌∙◌, subst}
 use Rattle.seccomp_oci.specs.Decision.{rank, rank_by}
-use Rattle.seccomp_oci.specs.OwnDecisions.{AreListsOf}
+use Rattle.seccomp_oci.specs.Concerns.{AreListsOf}
 use Rattle.seccomp_profiles.specs.Types.{Entry}
 use Rattle.seccomp_oci.proofs.concerns.Conditions.{lists_of}
 use Rattle.seccomp_oci.proofs.concerns.concern_of.Goals as goal

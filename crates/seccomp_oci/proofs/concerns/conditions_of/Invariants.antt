@@ -1,5 +1,5 @@
 use Rattle.std.proofs.Common.{◌≡◌, map, take}
-use Rattle.seccomp_oci.specs.OwnDecisions.{condition_of}
+use Rattle.seccomp_oci.specs.Conditions.{condition_of}
 use Rattle.seccomp_oci.proofs.concerns.conditions_of.Given as goal
 
 abbrev pub invariant-loop-argument : goal.invariant-loop-argument

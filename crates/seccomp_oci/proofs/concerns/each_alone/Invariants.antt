@@ -1,5 +1,5 @@
 use Rattle.std.proofs.Common.{◌≡◌, ◌∷◌, [], map, take}
-use Rattle.seccomp_oci.specs.OwnDecisions.{condition_of}
+use Rattle.seccomp_oci.specs.Conditions.{condition_of}
 use Rattle.seccomp_oci.proofs.concerns.Conditions.{lists_of}
 use Rattle.seccomp_oci.proofs.concerns.each_alone.Given as goal
 

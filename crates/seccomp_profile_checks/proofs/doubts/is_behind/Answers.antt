@@ -1,10 +1,14 @@
-use Rattle.seccomp_profile_checks.proofs.doubts.Behind.{behind_first}
+use Rattle.std.proofs.Common.{◌∙◌, ap, subst}
+use Rattle.seccomp_entries.specs.Entries.{Lowered}
+use Rattle.seccomp_profile_checks.specs.Doubts.{IsBehindIn, IsSettledFrom}
 use Rattle.seccomp_profile_checks.proofs.doubts.is_behind.Goals as goal
 
 pub returns : goal.returns
 returns c = λ yes.
-    let at = c.concerns_at.ensures yes in (
-      at,
-      λ r action number by. behind_first c.args.case.arch c.args.case.container.now c.args.case.profile.now c.args.number
-          c.in-Some.first c.args.place c.in-Some.ensures c.if-first-place.false at.0 at.1 at.2 r action number by,
-    )
+    let entries = c.as_slice-entries.result.now in
+    subst (λ es. IsBehindIn es c.args.first c.args.second c.args.number)
+    (c.as_slice-entries.ensures.value ∙ ap (λ (l : Lowered). l.entries) c.lowered.view_is) (record {
+      settled = subst (IsSettledFrom entries c.args.number) c.if-place-first.false c.in-Some.ensures;
+      there = c.is_there.ensures.0 yes;
+      apart = c.if-first-second.false;
+    })

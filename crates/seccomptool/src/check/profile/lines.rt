@@ -6,7 +6,6 @@ use crate::findings::lines::push_example;
 use crate::findings::parts::name_of;
 use crate::record::word_at;
 use crate::text::Text;
-use seccomp_oci::{Container, Profile, concerns_call};
 use seccomp_profile_checks::{Doubt, Origin, ProfileWarning, code_of};
 use seccomp_warnings::{Code, Comparison, Subject, said_text};
 use seccompiler::TargetArch;
@@ -40,7 +39,6 @@ enum Part<'a> {
 pub(crate) fn push_profile_warnings(
     lines: &mut Lines<'_>,
     target: TargetArch,
-    container: &Container,
     checked: &CheckedProfile,
 ) {
     let alloc = lines.text.alloc();
@@ -66,7 +64,7 @@ pub(crate) fn push_profile_warnings(
         let code = code_of(warning);
         go_to(lines, part, code);
         lines.call = call;
-        match said_of(alloc, target, container, &checked.profile, warning) {
+        match said_of(alloc, target, warning) {
             Ok(said) => lines.push("warning", code.name(), said.as_str()),
             Err(_) => lines.text.fail(),
         }
@@ -101,9 +99,9 @@ fn spot_of(target: TargetArch, warning: &ProfileWarning, nth: usize) -> Spot<'_>
             Doubt::EqualsDefault { place } | Doubt::LargeErrno { place } => {
                 (Some(place), (0, 0), action, None)
             }
-            Doubt::Behind { place, number } => {
+            Doubt::Behind { second, number, .. } => {
                 let call = name_of(target, number);
-                (Some(place), (1, number as usize), Part::Whole, call)
+                (Some(second), (1, number as usize), Part::Whole, call)
             }
             Doubt::ManyConditions { place } => (Some(place), (2, 0), Part::Under("args"), None),
             Doubt::SameConditions {
@@ -161,15 +159,12 @@ fn spot_in(target: TargetArch, origin: Option<Origin>, subject: Subject) -> Spot
 fn said_of(
     alloc: Global,
     target: TargetArch,
-    container: &Container,
-    profile: &Profile,
     warning: &ProfileWarning,
 ) -> Result<String, AllocError> {
     match warning {
-        ProfileWarning::Doubtful(Doubt::Behind { number, .. }) => {
-            let place = settling(target, container, profile, *number);
+        ProfileWarning::Doubtful(Doubt::Behind { first, .. }) => {
             format!(in alloc;
-                "syscalls[{place}] decides each of these calls, since it has no args; leave the call out here, or correct that entry"
+                "syscalls[{first}] decides each of these calls, since it has no args; leave the call out here, or correct that entry"
             )
         }
         ProfileWarning::Doubtful(Doubt::OpenOrder { first, call, .. }) => {
@@ -192,18 +187,6 @@ fn said_of(
         ),
         other => String::from_str(alloc, said_of_code(code_of(other))),
     }
-}
-
-// The place of the entry that settles the calls of a number, if one does.
-fn settling(target: TargetArch, container: &Container, profile: &Profile, number: u32) -> usize {
-    for (place, entry) in profile.entries.iter().enumerate() {
-        if entry.args.is_empty()
-            && concerns_call(target, container, profile.default, number, entry)
-        {
-            return place;
-        }
-    }
-    0
 }
 
 // What is so if a warning has this code, and what to write instead: of a code that has no words for a policy, or whose words don't

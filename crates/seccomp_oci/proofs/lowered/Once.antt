@@ -1,9 +1,11 @@
--- For `decision_of_profile`: a profile decides one thing.
+-- For `lowered_profile`: a profile decides one thing.
 use Rattle.std.proofs.Common.{◌≡◌, ◌↔◌, ℕ, Bool, true, false, IsTrue, List, ap, refl, sym, ◌∙◌, length, arith}
 use Rattle.seccompiler.specs.declared.backend.SeccompAction.{SeccompAction}
 use Rattle.seccompiler.specs.declared.backend.TargetArch.{TargetArch}
 use Rattle.seccompiler.specs.Machine.{word_at}
+use Rattle.seccompiler.specs.Policy.{word_of}
 use Rattle.seccomp_oci.specs.Decision.{by_default, by_entry, default_of, IsByEntry, IsDefault, IsProfileDecision, Matches, NoneOf, rank}
+use Rattle.seccomp_oci.specs.ProfileDecisions.{IsProfileWord, other, own}
 use Rattle.seccomp_profiles.specs.Types.{Container, Entry, Profile}
 use Rattle.seccomp_oci.proofs.Least.{least_only}
 
@@ -23,7 +25,7 @@ module _ (arch : TargetArch) (container : Container) (p : Profile) (r : List ℕ
       → NoneOf (Matches arch container p.default r) p.entries (length p.entries) → ⊥
   not_none a k is none = none k is.entry is.first.within is.first.there is.first.holds
 
-  pub decision_only : (a b : SeccompAction) → IsProfileDecision arch container p r a → IsProfileDecision arch container p r b → b ≡ a
+  decision_only : (a b : SeccompAction) → IsProfileDecision arch container p r a → IsProfileDecision arch container p r b → b ≡ a
   decision_only a b (by_entry j one) (by_entry k two) =
       let same = least_only rank (Matches arch container p.default r) p.entries (length p.entries) k j two.entry one.entry (omega arith)
       two.first one.first in
@@ -31,3 +33,10 @@ module _ (arch : TargetArch) (container : Container) (p : Profile) (r : List ℕ
   decision_only a b (by_entry k one) (by_default none two) = absurd (not_none a k one none)
   decision_only a b (by_default none one) (by_entry k two) = absurd (not_none b k two none)
   decision_only a b (by_default none one) (by_default others two) = default_only (word_at r 0) a b one two
+
+  -- So it has one word.
+  pub word_only : (w v : ℕ) → IsProfileWord arch container p r w → IsProfileWord arch container p r v → v ≡ w
+  word_only w v (own a here one is) (own b here_too two is_too) = is_too ∙ ap word_of (decision_only a b one two) ∙ sym is
+  word_only w v (own a here one is) (other apart is_too) = absurd (apart here)
+  word_only w v (other apart is) (own b here two is_too) = absurd (apart here)
+  word_only w v (other apart is) (other apart_too is_too) = is_too ∙ sym is

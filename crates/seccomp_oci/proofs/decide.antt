@@ -1,3 +1,0 @@
--- Lemmas for the functions of `decide`.
-pub mod Walk
-pub mod Once

@@ -1,6 +1,0 @@
-use Rattle.std.proofs.Common.{All, take}
-use Rattle.seccomp_oci.specs.Decision.{IsMet}
-use Rattle.seccomp_oci.proofs.decide.is_any_met.Given as goal
-
-abbrev pub invariant-loop-argument : goal.invariant-loop-argument
-invariant-loop-argument l = All (λ a. IsMet l.call a → ⊥) (take l.argument-index l.args)

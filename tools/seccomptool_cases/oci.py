@@ -37,10 +37,15 @@ def is_met(condition, arguments):
             "GT": found > value, "MASKED_EQ": found & value == two & value}[condition["op"][len("SCMP_CMP_"):]]
 
 
-def are_met(conditions, arguments):
-    """Returns whether the conditions of an entry are: alternatives if two of them are on one argument."""
+def are_alternatives(conditions):
+    """Returns whether one of the conditions of an entry is enough: if two of them are on one argument."""
     places = [it["index"] for it in conditions]
-    how = any if len(set(places)) < len(places) else all
+    return len(set(places)) < len(places)
+
+
+def are_met(conditions, arguments):
+    """Returns whether the conditions of an entry are."""
+    how = any if are_alternatives(conditions) else all
     return how(is_met(it, arguments) for it in conditions)
 
 
@@ -58,24 +63,50 @@ def applies(one, arch, caps, kernel):
             and not (wanted and kernel < version_of(wanted)) and not (unwanted and kernel >= version_of(unwanted)))
 
 
-def decision(given, words, name, arguments):
-    """Returns what a profile decides of a call: the action, and the place of the entry that it is of, or none."""
-    arch = GO_NAMES[arch_of(words)]
-    caps, kernel = set(re.findall(r"--cap (\w+)", words)), re.search(r"--kernel ([\d.]+)", words)
+def container_of(words):
+    """Returns the container that the words of a command describe: its architecture, capabilities and kernel."""
+    kernel = re.search(r"--kernel ([\d.]+)", words)
+    return GO_NAMES[arch_of(words)], set(re.findall(r"--cap (\w+)", words)), version_of(kernel and kernel[1])
+
+
+def concerning(given, words, name):
+    """Returns the entries of a profile that concern a call: the action, the place and the conditions of each."""
     default = action_of(given["defaultAction"], given.get("defaultErrnoRet"))
-    concerning = [
+    return [
         (action, place, one.get("args") or [])
         for place, one in enumerate(given.get("syscalls") or []) for action in [action_of(one["action"], one.get("errnoRet"))]
-        if action != default and applies(one, arch, caps, version_of(kernel and kernel[1]))
-        and name in (one.get("names") or [one.get("name")])
+        if action != default and applies(one, *container_of(words)) and name in (one.get("names") or [one.get("name")])
     ]
-    settling = [it for it in concerning if not it[2]][:1]
-    counting = [it[:2] for it in settling or concerning if not it[2] or are_met(it[2], arguments)]
+
+
+def strictness(action):
+    """Returns how much an action permits."""
+    return STRICTEST_FIRST.index(action.split()[0])
+
+
+def nearest_of(given, words, name, arguments):
+    """Returns of a call that meets no entry of a profile the place of the entry that it comes nearest to, and of the condition
+    that doesn't hold: of the first such conditions, one of each entry or alternative, the first that stands furthest on."""
+    misses = []
+    for action, place, conditions in concerning(given, words, name):
+        failing = [at for at, it in enumerate(conditions) if not is_met(it, arguments)]
+        shown = failing if are_alternatives(conditions) else failing[:1]
+        misses += [(0 if are_alternatives(conditions) else at, -strictness(action), -place, -at, at, place) for at in shown]
+    return max(misses)[-1:-3:-1] if misses else None
+
+
+def decision(given, words, name, arguments):
+    """Returns what a profile decides of a call: the action, and the place of the entry that it is of, or none."""
+    arch, caps, kernel = container_of(words)
+    default = action_of(given["defaultAction"], given.get("defaultErrnoRet"))
+    own = concerning(given, words, name)
+    settling = [it for it in own if not it[2]][:1]
+    counting = [it[:2] for it in settling or own if not it[2] or are_met(it[2], arguments)]
     if not counting and arch == "amd64" and isinstance(name, int) and X32 <= name:
         return ("kill_thread" if name < 2**32 - 1 else default), None
-    if is_new_for_runc(given, words, name, default, caps, version_of(kernel and kernel[1])):
+    if is_new_for_runc(given, words, name, default, caps, kernel):
         default = "errno 38"
-    return min(counting, key=lambda it: STRICTEST_FIRST.index(it[0].split()[0]), default=(default, None))
+    return min(counting, key=lambda it: strictness(it[0]), default=(default, None))
 
 
 def is_new_for_runc(given, words, name, default, caps, kernel):
@@ -98,8 +129,12 @@ def arch_of(words):
 def line_of(given, words, call, arguments):
     """Returns the line of `explain` on a call of a profile."""
     action, place = decision(given, words, call, arguments)
-    reason = "defaultAction" if place is None else f"syscalls[{place}]"
-    return f"{named(action)}: {reason} of {called(call, arch_of(words))}\n"
+    nearest, count = nearest_of(given, words, call, arguments), len(concerning(given, words, call))
+    begin, end = "defaultAction" if place is None else f"syscalls[{place}]", ""
+    if place is None and nearest:
+        begin = "no match: syscalls[{}].args[{}]".format(*nearest)
+        end = " does not hold" + f", the nearest of {count} entries" * (count > 1)
+    return f"{named(action)}: {begin} of {called(call, arch_of(words))}{end}\n"
 
 
 def record_of(arch, number, arguments):
@@ -214,6 +249,10 @@ EXAMPLE_LINES = ("errno 1 (EPERM): defaultAction of fcntl (72)\n" * 3 + "errno 1
 
 READS = "profile: different\n  read: errno 1 (EPERM) -> allow, more: read(0x0, 0x0, 0x0, 0x0, 0x0, 0x0)\n"
 
+# Two conditions that have to hold, and two of which one is enough.
+TWO = [when(0, "EQ", 1), when(1, "EQ", 2)]
+EITHER = [when(0, "EQ", 2), when(0, "EQ", 3)]
+
 # Cases of files that are known as profiles, and of no container.
 KNOWN = [
     # Options, files and standard input.
@@ -224,6 +263,15 @@ KNOWN = [
     writes("explain --oci reads-profile.json < examples/records.bin", "",
            EXAMPLE_LINES),
     writes("explain --oci reads-profile.json", "", ""),
+    # The nearest miss: the condition that stands furthest on, of equal ones the strictest entry's; alternatives stand first.
+    *[writes(f"explain --oci - read {words}", json.dumps(profile(*entries)), f"errno 1 (EPERM): no match: {end}\n") for words, entries, end in (
+        ("5", [entry("read", args=TWO)], "syscalls[0].args[0] of read (0) does not hold"),
+        ("1 5", [entry("read", args=TWO)], "syscalls[0].args[1] of read (0) does not hold"),
+        ("5", [entry("read", args=EITHER)], "syscalls[0].args[0] of read (0) does not hold"),
+        ("1 5", [entry("read", args=EITHER[1:]), entry("read", "SCMP_ACT_LOG", args=TWO)],
+         "syscalls[1].args[1] of read (0) does not hold, the nearest of 2 entries"),
+        ("5", [entry("read", args=EITHER), entry("read", "SCMP_ACT_LOG", args=TWO), entry("write", args=TWO)],
+         "syscalls[1].args[0] of read (0) does not hold, the nearest of 2 entries"))],
     # Names that the architecture doesn't have are no reason, and aren't listed.
     writes("explain --oci unknown-profile.json read", "", "allow: syscalls[0] of read (0)\n"),
     writes("explain --oci - open", json.dumps(profile(entry("read"), entry("no_such_call open"))), "allow: syscalls[1] of open (2)\n"),

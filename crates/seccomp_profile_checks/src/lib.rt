@@ -4,7 +4,6 @@
 //! [`parts_of`] gives.
 #![tactic(auto)]
 
-mod calls;
 pub mod doubts;
 mod effective;
 pub mod parts;

@@ -1,5 +1,6 @@
--- Lemmas: what JSON values have under names and at places, for `allowed` and `walk`; the policies and programs of filters;
--- and what `check` answers.
+-- Lemmas: what JSON values have under names and at places, for `allowed`, `walk` and `all`; the policies and programs of filters;
+-- what `check` answers; and faults by their kinds.
 pub mod Values
 pub mod MadePolicies
 pub mod Judgements
+pub mod FaultKinds

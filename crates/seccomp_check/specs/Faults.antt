@@ -1,6 +1,6 @@
 -- The faults of a policy that have a place: where they are, and what is wrong there.
 use Rattle.std.specs.Prelude.{◌≡◌, ◌≢◌, ◌==◌, if◌then◌else◌, ℕ, suc, List, [], ◌∷◌, ◌++◌, Contains, Option, Some, None, IfSome, false}
-use Rattle.std.specs.Prelude.{length, option_and_then, codes, decimal, string_bytes, ⊤}
+use Rattle.std.specs.Prelude.{length, take, option_and_then, codes, decimal, string_bytes, ⊤}
 use Rattle.serde_json.specs.Data.{Data, array, object, string, Items, no_items, item}
 use Rattle.serde_json.specs.Find.{get, at}
 use Rattle.serde_json.specs.Read.{read}
@@ -77,10 +77,20 @@ pub record IsWritten (d : Data) (text : List ℕ) : Type 0 where
   pub reads_back : read text ≡ Some d
 
 -- The text tells the value: an object and an array by their kind, and any other value as JSON.
+abbrev pub IsToldBy : Data → List ℕ → Type 0
+IsToldBy (object ms) text = text ≡ codes "an object"
+IsToldBy (array items) text = text ≡ array_text (count_of items)
+IsToldBy d text = IsWritten d text
+
+-- The text shows what is told: as it is; with a remark behind it; or, if it is long, its front, and how many bytes it has.
+pub data IsShownAs (told text : List ℕ) : Type 0 where
+  whole : text ≡ told → IsShownAs told text
+  remarked : text ≡ told ++ codes ", which isn't written as a whole number" → IsShownAs told text
+  cut : (n : ℕ) → text ≡ take n told ++ codes " .. (" ++ decimal (length told) ++ codes " bytes)" → IsShownAs told text
+
+-- The text shows the value.
 abbrev pub IsShown : Data → List ℕ → Type 0
-IsShown (object ms) text = text ≡ codes "an object"
-IsShown (array items) text = text ≡ array_text (count_of items)
-IsShown d text = IsWritten d text
+IsShown d text = (told : List ℕ) × IsToldBy d told × IsShownAs told text
 
 -- The filter's two actions are these.
 abbrev pub HasActions : Data → SeccompAction → SeccompAction → Type 0
@@ -143,6 +153,10 @@ pub record IsFaultBehind (cause : Cause) (outer : Part) (d : Data) (fault : Faul
 -- The same of the policy's value.
 abbrev pub IsFaultIn : Cause → Data → Fault → Type 0
 IsFaultIn cause d fault = IsFaultBehind cause parts.Policy d fault
+
+-- The fault is one of the value of a part, of whatever kind.
+abbrev pub IsFaultOf : Part → Data → Fault → Type 0
+IsFaultOf outer d fault = (cause : Cause) × IsFaultBehind cause outer d fault
 
 -- What is found is a fault of this kind in the value of a part. Lack of memory may come in place of it.
 abbrev pub Tells : Cause → Part → Data → Finding → Type 0

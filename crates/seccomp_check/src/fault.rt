@@ -1,10 +1,11 @@
 // A fault of a policy that has a place: where it stands, and what is wrong there.
 
-ghost use Rattle.std.specs.Prelude.{◌≡◌, IsTrue, is_ok, Some, OnOk, IfErr};
+ghost use Rattle.std.specs.Prelude.{◌≡◌, All, IsTrue, is_ok, Some, OnOk, IfErr};
 ghost use Rattle.serde_json.specs.Data.{Data, Items, array};
 ghost use Rattle.serde_json.specs.Find.{get_item};
 ghost use Rattle.seccompiler.specs.JsonShape.{Has};
-ghost use Rattle.seccomp_check.specs.Faults.{Tells, IsBroken, cause_of};
+ghost use Rattle.seccomp_check.specs.Faults as spec;
+ghost use Rattle.seccomp_check.specs.Faults.{IsFaultOf, Tells, IsBroken};
 ghost use Rattle.seccomp_check.specs.Parts.{part_under, part_in};
 ghost use Rattle.seccomp_check.specs.declared.fault.Cause.{Cause};
 ghost use Rattle.seccomp_check.specs.declared.part.Part.{Part};
@@ -56,7 +57,7 @@ pub enum Problem {
 }
 
 /// The kinds of faults, in the order in which they are reported.
-#[derive(Clone, Copy)]
+#[derive(Clone, Copy, Debug, PartialEq, Eq)]
 pub enum Cause {
     /// The policy is no object.
     Top,
@@ -114,9 +115,37 @@ impl<T: Drop> From<AllocFailed<T>> for Finding {
     }
 }
 
+// The kind of fault that a problem is, where something else may stand.
+fn cause_of_expected(expected: Expected) -> Cause
+    ensures { result ≡ spec.cause_of_expected expected }
+{
+    match expected {
+        Expected::Form(Part::Policy) => Cause::Top,
+        Expected::Form(_) => Cause::Shape,
+        Expected::Call(target) => Cause::Call(target),
+        Expected::Argument => Cause::Argument,
+        Expected::SomeConditions => Cause::Empty,
+    }
+}
+
+// The kind of fault that a problem is.
+pub(crate) fn cause_of(problem: &Problem) -> Cause
+    ensures { result ≡ spec.cause_of problem.now }
+{
+    match problem {
+        Problem::Stands(_, expected, _) => cause_of_expected(*expected),
+        Problem::SameActions => Cause::Actions,
+        Problem::TooLong(_, _, target) => Cause::Length(*target),
+        Problem::Strange(_, _)
+        | Problem::Missing(_)
+        | Problem::Neither(_, _)
+        | Problem::Both(_, _) => Cause::Shape,
+    }
+}
+
 // Ends the search with what is wrong with the value that is looked at.
 pub(crate) fn refuse(alloc: Global, problem: Problem) -> Result<(), Finding>
-    ensures found { (part : Part) (d : Data) → IsBroken part d problem → IfErr result (Tells (cause_of problem) part d) }
+    ensures found { (part : Part) (d : Data) → IsBroken part d problem → IfErr result (Tells (spec.cause_of problem) part d) }
     ensures ends { OnOk result ⊥ }
 {
     Err(Finding::Fault(Fault {
@@ -156,5 +185,16 @@ pub(crate) fn under_item(place: usize, answer: Result<(), Finding>) -> Result<()
             Err(Finding::Fault(fault))
         }
         other => other,
+    }
+}
+
+// Puts what a check finds behind what is found.
+pub(crate) fn add(found: &mut Vec<Fault>, answer: Result<(), Finding>) -> Result<(), AllocError>
+    ensures { (cause : Cause) (part : Part) (d : Data) → All (IsFaultOf part d) found.old.items → IfErr answer (Tells cause part d) → OnOk result (All (IsFaultOf part d) found.new.items) }
+{
+    match answer {
+        Ok(()) => Ok(()),
+        Err(Finding::Fault(fault)) => Ok(found.push(fault)?),
+        Err(Finding::OutOfMemory) => Err(AllocError),
     }
 }

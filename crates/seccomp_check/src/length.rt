@@ -1,22 +1,22 @@
-// The search for a program that would be too long.
+// Programs that would be too long.
 
-ghost use Rattle.std.specs.Prelude.{IfOk, IfErr};
-ghost use Rattle.serde_json.specs.Data.{Data, object};
-ghost use Rattle.serde_json.specs.View.{view, members_view};
+ghost use Rattle.std.specs.Prelude.{All, IfOk, IfErr};
+ghost use Rattle.serde_json.specs.Data.{Data};
+ghost use Rattle.serde_json.specs.View.{view};
 ghost use Rattle.seccompiler.specs.JsonShape.{IsFilter};
 ghost use Rattle.seccompiler.specs.JsonSteps.{AreFilters};
 ghost use Rattle.seccomp_check.specs.declared.fault.Cause.TheVariants as cause;
 ghost use Rattle.seccomp_check.specs.declared.part.Kind.TheVariants as kind;
 ghost use Rattle.seccomp_check.specs.declared.part.Part.TheVariants as parts;
-ghost use Rattle.seccomp_check.specs.Faults.{FitsAsTree, Tells};
+ghost use Rattle.seccomp_check.specs.Faults.{FitsAsTree, IsFaultOf, Tells};
 
-use crate::fault::{Finding, Problem, refuse, under_key};
+use crate::fault::{Fault, Finding, Problem, add, refuse, under_key};
 use seccomp_tree::{FilterError, to_tree_bpf};
 use seccompiler::json::{JsonCompiler, JsonFilter, JsonFilterMap, JsonFrontendError, read_filters};
 use seccompiler::{BackendError, SeccompFilter, TargetArch};
 use serde_json::Value;
 use serde_json::value::Map;
-use std::alloc::Global;
+use std::alloc::{AllocError, Global};
 
 // The length of the policy's program in the tree layout, if it fits.
 fn tree_length(alloc: Global, policy: &SeccompFilter) -> Result<Option<usize>, FilterError>
@@ -47,30 +47,51 @@ fn check_length(alloc: Global, target: TargetArch, filter: &JsonFilter) -> Resul
     }
 }
 
-// The same of the filters of an object, one by one in byte order of their names.
-fn check_lengths(
+// The same of the filter of this name.
+fn check_named(
     alloc: Global,
     target: TargetArch,
-    members: &Map<String, Value>,
+    name: &str,
     filters: &JsonFilterMap,
 ) -> Result<(), Finding>
     ensures found { (d : Data) → AreFilters d filters.now → IfErr result (Tells (cause.Length target) parts.Policy d) }
 {
-    for (name, _) in members.iter() {
-        if let Some(filter) = filters.0.get(name.as_str()) {
-            under_key(alloc, name.as_str(), check_length(alloc, target, filter))?;
-        }
+    match filters.0.get(name) {
+        Some(filter) => under_key(alloc, name, check_length(alloc, target, filter)),
+        None => Ok(()),
     }
-    Ok(())
 }
 
-// The first filter of a policy whose program would be too long.
-pub(crate) fn in_lengths(alloc: Global, target: TargetArch, value: &Value) -> Result<(), Finding>
-    ensures found { IfErr result (Tells (cause.Length target) parts.Policy (view value.now)) }
+// The filters of an object whose programs would be too long, in byte order of their names.
+fn all_of_filters(
+    alloc: Global,
+    target: TargetArch,
+    members: &Map<String, Value>,
+    filters: &JsonFilterMap,
+) -> Result<Vec<Fault>, AllocError>
+    ensures { (d : Data) → AreFilters d filters.now → IfOk result (λ all. All (IsFaultOf parts.Policy d) all.items) }
+{
+    let mut found = Vec::new(alloc);
+    for (name, _) in members.iter() {
+        add(
+            &mut found,
+            check_named(alloc, target, name.as_str(), filters),
+        )?;
+    }
+    Ok(found)
+}
+
+// The filters of a policy whose programs would be too long; none if some filter isn't made as it has to be.
+pub(crate) fn all_of_lengths(
+    alloc: Global,
+    target: TargetArch,
+    value: &Value,
+) -> Result<Vec<Fault>, AllocError>
+    ensures { IfOk result (λ all. All (IsFaultOf parts.Policy (view value.now)) all.items) }
 {
     match (value, read_filters(alloc, value)) {
-        (Value::Object(members), Ok(filters)) => check_lengths(alloc, target, members, &filters),
-        (_, Err(JsonFrontendError::OutOfMemory)) => Err(Finding::OutOfMemory),
-        _ => Ok(()),
+        (Value::Object(members), Ok(filters)) => all_of_filters(alloc, target, members, &filters),
+        (_, Err(JsonFrontendError::OutOfMemory)) => Err(AllocError),
+        _ => Ok(Vec::new(alloc)),
     }
 }

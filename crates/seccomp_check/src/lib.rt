@@ -18,35 +18,37 @@
 //! ```
 #![tactic(auto)]
 
+mod all;
 mod allowed;
 pub mod fault;
 mod length;
 mod near;
+mod not_json;
 pub mod part;
 mod policies;
 pub mod rejection;
 mod text;
 mod walk;
 
-ghost use Rattle.std.specs.Prelude.{◌≡◌, IfSome, IfOk, IfErr, string_bytes};
+ghost use Rattle.std.specs.Prelude.{◌≡◌, All, IfSome, IfOk, IfErr, string_bytes};
 ghost use Rattle.serde_json.specs.Data.{Data};
 ghost use Rattle.seccompiler.specs.Errors.{IsNoMemoryInside, IsNoReader};
 ghost use Rattle.seccompiler.specs.JsonAnswers.{OfValue, IsReadAs};
 ghost use Rattle.seccompiler.specs.JsonPrograms.{TellsFirstFault};
 ghost use Rattle.seccompiler.specs.JsonSteps.{AreFilters};
 ghost use Rattle.seccomp_check.specs.Checks.{AreAllCompiled, IsRejection, TellsFaultOf, frontend_cause, cause_told};
-ghost use Rattle.seccomp_check.specs.Faults.{Tells};
+ghost use Rattle.seccomp_check.specs.Faults.{IsFaultOf, Tells};
 ghost use Rattle.seccomp_check.specs.Texts as spec;
 ghost use Rattle.seccomp_check.specs.declared.part.Part.TheVariants.{Policy};
 
+use crate::all::{all_in_policy, first_in_policy};
 pub use crate::fault::{Cause, Expected, Fault, Finding, Problem, Step};
 pub use crate::near::near_name;
+pub use crate::not_json::{JsonFault, json_fault, json_piece_len};
 pub use crate::part::{Kind, Part};
 pub use crate::policies::policies_in;
 pub use crate::rejection::Rejection;
-use crate::text::fault_text;
-pub use crate::text::push_problem;
-use crate::walk::in_policy;
+pub use crate::text::{fault_text, push_problem};
 use seccompiler::json::{JsonFrontendError, filters_of};
 use seccompiler::{BackendError, Error, JsonFilterMap, TargetArch, programs_of};
 use serde_json::Value;
@@ -97,6 +99,29 @@ fn compiled_filters(alloc: Global, target: TargetArch, text: &[u8]) -> Result<Js
         let _program = policy.to_bpf(alloc)?;
     }
     Ok(filters)
+}
+
+/// All faults of a policy's text that have a place, as those of [`check`]; none if the text is no JSON. Those of a filter itself come
+/// in front of those of its entries, and so of an entry and its conditions; filters come in byte order of names. Programs that are
+/// too long are among them only if there is no other fault. The first `most` unknown names of calls may have suggestions, which
+/// take time.
+///
+/// # Errors
+///
+/// `AllocError` if memory runs out.
+pub fn faults(
+    alloc: Global,
+    target: TargetArch,
+    most: usize,
+    text: &[u8],
+) -> Result<Vec<Fault>, AllocError>
+    ensures faults { (d : Data) → IsReadAs text.now d → IfOk result (λ all. All (IsFaultOf Policy d) all.items) }
+{
+    match Value::from_slice(alloc, text) {
+        Ok(value) => all_in_policy(alloc, target, most, &value),
+        Err(error) if error.is_memory() => Err(AllocError),
+        Err(_) => Ok(Vec::new(alloc)),
+    }
 }
 
 /// Finds the first fault of a kind in a policy's text, and reports its place as [`check`] does.
@@ -187,7 +212,7 @@ fn search(alloc: Global, cause: Cause, text: &[u8]) -> Result<(), Finding>
     ensures found { (d : Data) → IsReadAs text.now d → IfErr result (Tells cause Policy d) }
 {
     match Value::from_slice(alloc, text) {
-        Ok(value) => in_policy(alloc, cause, &value),
+        Ok(value) => first_in_policy(alloc, cause, &value),
         Err(error) if error.is_memory() => Err(Finding::OutOfMemory),
         Err(_) => Ok(()),
     }

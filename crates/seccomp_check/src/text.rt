@@ -259,8 +259,12 @@ pub fn push_problem(text: &mut Vec<u8>, alloc: Global, problem: &Problem) -> Res
     }
 }
 
-// The text of a fault.
-pub(crate) fn fault_text(alloc: Global, fault: &Fault) -> Result<Vec<u8>, AllocError>
+/// The text of a fault: the path to the value, and what is wrong with it, in one line.
+///
+/// # Errors
+///
+/// `AllocError` if memory runs out.
+pub fn fault_text(alloc: Global, fault: &Fault) -> Result<Vec<u8>, AllocError>
     ensures { IfOk result (λ text. text.items ≡ spec.fault_text fault.now) }
 {
     let mut text = Vec::new(alloc);

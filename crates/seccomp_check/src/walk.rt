@@ -1,25 +1,23 @@
-// The search for a policy's first fault of a kind.
+// What is looked at in each part of a policy.
 
-ghost use Rattle.std.specs.Prelude.{◌≡◌, ◌↔◌, Some, Contains, IsTrue, IfErr, IfOk, OnOk, string_bytes};
-ghost use Rattle.serde_json.specs.Data.{Data, array, object};
-ghost use Rattle.serde_json.specs.View.{view, items_view, members_view};
-ghost use Rattle.seccompiler.specs.JsonShape.{IsObject};
+ghost use Rattle.std.specs.Prelude.{◌≡◌, ◌↔◌, Some, Contains, IsTrue, IfErr, IfOk, OnOk, ℕ, ◌++◌, take, codes, decimal, string_bytes};
+ghost use Rattle.serde_json.specs.Data.{Data};
+ghost use Rattle.serde_json.specs.View.{view};
+ghost use Rattle.seccompiler.specs.JsonShape.{Has, IsObject};
 ghost use Rattle.seccomp_check.specs.declared.fault.Cause.TheVariants as cause;
 ghost use Rattle.seccomp_check.specs.declared.part.Kind.{Kind};
 ghost use Rattle.seccomp_check.specs.declared.part.Kind.TheVariants as kind;
 ghost use Rattle.seccomp_check.specs.declared.part.Part.{Part};
 ghost use Rattle.seccomp_check.specs.declared.part.Part.TheVariants as parts;
 ghost use Rattle.seccomp_check.specs.declared.fault.Expected.TheVariants.{Form};
-ghost use Rattle.seccomp_check.specs.Faults.{array_text, Tells, IsAllowed, IsShown, cause_of_expected, part_of};
+ghost use Rattle.seccomp_check.specs.Faults.{array_text, Tells, IsAllowed, IsShown, IsShownAs, IsToldBy, cause_of_expected, part_of};
 ghost use Rattle.seccomp_check.specs.Parts.{names_of, required_of, pairs_of, part_under};
 
 use crate::allowed::{is_allowed, is_among, one_action};
-use crate::fault::{Cause, Expected, Finding, Problem, refuse, under_item, under_key};
-use crate::length::in_lengths;
+use crate::fault::{Expected, Finding, Problem, refuse, under_key};
 use crate::near::near;
 use crate::part::{Kind, Part};
 use serde_json::Value;
-use serde_json::value::Map;
 use std::alloc::{AllocError, Global};
 
 // The text that tells an array of this many values.
@@ -35,9 +33,68 @@ fn array_shown(alloc: Global, length: usize) -> Result<String, AllocError>
     }
 }
 
+// The most bytes of a value that are shown whole.
+const LONGEST_SHOWN: usize = 80;
+
+// Whether a value is a number from 0 to 2^64, written with a point or an exponent, where a whole number is expected.
+fn is_no_whole(expected: Expected, value: &Value) -> bool {
+    match expected {
+        Expected::Argument | Expected::Form(Part::Index | Part::ActionNumber | Part::Number) => {
+            value.as_u64().is_none()
+                && value.as_i64().is_none()
+                && matches!(value.as_f64(), Some(number) if 0.0 <= number && number < 18446744073709551616.0)
+        }
+        _ => false,
+    }
+}
+
+// The front of a long text, in whole characters.
+fn front_of(json: &String) -> &str
+    ensures { (n : ℕ) × (result.now ≡ take n (string_bytes json.now)) }
+{
+    // Of four neighbours one is no byte inside of a character.
+    for at in 57usize..61 {
+        if json.is_char_boundary(at) {
+            return &json.as_str()[..at];
+        }
+    }
+    ""
+}
+
+// How many bytes a text has of which the front is shown.
+fn size_shown(alloc: Global, length: usize) -> Result<String, AllocError>
+    ensures { IfOk result (λ text. string_bytes text ≡ codes " .. (" ++ decimal length ++ codes " bytes)") }
+{
+    format!(in alloc; " .. ({length} bytes)")
+}
+
+// The front of a long text, and how many bytes that has.
+fn cut(alloc: Global, front: &str, length: usize) -> Result<String, AllocError>
+    ensures { IfOk result (λ text. string_bytes text ≡ front.now ++ codes " .. (" ++ decimal length ++ codes " bytes)") }
+{
+    let size = size_shown(alloc, length)?;
+    let mut text = String::from_str(alloc, front)?;
+    text.push_str(size.as_str())?;
+    Ok(text)
+}
+
+// A text that tells a value, with a remark, or cut if it is long.
+fn shown_as(alloc: Global, told: String, is_no_whole: bool) -> Result<String, AllocError>
+    ensures { IfOk result (λ text. IsShownAs (string_bytes told) (string_bytes text)) }
+{
+    if is_no_whole {
+        return format!(in alloc; "{told}, which isn't written as a whole number");
+    }
+    let length = told.len();
+    if length <= LONGEST_SHOWN {
+        return Ok(told);
+    }
+    cut(alloc, front_of(&told), length)
+}
+
 // The text that tells a value.
-fn shown(alloc: Global, value: &Value) -> Result<String, AllocError>
-    ensures { IfOk result (λ text. IsShown (view value.now) (string_bytes text)) }
+fn told(alloc: Global, value: &Value) -> Result<String, AllocError>
+    ensures { IfOk result (λ text. IsToldBy (view value.now) (string_bytes text)) }
 {
     match value {
         Value::Object(_) => String::from_str(alloc, "an object"),
@@ -48,8 +105,16 @@ fn shown(alloc: Global, value: &Value) -> Result<String, AllocError>
     }
 }
 
+// What is shown of a value, which stands where something else is expected.
+pub(crate) fn shown(alloc: Global, expected: Expected, value: &Value) -> Result<String, AllocError>
+    ensures { IfOk result (λ text. IsShown (view value.now) (string_bytes text)) }
+{
+    let told = told(alloc, value)?;
+    shown_as(alloc, told, is_no_whole(expected, value))
+}
+
 // That the value may stand there.
-fn check(alloc: Global, expected: Expected, value: &Value) -> Result<(), Finding>
+pub(crate) fn check(alloc: Global, expected: Expected, value: &Value) -> Result<(), Finding>
     ensures found { IfErr result (Tells (cause_of_expected expected) (part_of expected) (view value.now)) }
     ensures fine { OnOk result (IsAllowed expected (view value.now)) }
 {
@@ -57,11 +122,19 @@ fn check(alloc: Global, expected: Expected, value: &Value) -> Result<(), Finding
         return Ok(());
     }
     let near = near(alloc, expected, value)?;
-    refuse(alloc, Problem::Stands(shown(alloc, value)?, expected, near))
+    refuse(
+        alloc,
+        Problem::Stands(shown(alloc, expected, value)?, expected, near),
+    )
 }
 
 // That what is under the name, if anything, may stand there.
-fn check_key(alloc: Global, key: &str, expected: Expected, value: &Value) -> Result<(), Finding>
+pub(crate) fn check_key(
+    alloc: Global,
+    key: &str,
+    expected: Expected,
+    value: &Value,
+) -> Result<(), Finding>
     ensures found { (outer : Part) → part_under outer key.now ≡ Some (part_of expected) → IfErr result (Tells (cause_of_expected expected) outer (view value.now)) }
 {
     match value.get(key) {
@@ -95,7 +168,12 @@ fn check_form(alloc: Global, part: Part, value: &Value) -> Result<(), Finding>
 }
 
 // That what is under the name, if anything, is of the part's form.
-fn check_inner(alloc: Global, key: &str, part: Part, value: &Value) -> Result<(), Finding>
+pub(crate) fn check_inner(
+    alloc: Global,
+    key: &str,
+    part: Part,
+    value: &Value,
+) -> Result<(), Finding>
     ensures found { (outer : Part) → part_under outer key.now ≡ Some part → IfErr result (Tells (cause_of_expected (Form part)) outer (view value.now)) }
 {
     match value.get(key) {
@@ -115,7 +193,12 @@ fn check_there(alloc: Global, key: &'static str, value: &Value) -> Result<(), Fi
 }
 
 // That the object has this name, and that what is there is of the part's form.
-fn check_part(alloc: Global, key: &'static str, part: Part, value: &Value) -> Result<(), Finding>
+pub(crate) fn check_part(
+    alloc: Global,
+    key: &'static str,
+    part: Part,
+    value: &Value,
+) -> Result<(), Finding>
     ensures found { (kind : Kind) → Contains (required_of kind) key.now → part_under (parts.Object kind) key.now ≡ Some part → cause_of_expected (Form part) ≡ cause.Shape → IsObject (view value.now) → IfErr result (Tells cause.Shape (parts.Object kind) (view value.now)) }
 {
     check_there(alloc, key, value)?;
@@ -123,7 +206,7 @@ fn check_part(alloc: Global, key: &'static str, part: Part, value: &Value) -> Re
 }
 
 // That the object has exactly one of two names, and an action there.
-fn check_action(
+pub(crate) fn check_action(
     alloc: Global,
     key: &'static str,
     other: &'static str,
@@ -162,65 +245,19 @@ fn is_key(kind: Kind, name: &str) -> bool
     }
 }
 
-// That the object has no names but those of its kind.
-fn check_keys(alloc: Global, kind: Kind, members: &Map<String, Value>) -> Result<(), Finding>
-    ensures found { IfErr result (Tells cause.Shape (parts.Object kind) (object (members_view members.now.entries))) }
+// That an object of this kind may have the name, which it has.
+pub(crate) fn check_member(alloc: Global, kind: Kind, name: &str) -> Result<(), Finding>
+    ensures found { (d : Data) → ((value : Data) × Has d name.now value) → IfErr result (Tells cause.Shape (parts.Object kind) d) }
 {
-    for (name, _) in members.iter() {
-        if !is_key(kind, name.as_str()) {
-            let name = String::from_str(alloc, name.as_str())?;
-            return refuse(alloc, Problem::Strange(name, kind));
-        }
+    if is_key(kind, name) {
+        return Ok(());
     }
-    Ok(())
-}
-
-// That the value is an object, with no names but those of its kind.
-fn check_object(alloc: Global, kind: Kind, value: &Value) -> Result<(), Finding>
-    ensures found { IfErr result (Tells cause.Shape (parts.Object kind) (view value.now)) }
-    ensures fine { OnOk result (IsObject (view value.now)) }
-{
-    check(alloc, Expected::Form(Part::Object(kind)), value)?;
-    match value {
-        Value::Object(members) => check_keys(alloc, kind, members),
-        _ => Ok(()),
-    }
-}
-
-// That the condition is made as it has to be.
-fn check_condition(alloc: Global, value: &Value) -> Result<(), Finding>
-    ensures found { IfErr result (Tells cause.Shape (parts.Object kind.Condition) (view value.now)) }
-{
-    check_object(alloc, Kind::Condition, value)?;
-    check_inner(alloc, "comment", Part::Comment, value)?;
-    check_part(alloc, "index", Part::Index, value)?;
-    check_part(alloc, "type", Part::Length, value)?;
-    check_part(alloc, "op", Part::Operator, value)?;
-    check_part(alloc, "val", Part::Number, value)
-}
-
-// That the entry is made as it has to be, but for its conditions.
-fn check_entry(alloc: Global, value: &Value) -> Result<(), Finding>
-    ensures found { IfErr result (Tells cause.Shape (parts.Object kind.Entry) (view value.now)) }
-{
-    check_object(alloc, Kind::Entry, value)?;
-    check_inner(alloc, "comment", Part::Comment, value)?;
-    check_part(alloc, "syscall", Part::Name, value)?;
-    check_inner(alloc, "args", Part::Conditions, value)
-}
-
-// That the filter is made as it has to be, but for its entries.
-fn check_filter(alloc: Global, value: &Value) -> Result<(), Finding>
-    ensures found { IfErr result (Tells cause.Shape (parts.Object kind.Filter) (view value.now)) }
-{
-    check_object(alloc, Kind::Filter, value)?;
-    check_action(alloc, "mismatch_action", "default_action", value)?;
-    check_action(alloc, "match_action", "filter_action", value)?;
-    check_part(alloc, "filter", Part::Entries, value)
+    let name = String::from_str(alloc, name)?;
+    refuse(alloc, Problem::Strange(name, kind))
 }
 
 // That the filter's actions differ.
-fn check_actions(alloc: Global, value: &Value) -> Result<(), Finding>
+pub(crate) fn check_actions(alloc: Global, value: &Value) -> Result<(), Finding>
     ensures found { IfErr result (Tells cause.Actions (parts.Object kind.Filter) (view value.now)) }
 {
     let mismatch = one_action(value.get("mismatch_action"), value.get("default_action"));
@@ -229,101 +266,6 @@ fn check_actions(alloc: Global, value: &Value) -> Result<(), Finding>
         (Some(mismatch), Some(matching)) if mismatch == matching => {
             refuse(alloc, Problem::SameActions)
         }
-        _ => Ok(()),
-    }
-}
-
-// The first fault of this kind in a condition.
-fn in_condition(alloc: Global, cause: Cause, value: &Value) -> Result<(), Finding>
-    ensures found { IfErr result (Tells cause (parts.Object kind.Condition) (view value.now)) }
-{
-    match cause {
-        Cause::Shape => check_condition(alloc, value),
-        Cause::Argument => check_key(alloc, "index", Expected::Argument, value),
-        _ => Ok(()),
-    }
-}
-
-fn in_conditions(alloc: Global, cause: Cause, items: &Vec<Value>) -> Result<(), Finding>
-    ensures found { IfErr result (Tells cause parts.Conditions (array (items_view items.now.items))) }
-{
-    for (place, item) in items.iter().enumerate() {
-        under_item(place, in_condition(alloc, cause, item))?;
-    }
-    Ok(())
-}
-
-// The first fault of this kind in an entry itself.
-fn in_entry_itself(alloc: Global, cause: Cause, value: &Value) -> Result<(), Finding>
-    ensures found { IfErr result (Tells cause (parts.Object kind.Entry) (view value.now)) }
-{
-    match cause {
-        Cause::Shape => check_entry(alloc, value),
-        Cause::Call(target) => check_key(alloc, "syscall", Expected::Call(target), value),
-        Cause::Empty => check_key(alloc, "args", Expected::SomeConditions, value),
-        _ => Ok(()),
-    }
-}
-
-fn in_entry(alloc: Global, cause: Cause, value: &Value) -> Result<(), Finding>
-    ensures found { IfErr result (Tells cause (parts.Object kind.Entry) (view value.now)) }
-{
-    in_entry_itself(alloc, cause, value)?;
-    match value.get("args") {
-        Some(Value::Array(items)) => {
-            under_key(alloc, "args", in_conditions(alloc, cause, items))
-        }
-        _ => Ok(()),
-    }
-}
-
-fn in_entries(alloc: Global, cause: Cause, items: &Vec<Value>) -> Result<(), Finding>
-    ensures found { IfErr result (Tells cause parts.Entries (array (items_view items.now.items))) }
-{
-    for (place, item) in items.iter().enumerate() {
-        under_item(place, in_entry(alloc, cause, item))?;
-    }
-    Ok(())
-}
-
-// The first fault of this kind in a filter itself.
-fn in_filter_itself(alloc: Global, cause: Cause, value: &Value) -> Result<(), Finding>
-    ensures found { IfErr result (Tells cause (parts.Object kind.Filter) (view value.now)) }
-{
-    match cause {
-        Cause::Shape => check_filter(alloc, value),
-        Cause::Actions => check_actions(alloc, value),
-        _ => Ok(()),
-    }
-}
-
-fn in_filter(alloc: Global, cause: Cause, value: &Value) -> Result<(), Finding>
-    ensures found { IfErr result (Tells cause (parts.Object kind.Filter) (view value.now)) }
-{
-    in_filter_itself(alloc, cause, value)?;
-    match value.get("filter") {
-        Some(Value::Array(items)) => { under_key(alloc, "filter", in_entries(alloc, cause, items)) }
-        _ => Ok(()),
-    }
-}
-
-fn in_filters(alloc: Global, cause: Cause, members: &Map<String, Value>) -> Result<(), Finding>
-    ensures found { IfErr result (Tells cause parts.Policy (object (members_view members.now.entries))) }
-{
-    for (name, value) in members.iter() {
-        under_key(alloc, name.as_str(), in_filter(alloc, cause, value))?;
-    }
-    Ok(())
-}
-
-// The first fault of this kind in a policy.
-pub(crate) fn in_policy(alloc: Global, cause: Cause, value: &Value) -> Result<(), Finding>
-    ensures found { IfErr result (Tells cause parts.Policy (view value.now)) }
-{
-    match (cause, value) {
-        (Cause::Top, _) => check(alloc, Expected::Form(Part::Policy), value),
-        (Cause::Length(target), _) => in_lengths(alloc, target, value),
-        (_, Value::Object(members)) => in_filters(alloc, cause, members),
         _ => Ok(()),
     }
 }

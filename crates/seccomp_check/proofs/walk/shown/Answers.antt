@@ -1,13 +1,11 @@
-use Rattle.std.proofs.Common.{◌≡◌, IfOk, string_bytes, sym, ◌∙◌, subst}
-use Rattle.serde_json.specs.View.{items_view}
-use Rattle.serde_json.proofs.Views.{view-Array}
-use Rattle.seccomp_check.specs.Faults.{array_text, count_of}
-use Rattle.seccomp_check.proofs.Values.{counted}
+use Rattle.std.proofs.Common.{string_bytes}
+use Rattle.std.proofs.lemmas.Result.{IfOk-weaker}
+use Rattle.serde_json.specs.View.{view}
+use Rattle.seccomp_check.specs.Faults.{IsShown}
 use Rattle.seccomp_check.proofs.walk.shown.Goals as goal
 
-pub returns-in-Array : goal.returns-in-Array
-returns-in-Array c =
-    let items = c.in-Array.items in
-    let count : c.len.result ≡ count_of (items_view items.items) = c.len.ensures ∙ items.ok.0 ∙ sym (counted items.items) in
-    rw (c.in-Array.is, view-Array items)
-    (subst (λ n. IfOk c.array_shown.result (λ text. string_bytes text ≡ array_text n)) count c.array_shown.ensures)
+pub returns : goal.returns
+returns c =
+    let told = c.in_ok-told in
+    IfOk-weaker c.shown_as.result _ (λ text. IsShown (view c.args.value.now) (string_bytes text))
+    (λ text is. (string_bytes told.told, told.ensures, is)) c.shown_as.ensures

@@ -1,48 +1,33 @@
 // Where a JSON value isn't a profile, and what is wrong there. Which values are profiles say the readers; these are its words.
 
-use crate::actions::named_number;
-use crate::members::{is_among, items_of, whole_of, whole_or};
-use crate::parts::{read_action, read_flag, read_operator};
-use crate::version::kernel_under;
+use crate::form::{Form, form_of};
+use crate::members::is_among;
 use seccomp_command_line::readable::{TextKind, readable};
 use serde_json::Value;
 use std::alloc::{AllocError, Global};
 
-/// What a search ends with if it doesn't end well.
-#[derive(Drop)]
-enum Finding {
-    /// The first fault: the way to its place, each step with its mark in front, a colon, and what is wrong there.
-    Fault(String),
-    /// Memory ran out.
-    OutOfMemory,
-}
+// The most bytes of a string that is shown.
+const LONGEST: usize = 80;
 
-impl From<AllocError> for Finding {
-    fn from(_refused: AllocError) -> Finding {
-        Finding::OutOfMemory
+// The faults of a value that are found so far: of each the path to its place, a colon, a space, and what is wrong there.
+type Found = Vec<String>;
+
+/// The text of the first fault of a value that is no profile, as the first of [`faults_of`] is.
+///
+/// # Errors
+///
+/// `AllocError` if memory runs out.
+pub(crate) fn fault_of(alloc: Global, value: &Value) -> Result<String, AllocError> {
+    match faults_of(alloc, value)?.into_iter().next() {
+        Some(first) => Ok(first),
+        None => String::from_str(
+            alloc,
+            "The JSON value isn't a seccomp profile, or a part of it isn't supported.",
+        ),
     }
 }
 
-// The form that a value has to be of.
-#[derive(Clone, Copy)]
-enum Form {
-    Object,
-    Action,
-    ActionNumber,
-    ErrorName,
-    List,
-    Flag,
-    Condition,
-    Text,
-    TextOrNull,
-    Index,
-    Number,
-    NumberOrNull,
-    Operator,
-    Version,
-}
-
-/// The text of the first fault of a value that is no profile: the path to its place, a colon, a space, and what
+/// The texts of all faults of a value that is no profile: of each the path to its place, a colon, a space, and what
 /// is wrong there, as `syscalls[3].args[0].index: expected 0 to 5, found 6`.
 ///
 /// The path consists of names, and of places in brackets, from 0; the path to the value itself is `the
@@ -54,267 +39,304 @@ enum Form {
 /// # Errors
 ///
 /// `AllocError` if memory runs out.
-pub(crate) fn fault_of(alloc: Global, value: &Value) -> Result<String, AllocError> {
-    match in_profile(alloc, value) {
-        Err(Finding::OutOfMemory) => Err(AllocError),
-        Err(Finding::Fault(text)) => match text.as_str().strip_prefix('.') {
-            Some(way) => String::from_str(alloc, way),
-            None => format!(in alloc; "the profile{text}"),
-        },
-        Ok(()) => String::from_str(
-            alloc,
-            "The JSON value isn't a seccomp profile, or a part of it isn't supported.",
-        ),
-    }
+pub(crate) fn faults_of(alloc: Global, value: &Value) -> Result<Vec<String>, AllocError> {
+    let mut found = Vec::new(alloc);
+    in_profile(&mut found, alloc, value)?;
+    Ok(found)
 }
 
-// The first fault of a profile.
-fn in_profile(alloc: Global, value: &Value) -> Result<(), Finding> {
-    check(alloc, Form::Object, value)?;
-    in_action(
-        alloc,
-        "defaultAction",
-        "defaultErrnoRet",
-        "defaultErrno",
-        value,
-    )?;
-    in_key(alloc, "architectures", Form::List, value)?;
-    in_key(alloc, "archMap", Form::List, value)?;
-    in_list(alloc, "flags", Form::Flag, value)?;
-    in_key(alloc, "syscalls", Form::List, value)?;
+// Adds the faults of a profile.
+fn in_profile(found: &mut Found, alloc: Global, value: &Value) -> Result<(), AllocError> {
+    if !check(found, alloc, "", Form::Object, value)? {
+        return Ok(());
+    }
+    let keys = ["defaultAction", "defaultErrnoRet", "defaultErrno"];
+    in_action(found, alloc, "", keys, value)?;
+    in_key(found, alloc, "", "architectures", Form::List, value)?;
+    in_key(found, alloc, "", "archMap", Form::List, value)?;
+    in_list(found, alloc, "", "flags", Form::Flag, value)?;
+    in_key(found, alloc, "", "syscalls", Form::List, value)?;
     match value.get("syscalls") {
-        Some(Value::Array(items)) => under(alloc, "syscalls", in_entries(alloc, items.as_slice())),
+        Some(Value::Array(items)) => in_entries(found, alloc, items.as_slice()),
         _ => Ok(()),
     }
 }
 
-fn in_entries(alloc: Global, items: &[Value]) -> Result<(), Finding> {
+fn in_entries(found: &mut Found, alloc: Global, items: &[Value]) -> Result<(), AllocError> {
     for (place, item) in items.iter().enumerate() {
-        at(alloc, place, in_entry(alloc, item))?;
+        let path = format!(in alloc; "syscalls[{place}]")?;
+        in_entry(found, alloc, path.as_str(), item)?;
     }
     Ok(())
 }
 
-fn in_entry(alloc: Global, value: &Value) -> Result<(), Finding> {
+fn in_entry(found: &mut Found, alloc: Global, path: &str, value: &Value) -> Result<(), AllocError> {
     let keys = [
         "names", "name", "action", "errnoRet", "errno", "args", "includes", "excludes", "comment",
     ];
     let told = "names, name, action, errnoRet, errno, args, includes, excludes or comment";
-    in_object(alloc, &keys, told, value)?;
-    in_key(alloc, "comment", Form::TextOrNull, value)?;
-    in_action(alloc, "action", "errnoRet", "errno", value)?;
-    in_key(alloc, "name", Form::TextOrNull, value)?;
-    in_list(alloc, "names", Form::Text, value)?;
-    in_both_names(alloc, value)?;
-    in_list(alloc, "args", Form::Condition, value)?;
-    in_criteria_under(alloc, "includes", value)?;
-    in_criteria_under(alloc, "excludes", value)
+    if !in_object(found, alloc, path, &keys, told, value)? {
+        return Ok(());
+    }
+    in_key(found, alloc, path, "comment", Form::TextOrNull, value)?;
+    in_action(found, alloc, path, ["action", "errnoRet", "errno"], value)?;
+    in_key(found, alloc, path, "name", Form::TextOrNull, value)?;
+    in_list(found, alloc, path, "names", Form::Text, value)?;
+    in_both_names(found, alloc, path, value)?;
+    in_list(found, alloc, path, "args", Form::Condition, value)?;
+    in_criteria_under(found, alloc, path, "includes", value)?;
+    in_criteria_under(found, alloc, path, "excludes", value)
 }
 
 // That an entry has one name under `name`, or some under `names`.
-fn in_both_names(alloc: Global, value: &Value) -> Result<(), Finding> {
+fn in_both_names(
+    found: &mut Found,
+    alloc: Global,
+    path: &str,
+    value: &Value,
+) -> Result<(), AllocError> {
     match (value.get("name"), value.get("names")) {
         (Some(Value::String(name)), Some(Value::Array(names)))
             if !name.is_empty() && !names.is_empty() => refuse(
+            found,
             alloc,
+            path,
             "expected one of \"names\" and \"name\", found both",
         ),
         _ => Ok(()),
     }
 }
 
-fn in_criteria_under(alloc: Global, key: &str, value: &Value) -> Result<(), Finding> {
+fn in_criteria_under(
+    found: &mut Found,
+    alloc: Global,
+    path: &str,
+    key: &str,
+    value: &Value,
+) -> Result<(), AllocError> {
     match value.get(key) {
         None | Some(Value::Null) => Ok(()),
-        Some(inner) => under(alloc, key, in_criteria(alloc, inner)),
-    }
-}
-
-fn in_criteria(alloc: Global, value: &Value) -> Result<(), Finding> {
-    let keys = ["caps", "arches", "minKernel"];
-    in_object(alloc, &keys, "caps, arches or minKernel", value)?;
-    in_list(alloc, "caps", Form::Text, value)?;
-    in_list(alloc, "arches", Form::Text, value)?;
-    in_key(alloc, "minKernel", Form::Version, value)
-}
-
-fn in_condition(alloc: Global, value: &Value) -> Result<(), Finding> {
-    let keys = ["index", "value", "valueTwo", "op"];
-    in_object(alloc, &keys, "index, value, valueTwo or op", value)?;
-    in_required(alloc, "index", Form::Index, value)?;
-    in_required(alloc, "value", Form::Number, value)?;
-    in_key(alloc, "valueTwo", Form::NumberOrNull, value)?;
-    in_required(alloc, "op", Form::Operator, value)
-}
-
-// That the object has an action, and beside it what may stand there.
-fn in_action(
-    alloc: Global,
-    action: &str,
-    number: &str,
-    name: &str,
-    value: &Value,
-) -> Result<(), Finding> {
-    in_required(alloc, action, Form::Action, value)?;
-    in_key(alloc, number, Form::ActionNumber, value)?;
-    in_key(alloc, name, Form::ErrorName, value)?;
-    if let Some(Value::String(text)) = value.get(action) {
-        if is_among(text.as_str(), &["SCMP_ACT_ERRNO", "SCMP_ACT_TRACE"]) {
-            return Ok(());
+        Some(inner) => {
+            let path = under(alloc, path, key)?;
+            in_criteria(found, alloc, path.as_str(), inner)
         }
     }
-    in_beside(alloc, number, value)?;
-    in_beside(alloc, name, value)
+}
+
+fn in_criteria(
+    found: &mut Found,
+    alloc: Global,
+    path: &str,
+    value: &Value,
+) -> Result<(), AllocError> {
+    let keys = ["caps", "arches", "minKernel"];
+    if !in_object(
+        found,
+        alloc,
+        path,
+        &keys,
+        "caps, arches or minKernel",
+        value,
+    )? {
+        return Ok(());
+    }
+    in_list(found, alloc, path, "caps", Form::Text, value)?;
+    in_list(found, alloc, path, "arches", Form::Text, value)?;
+    in_key(found, alloc, path, "minKernel", Form::Version, value)
+}
+
+fn in_condition(
+    found: &mut Found,
+    alloc: Global,
+    path: &str,
+    value: &Value,
+) -> Result<(), AllocError> {
+    let keys = ["index", "value", "valueTwo", "op"];
+    if !in_object(
+        found,
+        alloc,
+        path,
+        &keys,
+        "index, value, valueTwo or op",
+        value,
+    )? {
+        return Ok(());
+    }
+    in_required(found, alloc, path, "index", Form::Index, value)?;
+    in_required(found, alloc, path, "value", Form::Number, value)?;
+    in_key(found, alloc, path, "valueTwo", Form::NumberOrNull, value)?;
+    in_required(found, alloc, path, "op", Form::Operator, value)
+}
+
+// That the object has an action, and beside it what may stand there: under the first of these names, and under the others.
+fn in_action(
+    found: &mut Found,
+    alloc: Global,
+    path: &str,
+    [action, number, name]: [&str; 3],
+    value: &Value,
+) -> Result<(), AllocError> {
+    in_required(found, alloc, path, action, Form::Action, value)?;
+    in_key(found, alloc, path, number, Form::ActionNumber, value)?;
+    in_key(found, alloc, path, name, Form::ErrorName, value)?;
+    let Some(Value::String(text)) = value.get(action) else {
+        return Ok(());
+    };
+    if is_among(text.as_str(), &["SCMP_ACT_ERRNO", "SCMP_ACT_TRACE"]) {
+        return Ok(());
+    }
+    in_beside(found, alloc, path, number, value)?;
+    in_beside(found, alloc, path, name, value)
 }
 
 // That nothing stands beside an action that has no number.
-fn in_beside(alloc: Global, key: &str, value: &Value) -> Result<(), Finding> {
+fn in_beside(
+    found: &mut Found,
+    alloc: Global,
+    path: &str,
+    key: &str,
+    value: &Value,
+) -> Result<(), AllocError> {
     match value.get(key) {
         None | Some(Value::Null) => Ok(()),
         Some(Value::String(text)) if text.is_empty() => Ok(()),
         Some(_) => {
             let words = format!(in alloc; "\"{key}\" is given, but the action takes no number")?;
-            refuse(alloc, words.as_str())
+            refuse(found, alloc, path, words.as_str())
         }
     }
 }
 
 // The list under a name, if one is there, and its items.
-fn in_list(alloc: Global, key: &str, of: Form, value: &Value) -> Result<(), Finding> {
-    in_key(alloc, key, Form::List, value)?;
+fn in_list(
+    found: &mut Found,
+    alloc: Global,
+    path: &str,
+    key: &str,
+    of: Form,
+    value: &Value,
+) -> Result<(), AllocError> {
+    in_key(found, alloc, path, key, Form::List, value)?;
     match value.get(key) {
-        Some(Value::Array(items)) => under(alloc, key, in_items(alloc, of, items.as_slice())),
+        Some(Value::Array(items)) => {
+            let path = under(alloc, path, key)?;
+            in_items(found, alloc, path.as_str(), of, items.as_slice())
+        }
         _ => Ok(()),
     }
 }
 
-fn in_items(alloc: Global, of: Form, items: &[Value]) -> Result<(), Finding> {
+fn in_items(
+    found: &mut Found,
+    alloc: Global,
+    path: &str,
+    of: Form,
+    items: &[Value],
+) -> Result<(), AllocError> {
     for (place, item) in items.iter().enumerate() {
-        let answer = match of {
-            Form::Condition => in_condition(alloc, item),
-            _ => check(alloc, of, item),
-        };
-        at(alloc, place, answer)?;
-    }
-    Ok(())
-}
-
-// That the value is an object, with no names but these.
-fn in_object(alloc: Global, keys: &[&str], told: &str, value: &Value) -> Result<(), Finding> {
-    check(alloc, Form::Object, value)?;
-    let Value::Object(members) = value else {
-        return Ok(());
-    };
-    for (name, _) in members.iter() {
-        if !is_among(name.as_str(), keys) {
-            return strange(alloc, name.as_str(), told);
+        let path = format!(in alloc; "{path}[{place}]")?;
+        match of {
+            Form::Condition => in_condition(found, alloc, path.as_str(), item)?,
+            _ => {
+                let _is_so = check(found, alloc, path.as_str(), of, item)?;
+            }
         }
     }
     Ok(())
 }
 
-// A name that isn't known.
-fn strange(alloc: Global, name: &str, told: &str) -> Result<(), Finding> {
-    let shown = readable(alloc, name, TextKind::Name)?;
-    let words = format!(in alloc; "\"{shown}\": unknown key; expected {told}")?;
-    refuse(alloc, words.as_str())
+// That the value is an object, with no names but these; whether it is one.
+fn in_object(
+    found: &mut Found,
+    alloc: Global,
+    path: &str,
+    keys: &[&str],
+    told: &str,
+    value: &Value,
+) -> Result<bool, AllocError> {
+    let is_object = check(found, alloc, path, Form::Object, value)?;
+    let Value::Object(members) = value else {
+        return Ok(is_object);
+    };
+    for (name, _) in members.iter() {
+        if !is_among(name.as_str(), keys) {
+            let shown = readable(alloc, name.as_str(), TextKind::Name)?;
+            let words = format!(in alloc; "\"{shown}\": unknown key; expected {told}")?;
+            refuse(found, alloc, path, words.as_str())?;
+        }
+    }
+    Ok(is_object)
 }
 
 // That something stands under the name, and is of the form.
-fn in_required(alloc: Global, key: &str, form: Form, value: &Value) -> Result<(), Finding> {
+fn in_required(
+    found: &mut Found,
+    alloc: Global,
+    path: &str,
+    key: &str,
+    form: Form,
+    value: &Value,
+) -> Result<(), AllocError> {
     if value.get(key).is_none() {
         let words = format!(in alloc; "missing \"{key}\"")?;
-        return refuse(alloc, words.as_str());
+        return refuse(found, alloc, path, words.as_str());
     }
-    in_key(alloc, key, form, value)
+    in_key(found, alloc, path, key, form, value)
 }
 
 // That what stands under the name, if anything, is of the form.
-fn in_key(alloc: Global, key: &str, form: Form, value: &Value) -> Result<(), Finding> {
-    match value.get(key) {
-        Some(inner) => under(alloc, key, check(alloc, form, inner)),
-        None => Ok(()),
-    }
+fn in_key(
+    found: &mut Found,
+    alloc: Global,
+    path: &str,
+    key: &str,
+    form: Form,
+    value: &Value,
+) -> Result<(), AllocError> {
+    let Some(inner) = value.get(key) else {
+        return Ok(());
+    };
+    let path = under(alloc, path, key)?;
+    let _is_so = check(found, alloc, path.as_str(), form, inner)?;
+    Ok(())
 }
 
-// That the value is of the form.
-fn check(alloc: Global, form: Form, value: &Value) -> Result<(), Finding> {
+// That the value is of the form; whether it is.
+fn check(
+    found: &mut Found,
+    alloc: Global,
+    path: &str,
+    form: Form,
+    value: &Value,
+) -> Result<bool, AllocError> {
     let (is_so, form) = form_of(form, value);
     if is_so {
-        return Ok(());
+        return Ok(true);
     }
     let shown = match value {
         Value::Object(_) => String::from_str(alloc, "an object")?,
         Value::Array(_) => String::from_str(alloc, "an array")?,
+        Value::String(text) if text.len() > LONGEST => {
+            format!(in alloc; "a string of {} bytes", text.len())?
+        }
         _ => value.to_string(alloc)?,
     };
     let words = format!(in alloc; "expected {form}, found {shown}")?;
-    refuse(alloc, words.as_str())
+    refuse(found, alloc, path, words.as_str())?;
+    Ok(false)
 }
 
-// Whether the value is of the form, and the form in words.
-fn form_of(form: Form, value: &Value) -> (bool, &'static str) {
-    match form {
-        Form::Object | Form::Condition => (matches!(value, Value::Object(_)), "an object"),
-        Form::Action => (
-            read_action(value, None).is_some(),
-            "SCMP_ACT_ALLOW, SCMP_ACT_ERRNO, SCMP_ACT_KILL, SCMP_ACT_KILL_PROCESS, SCMP_ACT_KILL_THREAD, SCMP_ACT_LOG, SCMP_ACT_TRACE or SCMP_ACT_TRAP",
-        ),
-        Form::ActionNumber => (
-            whole_or(1, 65535, Some(value)).is_some(),
-            "null or 0 to 65535",
-        ),
-        Form::ErrorName => (
-            named_number(Some(value)).is_some(),
-            "null or an errno by name or number, such as \"EPERM\" or \"1\"",
-        ),
-        Form::List => (items_of(Some(value)).is_some(), "null or an array"),
-        Form::Flag => (
-            read_flag(value).is_some(),
-            "SECCOMP_FILTER_FLAG_LOG, SECCOMP_FILTER_FLAG_SPEC_ALLOW or SECCOMP_FILTER_FLAG_TSYNC",
-        ),
-        Form::Text => (matches!(value, Value::String(_)), "a string"),
-        Form::TextOrNull => (
-            matches!(value, Value::Null | Value::String(_)),
-            "null or a string",
-        ),
-        Form::Index => (whole_of(5, value).is_some(), "0 to 5"),
-        Form::Number => (
-            whole_of(u64::MAX, value).is_some(),
-            "0 to 18446744073709551615",
-        ),
-        Form::NumberOrNull => (
-            whole_or(0, u64::MAX, Some(value)).is_some(),
-            "null or 0 to 18446744073709551615",
-        ),
-        Form::Operator => (
-            read_operator(value).is_some(),
-            "SCMP_CMP_EQ, SCMP_CMP_GE, SCMP_CMP_GT, SCMP_CMP_LE, SCMP_CMP_LT, SCMP_CMP_MASKED_EQ or SCMP_CMP_NE",
-        ),
-        Form::Version => (
-            kernel_under(Some(value)).is_some(),
-            "null or a version of two numbers, such as \"4.8\"",
-        ),
+// Adds what is wrong with the value at a path.
+fn refuse(found: &mut Found, alloc: Global, path: &str, words: &str) -> Result<(), AllocError> {
+    let path = if path.is_empty() { "the profile" } else { path };
+    found.push(format!(in alloc; "{path}: {words}")?)?;
+    Ok(())
+}
+
+// The path to what stands under a name of the value at a path.
+fn under(alloc: Global, path: &str, key: &str) -> Result<String, AllocError> {
+    if path.is_empty() {
+        return String::from_str(alloc, key);
     }
-}
-
-// Ends the search with what is wrong with the value that is looked at.
-fn refuse(alloc: Global, words: &str) -> Result<(), Finding> {
-    Err(Finding::Fault(format!(in alloc; ": {words}")?))
-}
-
-// The answer on what stands under a name, as one on the object.
-fn under(alloc: Global, key: &str, answer: Result<(), Finding>) -> Result<(), Finding> {
-    match answer {
-        Err(Finding::Fault(text)) => Err(Finding::Fault(format!(in alloc; ".{key}{text}")?)),
-        other => other,
-    }
-}
-
-// The answer on an item, as one on the array.
-fn at(alloc: Global, place: usize, answer: Result<(), Finding>) -> Result<(), Finding> {
-    match answer {
-        Err(Finding::Fault(text)) => Err(Finding::Fault(format!(in alloc; "[{place}]{text}")?)),
-        other => other,
-    }
+    format!(in alloc; "{path}.{key}")
 }

@@ -8,6 +8,7 @@ mod actions;
 mod entries;
 mod error;
 mod fault;
+mod form;
 mod lists;
 mod members;
 mod parts;
@@ -16,6 +17,6 @@ pub mod types;
 mod version;
 
 pub use error::ProfileError;
-pub use profile::profile_of;
+pub use profile::{profile_faults, profile_of};
 pub use types::{Argument, Container, Criteria, Entry, Flag, Kernel, Operator, Profile, Runtime};
 pub use version::kernel_of;

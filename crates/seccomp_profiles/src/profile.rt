@@ -10,7 +10,7 @@ ghost use Rattle.seccomp_profiles.specs.Types.{Profile};
 
 use crate::actions::action_under;
 use crate::error::ProfileError;
-use crate::fault::fault_of;
+use crate::fault::{fault_of, faults_of};
 use crate::lists::parts_under;
 use crate::members::items_of;
 use crate::types::Profile;
@@ -72,6 +72,19 @@ pub fn profile_of(alloc: Global, text: &[u8]) -> Result<Profile, ProfileError>
     match read_profile(alloc, &value)? {
         Some(profile) => Ok(profile),
         None => Err(ProfileError::NotAProfile(fault_of(alloc, &value)?)),
+    }
+}
+
+/// The texts of all faults of a text that is no profile, the one of [`profile_of`] in front; none if it is no JSON, or a profile.
+///
+/// # Errors
+///
+/// `AllocError` if memory runs out.
+pub fn profile_faults(alloc: Global, text: &[u8]) -> Result<Vec<String>, AllocError> {
+    match value_of(alloc, text) {
+        Ok(value) => faults_of(alloc, &value),
+        Err(ProfileError::OutOfMemory) => Err(AllocError),
+        Err(_) => Ok(Vec::new(alloc)),
     }
 }
 

@@ -22,12 +22,17 @@ FAULTLESS = '{"index":0,"type":"dword","op":"eq","val":0}'
 TOO_LONG = '{"syscall":"read","args":[' + ",".join([FAULTLESS] * 5000) + "]}"
 
 REPEATED = FRONTEND + "Repeated key in Json.\n"
-UNPARSED = FRONTEND + "Error parsing Json: .."
+UNPARSED = 'line 1, column 2: invalid JSON: expected a name in quotes or "}", found "a"\n'
 
 
 def told(policy, where, what):
     """Returns the case of a policy of which this is told at this place on x86_64."""
     return rejects("check", policy, f"{where}: {what}\n")
+
+
+def all_told(policy, *faults):
+    """Returns the case of a policy of which each of these is told, in this order, on x86_64."""
+    return Case("check", 1, "", "".join(f"{INPUT}{where}: {what}\n" if what else f"{INPUT}{where}\n" for where, what in faults), policy)
 
 
 def stands(policy, where, what, may):
@@ -76,13 +81,41 @@ NUMBER = "0 to 18446744073709551615"
 ACTIONS = '"allow", {"errno": N}, "kill_process", "kill_thread", "log", {"trace": N} or "trap"'
 OPERATORS = '"eq", "ge", "gt", "le", "lt", {"masked_eq": N} or "ne"'
 
+# What a filter of no keys lacks.
+BARE = [("a", 'missing "mismatch_action" or "default_action"'), ("a", 'missing "match_action" or "filter_action"'), ("a", 'missing "filter"')]
+
+# What is told of a condition that lacks some.
+LACKS = [(CONDITION, f'missing "{it}"') for it in ("index", "type", "op", "val")]
+
+# Numbers that aren't whole as they are written, whatever they come to; others are no smaller than 2 ** 64, or below 0. JSON of a
+# float has its exponent with a sign.
+FRACTIONS = [
+    *[(text, f"{said}, which isn't written as a whole number")
+      for text, said in (("1e0", "1.0"), ("1.0", "1.0"), ("0.5", "0.5"), ("1e18", "1e+18"), ("10E-1", "1.0"), ("0e0", "0.0"))],
+    ("18446744073709551616", "1.8446744073709552e+19"), ("-1.5", "-1.5"), ("1e20", "1e+20"),
+]
+
+# Values that are longer than a line: their front, and how many bytes they have as JSON, the quotes among them.
+LONG = [
+    ("x" * 78, '"' + "x" * 78 + '"'),
+    ("x" * 79, '"' + "x" * 56 + " .. (81 bytes)"),
+    ("\u00e9" * 40, '"' + "\u00e9" * 28 + " .. (82 bytes)"),
+    ("\u20ac" * 2000, '"' + "\u20ac" * 19 + " .. (6002 bytes)"),
+    ("x" * 4194304, '"' + "x" * 56 + " .. (4194306 bytes)"),
+]
+
 IN_FILTERS = [
     stands("[]", "the policy", "an empty array", "an object of filters"),
     stands("1.5", "the policy", "1.5", "an object of filters"),
     stands(r'{"a\\\u0007é":[1]}', r"a\x5c\x07é", "an array of 1 value", FILTER),
     stands(r'{"a\u009b":[1]}', r"a\xc2\x9b", "an array of 1 value", FILTER),
-    strange('{"b":0,"a":{"filters":[]}}', "a", "filters",
-            "mismatch_action, default_action, match_action, filter_action or filter"),
+    # Of one place in the order of docs/CHECKS.md, and a key that isn't known where the key stands.
+    all_told('{"b":0,"a":{"filters":[]}}', ("b", f"expected {FILTER}, found 0"), *BARE,
+             ("a", '"filters": unknown key; expected mismatch_action, default_action, match_action, filter_action or filter')),
+    all_told('{"a":{}}', *BARE),
+    all_told('{"a":{"y":0,"x":1,"y ":2}}', *BARE, *(
+        ("a", f'"{it}": unknown key; expected mismatch_action, default_action, match_action, filter_action or filter')
+        for it in ("y", "x", "y "))),
     told('{"a":{"match_action":"log","filter":[]}}', "a",
          'missing "mismatch_action" or "default_action"'),
     told('{"a":{"match_action":"log","mismatch_action":"log","filter_action":"log","filter":[]}}', "a",
@@ -122,16 +155,21 @@ IN_AN_ENTRY = [
 
 IN_A_CONDITION = [
     stands(condition("true"), CONDITION, "true", "an object with the four parts of a condition"),
-    strange(condition('{"index":0,"type":"dword","op":"eq","vall":0}'), CONDITION, "vall",
-            "index, type, op, val or comment"),
-    stands(condition('{"index":256,"comment":[1,2]}'), CONDITION + ".comment", "an array of 2 values",
-           "null or a string"),
-    told(condition("{}"), CONDITION, 'missing "index"'),
-    stands(condition('{"index":256}'), CONDITION + ".index", "256", INDEX),
-    told(condition('{"index":0}'), CONDITION, 'missing "type"'),
-    stands(condition('{"index":0,"type":"byte"}'), CONDITION + ".type", '"byte"', '"dword" or "qword"'),
-    told(condition('{"index":0,"type":"dword"}'), CONDITION, 'missing "op"'),
-    stands(condition('{"index":0,"type":"dword","op":17}'), CONDITION + ".op", "17", OPERATORS),
+    all_told(condition('{"index":0,"type":"dword","op":"eq","vall":0}'), LACKS[3],
+             (CONDITION, '"vall": unknown key; expected index, type, op, val or comment')),
+    all_told(condition('{"index":256,"comment":[1,2]}'), *LACKS[1:], (CONDITION + ".index", f"expected {INDEX}, found 256"),
+             (CONDITION + ".comment", "expected null or a string, found an array of 2 values")),
+    all_told(condition("{}"), *LACKS),
+    all_told(condition('{"index":256}'), *LACKS[1:], (CONDITION + ".index", f"expected {INDEX}, found 256")),
+    all_told(condition('{"index":0}'), *LACKS[1:]),
+    all_told(condition('{"index":0,"type":"byte"}'), *LACKS[2:], (CONDITION + ".type", 'expected "dword" or "qword", found "byte"')),
+    all_told(condition('{"index":0,"type":"dword"}'), *LACKS[2:]),
+    all_told(condition('{"index":0,"type":"dword","op":17}'), LACKS[3], (CONDITION + ".op", f"expected {OPERATORS}, found 17")),
+    *[stands(condition('{"index":0,"type":"dword","op":"eq","val":%s}' % it), CONDITION + ".val", said, NUMBER) for it, said in FRACTIONS],
+    *[stands(condition('{"index":%s,"type":"dword","op":"eq","val":1}' % it), CONDITION + ".index", said, INDEX) for it, said in FRACTIONS],
+    *[stands(mismatch('{"errno":%s}' % it), "a.mismatch_action.errno", said, ACTION_NUMBER) for it, said in FRACTIONS],
+    stands(condition('{"index":0,"type":1e0,"op":"eq","val":1}'), CONDITION + ".type", "1.0", '"dword" or "qword"'),
+    *[stands(condition('{"index":0,"type":"%s","op":"eq","val":1}' % it), CONDITION + ".type", said, '"dword" or "qword"') for it, said in LONG],
     stands(compared('{"masked_eq":-1}'), CONDITION + ".op.masked_eq", "-1", NUMBER),
     stands(compared('{"masked_eq":null}'), CONDITION + ".op.masked_eq", "null", NUMBER),
     stands(compared('{"masked_eq":1,"eq":2}'), CONDITION + ".op", "an object", OPERATORS),
@@ -168,25 +206,77 @@ SUGGESTIONS = [
     ]
 ]
 
-FIRST_FAULTS = [
-    # Of the least name first, and a wrong form before anything else.
-    stands('{"b":1,"a":2}', "a", "2", FILTER),
-    stands('{"a":{"mismatch_action":"log","match_action":"log","filter":[{"syscall":"opne"}]},"b":1}',
-           "b", "1", FILTER),
-    # Of an entry its name, and then its conditions; of a filter its entries, and then its actions.
-    stands('{"a":{"mismatch_action":"log","match_action":"log","filter":['
-           '{"syscall":"read","args":[{"index":5,"type":"dword","op":"eq","val":0},'
-           '{"index":7,"type":"dword","op":"eq","val":0}]},{"syscall":"opne","args":[]}]}}',
-           "a.filter[0].args[1].index", "7", INDEX),
-    unknown('{"a":{"mismatch_action":"log","match_action":"log","filter":[{"syscall":"opne","args":[]}]}}',
-            "a.filter[0].syscall", '"opne"', "open"),
-    told('{"b":{"mismatch_action":"log","match_action":"log","filter":[{"syscall":"opne"}]},'
-         '"a":{"mismatch_action":"log","match_action":"log","filter":[]}}', "a", TWO_EQUAL),
+OPNE = 'unknown system call "opne" on x86_64; did you mean "open"?'
+
+FAULTS_TOGETHER = [
+    # In the text's order, whatever their kinds.
+    all_told('{"b":1,"a":2}', ("b", f"expected {FILTER}, found 1"), ("a", f"expected {FILTER}, found 2")),
+    all_told('{"a":{"mismatch_action":"log","match_action":"log","filter":[{"syscall":"opne"}]},"b":1}',
+             ("a", TWO_EQUAL), ("a.filter[0].syscall", OPNE), ("b", f"expected {FILTER}, found 1")),
+    all_told('{"a":{"mismatch_action":"log","match_action":"log","filter":['
+             '{"syscall":"read","args":[{"index":5,"type":"dword","op":"eq","val":0},'
+             '{"index":7,"type":"dword","op":"eq","val":0}]},{"args":[],"syscall":"opne"}]}}',
+             ("a", TWO_EQUAL), ("a.filter[0].args[1].index", f"expected {INDEX}, found 7"),
+             ("a.filter[1].args", "expected null or at least one condition, found an empty array"), ("a.filter[1].syscall", OPNE)),
+    all_told('{"b":{"filter":[{"syscall":"opne"}],"mismatch_action":"log","match_action":"log"},'
+             '"a":{"mismatch_action":"log","match_action":"log","filter":[]}}',
+             ("b", TWO_EQUAL), ("b.filter[0].syscall", OPNE), ("a", TWO_EQUAL)),
+    # The lengths of programs, only if nothing else is wrong.
+    all_told("{" + of_rules("b", 816) + "," + of_rules("a", 816) + "}",
+             *((it, "needs 4101 instructions in the linear layout; 4096 fit; 17 in the tree layout") for it in "ba")),
+    all_told("{" + of_rules("b", 816) + ',"a":1}', ("a", f"expected {FILTER}, found 1")),
+    # A hundred, and how many more.
+    *[all_told(entries(",".join('{"syscall":"no_%d"}' % it for it in range(count))),
+               *((f"a.filter[{it}].syscall", f'unknown system call "no_{it}" on x86_64') for it in range(min(count, 100))), *more)
+      for count, more in ((100, []), (101, [("1 more error", None)]), (1000, [("900 more errors", None)]))],
 ]
 
 # The warning of a file that the cases of both programs share, and what is wrong with another.
 LOGS_LINE = line("a.mismatch_action", "allows-by-default", "logs.json")
-NO_FILTER = TOOL + 'no-filter.json: a: missing "mismatch_action" or "default_action"\n'
+NO_FILTER = "".join(f"{TOOL}no-filter.json: {where}: {what}\n" for where, what in BARE)
+
+# Texts that are no JSON: where, and why.
+NO_JSON = [
+    rejects("check", text, f"line {line}, column {column}: invalid JSON: {what}\n")
+    for text, line, column, what in [
+        ("", 1, 1, "expected a value, found the end of the text"),
+        (" \n ", 2, 2, "expected a value, found the end of the text"),
+        ("{", 1, 2, 'expected a name in quotes or "}", found the end of the text'),
+        ('{"a"', 1, 5, 'expected ":", found the end of the text'),
+        ('{"a":', 1, 6, "expected a value, found the end of the text"),
+        ('{"a":1', 1, 7, 'expected "," or "}", found the end of the text'),
+        ('{"a":1,\n}', 2, 1, 'expected a name in quotes, found "}"'),
+        ('{"a":1,,}', 1, 8, 'expected a name in quotes, found ","'),
+        ('{"a":1;}', 1, 6, 'expected a number in decimal digits, found "1;"'),
+        ('{"a" 1}', 1, 6, 'expected ":", found "1"'),
+        ('{"a" "b"}', 1, 6, 'expected ":", found a string'),
+        ('{"a":1 "b":2}', 1, 8, 'expected "," or "}", found a string'),
+        ("{'a':1}", 1, 2, "expected a name in quotes or \"}\", found \"'a'\""),
+        ("[1 2]", 1, 4, 'expected "," or "]", found "2"'),
+        ("[1,]", 1, 4, 'expected a value, found "]"'),
+        ("[,]", 1, 2, 'expected a value or "]", found ","'),
+        ("[}", 1, 2, 'expected a value or "]", found "}"'),
+        ('{"a":[1}', 1, 8, 'expected "," or "]", found "}"'),
+        ('{"a":{"b":1]', 1, 12, 'expected "," or "}", found "]"'),
+        ("{} {}", 1, 4, 'expected the end of the text, found "{"'),
+        ("// no comments\n{}", 1, 1, 'expected a value, found "//"'),
+        ('{"a":0x1}', 1, 6, 'expected a number in decimal digits, found "0x1"'),
+        ('{"a":01}', 1, 6, 'expected a number in decimal digits, found "01"'),
+        ('{"a":-}', 1, 6, 'expected a number in decimal digits, found "-"'),
+        ('{"a":1e999}', 1, 6, 'expected a number below 1.8e308, found "1e999"'),
+        ('{"a":True}', 1, 6, 'expected a value, found "True"'),
+        ('{"a":' + "z" * 30 + "}", 1, 6, 'expected a value, found "' + "z" * 20 + '"'),
+        ('{"a":"b}', 1, 6, "the text ends inside a string"),
+        ('{"a":"b\\"', 1, 6, "the text ends inside a string"),
+        ('{"a":"b,\n"c":1}', 1, 6, "a line ends inside a string"),
+        ('{"a":"\t"}', 1, 6, "a control character inside a string"),
+        ('{"a":"\\x"}', 1, 6, "an unknown escape inside a string"),
+        ('{"a":"\\ud800"}', 1, 6, "an unknown escape inside a string"),
+        ("[" * 128 + "]" * 128, 1, 128, "nested more than 127 deep"),
+        ('{"a":' * 128 + "1" + "}" * 128, 1, 636, "nested more than 127 deep"),
+        (b'{"a":"\xff"}', 1, 7, "the text isn't UTF-8"),
+    ]
+]
 
 # The same of the files that the cases of both programs share, and files that can't be read.
 OF_FILES = [
@@ -195,8 +285,7 @@ OF_FILES = [
     ("check - < logs.json", 0, line("a.mismatch_action", "allows-by-default"), ""),
     rejects("check list.json", "",
             "the policy: expected an object of filters, found an empty array\n", TOOL + "list.json: "),
-    rejects("check no-filter.json", "",
-            'a: missing "mismatch_action" or "default_action"\n', TOOL + "no-filter.json: "),
+    Case("check no-filter.json", 1, "", NO_FILTER),
     rejects("check unknown-call.json", "",
             'a.filter[0].syscall: unknown system call "nosyscall" on x86_64\n',
             TOOL + "unknown-call.json: "),
@@ -279,7 +368,8 @@ CASES = [
     *IN_AN_ENTRY,
     *IN_A_CONDITION,
     *SUGGESTIONS,
-    *FIRST_FAULTS,
+    *FAULTS_TOGETHER,
+    *NO_JSON,
     # `check` tells the filter that is too long.
     told(entries(TOO_LONG), "a", "needs 10130 instructions in the linear layout; 4096 fit"),
     # If its tree fits, `check` tells how long that is.

@@ -62,12 +62,21 @@ def as_json(found):
     return as_list("diagnostics", found)
 
 
+def joined(found):
+    """Returns what is said with the calls of which the same is said at one place together, where the first of them is."""
+    lines = {}
+    for nth, it in enumerate(found):
+        same = (it["path"], it["code"], it["message"]) if it["call"] else nth
+        lines.setdefault(same, {**it, "calls": []})["calls"].append(it["call"])
+    return lines.values()
+
+
 def as_gcc(found):
     """Returns the lines of what is said."""
     lines = []
-    for it in found:
+    for it in joined(found):
         place = f":{it['line']}:{it['column']}" if it["line"] else ""
-        call = f" ({it['call']})" if it["call"] else ""
+        call = f" ({', '.join(it['calls'])})" if it["call"] else ""
         path = f'"{it["path"]}"' if it["code"] == "unknown-key" else it["path"]
         about = f"{told(path)}{call}: " if it["path"] else ""
         lines.append(f"{told(it['file'])}{place}: {it['severity']}: {about}{told(it['message'])} [{it['code']}]\n")
@@ -102,7 +111,7 @@ NAME = "\u00e9\U0001f600"
 
 OBJECT_OF_FILTER = "expected an object with the actions and the entries of a filter, found "
 REPEATED = FRONTEND + "Repeated key in Json."
-PARSING = FRONTEND + "Error parsing Json: invalid JSON at "
+PARSING = "invalid JSON: expected "
 
 OF_ERRORS = [
     # What stands at a place: its first byte, behind spaces, tabs and line feeds.
@@ -131,7 +140,7 @@ OF_ERRORS = [
     # Columns are those of bytes, and names are read as JSON writes them.
     *cases_of('{"' + NAME + '":\u2020[]}', (0, wrong("wrong-value", OBJECT_OF_FILTER + "an empty array", NAME))),
     *cases_of('{"\\u00e9\\ud83d\\ude00" :\u2020[]}', (0, wrong("wrong-value", OBJECT_OF_FILTER + "an empty array", NAME))),
-    *cases_of('{"a\\"{[:,]}":\r\n\u20201, "b":{}}', (0, wrong("wrong-value", OBJECT_OF_FILTER + "1", 'a"{[:,]}'))),
+    *cases_of('{"a\\"{[:,]}":\r\n\u20201, "b":\u2020null}', (0, wrong("wrong-value", OBJECT_OF_FILTER + "1", 'a"{[:,]}')), (1, wrong("wrong-value", OBJECT_OF_FILTER + "null", "b"))),
     *cases_of(" \u2020[1]", (0, wrong("wrong-value", "expected an object of filters, found an array of 1 value"))),
     *cases_of("\n\n  \u20207 ", (0, wrong("wrong-value", "expected an object of filters, found 7"))),
     # A key that an object has twice, at its second place; of several the first.
@@ -139,10 +148,25 @@ OF_ERRORS = [
     *cases_of('{"b":{"x":[{"k":1,"l":2},{"l":3,"k":4,\u2020"\\u006c":5}]},"b":2}', (0, wrong("repeated-key", REPEATED, "b.x[1].l"))),
     *cases_of('{"a":{"a":[{"a":{"a":1}}],"b":1},"b":[[],[7,{"c":0}],{"a":0,\u2020"a":1}]}',
               (0, wrong("repeated-key", REPEATED, "b[2].a"))),
-    # No JSON: where its reader says.
-    *cases_of('{"a":\n [1,\u2020]}', (0, wrong("not-json", PARSING + "line 2 column 5"))),
-    *cases_of('\u2020// no comments\n{}', (0, wrong("not-json", PARSING + "line 1 column 1"))),
-    *cases_of('{"a":{"mismatch_action":{"errno":\u20200x1}}}', (0, wrong("not-json", PARSING + "line 1 column 34"))),
+    # No JSON: where it stops being so, and why.
+    *cases_of('{"a":\n [1,\u2020]}', (0, wrong("not-json", PARSING + 'a value, found "]"'))),
+    *cases_of('\u2020// no comments\n{}', (0, wrong("not-json", PARSING + 'a value, found "//"'))),
+    *cases_of('{"a":{"mismatch_action":{"errno":\u20200x1}}}', (0, wrong("not-json", PARSING + 'a number in decimal digits, found "0x1"'))),
+    *cases_of('{"a":{},\n \u2020,}', (0, wrong("not-json", PARSING + 'a name in quotes, found ","'))),
+    *cases_of('{"a":\u2020"b}\n', (0, wrong("not-json", "invalid JSON: a line ends inside a string"))),
+    *cases_of('{"a":{}\n\u2020', (0, wrong("not-json", PARSING + '"," or "}", found the end of the text'))),
+    # Several, in the text's order, each at its place and with its code.
+    *cases_of('{ "b": \u2020{ "filter": [ { "syscall": \u2020"fnctl", \u2020"arg": 1 }, \u2020{}, { "syscall": "read", "args": \u2020[] } ],\n'
+              '"mismatch_action": "log", "match_action": "log" }, "a": \u20201 }',
+              (0, wrong("identical-actions", "expected two actions that differ, found the same one twice", "b")),
+              (1, wrong("unknown-call", UNKNOWN, "b.filter[0].syscall", suggestion="fcntl")),
+              (2, wrong("unexpected-key", '"arg": unknown key; expected syscall, args or comment', "b.filter[0]")),
+              (3, wrong("missing-key", 'missing "syscall"', "b.filter[1]")),
+              (4, wrong("wrong-value", "expected null or at least one condition, found an empty array", "b.filter[2].args")),
+              (5, wrong("wrong-value", OBJECT_OF_FILTER + "1", "a"))),
+    *cases_of(filters(",".join('{"syscall":\u2020"no_%d"}' % it for it in range(150))),
+              *((it, wrong("unknown-call", f'unknown system call "no_{it}" on x86_64', f"a.filter[{it}].syscall")) for it in range(100)),
+              (None, wrong("more-errors", "50 more errors"))),
     # A program that is too large, and bytes that are none.
     *cases_of("{" + of_rules("a", 816).replace("{", MARK + "{", 1) + "}", (0, wrong(
         "program-too-large", "needs 4101 instructions in the linear layout; 4096 fit; 17 in the tree layout", "a"))),
@@ -210,7 +234,7 @@ OF_PROFILES = [
         "not-a-profile", "expected SCMP_ACT_ALLOW, SCMP_ACT_ERRNO, SCMP_ACT_KILL, SCMP_ACT_KILL_PROCESS, SCMP_ACT_KILL_THREAD, SCMP_ACT_LOG, "
         'SCMP_ACT_TRACE or SCMP_ACT_TRAP, found "ALLOW"', "defaultAction"))),
     *cases_of(" \u2020[]", (0, wrong("not-a-profile", "expected an object, found an array")), words=" --oci"),
-    *cases_of("[\u2020}", (0, wrong("not-json", "Error parsing Json: invalid JSON at line 1 column 2")), words=" --oci"),
+    *cases_of("[\u2020}", (0, wrong("not-json", PARSING + 'a value or "]", found "}"')), words=" --oci"),
     *cases_of(json.dumps(profile(entry("read", args=LARGE))), (None, wrong("program-too-large", TOO_LONG.rstrip()))),
 ]
 

@@ -2,6 +2,7 @@
 
 import errno
 import json
+import re
 
 from program_cases import FRONTEND
 from running import Case, Failing
@@ -83,3 +84,20 @@ def fails_to_read_and_write(words, read=LOGS, written=LOGS):
         rejects(words + " > /dev/full", written, FULL, OUTPUT),
         rejects(words + " >&-", written, CLOSED, OUTPUT),
     ]
+
+
+def grouped(text):
+    """Returns lines of warnings as `check` writes them: of those about one place, the ones that are alike but for a call in
+    parentheses are one, which names all."""
+    place, written = None, []
+    for line in text.splitlines():
+        front, call, said = re.fullmatch(r"(.*?)( \([a-z0-9_]+\))?(: warning \[.*)", line).groups()
+        if front != place:
+            place, of_place = front, {}
+        if call and said in of_place:
+            written[of_place[said]][1].append(call[2:-1])
+            continue
+        if call:
+            of_place[said] = len(written)
+        written.append((front, [call[2:-1]] if call else [], said))
+    return "".join(front + (f" ({', '.join(calls)})" if calls else "") + f"{said}\n" for front, calls, said in written)

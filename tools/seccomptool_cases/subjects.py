@@ -79,5 +79,5 @@ CASES = [
     # Trouble counts more than what is rejected, and what is rejected more than what is accepted.
     Case("check logs.json missing.json no-json.json", 2, "..", TOOL + "missing.json: .."),
     # What is rejected says so once, and what is written beside it stays.
-    Case("check -", 1, "", INPUT + FRONTEND + "Error parsing Json: ..", LOGS[:-1]),
+    Case("check -", 1, "", INPUT + 'line 1, column 66: invalid JSON: expected "," or "}", found the end of the text\n', LOGS[:-1]),
 ]

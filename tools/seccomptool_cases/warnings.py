@@ -11,7 +11,7 @@ import pathlib
 import random
 import re
 
-from .forms import OUTPUT, FULL, Case, rejects, writes
+from .forms import OUTPUT, FULL, Case, grouped, rejects, writes
 
 # What is so, and what to write instead.
 SAID = {
@@ -103,7 +103,7 @@ def filter_of(conditions, mismatch="trap", match="allow"):
 
 def warned(filters, *lines, allowed=f"{OF_PARTS} {NOT_ALL}"):
     """Returns the cases of a policy that has exactly these warnings, if they are denied and if they aren't."""
-    text, output = json.dumps(filters), "".join(lines)
+    text, output = json.dumps(filters), grouped("".join(lines))
     denied = Case(f"check {allowed} --deny-warnings", 1 if lines else 0, output, "", text)
     return [writes(f"check {allowed}", text, output), denied]
 
@@ -526,7 +526,7 @@ def lines_of(policy):
     """Returns the lines of the warnings of a policy, whose filters have names without control characters."""
     filters = json.loads(policy)
     names = sorted(filters, key=lambda name: name.encode())
-    return "".join(it for name in names for it in lines_of_filter(name, filters[name]))
+    return grouped("".join(it for name in names for it in lines_of_filter(name, filters[name])))
 
 
 FAULTY = json.dumps({"a": filter_of([condition("dword", "lt", 0)], {"errno": 0}, {"errno": 0})})

@@ -38,7 +38,7 @@ const COMMON: &str = "\
 --runtime RUNTIME=crun: The runtime of a profile's container";
 
 const CHECK: &str = "\
-check: Print the first error of a policy or a profile with its place, or else its warnings
+check: Print what is wrong with a policy or a profile, and where, or else its warnings
 --deny-warnings: End with exit status 1 if there is a warning
 --allow CODE..: Don't print the warnings of this code
 --format FORMAT !json: How errors and warnings are written: for people, in lines as gcc's, or as JSON
@@ -129,7 +129,7 @@ pub enum Verb {
     Compile,
     /// Print the programs of what is given for people, or how long they are and how many steps they take.
     Show,
-    /// Print the first error of what is given, or else its warnings.
+    /// Print what is wrong with what is given, or else its warnings.
     Check,
     /// Print the codes of warnings.
     Codes,

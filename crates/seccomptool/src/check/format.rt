@@ -30,8 +30,22 @@ pub(crate) enum Place {
     At(Option<Position>),
 }
 
-/// What is said of a text, in the making: lines for people or as gcc's; or JSON, an object for each diagnostic, in a line, with a
-/// comma behind it. What is noted of the next diagnostic is forgotten once it is added.
+// A line that isn't written yet, since more calls may come to it.
+#[derive(Drop)]
+struct Pending {
+    path: String,
+    position: Option<Position>,
+    is_key: bool,
+    severity: &'static str,
+    code: &'static str,
+    message: String,
+    // The calls that it is about, if it is about some of several.
+    calls: Vec<&'static str>,
+}
+
+/// What is said of a text, in the making: lines for people or as gcc's, one for the calls of which the same is said at one place; or
+/// JSON, an object for each diagnostic, in a line, with a comma behind it. What is noted of the next diagnostic is forgotten once
+/// it is added.
 #[derive(Drop)]
 pub(crate) struct Lines<'a> {
     /// How it is written.
@@ -54,6 +68,8 @@ pub(crate) struct Lines<'a> {
     pub call: Option<&'static str>,
     /// What may have been meant by the value there.
     pub suggestion: Option<&'static str>,
+    // The lines about the last place, which aren't written yet.
+    pending: Vec<Pending>,
 }
 
 impl Lines<'_> {
@@ -81,6 +97,7 @@ impl Lines<'_> {
             place: Place::Value,
             call: None,
             suggestion: None,
+            pending: Vec::new(alloc),
         }
     }
 
@@ -109,7 +126,7 @@ impl Lines<'_> {
 
     /// Adds a diagnostic of what the path leads to: of all of the text, if it has no steps. A line of gcc is
     /// `FILE:LINE:COLUMN: SEVERITY: PATH: MESSAGE [CODE]`, without a place or path that there isn't; standard input is `-`.
-    pub(crate) fn push(&mut self, severity: &str, code: &str, message: &str) {
+    pub(crate) fn push(&mut self, severity: &'static str, code: &'static str, message: &str) {
         let alloc = self.text.alloc();
         let path = mem::replace(&mut self.path, String::new(alloc));
         let path = path.as_str().strip_prefix('.').unwrap_or(path.as_str());
@@ -134,8 +151,11 @@ impl Lines<'_> {
             object.field("message", message);
             object.field("suggestion", OrNull(self.suggestion));
             self.text.push_item(object);
-        } else {
-            self.push_line(path, position, severity, code, message);
+        } else if self
+            .push_line(path, position, severity, code, message)
+            .is_err()
+        {
+            self.text.fail();
         }
         if self.outline.is_missing {
             self.text.fail();
@@ -148,47 +168,100 @@ impl Lines<'_> {
 
     /// What is said, and what is noted.
     pub(crate) fn finish(self) -> (Text, Text) {
-        (self.text, self.notes)
+        let mut lines = self;
+        lines.write_pending();
+        (lines.text, lines.notes)
     }
 
-    // Adds the line of a diagnostic, for people or as gcc's. A key stands in quotes.
+    // Adds the line of a diagnostic, for people or as gcc's, or another call to the last line.
     fn push_line(
         &mut self,
         path: &str,
         position: Option<Position>,
-        severity: &str,
-        code: &str,
+        severity: &'static str,
+        code: &'static str,
         message: &str,
-    ) {
+    ) -> Result<(), AllocError> {
+        let is_same = matches!(self.pending.last(), Some(last) if last.path.as_str() == path);
+        if !is_same {
+            self.write_pending();
+        }
+        if let Some(call) = self.call {
+            for line in &mut self.pending {
+                if line.is_of(code, message) {
+                    line.calls.push(call)?;
+                    return Ok(());
+                }
+            }
+        }
+        let alloc = self.text.alloc();
+        self.pending.push(Pending {
+            path: String::from_str(alloc, path)?,
+            position,
+            is_key: matches!(self.place, Place::Key),
+            severity,
+            code,
+            message: String::from_str(alloc, message)?,
+            calls: Vec::new(alloc),
+        })?;
+        match (self.call, self.pending.last_mut()) {
+            (Some(call), Some(line)) => Ok(line.calls.push(call)?),
+            _ => Ok(()),
+        }
+    }
+
+    // Writes the lines about the last place.
+    fn write_pending(&mut self) {
+        let alloc = self.text.alloc();
+        for line in mem::replace(&mut self.pending, Vec::new(alloc)) {
+            self.write_line(&line);
+        }
+    }
+
+    // Writes a line. A key stands in quotes.
+    fn write_line(&mut self, line: &Pending) {
         let is_gcc = matches!(self.format, CheckFormat::Gcc);
-        let quote = if matches!(self.place, Place::Key) {
-            "\""
-        } else {
-            ""
-        };
-        let call = self.call;
+        let quote = if line.is_key { "\"" } else { "" };
         let (alloc, text) = (self.text.alloc(), &mut self.text);
         if is_gcc {
             text.push_readable(self.file, TextKind::Name);
-            if let Some(Position { line, column }) = position {
+            if let Some(Position { line, column }) = line.position {
                 text.push_format(format!(in alloc; ":{line}:{column}"));
             }
-            text.push_format(format!(in alloc; ": {severity}: "));
+            text.push_format(format!(in alloc; ": {}: ", line.severity));
         } else {
             push_front(text, self.file);
         }
         text.push_str(quote);
-        text.push_readable(path, TextKind::Name);
+        text.push_readable(line.path.as_str(), TextKind::Name);
         text.push_str(quote);
-        if let Some(call) = call {
-            text.push_format(format!(in alloc; " ({call})"));
-        }
+        push_calls(text, &line.calls);
         if is_gcc {
-            text.push_str(if path.is_empty() { "" } else { ": " });
-            text.push_readable(message, TextKind::Line);
-            text.push_format(format!(in alloc; " [{code}]\n"));
+            text.push_str(if line.path.is_empty() { "" } else { ": " });
+            text.push_readable(line.message.as_str(), TextKind::Line);
+            text.push_format(format!(in alloc; " [{}]\n", line.code));
         } else {
-            text.push_format(format!(in alloc; ": warning [{code}]: {message}\n"));
+            text.push_format(format!(in alloc; ": warning [{}]: {}\n", line.code, line.message));
         }
+    }
+}
+
+impl Pending {
+    // Whether it is about some of several calls, and says this of them.
+    fn is_of(&self, code: &str, message: &str) -> bool {
+        !self.calls.is_empty() && self.code == code && self.message.as_str() == message
+    }
+}
+
+// Adds the calls that a line is about, if it is about some of several.
+fn push_calls(text: &mut Text, calls: &[&'static str]) {
+    let mut front = " (";
+    for call in calls {
+        text.push_str(front);
+        text.push_str(call);
+        front = ", ";
+    }
+    if !calls.is_empty() {
+        text.push_str(")");
     }
 }

@@ -35,7 +35,7 @@ pub(crate) fn check_made(
             return Err(ToolError::OutOfMemory);
         }
         Err(error) => {
-            push_error(&mut lines, &error);
+            push_error(&mut lines, asked.arch, given, &error);
             // Here, so that no branch below has to.
             drop(error);
             Verdict::Different

@@ -1,14 +1,10 @@
 // Where the values of a JSON text stand.
 
-ghost use Rattle.std.specs.Prelude.{◌≤◌, length};
-
+use seccomp_check::json_piece_len;
 use serde_json::from_slice;
 use std::alloc::{AllocError, Global};
 use std::collections::BTreeMap;
 use std::mem;
-
-// The bytes that end a number or a name.
-const MARKS: &[u8] = b"{}[],:\" \t\r\n";
 
 /// A place of a text: its line, and the column of its byte in this line, both from 1.
 #[derive(Clone, Copy)]
@@ -76,7 +72,7 @@ impl Outline {
         let mut rest = text;
         // A piece has a byte at least, while there is a rest.
         for _ in 0..text.len() {
-            let (piece, behind) = rest.split_at(piece_len(rest));
+            let (piece, behind) = rest.split_at(json_piece_len(rest));
             match piece.first() {
                 None | Some(b':' | b',' | b' ' | b'\t' | b'\r') => {}
                 Some(b'\n') => {
@@ -177,22 +173,4 @@ fn step_of(alloc: Global, key: &[u8]) -> Result<String, AllocError> {
         // The text is no JSON.
         Err(_) => Ok(String::new(alloc)),
     }
-}
-
-// How long the string, the number or name, or the mark is that a text begins with.
-fn piece_len(text: &[u8]) -> usize
-    ensures { result ≤ length text.now }
-{
-    let mut is_escaped = false;
-    for place in 1..text.len() {
-        match (text[0], text[place]) {
-            (b'"', _) if is_escaped => is_escaped = false,
-            (b'"', b'\\') => is_escaped = true,
-            (b'"', b'"') => return place + 1,
-            (b'"', _) => {}
-            (first, next) if MARKS.contains(&first) || MARKS.contains(&next) => return place,
-            _ => {}
-        }
-    }
-    text.len()
 }

@@ -2,7 +2,6 @@
 
 import json
 
-from program_cases import FRONTEND
 
 from .compiled_profiles import entry, profile
 from .diff import READS

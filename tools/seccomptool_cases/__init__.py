@@ -7,14 +7,15 @@ from the program's output.
 
 from . import (
     answers, call, calls, check, compile, compiled_profiles, conditions, counts, diff, entries, explain, formats, gone, hostile, initializers, learn, logs, oci,
-    outputs, profile_checks, profile_faults, profile_stats, program_diffs, programs, show, stats, subjects, warnings, words
+    outputs, profile_checks, profile_faults, profile_stats, program_diffs, programs, same_filters, show, stats, subjects, warnings,
+    words
 )
 from .forms import Case
 
 FILES = {
     **explain.FILES, **compile.FILES, **diff.FILES, **programs.FILES, **program_diffs.FILES, **subjects.FILES, **compiled_profiles.FILES, **oci.FILES,
     **profile_faults.FILES, **initializers.FILES, **counts.FILES, **profile_checks.FILES, **hostile.FILES, **outputs.FILES, **learn.FILES,
-    **logs.FILES
+    **logs.FILES, **same_filters.FILES
 }
 
 
@@ -31,7 +32,7 @@ CASES = [
         for it in (
             show, check, warnings, conditions, calls, entries, explain, logs, programs, stats, call, counts, program_diffs,
             compiled_profiles, initializers, profile_faults, oci, profile_checks, profile_stats, words, gone, hostile, outputs,
-            subjects, learn, formats, answers
+            subjects, learn, formats, answers, same_filters
         )
         for case in it.CASES
     ],

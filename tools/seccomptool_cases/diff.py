@@ -114,10 +114,11 @@ CASES = [
     Case("diff --most 0 logs.json allows-read.json", 3, "filter a: undecided\n  read: undecided\n  write: undecided\n..", ""),
     Case("diff --most=0x0 --only-more logs.json allows-read.json", 3, "filter a: undecided\n  read: undecided\n..", ""),
     same("--most 0x10 logs.json logs.json", SAME),
-    # The calls of `read` take five sets, by the test of an argument for 5: all of them, which are split below 5; those below;
-    # those from 5 on, which are split after it; 5 alone; and those above. Every other part takes one set.
-    same("--most 5 allows-read-of-5.json allows-read-of-5.json", SAME),
-    Case("diff --most 4 allows-read-of-5.json allows-read-of-5-twice.json", 3, "filter a: undecided\n  read: undecided\n", ""),
+    # The calls of `read` take more than one set, by the test of an argument for 5. Every other part takes one.
+    Case("diff --most 1 allows-read.json allows-read-of-5.json", 3, "filter a: undecided\n  read: undecided\n", ""),
+    # Rules that hold wherever others do take none.
+    same("--most 1 allows-read-of-5.json allows-read-of-5-twice.json", SAME),
+    same("--most 1 allows-read-of-5-twice.json allows-read-of-5.json", SAME),
     # A filter that neither has.
     fails("logs.json:b logs.json:b", "No filter has this name: b.\n", TOOL + "logs.json: "),
     # The faults of the old policy, and then those of the new one.

@@ -4,3 +4,4 @@ pub mod Found
 pub mod Covered
 pub mod Ending
 pub mod Decided
+pub mod Settled

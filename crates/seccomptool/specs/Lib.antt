@@ -24,4 +24,5 @@ pub mod Kinds
 pub mod Commands
 -- Between layers: what the private steps of the engines promise each other.
 pub mod DiffParts
+pub mod Settled
 pub mod RunParts

@@ -50,3 +50,10 @@ IsProgramFor target (subject.Profile container) asked text program =
     (asked ≡ None) × (compiled : CompiledProfile) × IsCompiledProfile target container.now false text compiled
     × (program ≡ compiled.program.items)
 IsProgramFor target subject.Program asked bytes program = (asked ≡ None) × IsProgramOf bytes program × IsChecked program
+
+-- What is given is a policy's text, the filter is the one that is asked for or the only one of it, and the program stands for it.
+pub record IsFilterFor (target : TargetArch) (kind : Subject) (asked : Option (List ℕ)) (given : List ℕ) (program : List sock_filter)
+    (f : Filter) : Type 0 where
+  pub kind_is : kind ≡ subject.Policy
+  pub filter : IsFilterOf target asked given f
+  pub stands : StandsFor target (of_filter f) program

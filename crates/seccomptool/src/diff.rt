@@ -9,10 +9,12 @@ ghost use Rattle.seccomptool.specs.Diff.{IsByName, IsDiff, IsFoundOf, IsOfPair};
 ghost use Rattle.seccomptool.specs.DiffParts.{IsFoundByName};
 
 use crate::error::ToolError;
-use crate::findings::{Finding, Part, Terms, Verdict, answer_on, findings_of, verdict_of};
+use crate::findings::{
+    Finding, Part, Terms, Verdict, answer_on, findings_of, settled_of, verdict_of,
+};
 use crate::kind::Subject;
 use crate::progress::Watch;
-use crate::sides::{Side, ruled_by};
+use crate::sides::{Side, program_in, ruled_like};
 use seccomp_tree::fitting_bpf;
 use seccompiler::bpf::LOAD;
 use seccompiler::{BpfProgramRef, JsonCompiler, SeccompFilter};
@@ -78,7 +80,7 @@ pub enum Diff {
 ///
 /// # Errors
 ///
-/// Those of [`ruled_by`](crate::sides::ruled_by), of the old side first; `Library` with `FilterTooLarge` of a filter that
+/// Those of [`ruled_like`](crate::sides::ruled_like), of the old side first; `Library` with `FilterTooLarge` of a filter that
 /// both policies have and that is too large in both layouts.
 pub fn diff_of(
     alloc: Global,
@@ -133,14 +135,17 @@ fn diff_pair(
 ) -> Result<Diff, ToolError>
     ensures { IfOk result (IsOfPair terms.target terms.relation old.entry new.entry) }
 {
-    let by_old = ruled_by(alloc, terms.target, old)?;
-    let by_new = match ruled_by(alloc, terms.target, new) {
+    let like_old = program_in(alloc, old);
+    let like_new = program_in(alloc, new);
+    let by_old = ruled_like(alloc, terms.target, old, &like_new)?;
+    let by_new = match ruled_like(alloc, terms.target, new, &like_old) {
         Ok(by_new) => by_new,
         Err(error) => return Err(ToolError::in_second(alloc, error)),
     };
+    let settled = settled_of(alloc, terms, by_new.filter.as_ref(), by_old.filter.as_ref())?;
     let new: BpfProgramRef<'_> = &by_new.program;
     let old: BpfProgramRef<'_> = &by_old.program;
-    let own = findings_of(alloc, terms, new, old, progress)?;
+    let own = findings_of(alloc, terms, new, old, &settled, progress)?;
     // The calls of the architectures with a lesser word than this one, and of those with a greater one.
     let word = terms.target.get_audit_value();
     let lesser = Part::Elsewhere {
@@ -242,10 +247,12 @@ fn found_of(
     let Some(new) = new else {
         return Ok(Found::OnlyOld);
     };
-    let old = fitting_bpf(alloc, old)?;
-    let new = match fitting_bpf(alloc, new) {
-        Ok(new) => new,
+    let by_old = fitting_bpf(alloc, old)?;
+    let by_new = match fitting_bpf(alloc, new) {
+        Ok(by_new) => by_new,
         Err(error) => return Err(ToolError::in_second(alloc, error.into())),
     };
-    Ok(Found::Both(findings_of(alloc, terms, &new, &old, progress)?))
+    let settled = settled_of(alloc, terms, Some(new), Some(old))?;
+    let findings = findings_of(alloc, terms, &by_new, &by_old, &settled, progress)?;
+    Ok(Found::Both(findings))
 }

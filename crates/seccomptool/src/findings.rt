@@ -3,7 +3,13 @@
 pub(crate) mod lines;
 pub(crate) mod parts;
 
-ghost use Rattle.std.specs.Prelude.{◌≡◌, ℕ, List, ◌↔◌, IfOk};
+ghost use Rattle.std.specs.Prelude.{◌≡◌, ℕ, List, ◌↔◌, All, IfOk, IsTrue, option_map};
+ghost use Rattle.seccomp_compare.specs.Rules.{AreRelatedOn};
+ghost use Rattle.seccompiler.specs.declared.backend.TargetArch.{TargetArch};
+ghost use Rattle.seccompiler.specs.declared.bpf.sock_filter.{sock_filter};
+ghost use Rattle.seccomp_compare.specs.declared.Relation.{Relation};
+ghost use Rattle.seccomptool.specs.declared.findings.Answer.TheVariants.{Holds};
+ghost use Rattle.seccomptool.specs.Settled.{AreSettled, AreSettledOf};
 ghost use Rattle.seccomp_compare.specs.Compare.{IsCallOf};
 ghost use Rattle.seccomp_compare.specs.Machine.{IsChecked};
 ghost use Rattle.seccomptool.specs.Findings.{AreReturned, IsFound, IsInPart, worse, verdict_of};
@@ -11,12 +17,15 @@ ghost use Rattle.seccomptool.specs.Rulings.{AreFindingsOf, Ruling, StandsFor};
 
 use crate::findings::parts::parts;
 use crate::progress::Watch;
-use seccomp_compare::{Calls, Comparison, Relation, compare, machine};
-use seccompiler::{BpfProgramRef, TargetArch};
+use seccomp_compare::{Calls, Comparison, Relation, compare, is_related_on, machine};
+use seccompiler::{BpfProgramRef, SeccompFilter, TargetArch};
 use std::alloc::{AllocError, Global};
 
 // So many sets of records are looked at in the first of several tries.
 const FIRST: usize = 250_000;
+
+// So many sets of arguments are looked at of each rule.
+const MOST_BY_RULES: usize = 10_000;
 
 /// On which terms two sides are compared.
 #[derive(Clone, Copy)]
@@ -107,16 +116,98 @@ fn calls_of(target: TargetArch, part: Part) -> Calls
     }
 }
 
-/// What is found of two programs, on each part of the architecture's calls.
+/// The numbers that the old filter has rules for and of which the relation is seen to hold of what both filters decide, rule by rule;
+/// none if one of the sides isn't a filter.
+pub(crate) fn settled_of(
+    alloc: Global,
+    terms: Terms,
+    new: Option<&SeccompFilter>,
+    old: Option<&SeccompFilter>,
+) -> Result<Vec<u32>, AllocError>
+    ensures { IfOk result (λ settled. AreSettledOf terms.relation (option_map (λ f. f.now) new.entry) (option_map (λ f. f.now) old.entry) settled.items) }
+{
+    let mut settled = Vec::new(alloc);
+    let Some(new) = new else {
+        return Ok(settled);
+    };
+    let Some(old) = old else {
+        return Ok(settled);
+    };
+    for (number, _) in old.rules() {
+        push_settled(alloc, &mut settled, terms, new, old, *number)?;
+    }
+    Ok(settled)
+}
+
+// Adds a number if that is so of it.
+fn push_settled(
+    alloc: Global,
+    settled: &mut Vec<u32>,
+    terms: Terms,
+    new: &SeccompFilter,
+    old: &SeccompFilter,
+    number: i64,
+) -> Result<(), AllocError>
+    ensures { IfOk result (λ _. All (AreRelatedOn terms.relation new.now old.now) settled.old.items → All (AreRelatedOn terms.relation new.now old.now) settled.new.items) }
+{
+    let Ok(number) = u32::try_from(number) else {
+        return Ok(());
+    };
+    if !is_related_on(alloc, terms.relation, new, old, number, MOST_BY_RULES)? {
+        return Ok(());
+    }
+    settled.push(number)?;
+    Ok(())
+}
+
+// Whether the part is of a number that is settled.
+fn is_settled(settled: &[u32], part: Part) -> bool
+    ensures { IsTrue result → (target : TargetArch) (relation : Relation) (new old : List sock_filter) → AreSettled target relation new old settled.now → IsFound target relation (AreReturned new old) part Holds }
+{
+    let Part::Named { number } = part else {
+        return false;
+    };
+    for one in settled {
+        if *one == number {
+            return true;
+        }
+    }
+    false
+}
+
+// What is found on a part: that the relation holds, if it is of a number that is settled; else what the programs say.
+fn answer_beside(
+    alloc: Global,
+    terms: Terms,
+    part: Part,
+    new: BpfProgramRef<'_>,
+    old: BpfProgramRef<'_>,
+    settled: &[u32],
+    progress: &mut Watch<'_>,
+) -> Result<Answer, AllocError>
+    requires new_checked { IsChecked new.now }
+    requires old_checked { IsChecked old.now }
+    requires settled { AreSettled terms.target terms.relation new.now old.now settled.now }
+    ensures { IfOk result (IsFound terms.target terms.relation (AreReturned new.now old.now) part) }
+{
+    if is_settled(settled, part) {
+        return Ok(Answer::Holds);
+    }
+    answer_on(alloc, terms, part, new, old, progress)
+}
+
+/// What is found of two programs, on each part of the architecture's calls. Those of some numbers are settled.
 pub(crate) fn findings_of(
     alloc: Global,
     terms: Terms,
     new: BpfProgramRef<'_>,
     old: BpfProgramRef<'_>,
+    settled: &[u32],
     progress: &mut Watch<'_>,
 ) -> Result<Vec<Finding>, AllocError>
     requires new_checked { IsChecked new.now }
     requires old_checked { IsChecked old.now }
+    requires settled { AreSettled terms.target terms.relation new.now old.now settled.now }
     // Of whatever the programs stand for.
     ensures { IfOk result (λ findings. (by_new by_old : Ruling) → StandsFor terms.target by_new new.now → StandsFor terms.target by_old old.now → AreFindingsOf terms.target terms.relation by_new by_old findings.items) }
 {
@@ -124,7 +215,7 @@ pub(crate) fn findings_of(
     let mut findings = Vec::new(alloc);
     for part in &parts {
         let part = *part;
-        let answer = answer_on(alloc, terms, part, new, old, progress)?;
+        let answer = answer_beside(alloc, terms, part, new, old, settled, progress)?;
         findings.push(Finding { part, answer })?;
     }
     Ok(findings)

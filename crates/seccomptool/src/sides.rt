@@ -1,18 +1,21 @@
 // A side of a comparison: what it rules, and a program that stands for it.
 
-ghost use Rattle.std.specs.Prelude.{IfOk};
+ghost use Rattle.std.specs.Prelude.{IfOk, IfSome};
 ghost use Rattle.seccomp_compare.specs.Machine.{IsChecked};
 ghost use Rattle.seccomptool.specs.Chosen.{text_of};
-ghost use Rattle.seccomptool.specs.Sides.{IsProgramFor};
+ghost use Rattle.seccomptool.specs.Sides.{IsFilterFor, IsProgramFor};
+ghost use Rattle.seccomptool.specs.Rulings.{StandsFor, of_filter};
+ghost use Rattle.seccompiler.specs.declared.backend.TargetArch.{TargetArch};
 
 use crate::chosen::{chosen_of, refuse_name};
-use crate::compile::NamedProgram;
 use crate::error::ToolError;
 use crate::kind::Subject;
 use crate::profile::compiled_of;
 use crate::run::program::program_of;
 use seccomp_tree::fitting_bpf;
-use seccompiler::{JsonCompiler, TargetArch};
+use seccompiler::{
+    BackendError, BpfProgram, BpfProgramRef, JsonCompiler, SeccompFilter, TargetArch,
+};
 use std::alloc::Global;
 
 /// A side of a comparison.
@@ -24,6 +27,17 @@ pub struct Side<'a> {
     pub filter: Option<&'a str>,
     /// Its bytes.
     pub given: &'a [u8],
+}
+
+/// What a side rules by.
+#[derive(Drop)]
+pub struct Ruled {
+    /// The name of its program.
+    pub name: String,
+    /// Its program.
+    pub program: BpfProgram,
+    /// Its filter, if it is a policy.
+    pub filter: Option<SeccompFilter>,
 }
 
 /// The program of a side, and its name: that of a policy's filter, the one that is asked for or the only one; `profile`; or
@@ -39,32 +53,80 @@ pub(crate) fn ruled_by(
     alloc: Global,
     target: TargetArch,
     side: Side<'_>,
-) -> Result<NamedProgram, ToolError>
+) -> Result<Ruled, ToolError>
     ensures ruled { IfOk result (λ ruled. IsProgramFor target side.entry.kind (text_of side.entry.filter) side.entry.given.now ruled.program.items) }
     ensures checked { IfOk result (λ ruled. IsChecked ruled.program.items) }
+{
+    ruled_like(alloc, target, side, &[])
+}
+
+/// The same, with the linear program of a policy's filter if that is this one.
+pub(crate) fn ruled_like(
+    alloc: Global,
+    target: TargetArch,
+    side: Side<'_>,
+    like: BpfProgramRef<'_>,
+) -> Result<Ruled, ToolError>
+    ensures ruled { IfOk result (λ ruled. IsProgramFor target side.entry.kind (text_of side.entry.filter) side.entry.given.now ruled.program.items) }
+    ensures checked { IfOk result (λ ruled. IsChecked ruled.program.items) }
+    ensures filter { IfOk result (λ ruled. IfSome ruled.filter (IsFilterFor target side.entry.kind (text_of side.entry.filter) side.entry.given.now ruled.program.items)) }
 {
     match side.kind {
         Subject::Policy => {
             let filters = JsonCompiler::new(target).policies_of(alloc, side.given)?;
             let (name, chosen) = chosen_of(alloc, side.filter, &filters)?;
-            let program = fitting_bpf(alloc, chosen)?;
-            Ok(NamedProgram { name, program })
+            let program = program_like(alloc, chosen, like)?;
+            let filter = chosen.clone(alloc)?;
+            Ok(Ruled {
+                name,
+                program,
+                filter: Some(filter),
+            })
         }
         Subject::Profile(container) => {
             refuse_name(alloc, side.filter)?;
             let name = String::from_str(alloc, "profile")?;
             let compiled = compiled_of(alloc, target, container, false, side.given)?;
-            Ok(NamedProgram {
+            Ok(Ruled {
                 name,
                 program: compiled.program,
+                filter: None,
             })
         }
         Subject::Program => {
             refuse_name(alloc, side.filter)?;
-            Ok(NamedProgram {
+            Ok(Ruled {
                 name: String::from_str(alloc, "program")?,
                 program: program_of(alloc, side.given)?,
+                filter: None,
             })
         }
     }
+}
+
+// The filter's linear program if it is this one, else the one that fits.
+fn program_like(
+    alloc: Global,
+    filter: &SeccompFilter,
+    like: BpfProgramRef<'_>,
+) -> Result<BpfProgram, BackendError>
+    ensures { IfOk result (λ program. (target : TargetArch) → StandsFor target (of_filter filter.now) program.items) }
+{
+    if !like.is_empty()
+        && let Ok(linear) = filter.to_bpf(alloc)
+        && linear.as_slice() == like
+    {
+        return Ok(linear);
+    }
+    fitting_bpf(alloc, filter)
+}
+
+/// The program that a side is, if it is one; else none, of no instructions.
+pub(crate) fn program_in(alloc: Global, side: Side<'_>) -> BpfProgram {
+    if let Subject::Program = side.kind
+        && let Ok(program) = program_of(alloc, side.given)
+    {
+        return program;
+    }
+    Vec::new(alloc)
 }

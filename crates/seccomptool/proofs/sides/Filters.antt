@@ -1,8 +1,8 @@
--- For `ruled_by` and `found_of`: the program that fits stands for its filter.
+-- For `program_like` and `found_of`: the program that fits stands for its filter.
 use Rattle.std.proofs.Common.{ℕ, List}
 use Rattle.seccompiler.specs.declared.backend.TargetArch.{TargetArch}
 use Rattle.seccompiler.specs.declared.bpf.sock_filter.{sock_filter}
-use Rattle.seccompiler.specs.Compiled.{EndsAtDecision}
+use Rattle.seccompiler.specs.Compiled.{EndsAtDecision, IsCompiled}
 use Rattle.seccompiler.specs.Machine.{IsChecked, IsRecord}
 use Rattle.seccompiler.specs.Policy.{Filter}
 use Rattle.seccomp_compare.proofs.OfSeven.{checked_of_seven, ends_of_seven}
@@ -21,3 +21,6 @@ module _ (target : TargetArch) (f : Filter) (p : List sock_filter) where
   pub fitting_stands : IsFitting f p → StandsFor target (of_filter f) p
   fitting_stands (as_tree is) = stands_for is.tree.checked is.decides
   fitting_stands (as_linear large is) = stands_for is.checked is.decides
+
+  pub linear_stands : IsCompiled f p → StandsFor target (of_filter f) p
+  linear_stands is = stands_for is.checked is.decides

@@ -1,25 +1,40 @@
-use Rattle.std.proofs.Common.{sym, subst}
+use Rattle.std.proofs.Common.{Some, sym, subst}
 use Rattle.seccomp_compare.specs.Machine.{IsChecked}
 use Rattle.seccomptool.specs.Rulings.{StandsFor, of_filter}
+use Rattle.seccomptool.specs.Settled.{AreSettledOf}
+use Rattle.seccomptool.proofs.findings.Settled.{settled}
 use Rattle.seccomptool.proofs.sides.Filters.{fitting_stands}
 use Rattle.seccomptool.proofs.diff.found_of.Goals as goal
 
 pub findings_of-requires-clause-new_checked : goal.findings_of-requires-clause-new_checked
 findings_of-requires-clause-new_checked c =
     subst IsChecked (sym c.deref.ensures.value)
-    (fitting_stands c.args.terms.target c.in-Some.new.now c.in-Ok.new.items c.in-Ok.ensures.fitting).checked
+    (fitting_stands c.args.terms.target c.in-Some.new.now c.in-Ok.by_new.items c.in-Ok.ensures.fitting).checked
 
 pub findings_of-requires-clause-old_checked : goal.findings_of-requires-clause-old_checked
 findings_of-requires-clause-old_checked c =
     subst IsChecked (sym c.deref-2.ensures.value)
-    (fitting_stands c.args.terms.target c.args.old.now c.in_ok-old.old.items c.in_ok-old.ensures.fitting).checked
+    (fitting_stands c.args.terms.target c.args.old.now c.in_ok-by_old.by_old.items c.in_ok-by_old.ensures.fitting).checked
 
 pub returns : goal.returns
 returns c =
     let target = c.args.terms.target in
     let new = of_filter c.in-Some.new.now in
     let old = of_filter c.args.old.now in
-    let of_new = fitting_stands target c.in-Some.new.now c.in-Ok.new.items c.in-Ok.ensures.fitting in
-    let of_old = fitting_stands target c.args.old.now c.in_ok-old.old.items c.in_ok-old.ensures.fitting in
-    rw c.in-Some.is (c.in_ok-findings_of.ensures new old (subst (StandsFor target new) (sym c.deref.ensures.value) of_new)
+    let of_new = fitting_stands target c.in-Some.new.now c.in-Ok.by_new.items c.in-Ok.ensures.fitting in
+    let of_old = fitting_stands target c.args.old.now c.in_ok-by_old.by_old.items c.in_ok-by_old.ensures.fitting in
+    rw c.in-Some.is (c.in_ok-findings.ensures new old (subst (StandsFor target new) (sym c.deref.ensures.value) of_new)
     (subst (StandsFor target old) (sym c.deref-2.ensures.value) of_old))
+
+pub findings_of-requires-clause-settled : goal.findings_of-requires-clause-settled
+findings_of-requires-clause-settled c =
+    let target = c.args.terms.target in
+    let relation = c.args.terms.relation in
+    let new = c.in-Some.new.now in
+    let old = c.args.old.now in
+    let of_new = subst (StandsFor target (of_filter new)) (sym c.deref.ensures.value)
+    (fitting_stands target new c.in-Ok.by_new.items c.in-Ok.ensures.fitting) in
+    let of_old = subst (StandsFor target (of_filter old)) (sym c.deref-2.ensures.value)
+    (fitting_stands target old c.in_ok-by_old.by_old.items c.in_ok-by_old.ensures.fitting) in
+    settled target relation c.deref.result.now c.deref-2.result.now (Some new) (Some old) c.deref-3.result.now of_new of_old
+    (subst (AreSettledOf relation (Some new) (Some old)) (sym c.deref-3.ensures.value) c.in_ok-settled.ensures)

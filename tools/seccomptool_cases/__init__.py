@@ -7,7 +7,7 @@ from the program's output.
 
 from . import (
     answers, call, calls, check, compile, compiled_profiles, conditions, counts, diff, entries, explain, formats, gone, hostile, initializers, learn, logs, oci,
-    outputs, profile_checks, profile_faults, profile_stats, program_diffs, programs, same_filters, show, stats, subjects, warnings,
+    outputs, profile_checks, profile_faults, profile_stats, program_diffs, programs, random_filters, same_filters, show, stats, subjects, warnings,
     words
 )
 from .forms import Case
@@ -15,7 +15,7 @@ from .forms import Case
 FILES = {
     **explain.FILES, **compile.FILES, **diff.FILES, **programs.FILES, **program_diffs.FILES, **subjects.FILES, **compiled_profiles.FILES, **oci.FILES,
     **profile_faults.FILES, **initializers.FILES, **counts.FILES, **profile_checks.FILES, **hostile.FILES, **outputs.FILES, **learn.FILES,
-    **logs.FILES, **same_filters.FILES
+    **logs.FILES, **random_filters.FILES, **same_filters.FILES
 }
 
 

@@ -1,2 +1,2 @@
 -- Lemmas for the functions of `shell`.
-pub mod Statuses
+pub mod Written

@@ -1,16 +1,13 @@
 -- What `check` gives: why a policy is rejected, or else its warnings.
-use Rattle.std.specs.Prelude.{◌≡◌, ◌≢◌, ◌==◌, if◌then◌else◌, ℕ, Bool, true, false, List, String, length, string_bytes, ⊤}
+use Rattle.std.specs.Prelude.{◌≡◌, ◌==◌, if◌then◌else◌, ℕ, Bool, true, false, List, String, length, string_bytes, ⊤}
 use Rattle.std.specs.List.{AllZip, sum_by}
 use Rattle.std.specs.declared.alloc.Global.{Global}
 use Rattle.seccompiler.specs.declared.backend.TargetArch.{TargetArch}
-use Rattle.seccompiler.specs.declared.error.Error.TheVariants as library
 use Rattle.seccompiler.specs.declared.json.types.JsonFilterMap.{JsonFilterMap}
-use Rattle.seccompiler.specs.Errors.{IsNoMemoryInside}
 use Rattle.seccompiler.specs.JsonAnswers.{OfValue}
-use Rattle.seccompiler.specs.JsonPrograms.{TellsFirstFault}
 use Rattle.seccompiler.specs.JsonSteps.{AreFilters}
 use Rattle.seccompiler.specs.JsonTypes.{JsonFilter}
-use Rattle.seccomp_check.specs.Checks.{AreAllCompiled, IsPlaced}
+use Rattle.seccomp_check.specs.Checks.{AreAllCompiled, IsPlaced, IsRefusedFor}
 use Rattle.seccomp_check.specs.Texts.{fault_text}
 use Rattle.seccomp_warnings.specs.Warnings.{AreTrueWarnings}
 use Rattle.seccomp_warnings.specs.declared.code.Code.{Code}
@@ -45,7 +42,7 @@ pub record IsCheckOf (target : TargetArch) (allowed : List Code) (text : List �
 
 -- Why a policy is rejected: its first fault, with its place or as the library tells it; or want of memory.
 abbrev pub IsRefusal : TargetArch → List ℕ → ToolError → Type 0
-IsRefusal target text (Library e) = (e ≢ library.OutOfMemory) × IsNoMemoryInside e × TellsFirstFault target text e
+IsRefusal target text (Library e) = IsRefusedFor target text e
 IsRefusal target text (Placed told fault) = IsPlaced target text (string_bytes told) × (string_bytes told ≡ fault_text fault)
 IsRefusal target text OutOfMemory = ⊤
 IsRefusal target text e = ⊥

@@ -1,8 +1,7 @@
--- What it means that a command is carried out on the texts that it is given, and with which status it ends.
-use Rattle.std.specs.Prelude.{◌≡◌, ◌≢◌, ◌≤◌, ◌⊎◌, ℕ, ◌/◌, All, Bool, true, false, Contains, List, Option, length}
+-- What it means that a command is carried out on the texts that it is given.
+use Rattle.std.specs.Prelude.{◌≡◌, ◌≢◌, ◌<◌, ◌≤◌, ◌↔◌, ◌⊎◌, ℕ, ◌/◌, ◌%◌, All, Bool, true, false, Contains, IsTrue, List, Option, length, ⊤}
 use Rattle.std.specs.Borrow.{Bor}
 use Rattle.std.specs.Simd.{first_chunks}
-use Rattle.std.specs.List.{AllZip}
 use Rattle.seccompiler.specs.declared.backend.TargetArch.{TargetArch}
 use Rattle.seccompiler.specs.declared.bpf.sock_filter.{sock_filter}
 use Rattle.seccomp_tree.specs.declared.layout.Layout.{Layout}
@@ -21,10 +20,11 @@ use Rattle.seccomptool.specs.declared.error.ToolError.{ToolError}
 use Rattle.seccomptool.specs.declared.error.ToolError.TheVariants.{OutOfMemory}
 use Rattle.seccomptool.specs.declared.explain.Explanation.{Explanation}
 use Rattle.seccomptool.specs.declared.findings.Verdict.{Verdict}
-use Rattle.seccomptool.specs.declared.findings.Verdict.TheVariants.{Same, Different, Undecided}
+use Rattle.seccomptool.specs.declared.findings.Verdict.TheVariants.{Same, Different}
 use Rattle.seccomptool.specs.declared.kind.Reading.{Reading}
 use Rattle.seccomptool.specs.declared.kind.Subject.{Subject}
 use Rattle.seccomptool.specs.declared.kind.Subject.TheVariants as subject
+use Rattle.seccomptool.specs.declared.made.Made.{Made}
 use Rattle.seccomptool.specs.declared.record.KnownCall.{KnownCall}
 use Rattle.seccomptool.specs.declared.sides.Side.{Side}
 use Rattle.seccomptool.specs.declared.stats.FilterStats.{FilterStats}
@@ -35,30 +35,46 @@ use Rattle.seccomptool.specs.declared.words.Calls.TheVariants.{One, Records, Log
 use Rattle.seccomptool.specs.declared.words.Asked.{Asked}
 use Rattle.seccomptool.specs.declared.words.Verb.{Verb}
 use Rattle.seccomptool.specs.declared.words.Verb.TheVariants as verb
-use Rattle.seccomptool.specs.declared.words.Inputs.{Inputs}
 use Rattle.seccomptool.specs.Check.{IsCheckOf, IsRefusal, verdict_where}
 use Rattle.seccomptool.specs.CheckProfile.{IsProfileCheckOf, IsRefusedProfile}
 use Rattle.seccomptool.specs.Chosen.{text_of}
-use Rattle.seccomptool.specs.Compile.{ArePrograms, name_of}
+use Rattle.seccomptool.specs.Compile.{ArePrograms, IsWrittenAs}
 use Rattle.seccomptool.specs.Diff.{IsDiff, verdict_in}
 use Rattle.seccomptool.specs.Explain.{IsOfPolicy, IsOfProfile, IsOfProgram}
 use Rattle.seccomptool.specs.Kinds.{IsTakenAs}
 use Rattle.seccomptool.specs.Learn.{IsLesson}
-use Rattle.seccomptool.specs.Record.{IsCall, IsRecordOf}
+use Rattle.seccomptool.specs.Record.{AreKnownCalls, IsRecordOf}
 use Rattle.seccomptool.specs.Run.{IsProgramOf, IsRefusedProgram}
 use Rattle.seccomptool.specs.Sides.{IsChosen, Policies}
 use Rattle.seccomptool.specs.Stats.{AreStats, IsMeasureOf, IsProfileMeasure}
 
 -- ---- what each command answers
 
--- The program is compiled for the filter that is asked for, or the only one, of the policy's text, and has its name.
-pub record IsFilterCompiled (target : TargetArch) (layout : Layout) (asked : Option (List ℕ)) (text : List ℕ) (made : NamedProgram)
+-- The program is compiled for the filter that is asked for, or the only one, of the policy's text.
+pub record IsFilterCompiled (target : TargetArch) (layout : Layout) (asked : Option (List ℕ)) (text : List ℕ) (program : List sock_filter)
     : Type 0 where
   pub filters : Policies
   pub of_text : OfValue text (ArePoliciesOf target filters)
+  pub name : List ℕ
   pub filter : Filter
-  pub chosen : IsChosen asked filters (name_of made) filter
-  pub compiled : IsCompiledIn layout filter made.program.items
+  pub chosen : IsChosen asked filters name filter
+  pub compiled : IsCompiledIn layout filter program
+
+-- The program of what is given: compiled for a filter, or for a profile, or given itself.
+abbrev pub IsCompiledAs : Asked → Subject → (given : List ℕ) → (program : List sock_filter) → Type 0
+IsCompiledAs asked subject.Policy text program = IsFilterCompiled asked.arch asked.layout (text_of asked.filter) text program
+IsCompiledAs asked (subject.Profile container) text program =
+    (compiled : CompiledProfile) × IsCompiledProfile asked.arch container.now asked.strict text compiled
+    × (compiled.program.items ≡ program)
+IsCompiledAs asked subject.Program bytes program = IsProgramOf bytes program × IsChecked program
+
+-- It is what is written.
+abbrev pub IsWrittenOf : Asked → Subject → (given written : List ℕ) → Type 0
+IsWrittenOf asked kind given written =
+    (program : List sock_filter) × IsCompiledAs asked kind given program × IsWrittenAs asked.format program written
+
+abbrev pub IsCompiled : Asked → (given written : List ℕ) → Type 0
+IsCompiled asked given written = (kind : Subject) × IsTakenAs asked.reading given kind × IsWrittenOf asked kind given written
 
 -- The program of a profile.
 abbrev pub IsProfileCompiled : TargetArch → Container → (strict : Bool) → (text : List ℕ) → Type 0
@@ -67,15 +83,6 @@ IsProfileCompiled arch container strict text = (compiled : CompiledProfile) × I
 -- The bytes are those of a program that may be run.
 abbrev pub IsCheckedProgram : (bytes : List ℕ) → Type 0
 IsCheckedProgram bytes = (program : List sock_filter) × IsProgramOf bytes program × IsChecked program
-
--- The program of what is given.
-abbrev pub IsCompiledAs : Asked → Subject → (given : List ℕ) → Type 0
-IsCompiledAs asked subject.Policy text = (made : NamedProgram) × IsFilterCompiled asked.arch asked.layout (text_of asked.filter) text made
-IsCompiledAs asked (subject.Profile container) text = IsProfileCompiled asked.arch container.now asked.strict text
-IsCompiledAs asked subject.Program bytes = IsCheckedProgram bytes
-
-abbrev pub IsCompiled : Asked → (given : List ℕ) → Type 0
-IsCompiled asked given = (kind : Subject) × IsTakenAs asked.reading given kind × IsCompiledAs asked kind given
 
 -- The programs of what is given, all those of a policy.
 abbrev pub IsShownAs : TargetArch → Subject → Layout → (given : List ℕ) → Type 0
@@ -147,14 +154,20 @@ IsExplained asked given records =
     (kind : Subject) × IsTakenAs asked.reading given kind
     × (e : Explanation) × IsExplainedAs asked.arch kind (text_of asked.filter) given records e
 
--- The record of a call; or the architectures' calls of its name or number.
-abbrev pub IsCalledOn : (recorded : Bool) → TargetArch → Call → Type 0
-IsCalledOn true arch call = (bytes : List ℕ) × IsRecordOf arch call.name.now call.arguments bytes
-IsCalledOn false arch call =
-    (calls : List KnownCall) × All (λ (known : KnownCall). IsCall known.target call.name.now known.number) calls
+-- The architecture that is asked about, or each.
+abbrev pub IsAskedAbout : (each : Bool) → (asked of : TargetArch) → Type 0
+IsAskedAbout true asked of = ⊤
+IsAskedAbout false asked of = of ≡ asked
 
-abbrev pub IsCalled : Asked → Type 0
-IsCalled asked = IsCalledOn asked.recorded asked.arch asked.call
+-- What is written is the record of a call; or there are calls of its name or number, all those of the architectures that are
+-- asked about.
+abbrev pub IsCalledOn : (recorded : Bool) → (each : Bool) → TargetArch → Call → (written : List ℕ) → Type 0
+IsCalledOn true each arch call written = IsRecordOf arch call.name.now call.arguments written
+IsCalledOn false each arch call written =
+    (calls : List KnownCall) × AreKnownCalls (IsAskedAbout each arch) call.name.now calls
+
+abbrev pub IsCalled : Asked → (written : List ℕ) → Type 0
+IsCalled asked written = IsCalledOn asked.recorded asked.each_arch asked.arch asked.call written
 
 -- The side is of these bytes, and of this filter of theirs.
 pub record IsSideOf (reading : Reading) (filter : Option (Bor (List ℕ))) (given : List ℕ) (side : Side) : Type 0 where
@@ -174,41 +187,31 @@ pub record IsCompared (asked : Asked) (old_given new_given : List ℕ) (v : Verd
 
 -- ---- a command
 
--- What is asked for is carried out on these bytes, the first and the second that are read: a value is made that is so, and this is
--- its verdict. The bytes say what is given.
-abbrev pub IsDone : Verb → Asked → (first second : List ℕ) → Verdict → Type 0
-IsDone verb.Compile asked given none v = IsCompiled asked given × (v ≡ Same)
-IsDone verb.Show asked given none v = IsShown asked given × (v ≡ Same)
-IsDone verb.Check asked given none v = IsCheck asked given v
-IsDone verb.Codes asked none other v = v ≡ Same
-IsDone verb.Explain asked given bytes v = OnRecords asked bytes (IsExplained asked given) × (v ≡ Same)
-IsDone verb.Call asked none other v = IsCalled asked × (v ≡ Same)
-IsDone verb.Diff asked old new v = IsCompared asked old new v
-IsDone verb.Learn asked trace policy v = IsLesson asked policy × (v ≡ Same)
+-- The bytes end inside a record, if they are records.
+abbrev pub EndsInside : Calls → (bytes : List ℕ) → Type 0
+EndsInside Records bytes = 0 < length bytes % 64
+EndsInside calls bytes = ⊥
 
-abbrev pub IsCarriedOut : Asked → (first second : List ℕ) → Verdict → Type 0
-IsCarriedOut asked first second v = IsDone asked.verb asked first second v
+-- This is made: the command finds nothing, and isn't given records that end inside of one.
+abbrev pub IsPlain : Made → Type 0
+IsPlain made = (made.verdict ≡ Same) × (made.is_cut ≡ false)
+
+-- What is asked for is carried out on these bytes, the first and the second that are read: a value is made that is so, with this
+-- verdict and what is written. The bytes say what is given.
+abbrev pub IsDone : Verb → Asked → (first second : List ℕ) → Made → Type 0
+IsDone verb.Compile asked given none made = IsCompiled asked given made.text.items × IsPlain made
+IsDone verb.Show asked given none made = IsShown asked given × IsPlain made
+IsDone verb.Check asked given none made = IsCheck asked given made.verdict × (made.is_cut ≡ false)
+IsDone verb.Codes asked none other made = IsPlain made
+IsDone verb.Explain asked given bytes made =
+    OnRecords asked bytes (IsExplained asked given) × (made.verdict ≡ Same) × (IsTrue made.is_cut ↔ EndsInside asked.calls bytes)
+IsDone verb.Call asked none other made = IsCalled asked made.text.items × IsPlain made
+IsDone verb.Diff asked old new made = IsCompared asked old new made.verdict × (made.is_cut ≡ false)
+IsDone verb.Learn asked trace policy made = IsLesson asked policy × IsPlain made
+
+abbrev pub IsCarriedOut : Asked → (first second : List ℕ) → Made → Type 0
+IsCarriedOut asked first second made = IsDone asked.verb asked first second made
 
 -- It is carried out on some bytes.
-abbrev pub IsPerformed : Asked → Verdict → Type 0
-IsPerformed asked v = (first : List ℕ) × (second : List ℕ) × IsCarriedOut asked first second v
-
--- ---- statuses
-
-abbrev pub verdict_status : Verdict → ℕ
-verdict_status Same = 0
-verdict_status Different = 1
-verdict_status Undecided = 3
-
--- The command may end with this status: if that is a verdict's, and not that of trouble, it is carried out, and this is what it
--- finds.
-abbrev pub EndsWith : Asked → ℕ → Type 0
-EndsWith asked status = (v : Verdict) → status ≡ verdict_status v → IsPerformed asked v
-
--- The command ends with statuses, one for each of these that it is carried out on. This is the greatest of them; or it is that of
--- trouble, if what is made of all can't be written, and 0 if there is none.
-pub record EndWith (asked : Asked) (inputs : List Inputs) (status : ℕ) : Type 0 where
-  pub statuses : List ℕ
-  pub each : AllZip (λ (one : Inputs) s. EndsWith asked s) inputs statuses
-  pub most : All (λ s. s ≤ status) statuses
-  pub reached : (status ≡ 0) ⊎ ((status ≡ 2) ⊎ Contains statuses status)
+abbrev pub IsPerformed : Asked → Made → Type 0
+IsPerformed asked made = (first : List ℕ) × (second : List ℕ) × IsCarriedOut asked first second made

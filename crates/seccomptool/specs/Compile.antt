@@ -1,5 +1,5 @@
 -- What `compile` and `show` give: the programs of a policy's filters, and the bytes of a program.
-use Rattle.std.specs.Prelude.{ℕ, List, [], ◌∷◌, ◌++◌, map, string_bytes}
+use Rattle.std.specs.Prelude.{◌≡◌, ℕ, List, [], ◌∷◌, ◌++◌, map, string_bytes, ⊤}
 use Rattle.std.specs.Int.{w16, w32, to_le_bytes}
 use Rattle.std.specs.List.{concat}
 use Rattle.serde_json.specs.Data.{Data}
@@ -10,6 +10,8 @@ use Rattle.seccomp_tree.specs.Layouts.{IsCompiledIn}
 use Rattle.seccompiler.specs.JsonAnswers.{HasPolicy}
 use Rattle.seccompiler.specs.Policy.{Filter}
 use Rattle.seccomptool.specs.declared.compile.NamedProgram.{NamedProgram}
+use Rattle.seccomptool.specs.declared.compile.ProgramFormat.{ProgramFormat}
+use Rattle.seccomptool.specs.declared.compile.ProgramFormat.TheVariants.{Raw}
 use Rattle.seccomptool.specs.Named.{AreNamed}
 
 -- The 8 bytes of an instruction: those of a `struct sock_filter` (linux/filter.h), each number with its low byte first.
@@ -19,6 +21,11 @@ instruction_bytes i = to_le_bytes w16 i.code ++ (i.jt ∷ i.jf ∷ []) ++ to_le_
 -- The bytes of a program: those of its instructions, in order.
 abbrev pub program_bytes : List sock_filter → List ℕ
 program_bytes program = concat (map instruction_bytes program)
+
+-- This is written of the program: its bytes, if they are asked for. Which text of it is written isn't said.
+abbrev pub IsWrittenAs : ProgramFormat → List sock_filter → (written : List ℕ) → Type 0
+IsWrittenAs Raw program written = written ≡ program_bytes program
+IsWrittenAs format program written = ⊤
 
 -- The value's policy on this architecture is one that the program is compiled for.
 pub record HasProgram (layout : Layout) (target : TargetArch) (value : Data) (program : List sock_filter) : Type 0 where

@@ -2,6 +2,7 @@
 
 -- What is promised, in reading order: which words are which command, what goes wrong, and what each engine answers and
 -- writes, in the order of the commands; and what each command does.
+pub mod Arguments
 pub mod Numbers
 pub mod RunFaults
 pub mod Errors
@@ -22,6 +23,8 @@ pub mod Diff
 pub mod CheckProfile
 pub mod Kinds
 pub mod Commands
+pub mod Failures
+pub mod Outside
 -- Between layers: what the private steps of the engines promise each other.
 pub mod DiffParts
 pub mod Settled

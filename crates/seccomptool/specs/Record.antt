@@ -1,18 +1,31 @@
 -- What `record` gives: the record of a call.
-use Rattle.std.specs.Prelude.{◌≡◌, ℕ, ◌^◌, ◌<◌, List, ◌++◌, map, pos, Some, string_bytes, ⊤}
+use Rattle.std.specs.Prelude.{◌≡◌, ◌≢◌, ℕ, ◌^◌, ◌<◌, All, Contains, List, [], ◌++◌, map, pos, Some, string_bytes, ⊤}
 use Rattle.std.specs.Int.{w32, w64, to_le_bytes}
 use Rattle.std.specs.List.{concat}
 use Rattle.seccompiler.specs.declared.backend.TargetArch.{TargetArch}
 use Rattle.seccompiler.specs.Architecture.{audit_word, table_of}
 use Rattle.seccompiler.specs.SyscallTable.{number_of}
 use Rattle.seccomptool.specs.declared.error.ToolError.{ToolError}
-use Rattle.seccomptool.specs.declared.error.ToolError.TheVariants.{UnknownCall, OutOfMemory}
+use Rattle.seccomptool.specs.declared.error.ToolError.TheVariants.{UnknownCall, Told, OutOfMemory}
+use Rattle.seccomptool.specs.declared.record.KnownCall.{KnownCall}
+use Rattle.seccomptool.specs.Findings.{HasName}
 use Rattle.seccomptool.specs.Numbers.{IsNumber}
 
 -- The text is this call of the architecture: its number, or, if it is no number, its name.
 pub data IsCall (target : TargetArch) (text : List ℕ) (n : ℕ) : Type 0 where
   numbered : IsNumber text n → n < 2 ^ 32 → IsCall target text n
   named : ((m : ℕ) → IsNumber text m → ⊥) → number_of (table_of target) text ≡ Some (pos n) → IsCall target text n
+
+-- The number is that of the text's call on this architecture, and a name of a call there.
+pub record IsKnownCall (call : List ℕ) (known : KnownCall) : Type 0 where
+  pub is : IsCall known.target call known.number
+  pub named : HasName (table_of known.target) known.number
+
+-- These are the calls of the text on the architectures for which P holds. There is one at least, and none is left out.
+pub record AreKnownCalls (P : TargetArch → Type 0) (call : List ℕ) (calls : List KnownCall) : Type 0 where
+  pub each : All (λ (known : KnownCall). P known.target × IsKnownCall call known) calls
+  pub complete : (known : KnownCall) → P known.target → IsKnownCall call known → Contains calls known
+  pub some : calls ≢ []
 
 -- The 64 bytes of a call's record: those of a `struct seccomp_data` (linux/seccomp.h), each number with its low byte
 -- first. The instruction pointer is 0.
@@ -29,3 +42,9 @@ abbrev pub IsUncalled : TargetArch → List ℕ → ToolError → Type 0
 IsUncalled target call (UnknownCall text of) = (of ≡ target) × (string_bytes text ≡ call) × ((n : ℕ) → IsCall target call n → ⊥)
 IsUncalled target call OutOfMemory = ⊤
 IsUncalled target call e = ⊥
+
+-- The error tells that the text is no call that has a name, on the architectures for which P holds, or is lack of memory.
+abbrev pub IsUnknownCall : (TargetArch → Type 0) → (call : List ℕ) → ToolError → Type 0
+IsUnknownCall P call (Told text) = (known : KnownCall) → P known.target → IsKnownCall call known → ⊥
+IsUnknownCall P call OutOfMemory = ⊤
+IsUnknownCall P call e = ⊥

@@ -28,12 +28,20 @@ IsProgramFault bytes (fault.Length count) = (length bytes ≡ count * 8) × ((co
 IsProgramFault bytes (fault.Unfit place amiss) =
     (program : List sock_filter) × HasBytes bytes program × (length program ≤ greatest_length) × IsUnfitAt program place amiss
 
--- Why bytes aren't run: their first fault, or want of memory.
+-- Why bytes aren't run: their first fault, or lack of memory.
 abbrev pub AreRefusedBytes : List ℕ → ToolError → Type 0
 AreRefusedBytes bytes (Program fault) = IsProgramFault bytes fault
 AreRefusedBytes bytes OutOfMemory = ⊤
 AreRefusedBytes bytes e = ⊥
 
--- Why what is given isn't run; of a text of initializers it isn't said.
+-- The error is a fault of a program, or lack of memory.
+abbrev pub IsOfProgram : ToolError → Type 0
+IsOfProgram (Program fault) = ⊤
+IsOfProgram OutOfMemory = ⊤
+IsOfProgram e = ⊥
+
+-- Why what is given isn't run: its first fault, or lack of memory. Which fault a text of initializers has isn't said.
 abbrev pub IsRefusedProgram : List ℕ → ToolError → Type 0
-IsRefusedProgram given e = BeginsAsInitializers given ⊎ AreRefusedBytes given e
+IsRefusedProgram given (Program fault) = BeginsAsInitializers given ⊎ IsProgramFault given fault
+IsRefusedProgram given OutOfMemory = ⊤
+IsRefusedProgram given e = ⊥

@@ -1,7 +1,7 @@
 // A program, in the form that is asked for.
 
 ghost use Rattle.std.specs.Prelude.{◌≡◌, IfOk};
-ghost use Rattle.seccomptool.specs.Compile.{instruction_bytes, program_bytes};
+ghost use Rattle.seccomptool.specs.Compile.{IsWrittenAs, instruction_bytes, program_bytes};
 
 use crate::error::ToolError;
 use crate::json::{List, Object, or_null};
@@ -76,7 +76,9 @@ pub(crate) fn program_text(
     format: ProgramFormat,
     name: &str,
     program: BpfProgramRef<'_>,
-) -> Result<Vec<u8>, AllocError> {
+) -> Result<Vec<u8>, AllocError>
+    ensures { IfOk result (λ written. IsWrittenAs format program.now written.items) }
+{
     match format {
         ProgramFormat::Raw => bytes_of(alloc, program),
         ProgramFormat::Listing => {

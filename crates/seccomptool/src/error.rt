@@ -1,5 +1,7 @@
 // Why the program fails.
 
+ghost use Rattle.seccomptool.specs.Outside.{IsOfFile};
+
 use crate::notes::push_front;
 use crate::run::fault::ProgramFault;
 use crate::text::Text;
@@ -75,7 +77,9 @@ impl ToolError {
     }
 
     // That what is at a path can't be opened, read or written.
-    pub(crate) fn of_io(alloc: Global, path: &str, error: io::Error) -> ToolError {
+    pub(crate) fn of_io(alloc: Global, path: &str, error: io::Error) -> ToolError
+        ensures { IsOfFile result }
+    {
         match (error.kind(), error.to_string(alloc)) {
             (ErrorKind::OutOfMemory, _) | (_, Err(_)) => ToolError::OutOfMemory,
             (_, Ok(told)) => ToolError::of_path(alloc, path, told.as_str()),
@@ -83,7 +87,9 @@ impl ToolError {
     }
 
     // What is wrong with what is at a path.
-    pub(crate) fn of_path(alloc: Global, path: &str, told: &str) -> ToolError {
+    pub(crate) fn of_path(alloc: Global, path: &str, told: &str) -> ToolError
+        ensures { IsOfFile result }
+    {
         let mut text = Text::new(alloc);
         push_front(&mut text, path);
         text.push_str(told);

@@ -1,5 +1,8 @@
 // The files that a command reads, and the one that it writes.
 
+ghost use Rattle.std.specs.Prelude.{IfErr};
+ghost use Rattle.seccomptool.specs.Outside.{IsOfFile};
+
 use crate::error::ToolError;
 use std::fs::File;
 use std::io::{ErrorKind, Read};
@@ -7,7 +10,9 @@ use std::os::unix::fs::MetadataExt;
 use std::{fs, io};
 
 // All that stands at a path, or that standard input gives if it is `-`; nothing if there is no path.
-pub(crate) fn whole_of(rt: &HostRuntime, path: Option<&str>) -> Result<Vec<u8>, ToolError> {
+pub(crate) fn whole_of(rt: &HostRuntime, path: Option<&str>) -> Result<Vec<u8>, ToolError>
+    ensures { IfErr result IsOfFile }
+{
     let mut text = Vec::new(rt.alloc());
     let Some(path) = path else { return Ok(text) };
     let read = match path {

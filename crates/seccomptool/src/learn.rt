@@ -2,10 +2,10 @@
 
 pub(crate) mod notes;
 
-ghost use Rattle.std.specs.Prelude.{◌≡◌, IfOk};
+ghost use Rattle.std.specs.Prelude.{IfOk};
 ghost use Rattle.seccomptool.specs.Chosen.{text_of};
+ghost use Rattle.seccomptool.specs.Commands.{IsPlain};
 ghost use Rattle.seccomptool.specs.Learn.{IsBase, IsLearned, IsLesson};
-ghost use Rattle.seccomptool.specs.declared.findings.Verdict.TheVariants.{Same};
 
 use crate::chosen::chosen_name;
 use crate::error::ToolError;
@@ -51,7 +51,7 @@ pub(crate) fn learn_made(
     given: &[u8],
     policy: &[u8],
 ) -> Result<Made, ToolError>
-    ensures { IfOk result (λ made. IsLesson asked.now policy.now × (made.verdict ≡ Same)) }
+    ensures { IfOk result (λ made. IsLesson asked.now policy.now × IsPlain made) }
 {
     let mut trace = read_trace(alloc, asked.arch, given)?;
     let wanted = wanted_in(alloc, asked, &mut trace)?;
@@ -74,7 +74,7 @@ fn views_of(
     wanted: &[Kept],
     learned: &Named<Lesson>,
 ) -> Result<Made, ToolError>
-    ensures { IfOk result (λ made. made.verdict ≡ Same) }
+    ensures { IfOk result IsPlain }
 {
     let (name, lesson, others) = learned;
     let (filter, kept) = (&lesson.learned.json, &lesson.kept);

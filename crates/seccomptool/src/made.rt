@@ -1,9 +1,11 @@
 // What each command makes of the bytes that it is given: an answer, and a view of it.
 
-ghost use Rattle.std.specs.Prelude.{◌≡◌, IfOk, OnOk, false};
-ghost use Rattle.seccomptool.specs.Commands.{IsCalled, IsCompared, IsCompiled, IsCompiledAs, IsProfileCompiled, IsShown, IsShownOrMeasured};
-ghost use Rattle.seccomptool.specs.declared.findings.Verdict.TheVariants.{Same};
-ghost use Rattle.seccomptool.specs.declared.kind.Subject.TheVariants.{Policy};
+ghost use Rattle.std.specs.Prelude.{◌≡◌, IfErr, IfOk, Ok, OnOk, false};
+ghost use Rattle.seccomptool.specs.Commands.{IsAskedAbout, IsCalled, IsCompared, IsCompiled, IsPlain, IsShown, IsShownOrMeasured, IsWrittenOf};
+ghost use Rattle.seccomptool.specs.Failures.{IsUncalledOn};
+ghost use Rattle.seccomptool.specs.Record.{AreKnownCalls, IsUnknownCall};
+ghost use Rattle.seccomptool.specs.declared.error.ToolError.TheVariants.{OutOfMemory};
+ghost use Rattle.seccomptool.specs.declared.kind.Subject.TheVariants.{Policy, Profile};
 
 use crate::chosen::{chosen_of, refuse_name};
 use crate::compile::{program_text, too_large};
@@ -16,7 +18,7 @@ use crate::kind::{Subject, subject_of};
 use crate::notes::push_counted;
 use crate::profile::{compiled_of, push_profile_notes, uncompiled};
 use crate::progress::Watch;
-use crate::record::{called_record, calls_text, known_calls};
+use crate::record::{KnownCall, called_record, calls_text, known_calls};
 use crate::run::program::program_of;
 use crate::show::{programs_in, push_program, push_programs};
 use crate::sides::{Side, ruled_by};
@@ -49,21 +51,25 @@ impl Made {
         verdict: Verdict,
         notes: Text,
     ) -> Result<Made, ToolError>
-        ensures { IfOk result (λ made. made.verdict ≡ verdict) }
+        ensures made { IfOk result (λ made. (text ≡ Ok made.text) × (made.verdict ≡ verdict) × (made.is_cut ≡ false)) }
+        ensures failed { IfErr result (λ error. error ≡ OutOfMemory) }
     {
         Ok(Made::noting(text?, verdict, notes.finish()?))
     }
 
     // A text of a command that finds nothing, and has nothing to tell.
     pub(crate) fn plain(alloc: Global, text: Result<Vec<u8>, AllocError>) -> Result<Made, ToolError>
-        ensures { IfOk result (λ made. made.verdict ≡ Same) }
+        ensures made { IfOk result (λ made. (text ≡ Ok made.text) × IsPlain made) }
+        ensures failed { IfErr result (λ error. error ≡ OutOfMemory) }
     {
         Made::of(text, Verdict::Same, Text::new(alloc))
     }
 
     // A text of a command that finds this, and has these notes.
     pub(crate) fn noting(text: Vec<u8>, verdict: Verdict, notes: Vec<u8>) -> Made
-        ensures { result.verdict ≡ verdict }
+        ensures text { result.text ≡ text }
+        ensures verdict { result.verdict ≡ verdict }
+        ensures whole { result.is_cut ≡ false }
     {
         Made {
             text,
@@ -80,7 +86,7 @@ pub(crate) fn compile_made(
     path: &str,
     given: &[u8],
 ) -> Result<Made, ToolError>
-    ensures { IfOk result (λ made. IsCompiled asked.now given.now × (made.verdict ≡ Same)) }
+    ensures { IfOk result (λ made. IsCompiled asked.now given.now made.text.items × IsPlain made) }
 {
     let subject = subject_of(alloc, &asked.reading, given)?;
     if !matches!(subject, Subject::Policy) {
@@ -107,7 +113,7 @@ fn policy_made(
     path: &str,
     policy: &[u8],
 ) -> Result<Made, ToolError>
-    ensures { IfOk result (λ made. IsCompiledAs asked.now Policy policy.now × (made.verdict ≡ Same)) }
+    ensures { IfOk result (λ made. IsWrittenOf asked.now Policy policy.now made.text.items × IsPlain made) }
 {
     let arch = asked.arch;
     let policies = JsonCompiler::new(arch).policies_of(alloc, policy)?;
@@ -129,7 +135,7 @@ fn profile_made(
     path: &str,
     profile: &[u8],
 ) -> Result<Made, ToolError>
-    ensures { IfOk result (λ made. IsProfileCompiled asked.now.arch container.now asked.now.strict profile.now × (made.verdict ≡ Same)) }
+    ensures { IfOk result (λ made. IsWrittenOf asked.now (Profile container.entry) profile.now made.text.items × IsPlain made) }
 {
     let arch = asked.arch;
     let compiled = match compiled_of(alloc, arch, container, asked.strict, profile) {
@@ -146,7 +152,7 @@ fn profile_made(
 }
 
 pub(crate) fn show_made(alloc: Global, asked: &Asked<'_>, given: &[u8]) -> Result<Made, ToolError>
-    ensures { IfOk result (λ made. IsShown asked.now given.now × (made.verdict ≡ Same)) }
+    ensures { IfOk result (λ made. IsShown asked.now given.now × IsPlain made) }
 {
     let subject = subject_of(alloc, &asked.reading, given)?;
     let mut text = Text::new(alloc);
@@ -201,7 +207,8 @@ fn push_shown(
 // A line for each code of a warning, in the order of `Code::all`: its name, `: `, and what is so if a warning has the code. As JSON
 // their list.
 pub(crate) fn codes_made(alloc: Global, json: bool) -> Result<Made, ToolError>
-    ensures { IfOk result (λ made. made.verdict ≡ Same) }
+    ensures made { IfOk result IsPlain }
+    ensures failed { IfErr result (λ error. error ≡ OutOfMemory) }
 {
     let mut text = Text::new(alloc);
     for code in Code::all() {
@@ -219,19 +226,28 @@ pub(crate) fn codes_made(alloc: Global, json: bool) -> Result<Made, ToolError>
 }
 
 pub(crate) fn call_made(alloc: Global, asked: &Asked<'_>) -> Result<Made, ToolError>
-    ensures { IfOk result (λ made. IsCalled asked.now × (made.verdict ≡ Same)) }
+    ensures made { IfOk result (λ made. IsCalled asked.now made.text.items × IsPlain made) }
+    ensures failed { IfErr result (IsUncalledOn asked.now.recorded asked.now.each_arch asked.now.arch asked.now.call) }
 {
     let (arch, call) = (asked.arch, asked.call);
     if asked.recorded {
         let record = called_record(alloc, arch, call.name, &call.arguments)?;
         return Made::plain(alloc, Ok(record));
     }
-    let calls = if asked.each_arch {
-        known_calls(alloc, TargetArch::all(), call.name)
-    } else {
-        known_calls(alloc, &[arch], call.name)
-    }?;
+    let calls = calls_of(alloc, asked)?;
     Made::plain(alloc, calls_text(alloc, asked.json, call.name, &calls))
+}
+
+// The calls of the name or number that is asked about, on the architecture that is asked about, or on each.
+fn calls_of(alloc: Global, asked: &Asked<'_>) -> Result<Vec<KnownCall>, ToolError>
+    ensures known { IfOk result (λ calls. AreKnownCalls (IsAskedAbout asked.now.each_arch asked.now.arch) asked.now.call.name.now calls.items) }
+    ensures unknown { IfErr result (IsUnknownCall (IsAskedAbout asked.now.each_arch asked.now.arch) asked.now.call.name.now) }
+{
+    let (arch, call) = (asked.arch, asked.call.name);
+    if asked.each_arch {
+        return known_calls(alloc, TargetArch::all(), call);
+    }
+    known_calls(alloc, &[arch], call)
 }
 
 // Adds the note on the warnings of a side, if it is a policy.
@@ -250,7 +266,7 @@ pub(crate) fn diff_made(
     new: &[u8],
     progress: &mut Watch<'_>,
 ) -> Result<Made, ToolError>
-    ensures { IfOk result (λ made. IsCompared asked.now old.now new.now made.verdict) }
+    ensures { IfOk result (λ made. IsCompared asked.now old.now new.now made.verdict × (made.is_cut ≡ false)) }
 {
     let terms = asked.terms;
     let old = Side {

@@ -14,6 +14,7 @@ mod kind;
 mod learn;
 mod made;
 mod notes;
+mod outside;
 mod perform;
 mod profile;
 mod progress;
@@ -26,6 +27,7 @@ mod stats;
 mod text;
 mod words;
 
+use crate::outside::Streams;
 use crate::progress::Watch;
 use crate::shell::{answer, unread};
 use seccomp_command_line::arguments::behind_the_name;
@@ -36,7 +38,19 @@ fn main(rt: HostRuntime) -> ExitCode {
     let mut progress = Watch::new(&rt, rt.stderr().is_terminal());
     let to_terminal = rt.stdout().is_terminal();
     match behind_the_name(&rt) {
-        Ok(words) => answer(&rt, words.as_slice(), to_terminal, &mut progress),
+        Ok(words) => {
+            let mut streams = Streams {
+                rt: &rt,
+                lacks_memory: false,
+            };
+            answer(
+                &rt,
+                &mut streams,
+                words.as_slice(),
+                to_terminal,
+                &mut progress,
+            )
+        }
         Err(error) => unread(&rt, &error),
     }
 }

@@ -1,5 +1,9 @@
 // What the program tells on standard error: failures, and notes on what stands at a path.
 
+ghost use Rattle.std.specs.Prelude.{◌≡◌, IfOk, string_bytes};
+ghost use Rattle.std.specs.Str.Lossy.{utf8_lossy};
+ghost use Rattle.seccomp_command_line.specs.Readable as spec;
+
 use crate::check::warnings_in;
 use crate::error::ToolError;
 use crate::text::Text;
@@ -9,24 +13,30 @@ use seccompiler::json::filters_of;
 use seccompiler::{JsonFrontendError, TargetArch};
 use std::alloc::{AllocError, Global};
 
-// Tells a failure, and the file that it is in.
-pub(crate) fn tell(rt: &HostRuntime, inputs: Inputs<'_>, error: &ToolError) {
+// Tells a failure, and the file that it is in. Fails if there is no memory for the line.
+pub(crate) fn tell(
+    rt: &HostRuntime,
+    inputs: Inputs<'_>,
+    error: &ToolError,
+) -> Result<(), AllocError> {
     let path = match error {
         ToolError::OutOfMemory | ToolError::UnknownCall(_, _) | ToolError::Told(_) => None,
         ToolError::Second(_) => Some(inputs.second.unwrap_or("-")),
         _ => Some(inputs.first.unwrap_or("-")),
     };
-    let _ = match failure(rt.alloc(), path, error) {
-        Ok(line) => eprint!(rt; "{line}"),
-        Err(_) => eprintln!(rt; "seccomptool: Out of memory."),
-    };
+    let line = failure(rt.alloc(), path, error)?;
+    let _ = eprint!(rt; "{line}");
+    Ok(())
 }
 
-// Tells notes: lines of text.
-pub(crate) fn tell_notes(rt: &HostRuntime, notes: &[u8]) {
-    if let Ok(lines) = readable(rt.alloc(), notes, TextKind::Lines) {
-        let _ = eprint!(rt; "{lines}");
+// Tells notes: lines of text. Fails if there is no memory for them.
+pub(crate) fn tell_notes(rt: &HostRuntime, notes: &[u8]) -> Result<(), AllocError> {
+    if notes.is_empty() {
+        return Ok(());
     }
+    let lines = readable(rt.alloc(), notes, TextKind::Lines)?;
+    let _ = eprint!(rt; "{lines}");
+    Ok(())
 }
 
 // The line of a failure: the program, the path of what it is in, and the error.
@@ -66,7 +76,9 @@ pub(crate) fn push_front(text: &mut Text, path: &str) {
 
 // The text as people read it, with bytes that aren't UTF-8 replaced. What the program reports of files goes through here; bytes of
 // programs and of records don't.
-pub(crate) fn readable(alloc: Global, text: &[u8], kind: TextKind) -> Result<String, AllocError> {
+pub(crate) fn readable(alloc: Global, text: &[u8], kind: TextKind) -> Result<String, AllocError>
+    ensures { IfOk result (λ told. string_bytes told ≡ spec.readable kind (utf8_lossy text.now)) }
+{
     let text = String::from_utf8_lossy(alloc, text)?;
     readable_text(alloc, text.as_str(), kind)
 }

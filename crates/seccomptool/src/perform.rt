@@ -1,7 +1,8 @@
 // A command, carried out on what is read for it.
 
-ghost use Rattle.std.specs.Prelude.{IfOk};
+ghost use Rattle.std.specs.Prelude.{IfErr, IfOk};
 ghost use Rattle.seccomptool.specs.Commands.{IsCarriedOut};
+ghost use Rattle.seccomptool.specs.Failures.{IsFailure};
 
 use crate::check::made::check_made;
 use crate::error::ToolError;
@@ -26,7 +27,8 @@ pub(crate) fn perform(
     second: &[u8],
     progress: &mut Watch<'_>,
 ) -> Result<Made, ToolError>
-    ensures { IfOk result (λ made. IsCarriedOut asked.now first.now second.now made.verdict) }
+    ensures carried_out { IfOk result (λ made. IsCarriedOut asked.now first.now second.now made) }
+    ensures failed { IfErr result (IsFailure asked.now first.now second.now) }
 {
     let path = inputs.first.unwrap_or("-");
     match asked.verb {

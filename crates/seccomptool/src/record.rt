@@ -1,9 +1,9 @@
 // Calls and their records, and numbers as they are written in words.
 
-ghost use Rattle.std.specs.Prelude.{◌≡◌, ◌≤◌, ℕ, All, IfOk, IfErr, IfSome, IfNone};
+ghost use Rattle.std.specs.Prelude.{◌≡◌, ◌≤◌, ℕ, Contains, IfOk, IfErr, IfSome, IfNone};
 ghost use Rattle.seccompiler.specs.Machine.{word_at};
 ghost use Rattle.seccomptool.specs.Numbers.{IsNumber};
-ghost use Rattle.seccomptool.specs.Record.{IsCall, IsRecordOf, IsUncalled};
+ghost use Rattle.seccomptool.specs.Record.{AreKnownCalls, IsCall, IsRecordOf, IsUncalled, IsUnknownCall};
 
 use crate::error::ToolError;
 use crate::findings::parts::name_of;
@@ -51,7 +51,8 @@ pub fn known_calls(
     targets: &[TargetArch],
     call: &str,
 ) -> Result<Vec<KnownCall>, ToolError>
-    ensures { IfOk result (λ calls. All (λ known. IsCall known.target call.now known.number) calls.items) }
+    ensures known { IfOk result (λ calls. AreKnownCalls (Contains targets.now) call.now calls.items) }
+    ensures unknown { IfErr result (IsUnknownCall (Contains targets.now) call.now) }
 {
     let mut calls = Vec::new(alloc);
     for target in targets {

@@ -1,26 +1,29 @@
 // What the program does with its arguments: opens what a command reads, and ends with a status.
 
-ghost use Rattle.std.specs.Prelude.{◌≡◌, ◌≤◌, ◌⊎◌, IfOk};
+ghost use Rattle.std.specs.Prelude.{◌≡◌, ◌≤◌, ◌⊎◌, [], IfErr, IfOk, OnErr, OnOk};
 ghost use Rattle.std.specs.Process.{exit_status};
 ghost use Rattle.clap.specs.Words.{kind_of};
 ghost use Rattle.clap.specs.declared.error.kind.ErrorKind.TheVariants.{DisplayHelp, DisplayVersion};
-ghost use Rattle.seccomptool.specs.Commands.{EndWith, EndsWith, IsPerformed, verdict_status};
+ghost use Rattle.seccomptool.specs.Commands.{IsPerformed};
+ghost use Rattle.seccomptool.specs.Outside as spec;
+ghost use Rattle.seccomptool.specs.Outside.{Adds, EndWith, Ends, EndsGathered, IsDelivered, IsOfFile, IsTrouble, WritesAll, made_status};
 
 use crate::check::format::CheckFormat;
 use crate::compile::ProgramFormat;
 use crate::error::ToolError;
-use crate::files::{is_same, whole_of, write_whole};
+use crate::files::{is_same, whole_of};
 use crate::findings::Verdict;
 use crate::json::list_text;
 use crate::made::Made;
-use crate::notes::{readable, tell, tell_notes};
+use crate::notes::{readable, tell_notes};
+use crate::outside::{OUTPUT, Outside};
 use crate::perform::perform;
 use crate::progress::Watch;
 use crate::words::{Asked, Inputs, Verb, read};
 use clap::error::ErrorKind;
 use seccomp_command_line::readable::TextKind;
+use std::alloc::Global;
 use std::io;
-use std::io::Write;
 use std::process::ExitCode;
 
 // The status of a command that fails.
@@ -36,14 +39,12 @@ const GONE: [(&str, &str); 6] = [
     ("import", "compile"),
 ];
 
-// What is written where no file is.
-const OUTPUT: &str = "standard output";
-
 /// Carries out what the arguments after the program's name ask for, or says what is wrong with
 /// them, or writes the help or the version that they ask for. `to_terminal` says whether standard output
 /// is a terminal; `progress` gets how far comparisons are.
-pub(crate) fn answer(
+pub(crate) fn answer<O: Outside>(
     rt: &HostRuntime,
+    out: &mut O,
     words: &[String],
     to_terminal: bool,
     progress: &mut Watch<'_>,
@@ -60,7 +61,7 @@ pub(crate) fn answer(
     }
     let mut codes = Vec::new(rt.alloc());
     match read(rt.alloc(), words, &mut codes) {
-        Ok(asked) => ExitCode::from(carry_out_each(rt, &asked, to_terminal, progress)),
+        Ok(asked) => ExitCode::from(carry_out_each(rt, out, &asked, to_terminal, progress)),
         Err(error) => misused(rt, &error),
     }
 }
@@ -83,8 +84,12 @@ fn misused(rt: &HostRuntime, error: &clap::Error) -> ExitCode
             ExitCode::from(2)
         }
         _ => {
-            if let Ok(told) = format!(in rt.alloc(); "{error}") {
-                tell_notes(rt, told.as_bytes());
+            let told = match format!(in rt.alloc(); "{error}") {
+                Ok(told) => tell_notes(rt, told.as_bytes()).is_ok(),
+                Err(_) => false,
+            };
+            if !told {
+                let _ = eprintln!(rt; "seccomptool: Out of memory.");
             }
             ExitCode::from(2)
         }
@@ -103,46 +108,65 @@ pub(crate) fn unread(rt: &HostRuntime, error: &io::Error) -> ExitCode {
 
 // Carries out a command on one after the other of what it is asked for: one that fails doesn't keep those behind it from being
 // carried out. The status is the greatest of theirs.
-fn carry_out_each(
+fn carry_out_each<O: Outside>(
     rt: &HostRuntime,
+    out: &mut O,
     asked: &Asked<'_>,
     to_terminal: bool,
     progress: &mut Watch<'_>,
 ) -> u8
     ensures ended { result ≤ 3 }
-    ensures each { EndWith asked.now asked.now.inputs.items result }
+    ensures each { EndWith asked.now (O.done out.old) (O.done out.new) result }
 {
     let mut status: u8 = 0;
     let mut gathered = Vec::new(rt.alloc());
     for inputs in &asked.inputs {
-        let own = carry_out(rt, asked, *inputs, to_terminal, progress, &mut gathered);
+        let own = carry_out(
+            rt,
+            out,
+            asked,
+            *inputs,
+            to_terminal,
+            progress,
+            &mut gathered,
+        );
         status = status.max(own);
     }
     if gathers(asked) {
-        status = status.max(write_gathered(rt, &gathered));
+        status = status.max(end_gathered(rt.alloc(), out, &gathered));
     }
     status
 }
 
 // Writes what is gathered of all that a command is carried out on. The status is that of trouble if that fails.
-fn write_gathered(rt: &HostRuntime, gathered: &[u8]) -> u8
-    ensures { (result ≡ 0) ⊎ (result ≡ 2) }
+fn end_gathered<O: Outside>(alloc: Global, out: &mut O, gathered: &[u8]) -> u8
+    ensures ended { result ≤ 3 }
+    ensures written { EndsGathered (O.done out.old) (O.done out.new) result }
 {
-    let written = match list_text(rt.alloc(), "diagnostics", gathered) {
-        Ok(text) => write(rt, None, &text),
-        Err(error) => Err(error.into()),
+    let Err(error) = write_gathered(alloc, out, gathered) else {
+        return 0;
     };
-    let Err(error) = written else { return 0 };
     let none = Inputs {
         first: None,
         second: None,
     };
-    tell(rt, none, &error);
+    out.tell(none, &error);
     TROUBLE
 }
 
+fn write_gathered<O: Outside>(alloc: Global, out: &mut O, gathered: &[u8]) -> Result<(), ToolError>
+    ensures written { OnOk result (WritesAll (O.done out.old) (O.done out.new)) }
+    ensures unwritten { OnErr result (Adds (O.done out.old) (O.done out.new) []) }
+    ensures cause { IfErr result IsOfFile }
+{
+    let text = list_text(alloc, "diagnostics", gathered)?;
+    out.write(None, &text)
+}
+
 // Whether what a command makes is written at once, behind the last of what it is carried out on.
-fn gathers(asked: &Asked<'_>) -> bool {
+fn gathers(asked: &Asked<'_>) -> bool
+    ensures { result ≡ spec.gathers asked.now }
+{
     matches!(
         (asked.verb, asked.check_format),
         (Verb::Check, CheckFormat::Json)
@@ -152,8 +176,9 @@ fn gathers(asked: &Asked<'_>) -> bool {
 // Carries out a command on the files and standard input that it names. Where standard output is a terminal, no bytes of programs
 // or records are written there. A status that isn't that of trouble comes only where the command is carried out, and is that of what
 // it finds. Records that end inside of one are trouble, once the whole ones are written.
-fn carry_out(
+fn carry_out<O: Outside>(
     rt: &HostRuntime,
+    out: &mut O,
     asked: &Asked<'_>,
     inputs: Inputs<'_>,
     to_terminal: bool,
@@ -161,34 +186,38 @@ fn carry_out(
     gathered: &mut Vec<u8>,
 ) -> u8
     ensures ended { result ≤ 3 }
-    ensures performed { EndsWith asked.now result }
+    ensures performed { Ends asked.now (record { done = O.done out.old; gathered = gathered.old.items }) (record { done = O.done out.new; gathered = gathered.new.items }) result }
 {
-    match carried_out(rt, asked, inputs, to_terminal, progress, gathered) {
+    match carried_out(rt, out, asked, inputs, to_terminal, progress, gathered) {
         Ok(made) => {
-            tell_notes(rt, &made.notes);
-            if made.is_cut {
+            if out.note(&made.notes).is_err() {
+                out.tell(inputs, &ToolError::OutOfMemory);
                 return TROUBLE;
             }
-            status_of(made.verdict)
+            status_of(made.is_cut, made.verdict)
         }
         Err(error) => {
-            tell(rt, inputs, &error);
+            out.tell(inputs, &error);
             TROUBLE
         }
     }
 }
 
-// Carries out a command on what it reads, and writes what it makes of that, at once. On an error nothing is written, unless it is
-// writing that fails.
-fn carried_out(
+// Carries out a command on what it reads, and writes what it makes of that, at once. On an error nothing is written.
+fn carried_out<O: Outside>(
     rt: &HostRuntime,
+    out: &mut O,
     asked: &Asked<'_>,
     inputs: Inputs<'_>,
     to_terminal: bool,
     progress: &mut Watch<'_>,
     gathered: &mut Vec<u8>,
 ) -> Result<Made, ToolError>
-    ensures { IfOk result (λ made. IsPerformed asked.now made.verdict) }
+    ensures performed { IfOk result (IsPerformed asked.now) }
+    ensures delivered { IfOk result (λ made. IsDelivered (spec.gathers asked.now) asked.now made.text.items (record { done = O.done out.old; gathered = gathered.old.items }) (record { done = O.done out.new; gathered = gathered.new.items })) }
+    ensures cause { IfErr result (IsTrouble asked.now) }
+    ensures unwritten { OnErr result (Adds (O.done out.old) (O.done out.new) []) }
+    ensures ungathered { OnErr result (gathered.new.items ≡ gathered.old.items) }
 {
     refuse_output(rt, asked, inputs, to_terminal)?;
     let first = first_of(rt, asked, inputs)?;
@@ -197,25 +226,31 @@ fn carried_out(
     // Here, so that no branch below has to.
     drop((first, second));
     let made = made?;
-    write_made(rt, asked, &made.text, gathered)?;
+    write_made(rt.alloc(), out, asked, &made.text, gathered)?;
     Ok(made)
 }
 
 // Writes what a command makes, or gathers it.
-fn write_made(
-    rt: &HostRuntime,
+fn write_made<O: Outside>(
+    alloc: Global,
+    out: &mut O,
     asked: &Asked<'_>,
     text: &[u8],
     gathered: &mut Vec<u8>,
-) -> Result<(), ToolError> {
+) -> Result<(), ToolError>
+    ensures delivered { OnOk result (IsDelivered (spec.gathers asked.now) asked.now text.now (record { done = O.done out.old; gathered = gathered.old.items }) (record { done = O.done out.new; gathered = gathered.new.items })) }
+    ensures unwritten { OnErr result (Adds (O.done out.old) (O.done out.new) []) }
+    ensures ungathered { OnErr result (gathered.new.items ≡ gathered.old.items) }
+    ensures cause { IfErr result IsOfFile }
+{
     if gathers(asked) {
         return Ok(gathered.extend_from_slice(text)?);
     }
     if writes_bytes(asked) || is_plain(text) {
-        return write(rt, asked.output, text);
+        return out.write(asked.output, text);
     }
-    let text = readable(rt.alloc(), text, TextKind::Lines)?;
-    write(rt, asked.output, text.as_bytes())
+    let text = readable(alloc, text, TextKind::Lines)?;
+    out.write(asked.output, text.as_bytes())
 }
 
 // Whether a text has no bytes but those of lines in ASCII.
@@ -234,7 +269,9 @@ fn refuse_output(
     asked: &Asked<'_>,
     inputs: Inputs<'_>,
     to_terminal: bool,
-) -> Result<(), ToolError> {
+) -> Result<(), ToolError>
+    ensures { IfErr result IsOfFile }
+{
     let told = match asked.output {
         None if to_terminal && writes_bytes(asked) => {
             "bytes aren't written to a terminal; use a file or a pipe"
@@ -245,21 +282,11 @@ fn refuse_output(
     Err(ToolError::of_path(rt.alloc(), asked.output.unwrap_or(OUTPUT), told))
 }
 
-// Writes a file whole, or standard output.
-fn write(rt: &HostRuntime, output: Option<&str>, text: &[u8]) -> Result<(), ToolError> {
-    let written = match output {
-        Some(path) => write_whole(rt, path, text),
-        None => io::writer(rt).write_all(text),
-    };
-    match written {
-        Ok(()) => Ok(()),
-        Err(error) => Err(ToolError::of_io(rt.alloc(), output.unwrap_or(OUTPUT), error)),
-    }
-}
-
 // The first one of what a command reads: all traces of `learn`, one after the other. Each begins in a new line, but not records,
 // which have bytes that are 0.
-fn first_of(rt: &HostRuntime, asked: &Asked<'_>, inputs: Inputs<'_>) -> Result<Vec<u8>, ToolError> {
+fn first_of(rt: &HostRuntime, asked: &Asked<'_>, inputs: Inputs<'_>) -> Result<Vec<u8>, ToolError>
+    ensures { IfErr result IsOfFile }
+{
     let mut text = whole_of(rt, inputs.first)?;
     for path in &asked.further {
         let is_cut = matches!(text.last(), Some(byte) if *byte != b'\n');
@@ -283,7 +310,9 @@ fn is_read(rt: &HostRuntime, asked: &Asked<'_>, inputs: Inputs<'_>, path: &str) 
 }
 
 // Whether a command writes bytes that are no text.
-fn writes_bytes(asked: &Asked<'_>) -> bool {
+fn writes_bytes(asked: &Asked<'_>) -> bool
+    ensures { result ≡ spec.writes_bytes asked.now }
+{
     match asked.verb {
         Verb::Compile => matches!(asked.format, ProgramFormat::Raw),
         Verb::Call => asked.recorded,
@@ -291,11 +320,14 @@ fn writes_bytes(asked: &Asked<'_>) -> bool {
     }
 }
 
-// The status of what a command finds.
-fn status_of(verdict: Verdict) -> u8
-    ensures is { result ≡ verdict_status verdict }
+// The status of what a command finds; that of trouble if records end inside of one.
+fn status_of(is_cut: bool, verdict: Verdict) -> u8
+    ensures is { result ≡ made_status is_cut verdict }
     ensures ended { result ≤ 3 }
 {
+    if is_cut {
+        return TROUBLE;
+    }
     match verdict {
         Verdict::Same => 0,
         Verdict::Different => 1,

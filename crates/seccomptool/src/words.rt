@@ -3,6 +3,9 @@
 mod program;
 mod values;
 
+ghost use Rattle.clap.specs.Words.{found_of};
+ghost use Rattle.seccomptool.specs.Arguments.{IsAskedFor};
+
 use crate::check::format::CheckFormat;
 use crate::compile::ProgramFormat;
 use crate::diff::Scope;
@@ -285,6 +288,13 @@ fn asked_of<'a>(
 fn asked_in<'a>(matches: &ArgMatches<'a>, wrong: &mut Text) -> Asked<'a> {
     // clap lets no words pass without one.
     let (name, found) = matches.subcommand().unwrap_or(("", matches));
+    asked_for(name, found, wrong)
+}
+
+// What the matches of the subcommand of this name ask for.
+fn asked_for<'a>(name: &str, found: &ArgMatches<'a>, wrong: &mut Text) -> Asked<'a>
+    ensures { IsAskedFor (found_of found.now) result }
+{
     let verb = match name {
         "check" if found.get_flag("list") => Verb::Codes,
         "check" => Verb::Check,

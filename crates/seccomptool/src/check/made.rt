@@ -1,6 +1,7 @@
 // What `check` makes of the text that it is given.
 
-ghost use Rattle.std.specs.Prelude.{IfErr, IfOk};
+ghost use Rattle.std.specs.Prelude.{◌≡◌, IfErr, IfOk, false};
+ghost use Rattle.seccomptool.specs.declared.error.ToolError.TheVariants.{OutOfMemory};
 ghost use Rattle.seccomptool.specs.Commands.{IsAccepted, IsCheck, IsRejectedFor};
 
 use crate::check::fault::push_error;
@@ -24,7 +25,8 @@ pub(crate) fn check_made(
     path: &str,
     given: &[u8],
 ) -> Result<Made, ToolError>
-    ensures { IfOk result (λ made. IsCheck asked.now given.now made.verdict) }
+    ensures made { IfOk result (λ made. IsCheck asked.now given.now made.verdict × (made.is_cut ≡ false)) }
+    ensures failed { IfErr result (λ error. error ≡ OutOfMemory) }
 {
     let subject = subject_of(alloc, &asked.reading, given)?;
     let mut lines = Lines::new(alloc, asked.check_format, path, given);

@@ -1,7 +1,8 @@
 // Programs as C has them: initializers of `struct sock_filter`, as `tcpdump -dd` and `compile --format c` write them.
 
-ghost use Rattle.std.specs.Prelude.{◌≡◌, ◌≤◌, ◌↔◌, IsTrue, length};
+ghost use Rattle.std.specs.Prelude.{◌≡◌, ◌≤◌, ◌↔◌, IfErr, IsTrue, length};
 ghost use Rattle.seccomptool.specs.Kinds.{BeginsAsInitializers, BeginsInitializer, behind_space};
+ghost use Rattle.seccomptool.specs.Run.{IsOfProgram};
 
 use crate::error::ToolError;
 use crate::record::read_number;
@@ -55,7 +56,9 @@ fn behind_space(text: &[u8]) -> &[u8]
 
 /// The bytes of the instructions that a text initializes: four numbers each, decimal or hexadecimal, in braces. Braces may stand
 /// around all, a comma behind the last one, and comments anywhere.
-pub(crate) fn bytes_of_initializers(alloc: Global, text: &[u8]) -> Result<Vec<u8>, ToolError> {
+pub(crate) fn bytes_of_initializers(alloc: Global, text: &[u8]) -> Result<Vec<u8>, ToolError>
+    ensures { IfErr result IsOfProgram }
+{
     let mut reader = Reader {
         bytes: Vec::new(alloc),
         next: 0,
@@ -136,7 +139,9 @@ impl Reader {
         true
     }
 
-    fn fault(&self) -> ToolError {
+    fn fault(&self) -> ToolError
+        ensures { IsOfProgram result }
+    {
         let expected = match self.next {
             _ if self.is_missing => return ToolError::OutOfMemory,
             0 => "an opening brace",

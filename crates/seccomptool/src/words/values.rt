@@ -1,6 +1,11 @@
 // The values of options and arguments, in clap's matches. If an option takes some names alone, clap lets no other pass. One that a
 // command doesn't have isn't given.
 
+ghost use Rattle.std.specs.Prelude.{◌≡◌, codes};
+ghost use Rattle.clap.specs.Words.{first_value, found_of};
+ghost use Rattle.seccomptool.specs.Arguments.{EndsWithName, IsFlag, arch_named, is_of_all, is_only_more, layout_named, path_given};
+ghost use Rattle.seccomptool.specs.Chosen.{text_of};
+
 use super::Calls;
 use crate::check::format::CheckFormat;
 use crate::compile::ProgramFormat;
@@ -25,12 +30,16 @@ pub(super) fn push<T: Drop>(wrong: &mut Text, list: &mut Vec<T>, item: T) {
 }
 
 // The path that is given, or standard input.
-pub(super) fn path_in<'a>(found: &ArgMatches<'a>, id: &str) -> &'a str {
+pub(super) fn path_in<'a>(found: &ArgMatches<'a>, id: &str) -> &'a str
+    ensures { result.now ≡ path_given (found_of found.now) id.now }
+{
     found.get_str(id).unwrap_or("-")
 }
 
 // A path, and the name of a filter, if one stands behind the last colon: none if nothing does.
-pub(super) fn named_in(text: &str) -> (&str, Option<&str>) {
+pub(super) fn named_in(text: &str) -> (&str, Option<&str>)
+    ensures { EndsWithName text.now (text_of result.1) }
+{
     match text.rsplit_once(':') {
         None => (text, None),
         Some((path, "")) => (path, None),
@@ -84,7 +93,9 @@ pub(super) fn allowed_in(found: &ArgMatches<'_>, wrong: &mut Text) -> Vec<Code> 
     allowed
 }
 
-pub(super) fn arch_in(found: &ArgMatches<'_>) -> TargetArch {
+pub(super) fn arch_in(found: &ArgMatches<'_>) -> TargetArch
+    ensures { result ≡ arch_named (first_value (found_of found.now) (codes "arch")) }
+{
     match found.get_str("arch") {
         Some("aarch64" | "arm64") => TargetArch::aarch64,
         Some("riscv64") => TargetArch::riscv64,
@@ -92,7 +103,9 @@ pub(super) fn arch_in(found: &ArgMatches<'_>) -> TargetArch {
     }
 }
 
-pub(super) fn layout_in(found: &ArgMatches<'_>) -> Layout {
+pub(super) fn layout_in(found: &ArgMatches<'_>) -> Layout
+    ensures { result ≡ layout_named (first_value (found_of found.now) (codes "layout")) }
+{
     match found.get_str("layout") {
         Some("linear") => Layout::Linear,
         _ => Layout::Tree,
@@ -124,14 +137,18 @@ pub(super) fn format_in<'a>(found: &ArgMatches<'a>) -> &'a str {
     found.get_str("format").unwrap_or("")
 }
 
-pub(super) fn relation_in(found: &ArgMatches<'_>) -> Relation {
+pub(super) fn relation_in(found: &ArgMatches<'_>) -> Relation
+    ensures { IsFlag (found_of found.now) (codes "only-more") (is_only_more result) }
+{
     if found.get_flag("only-more") {
         return Relation::AtMostAsPermissive;
     }
     Relation::Alike
 }
 
-pub(super) fn scope_in(found: &ArgMatches<'_>) -> Scope {
+pub(super) fn scope_in(found: &ArgMatches<'_>) -> Scope
+    ensures { IsFlag (found_of found.now) (codes "all") (is_of_all result) }
+{
     if found.get_flag("all") {
         return Scope::All;
     }

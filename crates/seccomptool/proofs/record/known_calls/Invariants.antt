@@ -1,8 +1,7 @@
-use Rattle.std.proofs.Common.{All}
-use Rattle.seccomptool.specs.declared.record.KnownCall.{KnownCall}
-use Rattle.seccomptool.specs.Record.{IsCall}
+use Rattle.std.proofs.Common.{take}
+use Rattle.seccomptool.proofs.record.Calls.{AreCallsOn}
 use Rattle.seccomptool.proofs.record.known_calls.Given as goal
 
--- those so far are calls of the text
+-- those so far are the text's calls on the architectures so far
 abbrev pub invariant-loop-target : goal.invariant-loop-target
-invariant-loop-target l = All (λ (known : KnownCall). IsCall known.target l.call known.number) l.calls.items
+invariant-loop-target l = AreCallsOn l.call (take l.target-index l.targets) l.calls.items

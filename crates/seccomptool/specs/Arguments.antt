@@ -1,0 +1,69 @@
+-- What the arguments of a command ask for, as clap finds them.
+use Rattle.std.specs.Prelude.{◌≡◌, ◌||◌, ℕ, Bool, true, false, if◌then◌else◌, List, Option, Some, None, IfSome, codes, drop, is_none, take, unwrap_or}
+use Rattle.std.specs.Str.{bytes_eq}
+use Rattle.clap.specs.Words.{first_value, one_text}
+use Rattle.clap.specs.declared.parser.matches.Found.{Found}
+use Rattle.seccompiler.specs.declared.backend.TargetArch.{TargetArch}
+use Rattle.seccompiler.specs.declared.backend.TargetArch.TheVariants.{x86_64, aarch64, riscv64}
+use Rattle.seccomp_compare.specs.declared.Relation.{Relation}
+use Rattle.seccomp_compare.specs.declared.Relation.TheVariants.{Alike, AtMostAsPermissive}
+use Rattle.seccomp_tree.specs.declared.layout.Layout.{Layout}
+use Rattle.seccomp_tree.specs.declared.layout.Layout.TheVariants.{Linear, Tree}
+use Rattle.seccomptool.specs.declared.diff.Scope.{Scope}
+use Rattle.seccomptool.specs.declared.diff.Scope.TheVariants as scope
+use Rattle.seccomptool.specs.declared.words.Asked.{Asked}
+use Rattle.seccomptool.specs.Chosen.{text_of}
+
+-- ---- values
+
+-- Whether an option that takes nothing is given.
+pub record IsFlag (found : Found) (option : List ℕ) (given : Bool) : Type 0 where
+  pub none : one_text found option ≡ None → given ≡ false
+  pub value : one_text found option ≡ Some (codes "true") → given ≡ true
+  pub other : one_text found option ≡ Some (codes "false") → given ≡ false
+
+-- The architecture of a name, x86_64 if there is none. arm64 is aarch64's other name. clap lets no name pass that isn't one.
+abbrev pub arch_named : Option (List ℕ) → TargetArch
+arch_named None = x86_64
+arch_named (Some name) =
+    if bytes_eq name (codes "aarch64") || bytes_eq name (codes "arm64") then aarch64
+    else if bytes_eq name (codes "riscv64") then riscv64 else x86_64
+
+abbrev pub layout_named : Option (List ℕ) → Layout
+layout_named None = Tree
+layout_named (Some name) = if bytes_eq name (codes "linear") then Linear else Tree
+
+-- Whether a relation asks that a side permits no more, and whether all calls count.
+abbrev pub is_only_more : Relation → Bool
+is_only_more Alike = false
+is_only_more AtMostAsPermissive = true
+
+abbrev pub is_of_all : Scope → Bool
+is_of_all scope.Named = false
+is_of_all scope.All = true
+
+-- A path of standard input if none is given.
+abbrev pub path_given : Found → List ℕ → List ℕ
+path_given found name = unwrap_or (first_value found name) (codes "-")
+
+-- The text ends with the name of a filter, if there is one.
+abbrev pub EndsWithName : List ℕ → Option (List ℕ) → Type 0
+EndsWithName text name = IfSome name (λ n. (place : ℕ) × (n ≡ drop place text))
+
+-- ---- what is asked for
+
+-- The command is asked for this. What else is asked for is tested.
+pub record IsAskedFor (found : Found) (asked : Asked) : Type 0 where
+  pub arch : asked.arch ≡ arch_named (first_value found (codes "arch"))
+  pub target : asked.terms.target ≡ arch_named (first_value found (codes "arch"))
+  pub each_arch : asked.each_arch ≡ is_none (first_value found (codes "arch"))
+  pub filter : text_of asked.filter ≡ first_value found (codes "filter")
+  pub layout : asked.layout ≡ layout_named (first_value found (codes "layout"))
+  pub relation : IsFlag found (codes "only-more") (is_only_more asked.terms.relation)
+  pub scope : IsFlag found (codes "all") (is_of_all asked.scope)
+  pub denied : IsFlag found (codes "deny-warnings") asked.denied
+  pub strict : IsFlag found (codes "strict") asked.strict
+  pub recorded : IsFlag found (codes "record") asked.recorded
+  pub call : asked.call.name.now ≡ path_given found (codes "CALL")
+  pub old : EndsWithName (path_given found (codes "OLD")) (text_of asked.old)
+  pub new : EndsWithName (path_given found (codes "NEW")) (text_of asked.new)

@@ -1,0 +1,28 @@
+-- Why a command isn't carried out on bytes that are read.
+use Rattle.std.specs.Prelude.{◌≡◌, Bool, true, false, List, ℕ, ⊤}
+use Rattle.seccompiler.specs.declared.backend.TargetArch.{TargetArch}
+use Rattle.seccomptool.specs.declared.error.ToolError.{ToolError}
+use Rattle.seccomptool.specs.declared.error.ToolError.TheVariants.{Told, OutOfMemory}
+use Rattle.seccomptool.specs.declared.record.KnownCall.{KnownCall}
+use Rattle.seccomptool.specs.declared.words.Asked.{Asked}
+use Rattle.seccomptool.specs.declared.words.Call.{Call}
+use Rattle.seccomptool.specs.declared.words.Verb.{Verb}
+use Rattle.seccomptool.specs.declared.words.Verb.TheVariants as verb
+use Rattle.seccomptool.specs.Commands.{IsAskedAbout}
+use Rattle.seccomptool.specs.Record.{IsUncalled, IsUnknownCall}
+
+-- The text is no call of the architecture; or no call that has a name, of those that are asked about.
+abbrev pub IsUncalledOn : (recorded : Bool) → (each : Bool) → TargetArch → Call → ToolError → Type 0
+IsUncalledOn true each arch call e = IsUncalled arch call.name.now e
+IsUncalledOn false each arch call e = IsUnknownCall (IsAskedAbout each arch) call.name.now e
+
+-- A command fails on these bytes for this. `check` and the list of codes fail only if memory runs out, since a fault of what is given
+-- is what `check` finds. Why the other ones fail isn't said.
+abbrev pub IsFailureOf : Verb → Asked → (first second : List ℕ) → ToolError → Type 0
+IsFailureOf verb.Check asked given none e = e ≡ OutOfMemory
+IsFailureOf verb.Codes asked none other e = e ≡ OutOfMemory
+IsFailureOf verb.Call asked none other e = IsUncalledOn asked.recorded asked.each_arch asked.arch asked.call e
+IsFailureOf other asked first second e = ⊤
+
+abbrev pub IsFailure : Asked → (first second : List ℕ) → ToolError → Type 0
+IsFailure asked first second e = IsFailureOf asked.verb asked first second e

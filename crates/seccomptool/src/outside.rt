@@ -1,0 +1,81 @@
+// What the program does outside: it writes what a command makes, and tells what keeps it from that.
+
+ghost use Rattle.seccomptool.specs.Chosen.{text_of};
+
+use crate::error::ToolError;
+use crate::files::write_whole;
+use crate::notes::{tell, tell_notes};
+use crate::words::Inputs;
+use std::alloc::AllocError;
+use std::io;
+use std::io::Write;
+
+/// What is written where no file is.
+pub(crate) const OUTPUT: &str = "standard output";
+
+/// Where a command writes what it makes, and tells what keeps it from that.
+///
+/// No contract can say what a file holds. So what the shell does is said of each place that tells what is done there, in the order
+/// in which it is done.
+pub(crate) trait Outside {
+    ghost use Rattle.std.specs.Prelude.{List, [], ◌∷◌, IfErr, Option, OnErr, OnOk};
+    ghost use Rattle.seccomptool.specs.Chosen.{text_of};
+    ghost use Rattle.seccomptool.specs.Outside.{Adds, Event, IsOfFile, told, wrote};
+
+    // What is done so far, if that is known.
+    ghost done: { Self → Option (List Event) };
+
+    /// Writes a file whole, or standard output.
+    fn write(&mut self, output: Option<&str>, text: &[u8]) -> Result<(), ToolError>
+        ensures written { OnOk result (Adds (done self.old) (done self.new) (wrote (text_of output.entry) text.now ∷ [])) }
+        ensures unwritten { OnErr result (Adds (done self.old) (done self.new) []) }
+        ensures cause { IfErr result IsOfFile };
+
+    /// Tells an error, and the file that it is in.
+    fn tell(&mut self, inputs: Inputs<'_>, error: &ToolError)
+        ensures { Adds (done self.old) (done self.new) (told error.now ∷ []) };
+
+    /// Tells notes: lines of text. Fails if there is no memory for them.
+    fn note(&mut self, notes: &[u8]) -> Result<(), AllocError>
+        ensures { Adds (done self.old) (done self.new) [] };
+}
+
+/// Files, standard output and standard error. What is done there is not known.
+#[derive(Drop)]
+pub(crate) struct Streams<'a> {
+    pub rt: &'a HostRuntime,
+    /// Whether it is told that memory ran out, which is told once.
+    pub lacks_memory: bool,
+}
+
+impl Outside for Streams<'_> {
+    ghost use Rattle.std.specs.Prelude.{None};
+
+    ghost done = { λ streams. None };
+
+    fn write(&mut self, output: Option<&str>, text: &[u8]) -> Result<(), ToolError> {
+        let rt = self.rt;
+        let written = match output {
+            Some(path) => write_whole(rt, path, text),
+            None => io::writer(rt).write_all(text),
+        };
+        match written {
+            Ok(()) => Ok(()),
+            Err(error) => Err(ToolError::of_io(rt.alloc(), output.unwrap_or(OUTPUT), error)),
+        }
+    }
+
+    fn tell(&mut self, inputs: Inputs<'_>, error: &ToolError) {
+        if !matches!(error, ToolError::OutOfMemory) && tell(self.rt, inputs, error).is_ok() {
+            return;
+        }
+        if !self.lacks_memory {
+            let _ = eprintln!(self.rt; "seccomptool: Out of memory.");
+        }
+        self.lacks_memory = true;
+    }
+
+    fn note(&mut self, notes: &[u8]) -> Result<(), AllocError> {
+        tell_notes(self.rt, notes)
+    }
+}

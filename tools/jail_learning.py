@@ -3,52 +3,35 @@
 Each of PROGRAMS is traced by strace, and runs under the policy of its traces as it does without a filter. If strace or the kernel
 traces nothing here, on Debian 12 the traces of examples/traces are taken, which were made there. Under each policy a call that no trace has
 kills; `explain` says so of the line in the kernel's log, or of one of that form if that log can't be read or leaves the line out; and
-a policy that learns the line allows the call. What isn't installed is said, and left out.
+a policy that learns the line allows the call. Of a program in C the plain path is traced, and what the C library calls by itself then
+runs under the policy. What isn't installed is said, and left out.
 """
 
-import http.client
 import os
 import platform
 import re
 import shutil
 import signal
-import socket
 import subprocess
 import time
 
-from commands import ENVIRONMENT, SECONDS, TOP, run
+from commands import SECONDS, TOP, run
 from jail_cases import KILLED, answer_of
 from jail_running import EXAMPLES, TOOL
+from jail_services import PATH, gunicorn, memcached, mosquitto, nginx, postgres, postgres_programs, redis, redis_that_saves, sshd
 
 MACHINE = platform.machine()
 ARCH_WORD = {"x86_64": "c000003e", "aarch64": "c00000b7", "riscv64": "c00000f3"}.get(MACHINE)
 TABLE = (TOP / f"crates/seccomp_tables/src/{MACHINE}.rt").read_text(encoding="utf-8") if ARCH_WORD else ""
 NUMBERS = {name: int(number) for name, number in re.findall(r'\("([a-z0-9_]+)", ([0-9]+)\)', TABLE)}
 
-# Where programs and services are.
-PATH = "/usr/sbin:/usr/bin:/sbin:/bin"
-
 # What strace prints of a thread that ends before strace knows its call: none, or one whose number is that of a process.
 ENDED = re.compile(r"^\d+ +(\?\?\?|syscall_0x)\S.*\n", re.M)
 
-# The arguments of these calls are traced as numbers.
-STRACE = ["strace", "-f", "-e", "raw=fcntl,ioctl,prctl,socket", "-o"]
+# Arguments are traced as numbers.
+STRACE = ["strace", "-f", "-X", "raw", "-o"]
 
 SCRIPT = "import socket; s = socket.socket(); s.close(); print(len(open('numbers').read()))"
-
-NGINX = """{user}daemon off;
-pid nginx.pid;
-error_log nginx.log;
-events {{ worker_connections 16; }}
-http {{
-    access_log off;
-    client_body_temp_path body; proxy_temp_path proxy; fastcgi_temp_path fastcgi; uwsgi_temp_path uwsgi; scgi_temp_path scgi;
-    server {{ listen 127.0.0.1:{port}; root .; }}
-}}
-"""
-
-# What is asked for last of a saving, and what redis-server answers to it, and to its end.
-THE_END, SAVED = "the end of it", ["+Background saving started", "ok"]
 
 # Calls of `call` under the policy of any of the programs, and their answers: each of the programs closes files, none loads a
 # kernel, and none makes a socket of netlink.
@@ -59,13 +42,6 @@ MISSING_CALL, MISSING_ANSWER = "getpgid 4194304", 3
 
 LINE = ('audit: type=1326 audit(1700000000.123:456): auid=0 uid=0 gid=0 ses=1 subj=unconfined pid=77 comm="call" exe="/usr/bin/call" '
         "sig={} arch={} syscall={} compat=0 ip=0x7f code={}\n")
-
-
-def free_port():
-    """Returns the number of a port that is free."""
-    with socket.socket() as one:
-        one.bind(("127.0.0.1", 0))
-        return one.getsockname()[1]
 
 
 def by_command(words, front, folder):
@@ -84,85 +60,15 @@ def python3(folder):
     return ["python3", "-I", "-S", "-c", SCRIPT], by_command, (f"{(folder / 'numbers').stat().st_size}\n", "", 0)
 
 
-def nginx(folder):
-    """Writes the settings of nginx; returns its command, how it is used, and what comes of it."""
-    port = free_port()
-    (folder / "nginx.conf").write_text(NGINX.format(user="user root;\n" if os.geteuid() == 0 else "", port=port))
+# The programs, the traces of the examples that policies are made of where nothing is traced, and how they are run.
+PROGRAMS = [
+    ("grep", "grep", grep), ("python3", "python", python3), ("nginx", "nginx", nginx), ("redis-server", "redis", redis),
+    ("memcached", None, memcached), ("mosquitto", None, mosquitto), ("gunicorn", None, gunicorn), ("sshd", None, sshd),
+    ("postgres", None, postgres),
+]
 
-    def page():
-        other = http.client.HTTPConnection("127.0.0.1", port, timeout=SECONDS)
-        other.request("GET", "/numbers")
-        return other.getresponse().read()
-
-    def stop():
-        os.kill(int((folder / "nginx.pid").read_text()), signal.SIGQUIT)
-
-    return ["nginx", "-p", f"{folder}/", "-c", "nginx.conf"], used_by(port, page, stop), ((folder / "numbers").read_bytes(), 0)
-
-
-def redis(folder, *asked):
-    """Returns the command of redis-server, how it is used, and what comes of it: a value is set, and more is asked."""
-    port = free_port()
-    (folder / "dump.rdb").unlink(missing_ok=True)
-
-    def answers():
-        return [answered(port, it) for it in ("SET a 1", "GET a", *asked)]
-
-    words = ["redis-server", "--port", str(port), "--save", "", "--daemonize", "no", "--dir", str(folder)]
-    return words, used_by(port, answers, lambda: answered(port, "SHUTDOWN NOSAVE")), (["+OK", "$1", *SAVED[:len(asked)]], 0)
-
-
-def redis_that_saves(folder):
-    """Returns the same, with a saving to a file, for which redis-server starts a process."""
-    return redis(folder, "BGSAVE", THE_END)
-
-
-def answered(port, asked):
-    """Asks redis-server something; returns the first line of its answer, or how its last saving ended once it has."""
-    end, question = time.monotonic() + 10, "INFO persistence" if asked == THE_END else asked
-    while True:
-        with socket.create_connection(("127.0.0.1", port), SECONDS) as other:
-            other.sendall(f"{question}\r\n".encode())
-            answer = other.recv(65536).decode()
-        if question == asked:
-            return answer.partition("\r\n")[0]
-        if "rdb_bgsave_in_progress:0" in answer or time.monotonic() > end:
-            return re.search(r"rdb_last_bgsave_status:(\w+)", answer)[1]
-        time.sleep(0.1)
-
-
-def used_by(port, use, stop):
-    """Returns what starts a service, uses it once its port answers, stops it, and returns what came of it and the exit status."""
-    def by_service(words, front, folder):
-        service = subprocess.Popen([*front, *words], cwd=folder, env={**ENVIRONMENT, "PATH": PATH}, stdin=subprocess.DEVNULL,
-                                   stdout=subprocess.DEVNULL, stderr=subprocess.DEVNULL)
-        try:
-            came = use() if is_up(service, port) else "it doesn't answer"
-            if service.poll() is None:
-                stop()
-            return came, service.wait(20)
-        except (OSError, http.client.HTTPException, subprocess.TimeoutExpired) as error:
-            return str(error), service.poll()
-        finally:
-            service.kill()
-            service.wait()
-    return by_service
-
-
-def is_up(service, port):
-    """Waits until a service's port answers; returns whether it does."""
-    end = time.monotonic() + 20
-    while time.monotonic() < end and service.poll() is None:
-        try:
-            socket.create_connection(("127.0.0.1", port), 1).close()
-            return True
-        except OSError:
-            time.sleep(0.05)
-    return False
-
-
-# The programs, the traces of the examples, and how they are run.
-PROGRAMS = [("grep", "grep", grep), ("python3", "python", python3), ("nginx", "nginx", nginx), ("redis-server", "redis", redis)]
+# The parts of tools/library-calls.c that its trace doesn't have, and how each ends.
+PARTS = {"plain": 0, "threads": 0, "large": 0, "sleep": 0, "abort": -signal.SIGABRT, "system": 0, "time": 0}
 
 
 def traced(results, name, example, prepare, folder):
@@ -171,7 +77,7 @@ def traced(results, name, example, prepare, folder):
     results.compare(f"{name} without a filter", wanted, used(words, [], folder))
     if shutil.which("strace", path=PATH) is None or run([*STRACE, "true.trace", "true"], folder)[2] != 0:
         here = run(["sh", "-c", ". /etc/os-release && echo $ID $VERSION_ID"], folder)[0]
-        files = [EXAMPLES / f"traces/{example}.trace"] if here == "debian 12\n" else []
+        files = [EXAMPLES / f"traces/{example}.trace"] if example and here == "debian 12\n" else []
         print(f"strace traces nothing here, so the policy of {name} is that of {files[0].name if files else 'no trace'}")
         return files
     files = [f"{name}.{k}.trace" for k in (1, 2)]
@@ -191,7 +97,9 @@ def learned(results, name, files, folder, *more):
     """Makes a policy of traces; returns its file."""
     policy = f"{name}.json"
     words = [TOOL, "learn", "-a", MACHINE, "--strict", "--runnable", "--name", name, *more, "-o", policy, *files]
-    results.compare(f"learn {name} {more}", ("", "", 0), run(words, folder))
+    out, notes, status = run(words, folder)
+    others = [it for it in notes.splitlines() if "different values were seen" not in it]
+    results.compare(f"learn {name} {more}", ("", [], 0), (out, others, status))
     words = [TOOL, "check", "-a", MACHINE, "--deny-warnings", "--allow", "clone-by-clone3", "--allow", "allows-by-default", policy]
     results.compare(f"check {policy} {more}", ("", "", 0), run(words, folder))
     return policy
@@ -209,15 +117,84 @@ def try_program(results, jailers, folder, name, files, prepare):
             results.compare(f"{jailer} {policy}: {call}", ("", "", KILLED) if wanted == KILLED else (answer_of(wanted), "", 0), found)
 
 
+def try_no_clone3(results, jailer, folder, files):
+    """Runs memcached, whose threads glibc makes by `clone3`, under a policy whose second filter answers that with ENOSYS."""
+    policy = learned(results, "memcached", files, folder, "--no-clone3")
+    words, used, wanted = memcached(folder)
+    jailed = [*jailer.words, policy, "memcached_clone3,memcached", "--"]
+    results.compare(f"{jailer} {policy}: both filters", wanted, used(words, jailed, folder))
+    for call, wanted in (("clone3", 38), ("kexec_load", KILLED)):
+        found = run([*jailed, folder / "bin/call", call], folder)
+        results.compare(f"{jailer} {policy}: {call} under both", ("", "", KILLED) if wanted == KILLED else (answer_of(wanted), "", 0), found)
+
+
+def try_library(results, jailer, folder):
+    """Traces the plain path of a program in C, as glibc and as musl link it, and runs what the C library calls by itself under the
+    policy of that trace: each part ends as without a filter."""
+    for compiler, *flags in (["cc"], ["cc", "-static"], ["musl-gcc"], ["musl-gcc", "-static"]):
+        name = "-".join(["library-calls", compiler, *(it.strip("-") for it in flags)])
+        if shutil.which(compiler) is None:
+            print(f"{compiler} isn't installed, so nothing is linked with its C library")
+            continue
+        words = [compiler, "-O2", "-Wall", "-Wextra", "-Werror", "-pthread", *flags, TOP / "tools/library-calls.c", "-o", name]
+        built = run(words, folder)
+        if flags and built[2] != 0:
+            print(f"{compiler} links nothing with {flags[0]} here")
+            continue
+        results.compare(f"{name} is built", ("", "", 0), built)
+        if run([*STRACE, "plain.trace", f"./{name}", "plain"], folder)[2] != 0:
+            print(f"strace traces nothing here, so {name} isn't jailed")
+            return
+        policy = learned(results, name, ["plain.trace"], folder)
+        for part, status in PARTS.items():
+            without = run([f"./{name}", part], folder)
+            results.compare(f"{name} {part}", status, without[2])
+            results.compare(f"{jailer} {policy}: {part}", without, run([*jailer.words, policy, "--", f"./{name}", part], folder))
+        stopped_and_continued(results, jailer, folder, policy, f"./{name}")
+
+
+def try_units(results, jailer, folder, files):
+    """Lets systemd look at the drop-ins of examples/systemd, and at one that is learned."""
+    if shutil.which("systemd-analyze") is None:
+        print("systemd isn't installed, so it looks at no drop-in")
+        return
+    words = [TOOL, "learn", "-a", MACHINE, "--strict", "--runnable", "--unit", "--otherwise", "errno:1", *files]
+    text, notes, status = run(words, folder)
+    wanted = [f"seccomptool: {files[0]}: SystemCallFilter= has no conditions, so {it} is allowed with any arguments" for it in ("fcntl", "ioctl")]
+    results.compare("learn --unit", (wanted, 0), (notes.splitlines(), status))
+    (folder / "web.service").write_text("[Service]\nExecStart=/usr/bin/true\n")
+    dropins = folder / "web.service.d"
+    dropins.mkdir(exist_ok=True)
+    examples = {it.name: it.read_text() for it in sorted((EXAMPLES / "systemd").iterdir())}
+    for name, text in {**examples, "learned.conf": text}.items():
+        (dropins / "only.conf").write_text(text.replace("/usr/bin/jail", str(jailer.words[0])))
+        found = run(["systemd-analyze", "verify", "web.service"], folder, SYSTEMD_UNIT_PATH=f"{folder}:")
+        results.compare(f"systemd-analyze verify {name}", ("", "", 0), found)
+
+
+def stopped_and_continued(results, jailer, folder, policy, program):
+    """Stops a program that sleeps under a policy, and lets it go on."""
+    ran = subprocess.Popen([*jailer.words, policy, "--", program, "sleep"], cwd=folder)
+    try:
+        for number in (signal.SIGSTOP, signal.SIGCONT):
+            time.sleep(0.3)
+            ran.send_signal(number)
+        results.compare(f"{jailer} {policy}: stopped and continued", 0, ran.wait(SECONDS))
+    finally:
+        ran.kill()
+        ran.wait()
+
+
 def try_saving(results, jailer, folder, files):
-    """Runs redis-server when it saves: the policy of runs that didn't save allows no process; one that learns another run does."""
+    """Runs redis-server when it saves: under the policy of runs that didn't save this fails; under one that learns another run it
+    doesn't."""
     def came_of(*front, how=None):
         words, used, wanted = redis_that_saves(folder)
         return wanted, how(used, words, "saving.trace", folder) if how else used(words, front, folder)
 
     policy = learned(results, "saving", files, folder, "--otherwise", "errno:1")
     _, (answers, _) = came_of(*jailer.words, policy, "--")
-    results.compare(f"{jailer} {policy}: no process", ("+OK", "$1", True), (*answers[:2], answers[2].startswith("-")))
+    results.compare(f"{jailer} {policy}: nothing is saved", ("+OK", "$1", "err"), (*answers[:2], answers[3]))
     results.compare("strace redis-server that saves", *came_of(how=by_strace))
     wider = ["learn", "-a", MACHINE, "--strict", "--into", policy, "-o", "saves.json", "saving.trace"]
     results.compare(f"learn --into {policy}", ("", "", 0), run([TOOL, *wider], folder))
@@ -298,9 +275,11 @@ def try_learning(results, jailers, folder):
     if ARCH_WORD is None:
         print(f"no names of calls of {MACHINE} are known, so nothing is learned")
         return
+    try_library(results, jailers[0], folder)
     for name, example, prepare in PROGRAMS:
-        if shutil.which(name, path=PATH) is None:
-            print(f"{name} isn't installed, so no policy is learned for it")
+        path = f"{PATH}:{postgres_programs()}" if name == "postgres" else PATH
+        if shutil.which(name, path=path) is None or name == "sshd" and os.geteuid() != 0:
+            print(f"{name} isn't installed, or isn't root's, so no policy is learned for it")
             continue
         files = traced(results, name, example, prepare, folder)
         if not files:
@@ -308,5 +287,8 @@ def try_learning(results, jailers, folder):
         try_program(results, jailers, folder, name, files, prepare)
         if name == "grep":
             try_lines(results, jailers[0], folder, files)
+            try_units(results, jailers[0], folder, files)
         if name == "redis-server" and files[0] == f"{name}.1.trace":
             try_saving(results, jailers[0], folder, files)
+        if name == "memcached":
+            try_no_clone3(results, jailers[0], folder, files)

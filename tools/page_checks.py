@@ -34,7 +34,7 @@ from results import Results
 TOP = pathlib.Path(__file__).resolve().parent.parent
 LINE = 140
 README_WORDS = 800
-PAGES_WORDS = 35000
+PAGES_WORDS = 36000
 CHANGES_WORDS = 1500
 
 LINK = re.compile(r"\[[^\]]*\]\(<?([^()\s>]+)>?\)|(?:src|srcset)=\"([^\"]+)\"")

@@ -54,6 +54,8 @@ static const char help[] =
     "the only one that the policy has; or the program in a file, 8 bytes for each\n"
     "instruction; or the program that `seccomptool compile --oci` makes of a profile.\n"
     "If a standard stream is closed, /dev/null is opened in its place.\n"
+    "The kernel's no_new_privs is set: setuid and setgid programs and file\n"
+    "capabilities give the command nothing.\n"
     "\n"
     "Options:\n"
     "  --tree       compile the policy's filters in the tree layout\n"

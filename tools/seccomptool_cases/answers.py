@@ -13,7 +13,7 @@ from .explain import LINES, NEAR_LINES, SHORT, TWO_LINES, TWO_RECORDS
 from .forms import FULL, INPUT, LOGS, MISSING, OUTPUT, TOOL, Case, as_list, as_object, rejects, writes
 from .hostile import HOSTILE
 from .learn import entry as entry_of
-from .learn import FIRST_STRANGE, MORE, OF_MANY, OF_NAMED, OF_RAW, OF_RAW_AS_PROFILE, filtered, learned
+from .learn import MORE, OF_MANY, OF_NAMED, OF_RAW, OF_RAW_AS_PROFILE, OF_STRANGE, STRANGE_LINES, filtered, learned
 from .logs import ON_DENIED, ON_TRACED
 from .oci import EXAMPLE_LINES
 from .program_diffs import READS, WRITES, others
@@ -218,7 +218,7 @@ OF_LESSONS = [
     learns("--profile raw.trace", "", OF_RAW_AS_PROFILE, KEPT, key="profile"),
     learns("many.trace", "", OF_MANY, [("fcntl", 1)], "many.trace: " + MORE.format("ioctl", 16)),
     learns("--args close:0 short.trace", "", learned(*(entry_of("close", (0, "qword", it)) for it in (1, 2)), "getpid"), [("close", 0, "qword")]),
-    learns("strange.trace", "", learned("getpid", "getuid"), [], "strange.trace: " + FIRST_STRANGE),
+    learns("strange.trace", "", learned(*OF_STRANGE), [], *STRANGE_LINES),
     learns("short.trace -o learned.json && cat learned.json; rm learned.json", "", learned("close", "getpid"), []),
 ]
 

@@ -49,7 +49,7 @@ OF_NAMED = """{
 """
 
 # Calls whose arguments are numbers: hexadecimal, decimal, with their names, with what a descriptor is, or octal. One argument 1 of
-# `fcntl` has a high half, and one of `socket` isn't known.
+# `fcntl` has a high half, and one of `socket` is written as two flags.
 RAW = """77 fcntl(0x3, 0x3, 0)                = 0x8000
 77 fcntl(4</tmp/a, b>, 0x2 /* F_SETFD */, 0x1) = 0
 77 fcntl(0x3, 0x100000003) = -1 EINVAL (Invalid argument)
@@ -74,7 +74,7 @@ OF_RAW = """{
             { "syscall": "fcntl", "args": [{ "index": 1, "type": "dword", "op": "eq", "val": 8 }] },
             { "syscall": "ioctl", "args": [{ "index": 1, "type": "dword", "op": "eq", "val": 21505 }] },
             { "syscall": "prctl", "args": [{ "index": 0, "type": "dword", "op": "eq", "val": 15 }] },
-            { "syscall": "socket", "args": [{ "index": 0, "type": "dword", "op": "eq", "val": 2 }, { "index": 2, "type": "dword", "op": "eq", "val": 0 }] },
+            { "syscall": "socket", "args": [{ "index": 0, "type": "dword", "op": "eq", "val": 2 }, { "index": 1, "type": "dword", "op": "eq", "val": 524289 }, { "index": 2, "type": "dword", "op": "eq", "val": 0 }] },
             { "syscall": "socket", "args": [{ "index": 0, "type": "dword", "op": "eq", "val": 2 }, { "index": 1, "type": "dword", "op": "eq", "val": 526337 }, { "index": 2, "type": "dword", "op": "eq", "val": 6 }] },
             { "syscall": "socket", "args": [{ "index": 0, "type": "dword", "op": "eq", "val": 10 }, { "index": 1, "type": "dword", "op": "eq", "val": 2 }, { "index": 2, "type": "dword", "op": "eq", "val": 0 }] }
         ]
@@ -98,7 +98,7 @@ OF_RAW_AS_PROFILE = """{
         { "names": ["fcntl"], "action": "SCMP_ACT_ALLOW", "args": [{ "index": 1, "value": 4294967295, "valueTwo": 8, "op": "SCMP_CMP_MASKED_EQ" }] },
         { "names": ["ioctl"], "action": "SCMP_ACT_ALLOW", "args": [{ "index": 1, "value": 4294967295, "valueTwo": 21505, "op": "SCMP_CMP_MASKED_EQ" }] },
         { "names": ["prctl"], "action": "SCMP_ACT_ALLOW", "args": [{ "index": 0, "value": 4294967295, "valueTwo": 15, "op": "SCMP_CMP_MASKED_EQ" }] },
-        { "names": ["socket"], "action": "SCMP_ACT_ALLOW", "args": [{ "index": 0, "value": 4294967295, "valueTwo": 2, "op": "SCMP_CMP_MASKED_EQ" }, { "index": 2, "value": 4294967295, "valueTwo": 0, "op": "SCMP_CMP_MASKED_EQ" }] },
+        { "names": ["socket"], "action": "SCMP_ACT_ALLOW", "args": [{ "index": 0, "value": 4294967295, "valueTwo": 2, "op": "SCMP_CMP_MASKED_EQ" }, { "index": 1, "value": 4294967295, "valueTwo": 524289, "op": "SCMP_CMP_MASKED_EQ" }, { "index": 2, "value": 4294967295, "valueTwo": 0, "op": "SCMP_CMP_MASKED_EQ" }] },
         { "names": ["socket"], "action": "SCMP_ACT_ALLOW", "args": [{ "index": 0, "value": 4294967295, "valueTwo": 2, "op": "SCMP_CMP_MASKED_EQ" }, { "index": 1, "value": 4294967295, "valueTwo": 526337, "op": "SCMP_CMP_MASKED_EQ" }, { "index": 2, "value": 4294967295, "valueTwo": 6, "op": "SCMP_CMP_MASKED_EQ" }] },
         { "names": ["socket"], "action": "SCMP_ACT_ALLOW", "args": [{ "index": 0, "value": 4294967295, "valueTwo": 10, "op": "SCMP_CMP_MASKED_EQ" }, { "index": 1, "value": 4294967295, "valueTwo": 2, "op": "SCMP_CMP_MASKED_EQ" }, { "index": 2, "value": 4294967295, "valueTwo": 0, "op": "SCMP_CMP_MASKED_EQ" }] }
     ]
@@ -186,6 +186,10 @@ def of_dword(call, index, *values):
     return [entry(call, (index, "dword", it)) for it in values]
 
 
+# What records have of `fcntl` and `ioctl`.
+OF_FCNTL, OF_IOCTL = of_dword("fcntl", 1, 2)[0], of_dword("ioctl", 1, 2**32 - 1)[0]
+
+
 def noted(words, output, *notes, place=TOOL, given=""):
     """Returns the case of words that write this output, and note lines of a place."""
     return Case("learn " + words, 0, output, "".join(f"{place}{it}\n" for it in notes), given)
@@ -201,10 +205,26 @@ def misused(words, told="error: .."):
     return Case("learn " + words, 2, "", told)
 
 
-# Lines that aren't understood: no call, one that breaks off, no UTF-8, and a line of a log without the call.
+# Lines that aren't understood: no call, a line of a log without the call, and a name that no call has the form of. What breaks off
+# or isn't UTF-8 behind a name is understood.
 STRANGE = b'getpid() = 5\nhello\nread(3, "abc\nclose(\xff) = 0\naudit: type=1326 audit(1:1): arch=c000003e pid=1\nHello(1) = 0\ngetuid() = 0\n'
-FIRST_STRANGE = "5 lines aren't understood, the first is line 2"
+STRANGE_LINES = [f"strange.trace: line {it}" for it in (
+    "2 isn't understood: hello", "5 isn't understood: audit: type=1326 audit(1:1): arch=c000003e pid=1",
+    "6 isn't understood: Hello(1) = 0")]
+OF_STRANGE = ("close", "getpid", "getuid", "read")
 ONE_STRANGE = "getpid() = 5\n" * 11 + "hello\n"
+TWELFTH = "line 12 isn't understood: hello"
+
+# More of them than are reported, some of them the same, and one that is too long to be printed.
+MANY_STRANGE = "".join(f"hello {it % 7}\n" for it in range(20)) + "getpid() = 5\n" + "A" * 161 + "\n"
+LONG_STRANGE = "getpid() = 5\n" + "A" * 160 + "\n" + "B" * 161 + "\n"
+
+# What is no trace.
+NO_TRACE = "it has neither lines of strace, of the kernel's log or of the audit system, nor call records"
+PICTURE = b"\x89PNG\r\n\x1a\n" + bytes(200)
+
+# Calls that have no names of x86_64, of which five are reported.
+MANY_UNNAMED = "".join(f"foo{it % 9}(1) = 0\n" for it in range(18)) + "getpid() = 5\n"
 
 # Calls of other architectures, 32-bit ones of x86 among them.
 FOREIGN = filtered(5, arch="40000003") + filtered(63, arch="c00000b7") + SHORT
@@ -243,13 +263,39 @@ DENIES = '{"a":{"mismatch_action":"allow","match_action":{"errno":1},"filter":[]
 ALLOWS = DENIES.replace('{"errno":1}', '"allow"')
 NOT_ALLOW = "The filter's match_action isn't allow, so it doesn't list what is allowed."
 
+NOTHING = "--args {} keeps nothing: no such argument of {} was read"
+RAW_PRINTS = "; strace -X raw prints numbers"
+
+
+def paired(*entries, name="main"):
+    """Returns the text of a policy of one filter, and of the second."""
+    second = filter_of(f'"{name}_clone3"', [entry("clone3")], '"allow"', '{ "errno": 38 }')
+    return policy_of(filter_of(f'"{name}"', [entry(it) for it in entries], '"kill_process"'), second)
+
+
+# A drop-in of systemd.
+UNIT = "[Service]\nSystemCallArchitectures=native\nSystemCallFilter=\n"
+ANY = "SystemCallFilter= has no conditions, so {} is allowed with any arguments"
+
 NO_ACTION = "error: the value of --otherwise isn't kill_process, kill_thread, log, trap, errno:N or trace:N\n.."
 NO_ARGS = "error: the value of --args isn't CALL or CALL:INDEX,.. with indices from 0 to 5\n.."
 NO_VALUES = "error: the value of --values isn't a number from 0 to 18446744073709551615, decimal or hexadecimal after 0x\n.."
 BOTH = "error: TRACE and POLICY can't both be read from standard input\n.."
 
-# The calls by which programs start and end.
-RUNNABLE = ("execve", "exit", "exit_group", "restart_syscall", "rt_sigaction", "rt_sigprocmask", "rt_sigreturn", "write")
+# The calls that the C library makes by itself, as docs/LEARNING.md has them.
+TABLE = re.search(r"^\| call \| .*?\n\|---.*?\n(.*?)\n\n", (TOP / "docs/LEARNING.md").read_text(encoding="utf-8"), re.M | re.S)[1]
+RUNNABLE = sorted({name for row in TABLE.splitlines() for name in re.findall(r"`([a-z0-9_]+)`", row.split("|")[1])})
+REQUESTS = {"fcntl": [2], "ioctl": [0x5401, 0x5413]}
+OTHERS = {"x86_64": {"riscv_hwprobe"}, "aarch64": {
+    "access", "arch_prctl", "open", "readlink", "riscv_hwprobe", "stat", "time"}}
+
+
+def runnable(arch="x86_64", *more):
+    """Returns the entries of what the C library calls by itself, and of more calls."""
+    names = sorted({*RUNNABLE, *more} - OTHERS[arch])
+    return [it for name in names for it in (of_dword(name, 1, *REQUESTS[name]) if name in REQUESTS and name not in more else [name])]
+
+
 
 # A name that steers a terminal, without white space, which ends a word of a log.
 HOSTILE = "a\x07\x1b[2J\x7f\u009b\u202e\u200b"
@@ -259,7 +305,7 @@ FILES = {
     "named.trace": NAMED, "raw.trace": RAW, "short.trace": SHORT, "other.trace": OTHER, "fronts.trace": FRONTS, "logged.log": LOGGED,
     "strange.trace": STRANGE, "one-strange.trace": ONE_STRANGE, "foreign.trace": FOREIGN, "unnamed.trace": UNNAMED, "many.trace": MANY,
     "later.trace": LATER, "learned.bin": RECORDS, "rest.bin": RECORDS + b"12345", "origin.json": ORIGIN, "denies.json": DENIES,
-    "allows-all.json": ALLOWS, "whole.json": learned("close", "fcntl", "getpid", name='"a"'),
+    "allows-all.json": ALLOWS, "picture.png": PICTURE, "paired.json": paired("clone3", "getuid", name="a").replace('"errno": 38', '"errno": 1'), "whole.json": learned("close", "fcntl", "getpid", name='"a"'),
 }
 
 CASES = [
@@ -288,8 +334,17 @@ CASES = [
     writes("learn short.trace other.trace", "", learned("close", "getpid", "getuid")),
     writes("learn other.trace - short.trace", "getppid() = 1\n", learned("close", "getpid", "getppid", "getuid")),
     writes("learn other.trace short.trace short.trace", "", learned("close", "getpid", "getuid")),
-    noted("short.trace strange.trace", learned("close", "getpid", "getuid"),
-          "short.trace: 5 lines aren't understood, the first is line 5"),
+    noted("short.trace strange.trace", learned(*OF_STRANGE), *STRANGE_LINES),
+    # Each file is lines or records by itself, in any order.
+    writes("learn short.trace learned.bin", "", learned("close", OF_FCNTL, "getpid", OF_IOCTL, "read")),
+    writes("learn learned.bin short.trace", "", learned("close", OF_FCNTL, "getpid", OF_IOCTL, "read")),
+    writes("learn learned.bin - short.trace", "getuid() = 1\n", learned("close", OF_FCNTL, "getpid", "getuid", OF_IOCTL, "read")),
+    noted("", learned("getpid"), r"line 2 isn't understood: \x00\x00\x00", place=INPUT, given="getpid() = 1\n\0\0\0\n"),
+    fails("picture.png", "picture.png: " + NO_TRACE),
+    fails("short.trace picture.png", "picture.png: " + NO_TRACE),
+    fails("examples/readme-policy.json", "examples/readme-policy.json: " + NO_TRACE),
+    fails("", NO_TRACE, INPUT, "hello\n"),
+    fails("--strict -", NO_TRACE, INPUT, b"\0" * 63),
     # The name and the action.
     writes("learn --name a short.trace", "", learned("close", "getpid", name='"a"')),
     writes(f"learn --name {NAME} short.trace", "", learned("close", "getpid", name=r'"z\u00e9\u000a"')),
@@ -300,22 +355,36 @@ CASES = [
     *[writes(f"learn --otherwise={kind}:{number} short.trace", "", learned("close", "getpid", otherwise=f'{{ "{kind}": {number} }}'))
       for kind, number in (("errno", 0), ("errno", 1), ("errno", 38), ("trace", 7), ("errno", 65535))],
     # The calls by which programs start and end, beside those that the trace has.
-    writes("learn --runnable short.trace", "", learned(*sorted(("close", "getpid", *RUNNABLE)))),
-    writes("learn --runnable named.trace", "", learned(*sorted({*re.findall(r"^[a-z_]+", NAMED, re.M), *RUNNABLE}))),
-    writes("learn --runnable -a aarch64", "", learned(*RUNNABLE)),
+    writes("learn --runnable short.trace", "", learned(*runnable())),
+    writes("learn --runnable named.trace", "", learned(*runnable("x86_64", *re.findall(r"^[a-z_]+", NAMED, re.M)))),
+    writes("learn --runnable -a aarch64", "", learned(*runnable("aarch64"))),
     # Arguments that are asked for: whole, or 32 bits if the trace has a negative number.
     writes("learn --args close:0 short.trace", "", learned(entry("close", (0, "qword", 1)), entry("close", (0, "qword", 2)), "getpid")),
     writes("learn --args close short.trace", "", learned(entry("close", (0, "qword", 1)), entry("close", (0, "qword", 2)), "getpid")),
     writes("learn --args=3:0 short.trace", "", learned(entry("close", (0, "qword", 1)), entry("close", (0, "qword", 2)), "getpid")),
-    writes("learn --args close:1 short.trace", "", learned("close", "getpid")),
-    writes("learn --args getuid short.trace", "", learned("close", "getpid")),
+    # One that keeps nothing is reported: the trace has no such argument, or not as a number.
+    noted("--args close:1 short.trace", learned("close", "getpid"), "short.trace: " + NOTHING.format("close", "close")),
+    noted("--args getuid short.trace", learned("close", "getpid"), "short.trace: " + NOTHING.format("getuid", "getuid")),
+    noted("--args openat:2 --args mmap:2,3", learned("mmap", "openat"), "--args openat:2 doesn't compare O_RDONLY|O_CLOEXEC" + RAW_PRINTS,
+          "--args mmap:2 doesn't compare PROT_READ" + RAW_PRINTS, "--args mmap:3 doesn't compare MAP_PRIVATE" + RAW_PRINTS, place=INPUT,
+          given='openat(AT_FDCWD, "a", O_RDONLY|O_CLOEXEC) = 3\nmmap(NULL, 1, PROT_READ, MAP_PRIVATE, 3, 0) = 0x7f00\n' * 2),
+    noted("--args read:1,2", learned(entry("read", (2, "qword", 4))), '--args read:1 doesn\'t compare "a, b"' + RAW_PRINTS, place=INPUT,
+          given='read(0, "a, b", 4) = 4\n'),
+    writes("learn --args openat:2", 'openat(-100, "a", 0x80000) = 3\n', learned(entry("openat", (2, "qword", 0x80000)))),
+    # What another thread interrupts is read from both lines.
+    writes("learn --args read:2", '7 read(0,  <unfinished ...>\n8 getpid() = 8\n7 <... read resumed>"a", 16) = 1\n',
+           learned("getpid", entry("read", (2, "qword", 16)))),
+    writes("learn --args read:2", '[pid 7] read(0,  <unfinished ...>\n[pid 8] read(0, "", 8) = 0\n[pid 7] <... read resumed>"a", 16) = 1\n',
+           learned(entry("read", (2, "qword", 8)), entry("read", (2, "qword", 16)))),
+    writes("learn", '8 <... fcntl resumed>) = 1\nfcntl(3, 1) = 0\n', learned("fcntl")),
+    writes("learn --args mmap:0", "mmap(0xffffffffffffffff) = 0\n", learned(entry("mmap", (0, "qword", 2**64 - 1)))),
     writes("learn --args close", "close(-1) = -1 EBADF\nclose(1) = 0\n", learned(*of_dword("close", 0, 1, 2**32 - 1))),
     writes("learn --args close", "close(-4294967295) = 0\nclose(0x100000001) = 0\n",
            learned(entry("close", (0, "qword", 2**32 + 1)), entry("close", (0, "qword", 2**64 - 2**32 + 1)))),
     writes("learn --args mmap:2,3 --args ioctl:2", "mmap(NULL, 4096, 0x1, 0x2, 3, 0) = 0x7f\nmmap(0, 1, 0x1, 0x2, 4, 0) = 0\nioctl(7, 0x5401, 8) = 0\n",
            learned(entry("ioctl", (1, "dword", 0x5401), (2, "qword", 8)), entry("mmap", (2, "qword", 1), (3, "qword", 2)))),
     writes("learn --args read:0,5", record_of(0, X86_64, 1, 2, 3, 4, 5, 6), learned(entry("read", (0, "qword", 1), (5, "qword", 6)))),
-    writes("learn --args getpid:5", "getpid() = 1\n", learned("getpid")),
+    noted("--args getpid:5", learned("getpid"), NOTHING.format("getpid", "getpid"), place=INPUT, given="getpid() = 1\n"),
     # Values up to as many as are kept, of all kept arguments of a call together.
     noted("many.trace", OF_MANY, "many.trace: " + MORE.format("ioctl", 16)),
     noted("--values 0x10 many.trace", OF_MANY, "many.trace: " + MORE.format("ioctl", 16)),
@@ -330,14 +399,18 @@ CASES = [
     noted("--values 2 --args close", learned("close"), MORE.format("close", 2), place=INPUT,
           given="".join(f"close({it}) = 0\n" for it in range(3))),
     # What isn't understood is noted, and with --strict nothing is written.
-    noted("strange.trace", learned("getpid", "getuid"), "strange.trace: " + FIRST_STRANGE),
-    noted("one-strange.trace", learned("getpid"), "one-strange.trace: 1 line isn't understood: line 12"),
-    noted("", learned("getpid"), "1 line isn't understood: line 12", place=INPUT, given=ONE_STRANGE),
+    noted("strange.trace", learned(*OF_STRANGE), *STRANGE_LINES),
+    noted("one-strange.trace", learned("getpid"), "one-strange.trace: " + TWELFTH),
+    noted("", learned("getpid"), TWELFTH, place=INPUT, given=ONE_STRANGE),
+    noted("", learned("getpid"), *[f"line {it + 1} isn't understood: hello {it}" for it in range(5)], "16 more lines aren't understood",
+          place=INPUT, given=MANY_STRANGE),
+    noted("", learned("getpid"), "line 2 isn't understood: " + "A" * 160, "line 3 isn't understood: " + "B" * 160 + "..",
+          place=INPUT, given=LONG_STRANGE),
     noted("rest.bin", learned(*of_dword("fcntl", 1, 2), *of_dword("ioctl", 1, 2**32 - 1), "read"), "rest.bin: 5 bytes follow the last record"),
-    fails("--strict strange.trace", "strange.trace: line 2 isn't understood"),
-    fails("--strict -", "line 12 isn't understood", INPUT, ONE_STRANGE),
+    fails("--strict strange.trace", STRANGE_LINES[0]),
+    fails("--strict -", TWELFTH, INPUT, ONE_STRANGE),
     fails("--strict rest.bin", "rest.bin: 5 bytes follow the last record"),
-    fails("--strict short.trace strange.trace", "short.trace: line 5 isn't understood"),
+    fails("--strict short.trace strange.trace", STRANGE_LINES[0]),
     writes("learn --strict raw.trace", "", OF_RAW),
     # Calls of other architectures, and such as the architecture hasn't.
     noted("foreign.trace", learned("close", "getpid"), "foreign.trace: 2 calls are of other architectures"),
@@ -346,8 +419,10 @@ CASES = [
     noted("--strict unnamed.trace", learned("close", "getpid"), "unnamed.trace: " + NO_SUCH),
     noted("", learned("getpid"), "x86_64 has no call of these names or numbers: " + HOSTILE_TOLD, place=INPUT,
           given=filtered(HOSTILE) + "getpid() = 1\n"),
+    noted("", learned("getpid"), f"x86_64 has no call of these names or numbers: {', '.join(f'foo{it}' for it in range(5))}, and 8 calls of others",
+          place=INPUT, given=MANY_UNNAMED),
     # Notes in their order.
-    noted("--values 0x2", learned("close", "getpid", "ioctl"), "1 line isn't understood: line 1", "2 calls are of other architectures",
+    noted("--values 0x2", learned("close", "getpid", "ioctl"), "line 1 isn't understood: hello", "2 calls are of other architectures",
           NO_SUCH, MORE.format("ioctl", 2), place=INPUT,
           given="hello\nioctl(1, 1) = 0\nioctl(1, 2) = 0\n" + FOREIGN + UNNAMED + "ioctl(1, 3) = 0\n"),
     # Into a filter of a policy, whose other filters stay: its entries, each once, but those that another one covers.
@@ -356,7 +431,7 @@ CASES = [
     writes(f"learn --into origin.json --name {NAME}", LATER, OF_ORIGIN),
     writes("learn --into whole.json raw.trace", "", learned("close", "fcntl", "getpid", *OTHERS_OF_RAW, name='"a"')),
     writes("learn --into whole.json -", "", learned("close", "fcntl", "getpid", name='"a"')),
-    writes("learn --into whole.json --name a --runnable empty", "", learned(*sorted(("close", "fcntl", "getpid", *RUNNABLE)), name='"a"')),
+    writes("learn --into whole.json --name a --runnable empty", "", learned(*runnable("x86_64", "fcntl"), name='"a"')),
     # It is the same again, and in either order.
     Case(f"learn --into origin.json --name {NAME} later.trace | ./seccomptool learn --into - --name {NAME} later.trace", 0, OF_ORIGIN, ""),
     Case("learn raw.trace | ./seccomptool learn --into - raw.trace", 0, OF_RAW, ""),
@@ -373,6 +448,23 @@ CASES = [
     Case("learn --into whole.json other.trace | ./seccomptool diff -q whole.json -", 1,
          "filter a: different\n  getuid: kill_process -> allow, more: getuid(0x0, 0x0, 0x0, 0x0, 0x0, 0x0)\n", ""),
     Case("learn --into whole.json short.trace | ./seccomptool diff -q whole.json -", 0, "filter a: same\n", ""),
+    # With a second filter, which answers `clone3` so that `clone` is called in its place.
+    writes("learn --no-clone3 short.trace", "", paired("clone", "clone3", "close", "getpid")),
+    writes("learn --no-clone3 --name a -", "clone3({flags=CLONE_VM}, 88) = 5\n", paired("clone", "clone3", name="a")),
+    writes("learn --no-clone3 --into paired.json --name a short.trace", "", paired("clone", "clone3", "close", "getpid", "getuid", name="a")),
+    Case("learn --no-clone3 short.trace | ./seccomptool explain -f main_clone3 - clone3", 0, "errno 38 (ENOSYS): main_clone3.filter[0] of clone3 (435)\n", ""),
+    Case("learn --no-clone3 short.trace | ./seccomptool explain -f main - clone3", 0, "allow: main.filter[1] of clone3 (435)\n", ""),
+    Case("learn --no-clone3 short.trace | ./seccomptool check --deny-warnings --allow allows-by-default", 0, "", ""),
+    # As a drop-in of systemd, which holds names alone.
+    writes("learn --unit short.trace", "", UNIT + "SystemCallFilter=close getpid\n"),
+    writes("learn --unit", "", UNIT),
+    writes("learn --unit --otherwise errno:1 short.trace", "", UNIT + "SystemCallFilter=close getpid\nSystemCallErrorNumber=EPERM\n"),
+    writes("learn --unit --otherwise errno:4000 short.trace", "", UNIT + "SystemCallFilter=close getpid\nSystemCallErrorNumber=4000\n"),
+    *[noted(f"--unit --otherwise {it} short.trace", UNIT + "SystemCallFilter=close getpid\n",
+            f"short.trace: systemd has no {it.partition(':')[0] if it != 'errno:0' else it} for other calls, so they kill")
+      for it in ("log", "trap", "kill_thread", "trace:7", "errno:0")],
+    noted("--unit raw.trace", UNIT + "SystemCallFilter=close fcntl ioctl prctl socket\n",
+          *["raw.trace: " + ANY.format(it) for it in ("fcntl", "ioctl", "prctl", "socket")]),
     # As a profile, which decides the same.
     writes("learn --profile raw.trace", "", OF_RAW_AS_PROFILE),
     writes("learn --profile", "", '{\n    "defaultAction": "SCMP_ACT_KILL_PROCESS",\n    "architectures": ["SCMP_ARCH_X86_64"],\n    "syscalls": [\n    ]\n}\n'),
@@ -405,13 +497,13 @@ CASES = [
       for it in ("kill_process", "kill_thread", "trap", "log")],
     Case("learn --profile raw.trace | ./seccomptool explain - fcntl 9 3", 0, "allow: syscalls[2] of fcntl (72)\n", ""),
     Case("learn --profile raw.trace | ./seccomptool explain - fcntl 9 0x100000003", 0, "allow: syscalls[2] of fcntl (72)\n", ""),
-    Case("learn --profile raw.trace | ./seccomptool explain - socket 2 526337 0", 0, "allow: syscalls[6] of socket (41)\n", ""),
+    Case("learn --profile raw.trace | ./seccomptool explain - socket 2 524289 0", 0, "allow: syscalls[6] of socket (41)\n", ""),
     Case("learn --profile raw.trace | ./seccomptool explain - socket 2 526337 5", 0, "kill_process: defaultAction of socket (41)\n", ""),
     # Into a file, which is replaced whole or not at all.
     Case("learn -o learned.json raw.trace && cat learned.json; rm learned.json", 0, OF_RAW, ""),
     Case("learn --output=- short.trace", 0, learned("close", "getpid"), ""),
     Case("learn --strict strange.trace -o older.json; status=$?; ls older.json 2> /dev/null; (exit $status)", 2, "",
-         TOOL + "strange.trace: line 2 isn't understood\n"),
+         TOOL + STRANGE_LINES[0] + "\n"),
     # Files and streams that fail.
     fails("missing.trace", "missing.trace: " + MISSING),
     fails("short.trace missing.trace", "missing.trace: " + MISSING),
@@ -438,6 +530,10 @@ CASES = [
     # Words that are no command.
     misused("--otherwise log --into logs.json short.trace", "error: the argument '--otherwise <ACTION>' cannot be used with '--into <POLICY>'\n.."),
     misused("--profile --into logs.json short.trace", "error: the argument '--profile' cannot be used with '--into <POLICY>'\n.."),
+    misused("--profile --unit short.trace", "error: .."),
+    misused("--unit --json short.trace", "error: .."),
+    misused("--no-clone3 --profile short.trace", "error: .."),
+    misused("--no-clone3 --unit short.trace", "error: .."),
     misused("--profile --name a short.trace", "error: the argument '--profile' cannot be used with '--name <NAME>'\n.."),
     *[misused(f"--otherwise={it} short.trace", NO_ACTION) for it in (
         "allow", "deny", "errno", "errno:", "errno:a", "errno:-1", "errno:4294967296", "trace", "log:1", "Log", "errno 1", "1", "''")],
@@ -459,9 +555,10 @@ CASES = [
 
 TRACES = TOP / "examples/traces"
 
-# A call of the examples' traces, and of those whose arguments are kept by default what they are asked for.
-CALL = re.compile(r"^\d+ +(?:[\d.:]+ )?([a-z0-9_]+)\(", re.M)
-ASKED = re.compile(r"^\d+ +(?:[\d.:]+ )?(?:(fcntl|ioctl)\([^,]+, |(prctl)\()(0x[0-9a-f]+|\d+)[,)]", re.M)
+# A call of the examples' traces, and of those whose arguments are kept by default what they are asked for, as a number or not.
+FRONT = r"^(?:\[pid +\d+\] |\d+ +)?(?:[\d.:]+ )?"
+CALL = re.compile(FRONT + r"([a-z][a-z0-9_]*)\(", re.M)
+ASKED = re.compile(FRONT + r"(?:(fcntl|ioctl)\([^,]+, |(prctl)\()(0x[0-9a-f]+|\d+)?", re.M)
 
 
 def compare_traces(results, run):
@@ -472,8 +569,11 @@ def compare_traces(results, run):
         status, output, errors = run(words, "")
         entries = json.loads(output)["main"]["filter"] if status == 0 else []
         results.compare(words, (0, "", sorted(set(CALL.findall(text)))), (status, errors, sorted({it["syscall"] for it in entries})))
-        asked = {(first or second, int(value, 0)) for first, second, value in ASKED.findall(text)}
-        kept = {(it["syscall"], it["args"][0]["val"]) for it in entries if it["syscall"] in ("fcntl", "ioctl", "prctl")}
+        asked = {(first or second, value and int(value, 0)) for first, second, value in ASKED.findall(text)}
+        named = {call for call, value in asked if value == ""}
+        asked = {(call, "" if call in named else value) for call, value in asked}
+        kept = {(it["syscall"], it["args"][0]["val"] if "args" in it else "")
+                for it in entries if it["syscall"] in ("fcntl", "ioctl", "prctl")}
         results.compare(f"{words}: what calls are asked for", (asked,), (kept,))
         words = f"explain - --log examples/traces/{path.name}"
         status, lines, errors = run(words, output)

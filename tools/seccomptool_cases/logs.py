@@ -3,7 +3,7 @@
 from .compiled_profiles import entry, profile
 from .explain import POLICY as OF_ERRNO
 from .forms import FOLDER, FULL, INPUT, MISSING, OUTPUT, RESET, TOOL, Case, Failing, rejects
-from .learn import FIRST_STRANGE, HOSTILE, HOSTILE_TOLD, filtered
+from .learn import HOSTILE, HOSTILE_TOLD, filtered
 from .programs import ERRNO_1, OF_READ, program, returns
 
 TRAP = 0x00030000  # linux/seccomp.h
@@ -99,8 +99,9 @@ call[10]: trap: call 500
 """),
     explains("--log traced.trace -", "trap: accept4 (288)\ntrap: fcntl (72)\ntrap: fcntl (72)\ntrap: close (3)\n", TRAPS),
     # What isn't understood is noted, and the rest explained.
-    Case("explain logs.json --log strange.trace", 0, "log: no entry of getpid (39)\nlog: no entry of getuid (102)\n",
-         f"{TOOL}strange.trace: {FIRST_STRANGE}\n"),
+    Case("explain logs.json --log strange.trace", 0,
+         "".join(f"log: no entry of {it}\n" for it in ("getpid (39)", "read (0)", "close (3)", "getuid (102)")),
+         f"{TOOL}strange.trace: 3 lines aren't understood, the first is line 2\n"),
     Case("explain logs.json --log -", 0, "log: no entry of getpid (39)\n", INPUT + "1 line isn't understood: line 2\n", "getpid() = 1\nhello\n"),
     # A program's name is printed with its characters that steer a terminal by number.
     explains("logs.json --log -", f"{HOSTILE_TOLD}[5]: log: no entry of read (0)\n", filtered(0, HOSTILE, 5)),

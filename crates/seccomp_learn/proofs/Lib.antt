@@ -4,3 +4,4 @@ pub mod TableNumbers
 pub mod Entries
 pub mod Seen
 pub mod Differences
+pub mod OfNames

@@ -2,5 +2,6 @@
 pub mod Observed
 pub mod Learned
 pub mod Written
+pub mod Usual
 -- Between the functions.
 pub mod Parts

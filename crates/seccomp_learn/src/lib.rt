@@ -23,6 +23,7 @@
 //! ```
 #![tactic(auto)]
 
+mod arguments;
 mod audit;
 mod conditions;
 pub mod limits;
@@ -30,6 +31,7 @@ pub mod line;
 pub mod names;
 mod numbers;
 pub mod observation;
+mod pending;
 pub mod policy;
 pub mod profile;
 mod records;
@@ -47,6 +49,6 @@ pub use crate::observation::{Kept, Observation};
 pub use crate::policy::{Learned, Lesson, learn, learn_within};
 pub use crate::profile::profile_text;
 pub use crate::text::policy_text;
-pub use crate::trace::{Trace, read_trace, told_number};
-pub use crate::usual::{asked_kept, start_and_exit, usual_kept};
+pub use crate::trace::{StrangeLine, Symbolic, Trace, read_trace, told_number};
+pub use crate::usual::{asked_kept, cloning_calls, runnable_calls, usual_kept};
 pub use crate::written::written_policy;

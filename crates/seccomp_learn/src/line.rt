@@ -1,7 +1,8 @@
 // What a line of a trace says.
 
+use crate::arguments::Arguments;
 use crate::audit::audit_line;
-use crate::strace::strace_line;
+use crate::strace::{Spoken, spoken_in};
 use seccompiler::TargetArch;
 
 /// A call that a line is about.
@@ -34,11 +35,32 @@ pub enum Line<'a> {
 
 /// What a line says, of `strace`, of the audit system or of the kernel's log. What `strace` prints is of this architecture.
 pub fn line_of(arch: TargetArch, line: &[u8]) -> Line<'_> {
-    let Ok(line) = str::from_utf8(line) else {
-        return Line::Strange;
-    };
-    match strace_line(arch, line) {
-        Line::Strange => audit_line(line),
-        said => said,
+    let line = text_of(line);
+    match spoken_in(line) {
+        Spoken::Begins(begun) => {
+            let mut arguments = Arguments::unknown();
+            let _cut = arguments.read(begun.behind, 0);
+            Line::Call(Told {
+                arch_word: arch.get_audit_value(),
+                call: begun.call,
+                arguments: arguments.values,
+                program: "",
+                process: "",
+                returned: None,
+            })
+        }
+        Spoken::Resumes(_) | Spoken::Passed => Line::Passed,
+        Spoken::Strange => audit_line(line),
+    }
+}
+
+/// A line as text: up to the first byte that isn't UTF-8. What names a call stands in front of what a program wrote.
+pub(crate) fn text_of(line: &[u8]) -> &str {
+    match str::from_utf8(line) {
+        Ok(text) => text,
+        Err(error) => {
+            let front = line.get(..error.valid_up_to()).unwrap_or(&[]);
+            str::from_utf8(front).unwrap_or("")
+        }
     }
 }

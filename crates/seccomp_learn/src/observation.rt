@@ -13,6 +13,8 @@ pub struct Observation {
     pub number: u32,
     /// What is known of its arguments.
     pub arguments: [Option<u64>; 6],
+    /// Which of them are known in their low 32 bits alone: negative numbers of strace.
+    pub short: [bool; 6],
 }
 
 /// An argument whose values a policy keeps.

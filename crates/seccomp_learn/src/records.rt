@@ -8,7 +8,20 @@ use std::alloc::{AllocError, Global};
 // The bytes of a record.
 const RECORD: usize = 64;
 
-/// Adds the calls of records; bytes behind the last record are strange.
+// Which bits of an `AUDIT_ARCH_*` value no architecture has: it is a machine of ELF's, with flags above.
+const OF_NO_ARCHITECTURE: u32 = 0x1fff_0000;
+
+/// Whether the first bytes have an `AUDIT_ARCH_*` value with a flag where a record has it.
+pub(crate) fn is_of_records(bytes: &[u8]) -> bool {
+    let Some((record, _)) = bytes.split_first_chunk::<RECORD>() else {
+        return false;
+    };
+    let [_, _, _, _, a0, a1, a2, a3, ..] = *record;
+    let word = u32::from_le_bytes([a0, a1, a2, a3]);
+    word > OF_NO_ARCHITECTURE && word & OF_NO_ARCHITECTURE == 0 && word & 0xffff != 0
+}
+
+/// Adds the calls of records, and counts the bytes behind the last one.
 pub(crate) fn push_records(
     alloc: Global,
     arch: TargetArch,
@@ -33,7 +46,7 @@ pub(crate) fn push_records(
         }
         rest = behind;
     }
-    trace.strange = rest.len();
+    trace.rest = rest.len();
     Ok(())
 }
 

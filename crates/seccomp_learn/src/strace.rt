@@ -1,64 +1,78 @@
 // Lines of strace.
 
-use crate::line::{Line, Told};
-use crate::numbers::number_in;
-use seccompiler::TargetArch;
-
-// What stands behind an argument.
+/// A call that a line of strace begins.
 #[derive(Clone, Copy)]
-enum End {
-    Comma,
-    Close,
-    Cut,
-}
-
-// Where a byte stands in the arguments of a call.
-#[derive(Clone, Copy)]
-enum Inside {
-    // No text.
-    Nothing,
-    // A text in quotes.
-    Quotes,
-    // A text in quotes, behind a backslash.
-    Escape,
-    // What a descriptor is, in angle brackets.
-    Angle,
+pub(crate) struct Begun<'a> {
+    /// The number of the thread, as it is written, if the line has one.
+    pub thread: &'a str,
+    /// The call's name.
+    pub call: &'a str,
+    /// What stands behind the parenthesis, up to a message of strace that comes between.
+    pub behind: &'a str,
 }
 
 /// What a line of strace says.
-pub(crate) fn strace_line(arch: TargetArch, line: &str) -> Line<'_> {
-    let rest = without_front(line);
+#[derive(Clone, Copy)]
+pub(crate) enum Spoken<'a> {
+    /// A call begins.
+    Begins(Begun<'a>),
+    /// A call goes on that another line began.
+    Resumes(Begun<'a>),
+    /// Nothing of a call.
+    Passed,
+    /// The line is none of strace.
+    Strange,
+}
+
+/// What a line of strace says. What names a call makes it one, whatever its arguments are.
+pub(crate) fn spoken_in(line: &str) -> Spoken<'_> {
+    let (thread, rest) = without_front(line);
+    if let Some(resumed) = rest.strip_prefix("<... ") {
+        return match resumed.split_once(" resumed>") {
+            Some((call, behind)) if is_name(call) => Spoken::Resumes(Begun {
+                thread,
+                call,
+                behind,
+            }),
+            _ => Spoken::Passed,
+        };
+    }
     if rest.is_empty() || is_passed(rest) {
-        return Line::Passed;
+        return Spoken::Passed;
     }
-    let Some((call, behind)) = rest.split_once('(') else {
-        return Line::Strange;
-    };
-    if !is_name(call) {
-        return Line::Strange;
-    }
-    match arguments(behind.as_bytes()) {
-        Some(arguments) => Line::Call(Told {
-            arch_word: arch.get_audit_value(),
+    match rest.split_once('(') {
+        Some((call, behind)) if is_name(call) => Spoken::Begins(Begun {
+            thread,
             call,
-            arguments,
-            program: "",
-            process: "",
-            returned: None,
+            behind: match behind.split_once("strace: Process ") {
+                Some((front, _)) => front,
+                None => behind,
+            },
         }),
-        None => Line::Strange,
+        _ => Spoken::Strange,
     }
 }
 
-// Whether a line without its front says nothing of a call.
+// Whether a line without its front says nothing of a call: a signal, an exit, a message of strace, a frame of a stack, the end of
+// a call that a message came between.
 fn is_passed(rest: &str) -> bool {
-    rest.starts_with("---")
-        || rest.starts_with("+++")
-        || rest.starts_with("strace: ")
-        || rest.starts_with("> ")
-        || rest.starts_with("<... ")
-        || rest.starts_with("time->")
-        || rest.starts_with("???(")
+    for front in [
+        "---",
+        "+++",
+        "> ",
+        "time->",
+        "???(",
+        "<unfinished ...>",
+        "<detached ...>",
+        "=> ",
+        ") = ",
+        ")  ",
+    ] {
+        if rest.starts_with(front) {
+            return true;
+        }
+    }
+    matches!(rest.split_once("strace: "), Some((path, _)) if !path.contains(' '))
 }
 
 // Whether it may be a call's name.
@@ -68,91 +82,66 @@ fn is_name(name: &str) -> bool {
             return false;
         }
     }
-    !name.is_empty()
+    !name.is_empty() && !name.starts_with(|c: char| c.is_ascii_digit())
 }
 
-// A line without what may stand before a call: the process, the time, the instruction pointer, the call's number.
-fn without_front(line: &str) -> &str {
+// The thread of a line, and the line without what may stand before a call: the process, the time, the instruction pointer, the
+// call's number, the process's context.
+fn without_front(line: &str) -> (&str, &str) {
+    let mut thread = "";
     let mut rest = line.trim();
-    for _ in 0..4u8 {
-        match without_one(rest) {
-            Some(behind) => rest = behind.trim_start(),
-            None => return rest,
+    for _ in 0..8u8 {
+        let Some((part, behind)) = part_of(rest) else {
+            break;
+        };
+        if thread.is_empty() {
+            thread = thread_in(part);
         }
+        rest = behind.trim_start();
     }
-    rest
+    (thread, rest)
 }
 
-// What stands behind the first part of a front.
-fn without_one(rest: &str) -> Option<&str> {
+// The first part of a front, and what stands behind it.
+fn part_of(rest: &str) -> Option<(&str, &str)> {
     if rest.starts_with("[ Process ") {
         return None;
     }
     if rest.starts_with('[') {
-        return Some(rest.split_once(']')?.1);
+        return rest.split_once(']');
     }
-    if rest.starts_with(|c: char| c.is_ascii_digit()) {
-        return Some(rest.split_once(' ')?.1);
+    if rest.starts_with("(+") {
+        return rest.split_once(')');
     }
-    None
+    if rest.starts_with("/*") {
+        return rest.split_once("*/");
+    }
+    if !rest.starts_with(|c: char| c.is_ascii_digit()) {
+        return None;
+    }
+    // A process with its command, in which blanks may be.
+    match rest.split_once('<') {
+        Some((process, _)) if is_digits(process) => rest.split_once("> "),
+        _ => rest.split_once(' '),
+    }
 }
 
-// What is known of the arguments that stand in front of the end of a call; nothing, if the line breaks off.
-fn arguments(text: &[u8]) -> Option<[Option<u64>; 6]> {
-    let mut known = [None; 6];
-    let mut rest = text;
-    for index in 0..32usize {
-        let (length, end) = end_of(rest)?;
-        let (argument, behind) = rest.split_at_checked(length)?;
-        if let Some(place) = known.get_mut(index) {
-            *place = number_in(argument);
+// The number of the thread that a part of a front is, if it is one.
+fn thread_in(part: &str) -> &str {
+    let text = part.strip_prefix("[pid").unwrap_or(part).trim();
+    let text = match text.split_once('<') {
+        Some((process, _)) => process,
+        None => text,
+    };
+    if is_digits(text) { text } else { "" }
+}
+
+// Whether all of it are digits, and there are some.
+fn is_digits(text: &str) -> bool {
+    for byte in text.bytes() {
+        if !byte.is_ascii_digit() {
+            return false;
         }
-        match end {
-            End::Comma => rest = behind.get(1..)?,
-            End::Close | End::Cut => return Some(known),
-        }
     }
-    None
-}
-
-// Where an argument ends, and how.
-fn end_of(text: &[u8]) -> Option<(usize, End)> {
-    let mut inside = Inside::Nothing;
-    let mut depth: u32 = 0;
-    let mut before = b' ';
-    for (index, byte) in text.iter().enumerate() {
-        if let Inside::Nothing = inside {
-            match byte {
-                b',' if depth == 0 => return Some((index, End::Comma)),
-                b')' if depth == 0 => return Some((index, End::Close)),
-                b'<' if is_cut(&text[index..]) => return Some((index, End::Cut)),
-                b'(' | b'[' | b'{' => depth = depth.saturating_add(1),
-                b')' | b']' | b'}' => depth = depth.saturating_sub(1),
-                _ => {}
-            }
-        }
-        inside = next(inside, before, *byte);
-        before = *byte;
-    }
-    None
-}
-
-// Where the byte behind another one stands.
-fn next(inside: Inside, before: u8, byte: u8) -> Inside {
-    match (inside, byte) {
-        (Inside::Nothing, b'"') => Inside::Quotes,
-        (Inside::Nothing, b'<') if before != b'<' && before != b' ' => Inside::Angle,
-        (Inside::Quotes, b'\\') => Inside::Escape,
-        (Inside::Quotes, b'"') => Inside::Nothing,
-        (Inside::Escape, _) => Inside::Quotes,
-        (Inside::Angle, b'>') if before != b'-' => Inside::Nothing,
-        _ => inside,
-    }
-}
-
-// Whether strace says here that the call has not ended.
-fn is_cut(text: &[u8]) -> bool {
-    text.starts_with(b"<unfinished ...>")
-        || text.starts_with(b"<pid changed to ")
-        || text.starts_with(b"<detached ...>")
+    !text.is_empty()
 }

@@ -3,3 +3,4 @@
 pub mod Pairs
 pub mod Readings
 pub mod Named
+pub mod Traces

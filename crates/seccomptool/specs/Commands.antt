@@ -12,6 +12,7 @@ use Rattle.seccomp_compare.specs.Machine.{IsChecked}
 use Rattle.seccomp_oci.specs.declared.compiled.CompiledProfile.{CompiledProfile}
 use Rattle.seccomp_oci.specs.CompiledProfile.{IsCompiledProfile}
 use Rattle.seccomp_oci.specs.Types.{Container}
+use Rattle.seccomp_learn.specs.declared.trace.Trace.{Trace}
 use Rattle.seccomptool.specs.declared.check.CheckedPolicy.{CheckedPolicy}
 use Rattle.seccomptool.specs.declared.check.profile.CheckedProfile.{CheckedProfile}
 use Rattle.seccomptool.specs.declared.compile.NamedProgram.{NamedProgram}
@@ -196,22 +197,22 @@ EndsInside calls bytes = ⊥
 abbrev pub IsPlain : Made → Type 0
 IsPlain made = (made.verdict ≡ Same) × (made.is_cut ≡ false)
 
--- What is asked for is carried out on these bytes, the first and the second that are read: a value is made that is so, with this
--- verdict and what is written. The bytes say what is given.
-abbrev pub IsDone : Verb → Asked → (first second : List ℕ) → Made → Type 0
-IsDone verb.Compile asked given none made = IsCompiled asked given made.text.items × IsPlain made
-IsDone verb.Show asked given none made = IsShown asked given × IsPlain made
-IsDone verb.Check asked given none made = IsCheck asked given made.verdict × (made.is_cut ≡ false)
-IsDone verb.Codes asked none other made = IsPlain made
-IsDone verb.Explain asked given bytes made =
+-- What is asked for is carried out on these bytes, the first and the second that are read, and on these traces: a value is made that
+-- is so, with this verdict and what is written. The bytes say what is given.
+abbrev pub IsDone : Verb → Asked → List Trace → (first second : List ℕ) → Made → Type 0
+IsDone verb.Compile asked traces given none made = IsCompiled asked given made.text.items × IsPlain made
+IsDone verb.Show asked traces given none made = IsShown asked given × IsPlain made
+IsDone verb.Check asked traces given none made = IsCheck asked given made.verdict × (made.is_cut ≡ false)
+IsDone verb.Codes asked traces none other made = IsPlain made
+IsDone verb.Explain asked traces given bytes made =
     OnRecords asked bytes (IsExplained asked given) × (made.verdict ≡ Same) × (IsTrue made.is_cut ↔ EndsInside asked.calls bytes)
-IsDone verb.Call asked none other made = IsCalled asked made.text.items × IsPlain made
-IsDone verb.Diff asked old new made = IsCompared asked old new made.verdict × (made.is_cut ≡ false)
-IsDone verb.Learn asked trace policy made = IsLesson asked policy × IsPlain made
+IsDone verb.Call asked traces none other made = IsCalled asked made.text.items × IsPlain made
+IsDone verb.Diff asked traces old new made = IsCompared asked old new made.verdict × (made.is_cut ≡ false)
+IsDone verb.Learn asked traces none policy made = IsLesson asked traces policy × IsPlain made
 
-abbrev pub IsCarriedOut : Asked → (first second : List ℕ) → Made → Type 0
-IsCarriedOut asked first second made = IsDone asked.verb asked first second made
+abbrev pub IsCarriedOut : Asked → List Trace → (first second : List ℕ) → Made → Type 0
+IsCarriedOut asked traces first second made = IsDone asked.verb asked traces first second made
 
--- It is carried out on some bytes.
+-- It is carried out on some bytes and traces.
 abbrev pub IsPerformed : Asked → Made → Type 0
-IsPerformed asked made = (first : List ℕ) × (second : List ℕ) × IsCarriedOut asked first second made
+IsPerformed asked made = (traces : List Trace) × (first : List ℕ) × (second : List ℕ) × IsCarriedOut asked traces first second made

@@ -1,26 +1,31 @@
 // A policy of the calls that a trace has.
 
+mod arguments;
 pub(crate) mod notes;
+mod unit;
 
 ghost use Rattle.std.specs.Prelude.{IfOk};
 ghost use Rattle.seccomptool.specs.Chosen.{text_of};
 ghost use Rattle.seccomptool.specs.Commands.{IsPlain};
-ghost use Rattle.seccomptool.specs.Learn.{IsBase, IsLearned, IsLesson};
+ghost use Rattle.seccomptool.specs.Learn.{AreAdded, AreCloningIf, AreObserved, AreRunnableIf, IsBase, IsLearned, IsLesson};
 
 use crate::chosen::chosen_name;
 use crate::error::ToolError;
 use crate::findings::Verdict;
-use crate::learn::notes::{has, learned_json, notes_of, strange_text};
+use crate::learn::arguments::push_asked_notes;
+use crate::learn::notes::{has, learned_json, push_notes, refuse_trace};
+use crate::learn::unit::{push_unit_notes, unit_text};
 use crate::made::Made;
 use crate::record::call_number;
+use crate::text::Text;
 use crate::words::{Asked, Inputs};
 use seccomp_learn::{
-    Kept, Lesson, Observation, Trace, asked_kept, learn_within, profile_text, read_trace,
-    start_and_exit, usual_kept, written_policy,
+    Kept, Lesson, Observation, Trace, asked_kept, cloning_calls, learn_within, profile_text,
+    runnable_calls, usual_kept, written_policy,
 };
 use seccompiler::json::filters_of;
-use seccompiler::{JsonFilter, JsonFilterMap, SeccompAction, TargetArch};
-use std::alloc::Global;
+use seccompiler::{JsonFilter, JsonFilterMap, JsonRule, SeccompAction};
+use std::alloc::{AllocError, Global};
 use std::collections::BTreeMap;
 
 /// What the calls of a trace are added to.
@@ -48,29 +53,81 @@ pub(crate) fn learn_made(
     alloc: Global,
     asked: &Asked<'_>,
     inputs: Inputs<'_>,
-    given: &[u8],
+    traces: &[Trace],
     policy: &[u8],
 ) -> Result<Made, ToolError>
-    ensures { IfOk result (λ made. IsLesson asked.now policy.now × IsPlain made) }
+    ensures { IfOk result (λ made. IsLesson asked.now traces.now policy.now × IsPlain made) }
 {
-    let mut trace = read_trace(alloc, asked.arch, given)?;
-    let wanted = wanted_in(alloc, asked, &mut trace)?;
-    let learned = match learned_of(alloc, asked, &trace.observed, &wanted, policy) {
+    for (index, trace) in traces.iter().enumerate() {
+        refuse_trace(alloc, asked, inputs, index, trace)?;
+    }
+    let observed = observed_in(alloc, asked, traces)?;
+    let wanted = wanted_in(alloc, asked, &observed)?;
+    let learned = match learned_of(alloc, asked, &observed, &wanted, policy) {
         Ok(learned) => learned,
         Err(error) => return Err(ToolError::in_second(alloc, error)),
     };
-    let made = views_of(alloc, asked, inputs, &trace, &wanted, &learned);
+    let made = views_of(alloc, asked, inputs, traces, &observed, &wanted, &learned);
     // Here, so that no branch has to.
-    drop((trace, wanted, learned));
+    drop((observed, wanted, learned));
     made
 }
 
-// The text of what is learned, which is a policy's, a profile's or an object with one of these, and the notes.
+// The calls that all traces have, and those that are allowed too.
+fn observed_in(
+    alloc: Global,
+    asked: &Asked<'_>,
+    traces: &[Trace],
+) -> Result<Vec<Observation>, AllocError>
+    ensures { IfOk result (λ observed. AreObserved asked.now traces.now observed.items) }
+{
+    let added = added_in(alloc, asked)?;
+    let mut observed = Vec::new(alloc);
+    for trace in traces {
+        observed.extend_from_slice(&trace.observed)?;
+    }
+    observed.extend_from_slice(&added)?;
+    Ok(observed)
+}
+
+// The calls that are allowed too.
+fn added_in(alloc: Global, asked: &Asked<'_>) -> Result<Vec<Observation>, AllocError>
+    ensures { IfOk result (λ added. AreAdded asked.now added.items) }
+{
+    let cloning = cloning_in(alloc, asked)?;
+    let mut added = runnable_in(alloc, asked)?;
+    added.extend_from_slice(&cloning)?;
+    Ok(added)
+}
+
+// The calls that the C library makes by itself, if they are asked for.
+fn runnable_in(alloc: Global, asked: &Asked<'_>) -> Result<Vec<Observation>, AllocError>
+    ensures { IfOk result (λ calls. AreRunnableIf asked.now.arch asked.now.runnable calls.items) }
+{
+    if asked.runnable {
+        return runnable_calls(alloc, asked.arch);
+    }
+    Ok(Vec::new(alloc))
+}
+
+// The calls by which threads and processes are made, if a second filter answers one of them.
+fn cloning_in(alloc: Global, asked: &Asked<'_>) -> Result<Vec<Observation>, AllocError>
+    ensures { IfOk result (λ calls. AreCloningIf asked.now.arch asked.now.no_clone3 calls.items) }
+{
+    if asked.no_clone3 {
+        return cloning_calls(alloc, asked.arch);
+    }
+    Ok(Vec::new(alloc))
+}
+
+// The text of what is learned, which is a policy's, a profile's, a drop-in of systemd or an object with one of the first two, and
+// the notes.
 fn views_of(
     alloc: Global,
     asked: &Asked<'_>,
     inputs: Inputs<'_>,
-    trace: &Trace,
+    traces: &[Trace],
+    observed: &[Observation],
     wanted: &[Kept],
     learned: &Named<Lesson>,
 ) -> Result<Made, ToolError>
@@ -80,15 +137,38 @@ fn views_of(
     let (filter, kept) = (&lesson.learned.json, &lesson.kept);
     let mut text = if asked.as_profile {
         profile_text(alloc, asked.arch, filter)?
+    } else if asked.as_unit {
+        unit_text(alloc, filter)?
     } else {
         written_policy(alloc, others, name.as_str(), filter)?
     };
-    let path = inputs.first.unwrap_or("-");
-    let notes = notes_of(alloc, asked, path, trace, wanted, kept)?;
+    let notes = notes_in(alloc, asked, inputs, traces, wanted, lesson)?;
     if asked.json {
-        text = learned_json(alloc, asked, trace, kept, notes.as_str(), &text)?;
+        text = learned_json(alloc, asked, observed, kept, notes.as_str(), &text)?;
     }
     Ok(Made::noting(text, Verdict::Same, notes.into_bytes()))
+}
+
+// The notes on traces, and on what is learned.
+fn notes_in(
+    alloc: Global,
+    asked: &Asked<'_>,
+    inputs: Inputs<'_>,
+    traces: &[Trace],
+    wanted: &[Kept],
+    lesson: &Lesson,
+) -> Result<String, AllocError> {
+    let mut notes = Text::new(alloc);
+    push_notes(&mut notes, asked, inputs, traces, wanted, &lesson.kept);
+    push_asked_notes(&mut notes, asked, inputs, traces, &lesson.kept);
+    if asked.as_unit {
+        push_unit_notes(
+            &mut notes,
+            inputs.first.unwrap_or("-"),
+            &lesson.learned.json,
+        );
+    }
+    notes.finish_string()
 }
 
 // The filter that allows the observed calls, with the values of the arguments that are wanted, and what it is added to.
@@ -101,10 +181,36 @@ fn learned_of(
 ) -> Result<Named<Lesson>, ToolError>
     ensures { IfOk result (λ own. IsLearned asked.now wanted.now observed.now policy.now own.1) }
 {
-    let (name, filter, others) = base_of(alloc, asked.start, asked.name, policy)?;
+    let (name, filter, mut others) = base_of(alloc, asked.start, asked.name, policy)?;
     let (arch, most) = (asked.arch, asked.most);
+    push_second(alloc, asked.no_clone3, name.as_str(), &mut others)?;
     let lesson = learn_within(alloc, arch, observed, wanted, most, filter)?;
     Ok((name, lesson, others))
+}
+
+// Adds the filter that answers `clone3` with ENOSYS, if it is asked for, in place of an older one of its name.
+fn push_second(
+    alloc: Global,
+    is_asked: bool,
+    name: &str,
+    others: &mut JsonFilterMap,
+) -> Result<(), AllocError> {
+    if !is_asked {
+        return Ok(());
+    }
+    let second = format!(in alloc; "{name}_clone3")?;
+    let mut rules = Vec::new(alloc);
+    rules.push(JsonRule {
+        syscall: String::from_str(alloc, "clone3")?,
+        conditions: None,
+    })?;
+    let filter = JsonFilter {
+        mismatch_action: SeccompAction::Allow,
+        match_action: SeccompAction::Errno(38),
+        rules,
+    };
+    drop(others.0.insert(second, filter)?);
+    Ok(())
 }
 
 // What calls are added to: nothing yet, or the filter that is asked for, or a policy's only one, if it allows what it lists.
@@ -143,18 +249,13 @@ fn base_of(
     }
 }
 
-// The arguments whose values are kept: the usual ones, and those that are asked for. Calls that are allowed too are added to the
-// trace, which is rejected if a line isn't understood and it is asked for that.
-fn wanted_in(alloc: Global, asked: &Asked<'_>, trace: &mut Trace) -> Result<Vec<Kept>, ToolError> {
+// The arguments whose values are kept: the usual ones, and those that are asked for.
+fn wanted_in(
+    alloc: Global,
+    asked: &Asked<'_>,
+    observed: &[Observation],
+) -> Result<Vec<Kept>, ToolError> {
     let arch = asked.arch;
-    if asked.strict && trace.strange > 0 {
-        let told = strange_text(alloc, trace.strange, trace.first_strange, true)?;
-        return Err(ToolError::Fault(told));
-    }
-    if asked.runnable {
-        let observed = start_and_exit(alloc, arch)?;
-        trace.observed.extend_from_slice(&observed)?;
-    }
     let mut wanted = usual_kept(alloc, arch)?;
     for each in &asked.arguments {
         let Some(number) = call_number(arch, each.call) else {
@@ -162,7 +263,7 @@ fn wanted_in(alloc: Global, asked: &Asked<'_>, trace: &mut Trace) -> Result<Vec<
         };
         for index in 0..6u8 {
             if each.indices[index as usize] && !has(&wanted, number, Some(index)) {
-                wanted.push(asked_kept(&trace.observed, number, index))?;
+                wanted.push(asked_kept(observed, number, index))?;
             }
         }
     }

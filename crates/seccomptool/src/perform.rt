@@ -11,10 +11,11 @@ use crate::learn::learn_made;
 use crate::made::{Made, call_made, codes_made, compile_made, diff_made, show_made};
 use crate::progress::Watch;
 use crate::words::{Asked, Inputs, Verb};
+use seccomp_learn::Trace;
 use std::alloc::Global;
 
-/// What a command makes of these texts, the first and the second that it reads, ready to be written. `inputs` are their paths;
-/// `progress` gets how far comparisons are.
+/// What a command makes of these texts, the first and the second that it reads, ready to be written; `learn` has traces in place of
+/// the first. `inputs` are their paths; `progress` gets how far comparisons are.
 ///
 /// # Errors
 ///
@@ -23,11 +24,12 @@ pub(crate) fn perform(
     alloc: Global,
     asked: &Asked<'_>,
     inputs: Inputs<'_>,
+    traces: &[Trace],
     first: &[u8],
     second: &[u8],
     progress: &mut Watch<'_>,
 ) -> Result<Made, ToolError>
-    ensures carried_out { IfOk result (λ made. IsCarriedOut asked.now first.now second.now made) }
+    ensures carried_out { IfOk result (λ made. IsCarriedOut asked.now traces.now first.now second.now made) }
     ensures failed { IfErr result (IsFailure asked.now first.now second.now) }
 {
     let path = inputs.first.unwrap_or("-");
@@ -39,6 +41,6 @@ pub(crate) fn perform(
         Verb::Explain => explain_made(alloc, asked, inputs, first, second),
         Verb::Call => call_made(alloc, asked),
         Verb::Diff => diff_made(alloc, asked, inputs, first, second, progress),
-        Verb::Learn => learn_made(alloc, asked, inputs, first, second),
+        Verb::Learn => learn_made(alloc, asked, inputs, traces, second),
     }
 }

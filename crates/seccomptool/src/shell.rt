@@ -22,6 +22,7 @@ use crate::progress::Watch;
 use crate::words::{Asked, Inputs, Verb, read};
 use clap::error::ErrorKind;
 use seccomp_command_line::readable::TextKind;
+use seccomp_learn::{Trace, read_trace};
 use std::alloc::Global;
 use std::io;
 use std::process::ExitCode;
@@ -221,10 +222,19 @@ fn carried_out<O: Outside>(
 {
     refuse_output(rt, asked, inputs, to_terminal)?;
     let first = first_of(rt, asked, inputs)?;
+    let traces = traces_of(rt, asked, inputs)?;
     let second = whole_of(rt, inputs.second)?;
-    let made = perform(rt.alloc(), asked, inputs, &first, &second, progress);
+    let made = perform(
+        rt.alloc(),
+        asked,
+        inputs,
+        &traces,
+        &first,
+        &second,
+        progress,
+    );
     // Here, so that no branch below has to.
-    drop((first, second));
+    drop((traces, first, second));
     let made = made?;
     write_made(rt.alloc(), out, asked, &made.text, gathered)?;
     Ok(made)
@@ -282,21 +292,40 @@ fn refuse_output(
     Err(ToolError::of_path(rt.alloc(), asked.output.unwrap_or(OUTPUT), told))
 }
 
-// The first one of what a command reads: all traces of `learn`, one after the other. Each begins in a new line, but not records,
-// which have bytes that are 0.
+// The first one of what a command reads: nothing of `learn`, which reads traces.
 fn first_of(rt: &HostRuntime, asked: &Asked<'_>, inputs: Inputs<'_>) -> Result<Vec<u8>, ToolError>
     ensures { IfErr result IsOfFile }
 {
-    let mut text = whole_of(rt, inputs.first)?;
-    for path in &asked.further {
-        let is_cut = matches!(text.last(), Some(byte) if *byte != b'\n');
-        if is_cut && !text.contains(&0) {
-            text.push(b'\n')?;
-        }
-        let further = whole_of(rt, Some(path))?;
-        text.extend_from_slice(&further)?;
+    match asked.verb {
+        Verb::Learn => Ok(Vec::new(rt.alloc())),
+        _ => whole_of(rt, inputs.first),
     }
-    Ok(text)
+}
+
+// The traces of `learn`, each read by itself.
+fn traces_of(
+    rt: &HostRuntime,
+    asked: &Asked<'_>,
+    inputs: Inputs<'_>,
+) -> Result<Vec<Trace>, ToolError>
+    ensures { IfErr result IsOfFile }
+{
+    let mut traces = Vec::new(rt.alloc());
+    if let Verb::Learn = asked.verb {
+        traces.push(trace_of(rt, asked, inputs.first)?)?;
+        for path in &asked.further {
+            traces.push(trace_of(rt, asked, Some(path))?)?;
+        }
+    }
+    Ok(traces)
+}
+
+// The trace at a path.
+fn trace_of(rt: &HostRuntime, asked: &Asked<'_>, path: Option<&str>) -> Result<Trace, ToolError>
+    ensures { IfErr result IsOfFile }
+{
+    let text = whole_of(rt, path)?;
+    Ok(read_trace(rt.alloc(), asked.arch, &text)?)
 }
 
 // Whether a command reads the file at a path.

@@ -97,9 +97,11 @@ learn: Print a policy of the calls that a trace has
 --otherwise ACTION: What other calls get: kill_process (the default), kill_thread, trap, log, errno:N or trace:N
 --into POLICY !otherwise !profile: Add to a filter of this policy; its other filters stay
 --profile !name: Write a profile of a container runtime instead of a policy
+--unit !profile !json: Write a drop-in of a systemd unit, with SystemCallFilter=, instead of a policy
+--no-clone3 !profile !unit: Allow clone and clone3, and answer clone3 with ENOSYS in a second filter, NAME_clone3
 --args CALL[:INDEX,..]..: Keep the values of these arguments of a call, as in ioctl:1 or openat:2,3; all without INDEX
 --values N=16: The most different values to keep of a call; one with more is allowed with any arguments
---runnable: Allow the calls by which programs start and end too
+--runnable: Allow too what the C library calls by itself: to start, allocate, make threads, abort and end
 --strict: Reject a trace with lines that aren't understood
 --json: Write the answer as one JSON object
 --output -o FILE: Write to FILE instead of standard output
@@ -223,10 +225,14 @@ pub struct Asked<'a> {
     pub name: Option<&'a str>,
     /// The most different values that are kept of a call.
     pub most: usize,
-    /// Whether the calls by which programs start and end are allowed too.
+    /// Whether the calls that the C library makes by itself are allowed too.
     pub runnable: bool,
+    /// Whether a second filter answers `clone3` with ENOSYS, and `clone` is allowed too.
+    pub no_clone3: bool,
     /// Whether a profile is written.
     pub as_profile: bool,
+    /// Whether a drop-in of systemd is written.
+    pub as_unit: bool,
     /// How what is given is read.
     pub reading: Reading,
     /// On what it is done, one after the other.
@@ -338,7 +344,9 @@ fn asked_for<'a>(name: &str, found: &ArgMatches<'a>, wrong: &mut Text) -> Asked<
         name: found.get_str("name"),
         most: number_in(found, wrong, "values"),
         runnable: found.get_flag("runnable"),
+        no_clone3: found.get_flag("no-clone3"),
         as_profile: found.get_flag("profile"),
+        as_unit: found.get_flag("unit"),
         reading: reading_in(found, wrong),
         inputs: inputs_in(found, wrong, verb),
         allowed: allowed_in(found, wrong),

@@ -1,52 +1,172 @@
 // What is noted of a trace, and what is learned as JSON.
 
+use crate::error::ToolError;
 use crate::findings::parts::name_of;
 use crate::json::{List, Object, call_name};
 use crate::notes::note;
 use crate::text::Text;
-use crate::words::Asked;
-use seccomp_learn::{Kept, Observation, Trace};
+use crate::words::{Asked, Inputs};
+use seccomp_command_line::readable::TextKind;
+use seccomp_learn::{Kept, Observation, StrangeLine, Trace};
 use seccompiler::{SeccompCmpArgLen, TargetArch};
 use std::alloc::{AllocError, Global};
 
-// The notes on a trace of this path, and on what is learned from it.
-pub(super) fn notes_of(
-    alloc: Global,
+// Adds the notes on traces, and on calls with too many values.
+pub(super) fn push_notes(
+    notes: &mut Text,
     asked: &Asked<'_>,
-    path: &str,
-    trace: &Trace,
+    inputs: Inputs<'_>,
+    traces: &[Trace],
     wanted: &[Kept],
     kept: &[Kept],
-) -> Result<String, AllocError> {
-    let (arch, most) = (asked.arch, asked.most);
-    let mut notes = Text::new(alloc);
-    note_strange(&mut notes, path, trace.strange, trace.first_strange);
-    if trace.foreign > 0 {
-        let told = match trace.foreign {
-            1 => String::from_str(alloc, "1 call is of another architecture"),
-            count => format!(in alloc; "{count} calls are of other architectures"),
-        };
-        note(&mut notes, path, told);
-    }
-    if !trace.unnamed.is_empty() {
-        let names = trace.unnamed.join(alloc, ", ")?;
-        let told = format!(in alloc; "{arch} has no call of these names or numbers: {names}");
-        note(&mut notes, path, told);
+) {
+    let alloc = notes.alloc();
+    for (index, trace) in traces.iter().enumerate() {
+        note_trace(notes, asked, inputs, index, trace);
     }
     // The calls that are allowed with any arguments, since more values of them were seen than are kept.
+    let most = asked.most;
     let mut before = None;
     for each in wanted {
         let number = each.number;
         if before != Some(number) && !has(kept, number, None) {
             before = Some(number);
-            let name = name_of(arch, number).unwrap_or("a call");
+            let name = name_of(asked.arch, number).unwrap_or("a call");
             let told = format!(in alloc;
                 "{name} is allowed with any arguments, since more than {most} different values were seen"
             );
-            note(&mut notes, path, told);
+            note(notes, inputs.first.unwrap_or("-"), told);
         }
     }
-    notes.finish_string()
+}
+
+// Adds a note on the trace of this index.
+pub(super) fn note_at(
+    notes: &mut Text,
+    asked: &Asked<'_>,
+    inputs: Inputs<'_>,
+    index: usize,
+    told: Result<String, AllocError>,
+) {
+    match index.checked_sub(1) {
+        None => note(notes, inputs.first.unwrap_or("-"), told),
+        Some(place) => note(
+            notes,
+            asked.further.get(place).copied().unwrap_or("-"),
+            told,
+        ),
+    }
+}
+
+// Adds the notes on a trace.
+fn note_trace(
+    notes: &mut Text,
+    asked: &Asked<'_>,
+    inputs: Inputs<'_>,
+    index: usize,
+    trace: &Trace,
+) {
+    let alloc = notes.alloc();
+    let mut more = trace.strange_count;
+    for line in trace.strange.as_slice() {
+        note_at(notes, asked, inputs, index, strange_line(alloc, line));
+        more = more.saturating_sub(1);
+    }
+    for (count, one, some) in [
+        (
+            more,
+            "1 more line isn't understood",
+            "more lines aren't understood",
+        ),
+        (
+            trace.rest,
+            "1 byte follows the last record",
+            "bytes follow the last record",
+        ),
+        (
+            trace.foreign,
+            "1 call is of another architecture",
+            "calls are of other architectures",
+        ),
+    ] {
+        let told = match count {
+            0 => continue,
+            1 => String::from_str(alloc, one),
+            _ => format!(in alloc; "{count} {some}"),
+        };
+        note_at(notes, asked, inputs, index, told);
+    }
+    if !trace.unnamed.is_empty() {
+        let told = unnamed_line(alloc, asked.arch, trace);
+        note_at(notes, asked, inputs, index, told);
+    }
+}
+
+// That the architecture hasn't calls of these names and numbers.
+fn unnamed_line(alloc: Global, arch: TargetArch, trace: &Trace) -> Result<String, AllocError> {
+    let names = trace.unnamed.join(alloc, ", ")?;
+    let mut told = Text::new(alloc);
+    told.push_format(format!(in alloc; "{arch} has no call of these names or numbers: {names}"));
+    match trace.unnamed_more {
+        0 => {}
+        1 => told.push_str(", and 1 call of another"),
+        more => told.push_format(format!(in alloc; ", and {more} calls of others")),
+    }
+    told.finish_string()
+}
+
+// That a line isn't understood.
+fn strange_line(alloc: Global, line: &StrangeLine) -> Result<String, AllocError> {
+    let mut told = Text::new(alloc);
+    told.push_format(format!(in alloc; "line {} isn't understood: ", line.number));
+    told.push_readable(line.text.as_str(), TextKind::Line);
+    told.finish_string()
+}
+
+/// Rejects what is no trace; and, if it is asked for, a trace of which something isn't understood.
+///
+/// # Errors
+///
+/// What isn't understood, with the path, or `OutOfMemory`.
+pub(super) fn refuse_trace(
+    alloc: Global,
+    asked: &Asked<'_>,
+    inputs: Inputs<'_>,
+    index: usize,
+    trace: &Trace,
+) -> Result<(), ToolError> {
+    let mut told = Text::new(alloc);
+    if !trace.is_trace {
+        told.push_str(
+            "it has neither lines of strace, of the kernel's log or of the audit system, nor call records",
+        );
+    } else if asked.strict {
+        push_strange(&mut told, trace);
+    }
+    let told = told.finish_string()?;
+    if told.is_empty() {
+        return Ok(());
+    }
+    Err(match index.checked_sub(1) {
+        None => ToolError::of_path(alloc, inputs.first.unwrap_or("-"), told.as_str()),
+        Some(place) => {
+            let path = asked.further.get(place).copied().unwrap_or("-");
+            ToolError::of_path(alloc, path, told.as_str())
+        }
+    })
+}
+
+// Adds what of a trace isn't understood: the first line, or the bytes behind the last record.
+fn push_strange(told: &mut Text, trace: &Trace) {
+    let alloc = told.alloc();
+    if let Some(line) = trace.strange.as_slice().first() {
+        return told.push_format(strange_line(alloc, line));
+    }
+    match trace.rest {
+        0 => {}
+        1 => told.push_str("1 byte follows the last record"),
+        rest => told.push_format(format!(in alloc; "{rest} bytes follow the last record")),
+    }
 }
 
 // Whether this argument of a call is among these, or any of the call's.
@@ -61,28 +181,20 @@ pub(super) fn has(all: &[Kept], number: u32, index: Option<u8>) -> bool {
 
 // Adds the note on lines that aren't understood, if there are some: how many, and the first.
 pub(crate) fn note_strange(notes: &mut Text, path: &str, strange: usize, first: Option<usize>) {
-    if strange > 0 {
-        let told = strange_text(notes.alloc(), strange, first, false);
-        note(notes, path, told);
-    }
-}
-
-// That so many lines aren't understood, and the first of them, or that the first alone isn't; or that so many bytes follow the last
-// record.
-pub(super) fn strange_text(
-    alloc: Global,
-    strange: usize,
-    first: Option<usize>,
-    alone: bool,
-) -> Result<String, AllocError> {
-    match (first, strange) {
-        (Some(line), _) if alone => format!(in alloc; "line {line} isn't understood"),
-        (Some(line), 1) => format!(in alloc; "1 line isn't understood: line {line}"),
-        (Some(line), _) => format!(in alloc;
-            "{strange} lines aren't understood, the first is line {line}"
-        ),
-        (None, 1) => String::from_str(alloc, "1 byte follows the last record"),
-        (None, _) => format!(in alloc; "{strange} bytes follow the last record"),
+    let alloc = notes.alloc();
+    let first = first.unwrap_or(0);
+    match strange {
+        0 => {}
+        1 => {
+            let told = format!(in alloc; "1 line isn't understood: line {first}");
+            note(notes, path, told);
+        }
+        _ => {
+            let told = format!(in alloc;
+                "{strange} lines aren't understood, the first is line {first}"
+            );
+            note(notes, path, told);
+        }
     }
 }
 
@@ -91,13 +203,13 @@ pub(super) fn strange_text(
 pub(super) fn learned_json(
     alloc: Global,
     asked: &Asked<'_>,
-    trace: &Trace,
+    observed: &[Observation],
     all: &[Kept],
     notes: &str,
     text: &[u8],
 ) -> Result<Vec<u8>, AllocError> {
     let mut object = Object::new(alloc);
-    object.field("kept", kept_list(alloc, asked.arch, &trace.observed, all));
+    object.field("kept", kept_list(alloc, asked.arch, observed, all));
     let mut lines = List::new(alloc);
     for line in notes.lines() {
         lines.item(line);

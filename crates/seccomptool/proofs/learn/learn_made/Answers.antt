@@ -4,9 +4,10 @@ use Rattle.seccomptool.proofs.learn.learn_made.Goals as goal
 
 pub returns : goal.returns
 returns c =
-    let is : IsLesson c.args.asked.now c.args.policy.now = record {
-      wanted = c.deref-2.result.now;
-      observed = c.deref.result.now;
+    let is : IsLesson c.args.asked.now c.args.traces.now c.args.policy.now = record {
+      observed = c.in_ok-observed.observed.items;
+      are_observed = c.in_ok-observed.ensures;
+      wanted = c.in_ok-wanted.wanted.items;
       lesson = c.in-Ok.learned.1;
       is = c.in-Ok.ensures;
     } in

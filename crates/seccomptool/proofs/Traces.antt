@@ -1,0 +1,25 @@
+-- For `observed_in`: the calls of traces, as these are gone through.
+use Rattle.std.proofs.Common.{◌≡◌, ◌<◌, ◌≤◌, ◌+◌, ◌∙◌, ℕ, List, [], ◌∷◌, ◌++◌, ap, append-nil, append_assoc, get_or, length, sym, take}
+use Rattle.std.proofs.lemmas.List.{take_all, take_more}
+use Rattle.seccomp_learn.specs.declared.observation.Observation.{Observation}
+use Rattle.seccomp_learn.specs.declared.trace.Trace.{Trace}
+use Rattle.seccomptool.specs.Learn.{read_in}
+
+-- One more trace at the end.
+read_push : (traces : List Trace) (trace : Trace) → read_in (traces ++ trace ∷ []) ≡ read_in traces ++ trace.observed.items
+read_push [] trace = append-nil trace.observed.items
+read_push (first ∷ traces) trace =
+    ap (λ (rest : List Observation). first.observed.items ++ rest) (read_push traces trace)
+    ∙ sym (append_assoc first.observed.items (read_in traces) trace.observed.items)
+
+-- One more trace that is gone through.
+pub read_more : (traces : List Trace) (i : ℕ) (d : Trace) (all new : List Observation) → i < length traces
+    → all ≡ read_in (take i traces) → new ≡ all ++ (get_or traces i d).observed.items → new ≡ read_in (take (i + 1) traces)
+read_more traces i d all new within so_far is =
+    is ∙ ap (λ (front : List Observation). front ++ (get_or traces i d).observed.items) so_far
+    ∙ sym (read_push (take i traces) (get_or traces i d)) ∙ ap read_in (sym (take_more traces i d within))
+
+-- The end of the traces.
+pub read_all : (traces : List Trace) (i : ℕ) (all : List Observation) → length traces ≤ i → all ≡ read_in (take i traces)
+    → all ≡ read_in traces
+read_all traces i all end so_far = so_far ∙ ap read_in (take_all i traces end)

@@ -1,0 +1,84 @@
+/*
+ * What a C library calls by itself. Each part of this program is a word of its command line: tools/try-jail traces the part `plain`,
+ * and runs the others under the policy of that trace.
+ */
+
+#include <pthread.h>
+#include <signal.h>
+#include <stdio.h>
+#include <stdlib.h>
+#include <string.h>
+#include <time.h>
+#include <unistd.h>
+
+static void *in_thread(void *argument)
+{
+    char *text = malloc(200000);
+    if (text == NULL)
+        return NULL;
+    memset(text, 1, 200000);
+    free(text);
+    return argument;
+}
+
+static int threads(void)
+{
+    pthread_t all[8];
+    for (int k = 0; k < 8; k++)
+        if (pthread_create(&all[k], NULL, in_thread, all) != 0)
+            return 1;
+    for (int k = 0; k < 8; k++) {
+        void *came;
+        if (pthread_join(all[k], &came) != 0 || came != all)
+            return 1;
+    }
+    return 0;
+}
+
+static int large(void)
+{
+    char *text = NULL;
+    for (size_t size = 1; size <= 64 << 20; size *= 2) {
+        char *longer = realloc(text, size);
+        if (longer == NULL)
+            return 1;
+        longer[size - 1] = 1;
+        text = longer;
+    }
+    free(text);
+    return 0;
+}
+
+static int slept(void)
+{
+    struct timespec left = {2, 0};
+    return nanosleep(&left, NULL);
+}
+
+static int told_time(void)
+{
+    time_t now = time(NULL);
+    struct timespec exact;
+    char text[64];
+    if (clock_gettime(CLOCK_REALTIME, &exact) != 0 || strftime(text, sizeof text, "%Y", localtime(&now)) == 0)
+        return 1;
+    return puts(text) < 0;
+}
+
+int main(int count, char **words)
+{
+    const char *part = count > 1 ? words[1] : "plain";
+    if (strcmp(part, "threads") == 0)
+        return threads();
+    if (strcmp(part, "large") == 0)
+        return large();
+    if (strcmp(part, "sleep") == 0)
+        return slept();
+    if (strcmp(part, "abort") == 0)
+        abort();
+    if (strcmp(part, "system") == 0)
+        return system("exit 7") == 7 << 8 ? 0 : 1;
+    if (strcmp(part, "time") == 0)
+        return told_time();
+    return 0;
+}

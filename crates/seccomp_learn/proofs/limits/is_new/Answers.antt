@@ -8,8 +8,8 @@ pub loop-other-preserved : goal.loop-other-preserved
 loop-other-preserved c =
     let yes : IsTrue c.is_apart.result = search rules in
     All-more (λ other. IsSeenApart c.args.kept.now other c.args.observation.now) c.args.others.now c.loop-other.other-index _
-    c.loop-other-test.true c.loop-other.invariant (c.is_apart.ensures.apart yes)
+    c.loop-other-test.true c.loop-other.invariant (c.is_apart.ensures yes)
 
-pub returns-clause-apart : goal.returns-clause-apart
-returns-clause-apart c = λ _. subst (All (λ other. IsSeenApart c.args.kept.now other c.args.observation.now))
+pub returns : goal.returns
+returns c = λ _. subst (All (λ other. IsSeenApart c.args.kept.now other c.args.observation.now))
     (take_all c.loop-other.other-index c.args.others.now c.loop-other-test.false) c.loop-other.invariant

@@ -13,9 +13,9 @@ use std::io::Write;
 /// What is written where no file is.
 pub(crate) const OUTPUT: &str = "standard output";
 
-/// Where a command writes what it makes, and tells what keeps it from that.
+/// Where a command writes what it makes, and reports what keeps it from that.
 ///
-/// No contract can say what a file holds. So what the shell does is said of each place that tells what is done there, in the order
+/// No contract can say what a file holds. So what the shell does is said of each place that reports what is done there, in the order
 /// in which it is done.
 pub(crate) trait Outside {
     ghost use Rattle.std.specs.Prelude.{List, [], ◌∷◌, IfErr, Option, OnErr, OnOk};
@@ -31,11 +31,11 @@ pub(crate) trait Outside {
         ensures unwritten { OnErr result (Adds (done self.old) (done self.new) []) }
         ensures cause { IfErr result IsOfFile };
 
-    /// Tells an error, and the file that it is in.
+    /// Reports an error, and the file that it is in.
     fn tell(&mut self, inputs: Inputs<'_>, error: &ToolError)
         ensures { Adds (done self.old) (done self.new) (told error.now ∷ []) };
 
-    /// Tells notes: lines of text. Fails if there is no memory for them.
+    /// Prints notes: lines of text. Fails if there is no memory for them.
     fn note(&mut self, notes: &[u8]) -> Result<(), AllocError>
         ensures { Adds (done self.old) (done self.new) [] };
 }
@@ -44,7 +44,7 @@ pub(crate) trait Outside {
 #[derive(Drop)]
 pub(crate) struct Streams<'a> {
     pub rt: &'a HostRuntime,
-    /// Whether it is told that memory ran out, which is told once.
+    /// Whether it is reported that memory ran out, which is done once.
     pub lacks_memory: bool,
 }
 

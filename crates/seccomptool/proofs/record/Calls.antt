@@ -1,5 +1,6 @@
 -- For `call_number`, `known_calls` and `call_made`: texts that are calls, and the calls of a text.
-use Rattle.std.proofs.Common.{◌≡◌, ◌≢◌, ℕ, ◌<◌, ◌^◌, List, [], ◌∷◌, ◌++◌, All, Contains, None, Result, Ok, Err, IfSome, IfNone, codes, sym, subst}
+use Rattle.std.proofs.Common.{◌≡◌, ◌≢◌, ℕ, ◌<◌, ◌^◌, List, [], ◌∷◌, ◌++◌, All, Contains, None, Result, Ok, Err}
+use Rattle.std.proofs.Common.{IfSome, IfNone, codes, sym, subst}
 use Rattle.std.proofs.Common.{◌∙◌, ◌+◌, ap, arith, get_or, inl, inr, length, refl, take}
 use Rattle.std.proofs.lemmas.List.{take_more}
 use Rattle.std.proofs.lemmas.List.Elements.{All-nil, All-push, All-weaker, Contains-append_left, Contains-push, Contains-push_cases}
@@ -125,10 +126,12 @@ module _ (call : List ℕ) where
     one_further : take (at + 1) targets ≡ take at targets ++ target ∷ []
     one_further = take_more targets at d room
 
-    pub next_none : ((known : KnownCall) → known.target ≡ get_or targets at d → IsKnownCall call known → ⊥) → AreCallsOn (take (at + 1) targets) calls
+    pub next_none : ((known : KnownCall) → known.target ≡ get_or targets at d → IsKnownCall call known → ⊥)
+        → AreCallsOn (take (at + 1) targets) calls
     next_none none = subst (λ ts. AreCallsOn ts calls) (sym one_further) (none_more (take at targets) calls are target none)
 
-    pub next_one : (own : KnownCall) → own.target ≡ get_or targets at d → IsKnownCall call own → AreCallsOn (take (at + 1) targets) (calls ++ own ∷ [])
+    pub next_one : (own : KnownCall) → own.target ≡ get_or targets at d → IsKnownCall call own
+        → AreCallsOn (take (at + 1) targets) (calls ++ own ∷ [])
     next_one own of is_own =
         subst (λ ts. AreCallsOn ts (calls ++ own ∷ [])) (sym one_further) (one_more (take at targets) calls are target own of is_own)
 

@@ -1,5 +1,6 @@
 -- For the shell: what is done outside, one after the other, and with which status a command ends.
-use Rattle.std.proofs.Common.{◌≡◌, ◌∙◌, ◌++◌, ◌∷◌, ◌+◌, ◌<◌, ℕ, List, [], Option, Some, None, Bool, true, false, append-nil, append_assoc, ap}
+use Rattle.std.proofs.Common.{◌≡◌, ◌∙◌, ◌++◌, ◌∷◌, ◌+◌, ◌<◌, ℕ, List, [], Option, Some, None, Bool, true, false}
+use Rattle.std.proofs.Common.{append-nil, append_assoc, ap}
 use Rattle.std.proofs.Common.{arith, get_or, inl, length, max, refl, subst, sym, take}
 use Rattle.std.proofs.lemmas.List.{take_more}
 use Rattle.seccomptool.specs.Outside.{Adds, Ends, EndsBehind, EndsGathered, EndsOnEach, Event, IsDelivered, State, gathers}

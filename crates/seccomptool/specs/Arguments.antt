@@ -1,6 +1,6 @@
 -- What the arguments of a command ask for, as clap finds them.
 use Rattle.std.specs.Prelude.{◌≡◌, ◌||◌, ℕ, Bool, true, false, if◌then◌else◌, List, Option, Some, None, IfSome}
-use Rattle.std.specs.Prelude.{codes, drop, is_none, take, unwrap_or}
+use Rattle.std.specs.Prelude.{codes, drop, is_none, unwrap_or}
 use Rattle.std.specs.Str.{bytes_eq}
 use Rattle.clap.specs.Words.{first_value, one_text}
 use Rattle.clap.specs.declared.parser.matches.Found.{Found}

@@ -1,5 +1,5 @@
 -- What it means that a command is carried out on the texts that it is given.
-use Rattle.std.specs.Prelude.{◌≡◌, ◌≢◌, ◌<◌, ◌≤◌, ◌↔◌, ◌⊎◌, ℕ, ◌/◌, ◌%◌, All, Bool, true, false, Contains, IsTrue, List, Option, length, ⊤}
+use Rattle.std.specs.Prelude.{◌≡◌, ◌≢◌, ◌<◌, ◌↔◌, ℕ, ◌/◌, ◌%◌, Bool, true, false, IsTrue, List, Option, length, ⊤}
 use Rattle.std.specs.Borrow.{Bor}
 use Rattle.std.specs.Simd.{first_chunks}
 use Rattle.seccompiler.specs.declared.backend.TargetArch.{TargetArch}

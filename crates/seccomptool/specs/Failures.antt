@@ -2,8 +2,7 @@
 use Rattle.std.specs.Prelude.{◌≡◌, Bool, true, false, List, ℕ, ⊤}
 use Rattle.seccompiler.specs.declared.backend.TargetArch.{TargetArch}
 use Rattle.seccomptool.specs.declared.error.ToolError.{ToolError}
-use Rattle.seccomptool.specs.declared.error.ToolError.TheVariants.{Told, OutOfMemory}
-use Rattle.seccomptool.specs.declared.record.KnownCall.{KnownCall}
+use Rattle.seccomptool.specs.declared.error.ToolError.TheVariants.{OutOfMemory}
 use Rattle.seccomptool.specs.declared.words.Asked.{Asked}
 use Rattle.seccomptool.specs.declared.words.Call.{Call}
 use Rattle.seccomptool.specs.declared.words.Verb.{Verb}

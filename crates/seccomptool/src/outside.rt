@@ -15,7 +15,7 @@ pub(crate) const OUTPUT: &str = "standard output";
 
 /// Where a command writes what it makes, and reports what keeps it from that.
 ///
-/// No contract can say what a file holds. So what the shell does is said of each place that reports what is done there, in the order
+/// No contract can say what a file has. So what the shell does is said of each place that lists what is done there, in the order
 /// in which it is done.
 pub(crate) trait Outside {
     ghost use Rattle.std.specs.Prelude.{List, [], ◌∷◌, IfErr, Option, OnErr, OnOk};
@@ -35,7 +35,7 @@ pub(crate) trait Outside {
     fn tell(&mut self, inputs: Inputs<'_>, error: &ToolError)
         ensures { Adds (done self.old) (done self.new) (told error.now ∷ []) };
 
-    /// Prints notes: lines of text. Fails if there is no memory for them.
+    /// Reports notes: lines of text. Fails if there is no memory for them.
     fn note(&mut self, notes: &[u8]) -> Result<(), AllocError>
         ensures { Adds (done self.old) (done self.new) [] };
 }
@@ -44,7 +44,7 @@ pub(crate) trait Outside {
 #[derive(Drop)]
 pub(crate) struct Streams<'a> {
     pub rt: &'a HostRuntime,
-    /// Whether it is reported that memory ran out, which is done once.
+    /// Whether it is reported that memory ran out, which is reported once.
     pub lacks_memory: bool,
 }
 

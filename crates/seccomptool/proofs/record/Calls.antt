@@ -1,7 +1,6 @@
 -- For `call_number`, `known_calls` and `call_made`: texts that are calls, and the calls of a text.
-use Rattle.std.proofs.Common.{◌≡◌, ◌≢◌, ℕ, ◌<◌, ◌^◌, List, [], ◌∷◌, ◌++◌, All, Contains, None, Result, Ok, Err}
-use Rattle.std.proofs.Common.{IfSome, IfNone, codes, sym, subst}
-use Rattle.std.proofs.Common.{◌∙◌, ◌+◌, ap, arith, get_or, inl, inr, length, refl, take}
+use Rattle.std.proofs.Common.{◌≡◌, ◌≢◌, ℕ, ◌<◌, ◌^◌, List, [], ◌∷◌, ◌++◌, All, Contains, None, Result, Ok, Err, IfSome, IfNone}
+use Rattle.std.proofs.Common.{codes, sym, subst, ◌∙◌, ◌+◌, ap, arith, get_or, inl, inr, length, take}
 use Rattle.std.proofs.lemmas.List.{take_more}
 use Rattle.std.proofs.lemmas.List.Elements.{All-nil, All-push, All-weaker, Contains-append_left, Contains-push, Contains-push_cases}
 use Rattle.std.specs.Result.{OkIff, result_ok}
@@ -9,7 +8,7 @@ use Rattle.std.specs.Str.Parse.{IsNumeral, digits_value}
 use Rattle.seccompiler.specs.declared.backend.TargetArch.{TargetArch}
 use Rattle.seccompiler.specs.Architecture.{table_of}
 use Rattle.seccompiler.specs.SyscallTable.{number_of}
-use Rattle.seccomptool.specs.Findings.{HasName, LacksName, name_of}
+use Rattle.seccomptool.specs.Findings.{LacksName, name_of}
 use Rattle.seccomptool.specs.Numbers.{IsNumber, decimal, hexadecimal}
 use Rattle.seccomptool.specs.Record.{AreKnownCalls, IsCall, IsKnownCall, numbered, named}
 use Rattle.seccomptool.specs.declared.record.KnownCall.{KnownCall}

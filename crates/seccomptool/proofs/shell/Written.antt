@@ -1,7 +1,6 @@
 -- For the shell: what is done outside, one after the other, and with which status a command ends.
-use Rattle.std.proofs.Common.{◌≡◌, ◌∙◌, ◌++◌, ◌∷◌, ◌+◌, ◌<◌, ℕ, List, [], Option, Some, None, Bool, true, false}
-use Rattle.std.proofs.Common.{append-nil, append_assoc, ap}
-use Rattle.std.proofs.Common.{arith, get_or, inl, length, max, refl, subst, sym, take}
+use Rattle.std.proofs.Common.{◌≡◌, ◌∙◌, ◌++◌, ◌∷◌, ◌+◌, ◌<◌, ℕ, List, [], Option, Some, None, Bool, true, false, append-nil}
+use Rattle.std.proofs.Common.{append_assoc, ap, arith, get_or, length, max, refl, subst, sym, take}
 use Rattle.std.proofs.lemmas.List.{take_more}
 use Rattle.seccomptool.specs.Outside.{Adds, Ends, EndsBehind, EndsGathered, EndsOnEach, Event, IsDelivered, State, gathers}
 use Rattle.seccomptool.specs.Outside.{on_more, on_none}
@@ -57,7 +56,7 @@ next_ended asked before between after (first ∷ rest) at less own status room e
 
 pub behind : (asked : Asked) (before after : Option (List Event)) (status : ℕ) → gathers asked ≡ true
     → EndsGathered before after status → EndsBehind (gathers asked) before after status
-behind asked before after status yes ends = subst (λ b. EndsBehind b before after status) (sym yes) ends
+behind asked before after status all ends = subst (λ b. EndsBehind b before after status) (sym all) ends
 
 pub none_behind : (asked : Asked) (done : Option (List Event)) → gathers asked ≡ false → EndsBehind (gathers asked) done done 0
-none_behind asked done no = subst (λ b. EndsBehind b done done 0) (sym no) (refl, refl)
+none_behind asked done none = subst (λ b. EndsBehind b done done 0) (sym none) (refl, refl)

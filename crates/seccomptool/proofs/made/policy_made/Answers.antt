@@ -1,4 +1,4 @@
-use Rattle.std.proofs.Common.{◌≡◌, IfOk, string_bytes, subst}
+use Rattle.std.proofs.Common.{IfOk, string_bytes, subst}
 use Rattle.std.specs.BTreeMap.{get_by_text}
 use Rattle.std.proofs.lemmas.Result.{IfOk-at_ok, IfOk-weaker}
 use Rattle.seccompiler.specs.JsonAnswers.{ArePoliciesOf}

@@ -1,4 +1,4 @@
-use Rattle.std.proofs.Common.{◌≡◌, ◌==◌, ◌∙◌, ◌∷◌, ◌++◌, [], ap, get_or, length, refl, subst, sym, true, vec_len}
+use Rattle.std.proofs.Common.{◌≡◌, ◌==◌, ◌∙◌, ap, get_or, length, refl, subst, sym, true, vec_len}
 use Rattle.std.proofs.lemmas.Bool.{true≢false}
 use Rattle.std.proofs.lemmas.List.{take_all}
 use Rattle.seccompiler.specs.Architecture.{table_of}

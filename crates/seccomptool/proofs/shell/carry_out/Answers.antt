@@ -4,8 +4,8 @@ use Rattle.seccomptool.specs.declared.error.ToolError.TheVariants.{OutOfMemory}
 use Rattle.seccomptool.proofs.shell.Written.{adds_both, delivered_still}
 use Rattle.seccomptool.proofs.shell.carry_out.Goals as goal
 
-pub returns-in-Ok-clause-performed : goal.returns-in-Ok-clause-performed
-returns-in-Ok-clause-performed g c =
+pub returns-else-is_err-clause-performed : goal.returns-else-is_err-clause-performed
+returns-else-is_err-clause-performed g c =
     let asked = c.args.asked.now in
     let made = c.in-Ok.made in
     let now = c.carried_out.new.gathered.items in
@@ -24,9 +24,9 @@ returns-then-is_err-clause-performed g c =
     let before : State = record { done = g.O.Outside.done c.args.out.now; gathered = c.args.gathered.now.items } in
     let between : State = record { done = g.O.Outside.done c.carried_out.new.out; gathered = now } in
     let noted = g.O.Outside.done c.note.new.self in
-    let after = g.O.Outside.done c.tell-then-is_err.new.self in
+    let after = g.O.Outside.done c.tell.new.self in
     unnoted made between c.in-Ok.ensures.performed c.in-Ok.ensures.delivered
-    (adds_both between.done noted after [] (told OutOfMemory ∷ []) c.note.ensures c.tell-then-is_err.ensures, refl)
+    (adds_both between.done noted after [] (told OutOfMemory ∷ []) c.note.ensures c.tell.ensures, refl)
     refl
 
 pub returns-in-Err-clause-performed : goal.returns-in-Err-clause-performed
@@ -34,7 +34,7 @@ returns-in-Err-clause-performed g c =
     let e = c.in-Err.error in
     let before = g.O.Outside.done c.args.out.now in
     let between = g.O.Outside.done c.carried_out.new.out in
-    let after = g.O.Outside.done c.tell.new.self in
+    let after = g.O.Outside.done c.tell-in-Err.new.self in
     kept e c.in-Err.ensures.cause
-    (adds_both before between after [] (told e ∷ []) c.in-Err.ensures.unwritten c.tell.ensures, c.in-Err.ensures.ungathered)
+    (adds_both before between after [] (told e ∷ []) c.in-Err.ensures.unwritten c.tell-in-Err.ensures, c.in-Err.ensures.ungathered)
     refl

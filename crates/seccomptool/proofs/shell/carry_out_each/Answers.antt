@@ -1,7 +1,6 @@
-use Rattle.std.proofs.Common.{◌<◌, ◌≤◌, ◌∙◌, [], arith, length, max, refl, subst, sym}
-use Rattle.std.specs.Prelude.{false, true}
+use Rattle.std.proofs.Common.{◌<◌, ◌≤◌, ◌∙◌, [], arith, length, subst, sym}
 use Rattle.std.proofs.lemmas.List.{take_all}
-use Rattle.seccomptool.specs.Outside.{EndWith, EndsBehind, EndsOnEach, State, gathers}
+use Rattle.seccomptool.specs.Outside.{EndsOnEach, State}
 use Rattle.seccomptool.proofs.shell.Written.{behind, next_ended, none_behind, none_ended}
 use Rattle.seccomptool.proofs.shell.carry_out_each.Goals as goal
 use Rattle.seccomptool.proofs.shell.carry_out_each.Goals.{then-gathers, else-gathers}

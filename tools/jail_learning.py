@@ -117,9 +117,9 @@ def try_program(results, jailers, folder, name, files, prepare):
             results.compare(f"{jailer} {policy}: {call}", ("", "", KILLED) if wanted == KILLED else (answer_of(wanted), "", 0), found)
 
 
-def try_no_clone3(results, jailer, folder, files):
+def try_old_clone(results, jailer, folder, files):
     """Runs memcached, whose threads glibc makes by `clone3`, under a policy whose second filter answers that with ENOSYS."""
-    policy = learned(results, "memcached", files, folder, "--no-clone3")
+    policy = learned(results, "memcached", files, folder, "--old-clone")
     words, used, wanted = memcached(folder)
     jailed = [*jailer.words, policy, "memcached_clone3,memcached", "--"]
     results.compare(f"{jailer} {policy}: both filters", wanted, used(words, jailed, folder))
@@ -291,4 +291,4 @@ def try_learning(results, jailers, folder):
         if name == "redis-server" and files[0] == f"{name}.1.trace":
             try_saving(results, jailers[0], folder, files)
         if name == "memcached":
-            try_no_clone3(results, jailers[0], folder, files)
+            try_old_clone(results, jailers[0], folder, files)

@@ -204,10 +204,9 @@ def gunicorn(folder):
     """Notes that an application of Flask keeps in a database of SQLite, under gunicorn."""
     port = free_port()
     (folder / "application.py").write_text(APPLICATION)
-    for file in folder.glob("notes.db*"):
-        file.unlink()
 
     def use():
+        (folder / "notes.db").unlink(missing_ok=True)
         return [taken(port, "/notes", "one"), taken(port, "/notes", "two"), taken(port, "/notes")]
 
     words = ["gunicorn", "-b", f"127.0.0.1:{port}", "-w", "2", "-p", "gunicorn.pid", "--log-level", "critical", "application:app"]

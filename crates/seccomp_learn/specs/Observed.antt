@@ -1,5 +1,5 @@
 -- Which call records are as calls were observed, and which calls have more values than a limit.
-use Rattle.std.specs.Prelude.{◌≡◌, ◌≢◌, ◌<◌, ℕ, pos, List, Option, Some, None, All, AllPairs, Any, Contains, length, option_map, ⊤}
+use Rattle.std.specs.Prelude.{◌≡◌, ◌≢◌, ◌<◌, ◌≤◌, ℕ, pos, List, Option, Some, None, All, AllPairs, Any, Contains, length, option_map, ⊤}
 use Rattle.std.specs.Prelude.{slice_index_or}
 use Rattle.seccompiler.specs.declared.backend.TargetArch.{TargetArch}
 use Rattle.seccompiler.specs.Architecture.{table_of}
@@ -48,3 +48,18 @@ pub record HasMoreValues (limit : ℕ) (kept : List Kept) (observed : List Obser
   pub among : All (λ o. Contains observed o × (o.number ≡ number)) different
   pub apart : AllPairs (IsSeenApart kept) different
   pub more : limit < length different
+
+-- Two observations are the same in this argument, if it is one of the call.
+abbrev pub IsAlikeIn : Observation → Observation → Kept → Type 0
+IsAlikeIn first second each = each.number ≡ first.number
+    → option_map (part_of each.arg_len) (value_at first each.arg_index) ≡ option_map (part_of each.arg_len) (value_at second each.arg_index)
+
+-- Two observations of a call are the same in each kept argument.
+abbrev pub IsSeenAlike : List Kept → Observation → Observation → Type 0
+IsSeenAlike kept first second = All (IsAlikeIn first second) kept
+
+-- Each observation of the call is, in the kept arguments, like one of at most `limit`.
+pub record HasFewValues (limit : ℕ) (kept : List Kept) (observed : List Observation) (number : ℕ) : Type 0 where
+  pub some : List Observation
+  pub few : length some ≤ limit
+  pub each : All (λ (o : Observation). o.number ≡ number → Any (λ other. IsSeenAlike kept other o) some) observed

@@ -35,7 +35,9 @@ pub enum Line<'a> {
 
 /// What a line says, of `strace`, of the audit system or of the kernel's log. What `strace` prints is of this architecture.
 pub fn line_of(arch: TargetArch, line: &[u8]) -> Line<'_> {
-    let line = text_of(line);
+    let Some(line) = text_of(line) else {
+        return Line::Strange;
+    };
     match spoken_in(line) {
         Spoken::Begins(begun) => {
             let mut arguments = Arguments::unknown();
@@ -54,13 +56,17 @@ pub fn line_of(arch: TargetArch, line: &[u8]) -> Line<'_> {
     }
 }
 
-/// A line as text: up to the first byte that isn't UTF-8. What names a call stands in front of what a program wrote.
-pub(crate) fn text_of(line: &[u8]) -> &str {
+/// A line as text: up to the first byte that isn't UTF-8, if there is something before it. What names a call stands in front of what a
+/// program wrote.
+pub(crate) fn text_of(line: &[u8]) -> Option<&str> {
     match str::from_utf8(line) {
-        Ok(text) => text,
+        Ok(text) => Some(text),
         Err(error) => {
-            let front = line.get(..error.valid_up_to()).unwrap_or(&[]);
-            str::from_utf8(front).unwrap_or("")
+            let front = str::from_utf8(line.get(..error.valid_up_to())?).ok()?;
+            if front.trim().is_empty() {
+                return None;
+            }
+            Some(front)
         }
     }
 }

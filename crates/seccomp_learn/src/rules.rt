@@ -13,6 +13,9 @@ use seccompiler::{JsonCondition, JsonRule, TargetArch};
 use std::alloc::{AllocError, Global};
 use std::cmp::Ordering;
 
+// As many entries at the end of a list are looked at before one more is added.
+const LATELY: usize = 256;
+
 // Adds an entry for each observed call that has a name.
 pub(crate) fn push_observed(
     alloc: Global,
@@ -76,10 +79,21 @@ fn needed(alloc: Global, rules: Vec<JsonRule>) -> Result<Vec<JsonRule>, AllocErr
 fn push_rule(rules: &mut Vec<JsonRule>, rule: JsonRule) -> Result<(), AllocError>
     ensures { IfOk result (λ _. MeetAlso rule rules.old.items rules.new.items) }
 {
-    if is_covered(rules, &rule) {
+    if is_covered_lately(rules, &rule) {
         return Ok(());
     }
     Ok(rules.push(rule)?)
+}
+
+// Whether one of the last entries is for the same call, with the same conditions or none. In order the others are for other calls,
+// or have other conditions.
+fn is_covered_lately(rules: &[JsonRule], rule: &JsonRule) -> bool
+    ensures { IsTrue result → (arch : TargetArch) (r : List ℕ) → MeetsEntry arch r rule.now → MeetsSome arch r rules.now }
+{
+    match rules.split_at_checked(rules.len().saturating_sub(LATELY)) {
+        Some((_, last)) => is_covered(last, rule),
+        None => false,
+    }
 }
 
 // Whether one of these entries is for the same call, with the same conditions or none.

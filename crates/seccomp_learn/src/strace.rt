@@ -72,7 +72,10 @@ fn is_passed(rest: &str) -> bool {
             return true;
         }
     }
-    matches!(rest.split_once("strace: "), Some((path, _)) if !path.contains(' '))
+    match rest.split_once("strace: ") {
+        Some((path, _)) => !path.contains(' ') && !path.contains('('),
+        None => false,
+    }
 }
 
 // Whether it may be a call's name.

@@ -127,7 +127,7 @@ fn read_lines<'a>(
     let mut is_trace = false;
     for (index, line) in text.split(|byte| *byte == b'\n').enumerate() {
         if read_line(alloc, arch, reader, line)? {
-            is_trace |= !line.is_empty();
+            is_trace |= !line.trim_ascii().is_empty();
         } else {
             push_strange(alloc, &mut reader.trace, index.saturating_add(1), line)?;
         }
@@ -156,7 +156,9 @@ fn read_line<'a>(
     reader: &mut Reader<'a>,
     line: &'a [u8],
 ) -> Result<bool, AllocError> {
-    let line = text_of(line);
+    let Some(line) = text_of(line) else {
+        return Ok(false);
+    };
     match spoken_in(line) {
         Spoken::Begins(begun) => push_begun(alloc, arch, reader, &begun)?,
         Spoken::Resumes(begun) => push_resumed(alloc, arch, reader, &begun)?,

@@ -47,7 +47,7 @@ pub record AreAdded (asked : Asked) (added : List Observation) : Type 0 where
   pub runnable : List Observation
   pub are_runnable : AreRunnableIf asked.arch asked.runnable runnable
   pub cloning : List Observation
-  pub are_cloning : AreCloningIf asked.arch asked.no_clone3 cloning
+  pub are_cloning : AreCloningIf asked.arch asked.old_clone cloning
   pub are : added ≡ runnable ++ cloning
 
 -- The observed calls are those that were read, and those that are added.

@@ -112,9 +112,9 @@ fn runnable_in(alloc: Global, asked: &Asked<'_>) -> Result<Vec<Observation>, All
 
 // The calls by which threads and processes are made, if a second filter answers one of them.
 fn cloning_in(alloc: Global, asked: &Asked<'_>) -> Result<Vec<Observation>, AllocError>
-    ensures { IfOk result (λ calls. AreCloningIf asked.now.arch asked.now.no_clone3 calls.items) }
+    ensures { IfOk result (λ calls. AreCloningIf asked.now.arch asked.now.old_clone calls.items) }
 {
-    if asked.no_clone3 {
+    if asked.old_clone {
         return cloning_calls(alloc, asked.arch);
     }
     Ok(Vec::new(alloc))
@@ -183,7 +183,7 @@ fn learned_of(
 {
     let (name, filter, mut others) = base_of(alloc, asked.start, asked.name, policy)?;
     let (arch, most) = (asked.arch, asked.most);
-    push_second(alloc, asked.no_clone3, name.as_str(), &mut others)?;
+    push_second(alloc, asked.old_clone, name.as_str(), &mut others)?;
     let lesson = learn_within(alloc, arch, observed, wanted, most, filter)?;
     Ok((name, lesson, others))
 }

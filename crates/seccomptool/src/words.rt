@@ -98,7 +98,7 @@ learn: Print a policy of the calls that a trace has
 --into POLICY !otherwise !profile: Add to a filter of this policy; its other filters stay
 --profile !name: Write a profile of a container runtime instead of a policy
 --unit !profile !json: Write a drop-in of a systemd unit, with SystemCallFilter=, instead of a policy
---no-clone3 !profile !unit: Allow clone and clone3, and answer clone3 with ENOSYS in a second filter, NAME_clone3
+--old-clone !profile !unit: Allow clone and clone3, and answer clone3 with ENOSYS in a second filter, NAME_clone3
 --args CALL[:INDEX,..]..: Keep the values of these arguments of a call, as in ioctl:1 or openat:2,3; all without INDEX
 --values N=16: The most different values to keep of a call; one with more is allowed with any arguments
 --runnable: Allow too what the C library calls by itself: to start, allocate, make threads, abort and end
@@ -228,7 +228,7 @@ pub struct Asked<'a> {
     /// Whether the calls that the C library makes by itself are allowed too.
     pub runnable: bool,
     /// Whether a second filter answers `clone3` with ENOSYS, and `clone` is allowed too.
-    pub no_clone3: bool,
+    pub old_clone: bool,
     /// Whether a profile is written.
     pub as_profile: bool,
     /// Whether a drop-in of systemd is written.
@@ -344,7 +344,7 @@ fn asked_for<'a>(name: &str, found: &ArgMatches<'a>, wrong: &mut Text) -> Asked<
         name: found.get_str("name"),
         most: number_in(found, wrong, "values"),
         runnable: found.get_flag("runnable"),
-        no_clone3: found.get_flag("no-clone3"),
+        old_clone: found.get_flag("old-clone"),
         as_profile: found.get_flag("profile"),
         as_unit: found.get_flag("unit"),
         reading: reading_in(found, wrong),

@@ -37,11 +37,13 @@ pub(super) fn unit_text(alloc: Global, filter: &JsonFilter) -> Result<Vec<u8>, A
     if length > 0 {
         text.push_str("\n");
     }
-    if let SeccompAction::Errno(number) = filter.mismatch_action {
-        match error_name(number) {
+    match filter.mismatch_action {
+        SeccompAction::Errno(0) => {}
+        SeccompAction::Errno(number) => match error_name(number) {
             Some(name) => text.push_format(format!(in alloc; "SystemCallErrorNumber={name}\n")),
             None => text.push_format(format!(in alloc; "SystemCallErrorNumber={number}\n")),
-        }
+        },
+        _ => {}
     }
     text.finish()
 }

@@ -1,16 +1,28 @@
-use Rattle.std.proofs.Common.{IsTrue, rules}
-use Rattle.seccomp_learn.proofs.Differences.{different_more, apart_more}
+use Rattle.std.proofs.Common.{◌≤◌, List, All, arith, length, subst}
+use Rattle.std.specs.Prelude.{Any, Contains}
+use Rattle.seccomp_learn.specs.Observed.{IsSeenAlike}
+use Rattle.seccomp_learn.specs.declared.observation.Observation.{Observation}
+use Rattle.seccomp_learn.proofs.Differences.{alike_all, own_all}
 use Rattle.seccomp_learn.proofs.limits.has_more.Goals as goal
 
-pub loop-observation-preserved : goal.loop-observation-preserved
-loop-observation-preserved c =
-    let kept = c.args.kept.now in
-    let observed = c.args.observed.now in
-    let different = c.loop-observation.different.items in
-    let new : IsTrue c.is_new.result = search rules in
+pub returns-clause-more : goal.returns-clause-more
+returns-clause-more c = λ yes. record {
+  different = c.in_ok-different.different.items;
+  among = own_all c.args.observed.now c.args.number c.in_ok-own.own.items _
+      (subst (λ (own : List Observation). All (Contains own) c.in_ok-different.different.items) c.deref.ensures.value
+      c.in_ok-different.ensures.among) c.in_ok-own.ensures.among;
+  apart = c.in_ok-different.ensures.apart;
+  more = grind (arith, yes);
+}
+
+pub returns-clause-few : goal.returns-clause-few
+returns-clause-few c = λ no.
+    let few : length c.in_ok-different.different.items ≤ c.args.limit = grind (arith, no) in
     record {
-      among = different_more kept observed c.args.number different _ c.loop-observation.observation-index _ c.loop-observation-test.true
-          c.in_ok-push.ensures.items c.if-observation-number.false c.loop-observation.invariant.among;
-      apart = apart_more kept observed c.args.number different _ _ _ c.in_ok-push.ensures.items c.deref.ensures.value
-          c.loop-observation.invariant.apart (c.is_new.ensures new);
+      some = c.in_ok-different.different.items;
+      few = few;
+      each = alike_all c.args.kept.now c.args.observed.now c.args.number c.in_ok-own.own.items _ c.in_ok-own.ensures.all
+          (subst (λ (own : List Observation).
+          All (λ (o : Observation). Any (λ other. IsSeenAlike c.args.kept.now other o) c.in_ok-different.different.items) own)
+          c.deref.ensures.value (c.in_ok-different.ensures.alike few));
     }

@@ -17,5 +17,6 @@ returns-clause-learned c =
       matches = subst (λ (kept : List Kept). (before : Filter) → IsPolicyOf c.args.arch c.args.old before → (r : List ℕ)
           → Matches c.in_ok-learned.learned.filter r ↔ (Matches before r ⊎ named kept r)) c.deref.ensures.value own.matches;
       among = c.in_ok-kept.ensures.among;
+      few = c.in_ok-kept.ensures.few;
       left_out = c.in_ok-kept.ensures.left_out;
     }

@@ -498,7 +498,8 @@ CASES = [
     Case("learn --profile raw.trace | ./seccomptool explain - fcntl 9 3", 0, "allow: syscalls[2] of fcntl (72)\n", ""),
     Case("learn --profile raw.trace | ./seccomptool explain - fcntl 9 0x100000003", 0, "allow: syscalls[2] of fcntl (72)\n", ""),
     Case("learn --profile raw.trace | ./seccomptool explain - socket 2 524289 0", 0, "allow: syscalls[6] of socket (41)\n", ""),
-    Case("learn --profile raw.trace | ./seccomptool explain - socket 2 526337 5", 0, "kill_process: defaultAction of socket (41)\n", ""),
+    Case("learn --profile raw.trace | ./seccomptool explain - socket 2 526337 5", 0,
+         "kill_process: no match: syscalls[7].args[2] of socket (41) does not hold, the nearest of 3 entries\n", ""),
     # Into a file, which is replaced whole or not at all.
     Case("learn -o learned.json raw.trace && cat learned.json; rm learned.json", 0, OF_RAW, ""),
     Case("learn --output=- short.trace", 0, learned("close", "getpid"), ""),

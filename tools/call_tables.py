@@ -84,7 +84,7 @@ def compare_table(results, arch):
     asked = [*dict.fromkeys([*numbers, *(name[:-1] for name in numbers), *ABSENT])]
     rows = "\n".join(f"lookup {arch} {name} =>" for name in asked)
     ran = subprocess.run([driver_rows.PROGRAM], input=rows, capture_output=True, text=True)
-    told = ran.stdout.split("\n")
+    told = ran.stdout.removesuffix("\n").split("\n")
     results.compare(f"{arch}: look-ups", (0, len(asked)), (ran.returncode, len(told)))
     for name, row in zip(asked, told):
         found = FOUND.fullmatch(row.partition(" => ")[2])

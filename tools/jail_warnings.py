@@ -130,13 +130,13 @@ WARNED = {
     "kills at other arguments": Shown(
         [], filter_of("kill_process", "allow", *(when(it, (0, "qword", "eq", WHOLE - 1)) for it in EXITS)), ENDED),
     "allows all but the end": Shown(
-        ["kills-exit"] * 3, filter_of("allow", "kill_process", *(it for it in NAMES if it not in EXITS)),
+        ["kills-exit"], filter_of("allow", "kill_process", *(it for it in NAMES if it not in EXITS)),
         [("exit 0", KILLED), ("exit_group 0", KILLED)]),
     "allows all": Shown([], filter_of("allow", "kill_process", *NAMES), ENDED),
     "allows all but a restart": Shown(
         ["no-restart"], filter_of("allow", "kill_process", *(it for it in NAMES if it != "restart_syscall")), ENDED),
     "fails at the end": Shown(["kills-exit"] * 2, filter_of({"errno": 1}, "allow", "exit_group", "rt_sigreturn"), []),
-    "denies all": Shown(["denies-everything"] + ["kills-exit"] * 3, filter_of("trap", {"errno": 1}), []),
+    "denies all": Shown(["denies-everything", "kills-exit"], filter_of("trap", {"errno": 1}), []),
     "opens to write": Shown(["flag-evades"], denying(when("openat", (2, "dword", "eq", 1))), [
         ("openat 0 0 1", DENIED), ("openat 0 0 0x80001", NO_ADDRESS)]),
     "opens to write under a mask": Shown([], denying(when("openat", (2, "dword", {"masked_eq": 3}, 1))), [

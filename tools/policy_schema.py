@@ -51,6 +51,7 @@ UNSAID = re.compile(
     r"|Backend error: (The seccomp filter |Invalid target arch: )"
     r"|The input ends inside a record, |Error (reading input|writing output)\."
     r"|No filter has this name: |Name one of its filters: |The policy has no filters\.|No call of \w+ has this name or number: "
+    r"|line \d+, column \d+: |\d+ more errors?\n"
     r"|The JSON value isn't a seccomp profile, |[A-Z][\w ]+ \(os error \d+\)\n|usage: |error: |$"
 )
 
@@ -151,10 +152,21 @@ def is_valid(case):
     """Returns whether a case has its policy's shape right; None if it doesn't say that, and the message that says
     something else if it is unknown."""
     errors = NOTES.sub("", case.errors)
-    message = IN_FRONT.sub("", errors, count=1)
-    at_place = message.partition(": ")[2] if case.words.startswith(("check", "compile")) else ""
     if case.status == 0 or (case.words.startswith("diff") and not errors):
         return True
+    # Of `check` each line is an error, but for those of its arguments, which have lines that begin otherwise.
+    lines = errors.splitlines(keepends=True) if case.words.startswith("check") else [errors]
+    if not lines or not all(line.startswith("seccomptool: ") for line in lines):
+        lines = [errors]
+    said = [said_by(case, line) for line in lines]
+    unknown = [it for it in said if isinstance(it, str)]
+    return unknown[0] if unknown else False if False in said else None
+
+
+def said_by(case, line):
+    """Returns that an error is of the policy's shape, by False; None if it says nothing of that, and its message if it is unknown."""
+    message = IN_FRONT.sub("", line, count=1)
+    at_place = message.partition(": ")[2] if case.words.startswith(("check", "compile")) else ""
     if UNSAID.match(message) or UNSAID_AT.fullmatch(at_place):
         return None
     return False if message.startswith(WRONG) or WRONG_AT.fullmatch(at_place) else message

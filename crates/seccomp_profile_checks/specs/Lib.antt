@@ -1,4 +1,5 @@
 -- The definitions that the contracts cite.
+pub mod Clashes
 pub mod Doubts
 pub mod Effective
 pub mod Parts

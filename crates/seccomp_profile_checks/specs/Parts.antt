@@ -47,14 +47,16 @@ pub data AreWithDefault (arch : TargetArch) (effective : List Entry) (default : 
   denies : default ≢ Allow → (p : Part) → IsPartOfDefault arch effective default p
       → AreWithDefault arch effective default own (own ++ p ∷ [])
 
--- The parts of a profile, of its effective entries in one form: one for each action but allow, and one of the default action.
-pub record AreParts (arch : TargetArch) (container : Container) (profile : Profile) (parts : List Part) : Type 0 where
+-- The effective entries of a profile in one form.
+pub record AreEffectiveIn (arch : TargetArch) (container : Container) (profile : Profile) (effective : List Entry) : Type 0 where
   pub lowered : Lowered
   pub is_lowered : IsLoweredProfile arch container profile lowered
-  pub effective : List Entry
   pub are_effective : AreEffective lowered.entries effective
+
+-- The parts of a profile of this default action, of its effective entries: one for each action but allow, and one of the default action.
+pub record AreParts (arch : TargetArch) (default : SeccompAction) (effective : List Entry) (parts : List Part) : Type 0 where
   pub actions : List SeccompAction
   pub are_actions : AreActionsOf effective actions
   pub own : List Part
   pub own_are : AllZip (IsPartOfAction arch effective) actions own
-  pub with_default : AreWithDefault arch effective profile.default own parts
+  pub with_default : AreWithDefault arch effective default own parts

@@ -6,7 +6,6 @@ use Rattle.seccompiler.specs.declared.backend.SeccompAction.{SeccompAction}
 use Rattle.seccompiler.specs.declared.backend.SeccompAction.TheVariants.{Allow, Log}
 use Rattle.seccompiler.specs.declared.backend.TargetArch.{TargetArch}
 use Rattle.seccomp_entries.specs.Entries.{Entry}
-use Rattle.seccomp_oci.specs.Types.{Container, Profile}
 use Rattle.seccomp_profile_checks.specs.Parts.{AreParts, origin_of}
 use Rattle.seccomp_profile_checks.specs.declared.parts.Origin.{Origin}
 use Rattle.seccomp_profile_checks.specs.declared.told.Told.{Told}
@@ -72,11 +71,11 @@ pub data AreTold (allowed : List Code) (default : SeccompAction) (denied : Bool)
       → AreTold allowed default denied parts told
       → AreTold allowed default denied (parts ++ p ∷ []) (told ++ flat_map (told_of default denied p) own.warnings.items)
 
--- What is told of the parts of a profile.
-pub record AreToldOfProfile (arch : TargetArch) (container : Container) (allowed : List Code) (profile : Profile) (told : List Told)
+-- What is told of the parts of a profile of this default action and these effective entries.
+pub record AreToldOfProfile (arch : TargetArch) (allowed : List Code) (default : SeccompAction) (effective : List Entry) (told : List Told)
     : Type 0 where
   pub parts : List Part
-  pub are_parts : AreParts arch container profile parts
+  pub are_parts : AreParts arch default effective parts
   pub denied : Bool
   pub denied_is : IsTrue denied ↔ Any (DeniesEach (codes "clone3")) parts
-  pub are_told : AreTold allowed profile.default denied parts told
+  pub are_told : AreTold allowed default denied parts told

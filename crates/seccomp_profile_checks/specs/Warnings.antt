@@ -1,14 +1,18 @@
 -- The warnings of a profile: those of its own, and those of its parts.
 use Rattle.std.specs.Prelude.{◌≡◌, ◌≢◌, ◌++◌, All, Contains, List, [], map, ⊤}
+use Rattle.seccomp_entries.specs.Entries.{Entry}
 use Rattle.seccompiler.specs.declared.backend.TargetArch.{TargetArch}
 use Rattle.seccomp_oci.specs.Types.{Container, Profile}
+use Rattle.seccomp_profile_checks.specs.Clashes.{AreClashes}
 use Rattle.seccomp_profile_checks.specs.Doubts.{IsDoubt}
+use Rattle.seccomp_profile_checks.specs.Parts.{AreEffectiveIn}
 use Rattle.seccomp_profile_checks.specs.Told.{AreToldOfProfile}
+use Rattle.seccomp_profile_checks.specs.declared.clashes.Clash.{Clash}
 use Rattle.seccomp_profile_checks.specs.declared.doubts.Doubt.{Doubt}
 use Rattle.seccomp_profile_checks.specs.declared.doubts.Doubt.TheVariants as doubt
 use Rattle.seccomp_profile_checks.specs.declared.told.Told.{Told}
 use Rattle.seccomp_profile_checks.specs.declared.warnings.ProfileWarning.{ProfileWarning}
-use Rattle.seccomp_profile_checks.specs.declared.warnings.ProfileWarning.TheVariants.{Doubtful, Flags, UnknownKey, OfEntries}
+use Rattle.seccomp_profile_checks.specs.declared.warnings.ProfileWarning.TheVariants.{Clashing, Doubtful, Flags, UnknownKey, OfEntries}
 use Rattle.seccomp_warnings.specs.declared.code.Code.{Code}
 use Rattle.seccomp_warnings.specs.declared.code.Code.TheVariants as code
 
@@ -25,6 +29,7 @@ doubt_code (doubt.ManyConditions place) = code.RuntimesDiffer
 
 abbrev pub code_of : ProfileWarning → Code
 code_of (Doubtful d) = doubt_code d
+code_of (Clashing c) = code.LibseccompMiscompiles
 code_of Flags = code.RuntimesDiffer
 code_of (UnknownKey key) = code.UnknownKey
 code_of (OfEntries w origin) = w.code
@@ -36,6 +41,7 @@ abbrev pub IsSoOfProfile : TargetArch → Container → Profile → ProfileWarni
 IsSoOfProfile arch container p (Doubtful d) = IsDoubt arch container p d
 IsSoOfProfile arch container p Flags = p.flags ≢ []
 IsSoOfProfile arch container p (UnknownKey key) = ⊤
+IsSoOfProfile arch container p (Clashing c) = ⊥
 IsSoOfProfile arch container p (OfEntries w origin) = ⊥
 
 -- It is so, and its code isn't allowed.
@@ -51,11 +57,22 @@ AreStillTold arch container p allowed old new = All (IsTold arch container p all
 abbrev pub of_told : Told → ProfileWarning
 of_told t = OfEntries t.warning t.origin
 
--- The warnings of a profile: some of its own, each of which is so, and then exactly what is told of its parts.
+-- Of these entries exactly those that libseccomp may get wrong, as warnings of the profile, unless their code is allowed.
+pub data AreClashesTold (allowed : List Code) (effective : List Entry) : List ProfileWarning → Type 0 where
+  allowed : Contains allowed code.LibseccompMiscompiles → AreClashesTold allowed effective []
+  told : (Contains allowed code.LibseccompMiscompiles → ⊥) → (clashes : List Clash) → AreClashes effective effective clashes
+      → AreClashesTold allowed effective (map Clashing clashes)
+
+-- The warnings of a profile: some of its own, each of which is so; then exactly those of entries that libseccomp may get wrong; and then
+-- exactly what is told of its parts.
 pub record AreProfileWarnings (arch : TargetArch) (container : Container) (allowed : List Code) (p : Profile) (all : List ProfileWarning)
     : Type 0 where
   pub own : List ProfileWarning
   pub own_are : All (IsTold arch container p allowed) own
+  pub effective : List Entry
+  pub are_effective : AreEffectiveIn arch container p effective
+  pub clashes : List ProfileWarning
+  pub are_clashes : AreClashesTold allowed effective clashes
   pub told : List Told
-  pub are_told : AreToldOfProfile arch container allowed p told
-  pub all_are : all ≡ own ++ map of_told told
+  pub are_told : AreToldOfProfile arch allowed p.default effective told
+  pub all_are : all ≡ (own ++ clashes) ++ map of_told told

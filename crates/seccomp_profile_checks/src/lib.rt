@@ -4,6 +4,7 @@
 //! [`parts_of`] gives.
 #![tactic(auto)]
 
+pub mod clashes;
 pub mod doubts;
 mod effective;
 pub mod parts;
@@ -11,6 +12,8 @@ mod told;
 mod tries;
 pub mod warnings;
 
+pub use clashes::Clash;
 pub use doubts::{Doubt, doubts_of};
+pub use effective::effective_entries;
 pub use parts::{Origin, parts_of};
 pub use warnings::{ProfileWarning, code_of, profile_warnings_of};

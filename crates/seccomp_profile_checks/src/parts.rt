@@ -2,13 +2,11 @@
 
 ghost use Rattle.std.specs.Prelude.{◌≡◌, ◌↔◌, ◌⊎◌, Contains, IfOk, IsFalse, IsTrue};
 ghost use Rattle.std.specs.List.{AllZip};
-ghost use Rattle.seccomp_oci.specs.Types.{AllOnArguments};
 ghost use Rattle.seccompiler.specs.declared.backend.SeccompAction.TheVariants.{Allow};
 ghost use Rattle.seccomp_profile_checks.specs.Parts.{AreActionsOf, AreOfAction, AreParts, AreWithDefault, IsPartOfAction, IsPartOfDefault, origin_of};
 
-use crate::effective::{copy_of, effective_of};
+use crate::effective::copy_of;
 use seccomp_entries::Entry;
-use seccomp_oci::{Container, Profile, lowered_profile};
 use seccomp_warnings::{Actions, Part};
 use seccompiler::{SeccompAction, TargetArch};
 use std::alloc::{AllocError, Global};
@@ -35,12 +33,11 @@ pub(crate) fn origin_of(entry: &Entry) -> Origin
     }
 }
 
-/// The parts of a profile that `check` warns about. They are no program of the profile:
-/// [`decisions_of_profile`](seccomp_oci::decisions_of_profile) gives what it decides.
+/// The parts of a profile of this default action and these [effective](crate::effective_entries) entries, which `check` warns about. They
+/// are no program of the profile: [`decisions_of_profile`](seccomp_oci::decisions_of_profile) gives what it decides.
 ///
-/// An entry of the profile in one form is *effective* if none in front of it has its number and no conditions. Each action but
-/// `allow` has a part of the effective entries with it, beside which all else is allowed. If the default action isn't to allow, a
-/// last part allows what any effective entry is for, and has the default action for all else.
+/// Each action but `allow` has a part of the effective entries with it, beside which all else is allowed. If the default action isn't to
+/// allow, a last part allows what any effective entry is for, and has the default action for all else.
 ///
 /// # Errors
 ///
@@ -48,17 +45,14 @@ pub(crate) fn origin_of(entry: &Entry) -> Origin
 pub fn parts_of(
     alloc: Global,
     target: TargetArch,
-    container: &Container,
-    profile: &Profile,
+    default: SeccompAction,
+    effective: Vec<Entry>,
 ) -> Result<Vec<Part>, AllocError>
-    requires { AllOnArguments profile.now.entries }
-    ensures { IfOk result (λ parts. AreParts target container.now profile.now parts.items) }
+    ensures { IfOk result (λ parts. AreParts target default effective.items parts.items) }
 {
-    let lowered = lowered_profile(alloc, target, container, profile)?;
-    let effective = effective_of(alloc, lowered.entries.as_slice())?;
     let actions = actions_of(alloc, &effective)?;
     let own = parts_of_actions(alloc, target, &effective, &actions)?;
-    let parts = with_default(own, target, profile.default, effective)?;
+    let parts = with_default(own, target, default, effective)?;
     Ok(parts)
 }
 

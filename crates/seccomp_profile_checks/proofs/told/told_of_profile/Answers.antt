@@ -1,6 +1,5 @@
-use Rattle.std.proofs.Common.{List, ap, subst}
+use Rattle.std.proofs.Common.{List, subst}
 use Rattle.std.specs.Prelude.{Any, IsTrue, codes, ◌↔◌}
-use Rattle.seccomp_oci.specs.Types.{Profile}
 use Rattle.seccomp_profile_checks.specs.Told.{AreTold}
 use Rattle.seccomp_profile_checks.proofs.told.told_of_profile.Goals as goal
 use Rattle.seccomp_warnings.specs.CallWarnings.{DeniesEach}
@@ -17,8 +16,5 @@ returns c =
       denied = denied;
       denied_is = subst (λ (ps : List Part). IsTrue denied ↔ Any (DeniesEach (codes "clone3")) ps) c.deref.ensures.value
           c.is_denied-denied.ensures;
-      are_told = subst (λ default. AreTold allowed default denied c.in_ok-parts.parts.items told)
-          (ap (λ (p : Profile). p.default) c.profile.view_is)
-          (subst (λ (ps : List Part). AreTold allowed c.profile.inside.default denied ps told) c.deref-2.ensures.value
-          c.in_ok-told.ensures);
+      are_told = subst (λ (ps : List Part). AreTold allowed c.args.default denied ps told) c.deref-2.ensures.value c.in_ok-told.ensures;
     }

@@ -121,6 +121,15 @@ fn spot_of(target: TargetArch, warning: &ProfileWarning, nth: usize) -> Spot<'_>
                 (Some(second), (3, first), Part::Whole, call)
             }
         },
+        ProfileWarning::Clashing(clash) => {
+            let call = name_of(target, clash.number);
+            (
+                Some(clash.place),
+                (4, clash.number as usize),
+                Part::Whole,
+                call,
+            )
+        }
         ProfileWarning::Flags => (None, (2, 0), Part::Under("flags"), None),
         ProfileWarning::UnknownKey(name) => (None, (3, nth), Part::Key(name.as_str()), None),
         ProfileWarning::OfEntries(warning, origin) => spot_in(target, *origin, warning.subject),
@@ -179,6 +188,12 @@ fn said_of(
         ProfileWarning::Doubtful(Doubt::SameConditions { first, .. }) => {
             format!(in alloc;
                 "syscalls[{first}] has the same args and another action, so no container starts; leave the call out of one of them"
+            )
+        }
+        ProfileWarning::Clashing(clash) => {
+            format!(in alloc;
+                "syscalls[{}] compares the same argument, and libseccomp may make another program or come to no end; write SCMP_CMP_EQ alone, or run the command by jail --oci",
+                clash.beside
             )
         }
         ProfileWarning::Flags => String::from_str(

@@ -1,0 +1,83 @@
+-- Entries beside which libseccomp may make another program than the profile says, or none (found by trying; docs/OCI.md has examples).
+use Rattle.std.specs.Prelude.{◌≡◌, ◌≢◌, ◌<◌, ◌⊎◌, ℕ, Bool, true, false, IsTrue, List, [], ◌∷◌, ◌++◌, Any, bit_and, length}
+use Rattle.seccompiler.specs.declared.backend.SeccompCmpOp.{SeccompCmpOp}
+use Rattle.seccompiler.specs.declared.backend.SeccompCmpOp.TheVariants.{Eq, MaskedEq}
+use Rattle.seccompiler.specs.Policy.{Condition}
+use Rattle.seccomp_entries.specs.Entries.{Entry}
+use Rattle.seccomp_profile_checks.specs.declared.clashes.Clash.{Clash}
+
+-- The operator is none of SCMP_CMP_EQ and SCMP_CMP_MASKED_EQ.
+abbrev pub is_order : SeccompCmpOp → Bool
+is_order Eq = false
+is_order (MaskedEq m) = false
+is_order operator = true
+
+-- It has a mask.
+abbrev pub is_masked : SeccompCmpOp → Bool
+is_masked (MaskedEq m) = true
+is_masked operator = false
+
+-- What counts of the value: the bits of a mask.
+abbrev pub counted : SeccompCmpOp → ℕ → ℕ
+counted (MaskedEq m) v = bit_and v m
+counted operator v = v
+
+-- Both compare their arguments alike.
+abbrev pub AreOne : Condition → Condition → Type 0
+AreOne c d = (d.operator ≡ c.operator) × (counted d.operator d.value ≡ counted c.operator c.value)
+
+-- The entry has the condition too.
+abbrev pub HasSame : Condition → Entry → Type 0
+HasSame c f = Any (λ d. (d.arg_index ≡ c.arg_index) × AreOne c d) f.conditions
+
+-- The entry is for the calls of this number, has several conditions, and compares the argument of this one otherwise.
+pub record IsOtherOf (number : ℕ) (c : Condition) (g : Entry) : Type 0 where
+  pub own : g.number ≡ number
+  pub several : 1 < length g.conditions
+  pub otherwise : Any (λ d. (d.arg_index ≡ c.arg_index) × (AreOne c d → ⊥)) g.conditions
+
+-- They are two entries: of two calls, of two of the profile, or two alternatives of one.
+abbrev pub IsAnother : Entry → Entry → Type 0
+IsAnother e f = (f.number ≢ e.number) ⊎ ((f.place ≢ e.place) ⊎ (f.alternative ≢ e.alternative))
+
+-- The condition is by order, and the entry compares its argument too.
+abbrev pub IsOrderOn : Condition → Entry → Type 0
+IsOrderOn c f = IsTrue (is_order c.operator) × Any (λ d. d.arg_index ≡ c.arg_index) f.conditions
+
+-- Both are for one call, and the first compares an argument by order that the second compares too.
+abbrev pub IsOrderBeside : Entry → Entry → Type 0
+IsOrderBeside e f = (f.number ≡ e.number) × Any (λ c. IsOrderOn c f) e.conditions
+
+-- The second entry has this condition of the first too, under a mask or for another call; and an entry of several conditions, for the
+-- call of the first, compares its argument otherwise.
+pub record Repeats (all : List Entry) (e f : Entry) (c : Condition) : Type 0 where
+  pub may : IsTrue (is_masked c.operator) ⊎ (f.number ≢ e.number)
+  pub same : HasSame c f
+  pub other : Any (IsOtherOf e.number c) all
+
+-- libseccomp may get the first wrong, since the second is beside it.
+pub record Clashes (all : List Entry) (e f : Entry) : Type 0 where
+  pub another : IsAnother e f
+  pub beside : IsOrderBeside e f ⊎ Any (Repeats all e f) e.conditions
+
+-- ---- what is said
+
+-- It says so of the entry, and names one that is beside it.
+pub record IsClashOf (all : List Entry) (e : Entry) (c : Clash) : Type 0 where
+  pub place : c.place ≡ e.place
+  pub number : c.number ≡ e.number
+  pub beside : Any (λ f. Clashes all e f × (f.place ≡ c.beside)) all
+
+-- Of these entries exactly those that clash with one of all, in their order.
+pub data AreClashes (all : List Entry) : (entries : List Entry) → List Clash → Type 0 where
+  none : AreClashes all [] []
+  taken : {es : List Entry} {own : List Clash} (e : Entry) (c : Clash) → IsClashOf all e c → AreClashes all es own
+      → AreClashes all (es ++ e ∷ []) (own ++ c ∷ [])
+  passed : {es : List Entry} {own : List Clash} (e : Entry) → (Any (Clashes all e) all → ⊥) → AreClashes all es own
+      → AreClashes all (es ++ e ∷ []) own
+
+-- ---- between the private functions of `clashes`
+
+-- It may be the condition by which its entry clashes, one for the calls of this number.
+abbrev pub IsDelicate : (all : List Entry) → ℕ → Condition → Type 0
+IsDelicate all number c = IsTrue (is_order c.operator) ⊎ Any (IsOtherOf number c) all

@@ -1,0 +1,235 @@
+// Entries that libseccomp may get wrong beside each other.
+
+ghost use Rattle.std.specs.Prelude.{◌≡◌, ◌≢◌, ◌<◌, ◌↔◌, ◌⊎◌, Any, IfNone, IfOk, IfSome, IsTrue, length};
+ghost use Rattle.seccomp_profile_checks.specs.Clashes as spec;
+ghost use Rattle.seccomp_profile_checks.specs.Clashes.{AreClashes, AreOne, Clashes, HasSame, IsAnother, IsClashOf, IsDelicate, IsOrderBeside, IsOrderOn, IsOtherOf, Repeats};
+
+use seccomp_entries::Entry;
+use seccompiler::{SeccompCmpOp, SeccompCondition};
+use std::alloc::{AllocError, Global};
+
+/// An entry that libseccomp may get wrong, since another one is beside it: its program may decide otherwise than the profile, or
+/// libseccomp may come to no end.
+#[derive(Clone, Copy, Debug)]
+pub struct Clash {
+    /// The place of the entry, from 0.
+    pub place: usize,
+    /// The place of the other one.
+    pub beside: usize,
+    /// The number of the first one's calls.
+    pub number: u32,
+}
+
+/// Of these entries those that libseccomp may get wrong.
+pub(crate) fn clashes_of(alloc: Global, entries: &[Entry]) -> Result<Vec<Clash>, AllocError>
+    ensures { IfOk result (λ all. AreClashes entries.now entries.now all.items) }
+{
+    let mut clashes = Vec::new(alloc);
+    for entry in entries {
+        let Some(clash) = clash_of(entries, entry) else {
+            continue;
+        };
+        clashes.push(clash)?;
+    }
+    Ok(clashes)
+}
+
+// What is so of an entry beside these.
+fn clash_of(entries: &[Entry], entry: &Entry) -> Option<Clash>
+    ensures some { IfSome result (IsClashOf entries.now entry.now) }
+    ensures none { IfNone result (Any (Clashes entries.now entry.now) entries.now → ⊥) }
+{
+    let Some(beside) = beside(entries, entry) else {
+        return None;
+    };
+    let (place, number) = (entry.place, entry.number);
+    Some(Clash {
+        place,
+        beside,
+        number,
+    })
+}
+
+// The place of one of the entries beside which libseccomp may get this one wrong.
+fn beside(entries: &[Entry], entry: &Entry) -> Option<usize>
+    ensures some { IfSome result (λ place. Any (λ f. Clashes entries.now entry.now f × (f.place ≡ place)) entries.now) }
+    ensures none { IfNone result (Any (Clashes entries.now entry.now) entries.now → ⊥) }
+{
+    // Most entries aren't, and need no search.
+    if !has_delicate(entries, entry) {
+        return None;
+    }
+    for other in entries {
+        if clashes(entries, entry, other) {
+            return Some(other.place);
+        }
+    }
+    None
+}
+
+// Whether it may clash by one of its conditions.
+fn has_delicate(entries: &[Entry], entry: &Entry) -> bool
+    ensures { IsTrue result ↔ Any (IsDelicate entries.now entry.now.number) entry.now.conditions }
+{
+    let number = entry.number;
+    entry
+        .conditions
+        .iter()
+        .any(|condition| is_delicate(entries, number, condition))
+}
+
+fn is_delicate(entries: &[Entry], number: u32, condition: &SeccompCondition) -> bool
+    ensures { IsTrue result ↔ IsDelicate entries.now number condition.now }
+{
+    is_order(condition.operator()) || has_other(entries, number, condition)
+}
+
+// Whether libseccomp may get the first wrong, since the second is beside it.
+fn clashes(entries: &[Entry], entry: &Entry, other: &Entry) -> bool
+    ensures { IsTrue result ↔ Clashes entries.now entry.now other.now }
+{
+    is_another(entry, other) && is_beside(entries, entry, other)
+}
+
+fn is_beside(entries: &[Entry], entry: &Entry, other: &Entry) -> bool
+    ensures { IsTrue result ↔ (IsOrderBeside entry.now other.now ⊎ Any (Repeats entries.now entry.now other.now) entry.now.conditions) }
+{
+    is_order_beside(entry, other) || is_repeated(entries, entry, other)
+}
+
+fn is_another(entry: &Entry, other: &Entry) -> bool
+    ensures { IsTrue result ↔ IsAnother entry.now other.now }
+{
+    other.number != entry.number
+        || other.place != entry.place
+        || other.alternative != entry.alternative
+}
+
+fn is_order_beside(entry: &Entry, other: &Entry) -> bool
+    ensures { IsTrue result ↔ IsOrderBeside entry.now other.now }
+{
+    other.number == entry.number && has_order_on(entry, other)
+}
+
+fn has_order_on(entry: &Entry, other: &Entry) -> bool
+    ensures { IsTrue result ↔ Any (λ c. IsOrderOn c other.now) entry.now.conditions }
+{
+    entry
+        .conditions
+        .iter()
+        .any(|condition| is_order_on(condition, other))
+}
+
+fn is_order_on(condition: &SeccompCondition, other: &Entry) -> bool
+    ensures { IsTrue result ↔ IsOrderOn condition.now other.now }
+{
+    is_order(condition.operator()) && compares(other, condition.arg_index())
+}
+
+fn is_order(operator: SeccompCmpOp) -> bool
+    ensures { result ≡ spec.is_order operator }
+{
+    !matches!(operator, SeccompCmpOp::Eq | SeccompCmpOp::MaskedEq(_))
+}
+
+// Whether a condition of the entry is on this argument.
+fn compares(entry: &Entry, index: u8) -> bool
+    ensures { IsTrue result ↔ Any (λ d. d.arg_index ≡ index) entry.now.conditions }
+{
+    entry
+        .conditions
+        .iter()
+        .any(|condition| condition.arg_index() == index)
+}
+
+fn is_repeated(entries: &[Entry], entry: &Entry, other: &Entry) -> bool
+    ensures { IsTrue result ↔ Any (Repeats entries.now entry.now other.now) entry.now.conditions }
+{
+    any_repeats(entries, entry, other, entry.conditions.as_slice())
+}
+
+fn any_repeats(
+    entries: &[Entry],
+    entry: &Entry,
+    other: &Entry,
+    conditions: &[SeccompCondition],
+) -> bool
+    ensures { IsTrue result ↔ Any (Repeats entries.now entry.now other.now) conditions.now }
+{
+    conditions
+        .iter()
+        .any(|condition| repeats(entries, entry, other, condition))
+}
+
+fn repeats(entries: &[Entry], entry: &Entry, other: &Entry, condition: &SeccompCondition) -> bool
+    ensures { IsTrue result ↔ Repeats entries.now entry.now other.now condition.now }
+{
+    may_repeat(condition, entry, other) && has_both(entries, entry, other, condition)
+}
+
+fn has_both(entries: &[Entry], entry: &Entry, other: &Entry, condition: &SeccompCondition) -> bool
+    ensures { IsTrue result ↔ (HasSame condition.now other.now × Any (IsOtherOf entry.now.number condition.now) entries.now) }
+{
+    has_same(condition, other) && has_other(entries, entry.number, condition)
+}
+
+fn may_repeat(condition: &SeccompCondition, entry: &Entry, other: &Entry) -> bool
+    ensures { IsTrue result ↔ (IsTrue (spec.is_masked condition.now.operator) ⊎ (other.now.number ≢ entry.now.number)) }
+{
+    is_masked(condition.operator()) || other.number != entry.number
+}
+
+fn is_masked(operator: SeccompCmpOp) -> bool
+    ensures { result ≡ spec.is_masked operator }
+{
+    matches!(operator, SeccompCmpOp::MaskedEq(_))
+}
+
+fn has_same(condition: &SeccompCondition, entry: &Entry) -> bool
+    ensures { IsTrue result ↔ HasSame condition.now entry.now }
+{
+    entry.conditions.iter().any(|own| own.arg_index() == condition.arg_index()
+        && are_one(condition, own))
+}
+
+fn has_other(entries: &[Entry], number: u32, condition: &SeccompCondition) -> bool
+    ensures { IsTrue result ↔ Any (IsOtherOf number condition.now) entries.now }
+{
+    entries
+        .iter()
+        .any(|entry| is_other_of(number, condition, entry))
+}
+
+fn is_other_of(number: u32, condition: &SeccompCondition, entry: &Entry) -> bool
+    ensures { IsTrue result ↔ IsOtherOf number condition.now entry.now }
+{
+    is_of_several(number, entry) && compares_otherwise(condition, entry)
+}
+
+fn is_of_several(number: u32, entry: &Entry) -> bool
+    ensures { IsTrue result ↔ ((entry.now.number ≡ number) × (1 < length entry.now.conditions)) }
+{
+    entry.number == number && entry.conditions.len() > 1
+}
+
+fn compares_otherwise(condition: &SeccompCondition, entry: &Entry) -> bool
+    ensures { IsTrue result ↔ Any (λ d. (d.arg_index ≡ condition.now.arg_index) × (AreOne condition.now d → ⊥)) entry.now.conditions }
+{
+    entry.conditions.iter().any(|own| own.arg_index() == condition.arg_index()
+        && !are_one(condition, own))
+}
+
+fn are_one(one: &SeccompCondition, other: &SeccompCondition) -> bool
+    ensures { IsTrue result ↔ AreOne one.now other.now }
+{
+    other.operator() == one.operator() && counted(other) == counted(one)
+}
+
+fn counted(condition: &SeccompCondition) -> u64
+    ensures { result ≡ spec.counted condition.now.operator condition.now.value }
+{
+    match condition.operator() {
+        SeccompCmpOp::MaskedEq(mask) => condition.value() & mask,
+        _ => condition.value(),
+    }
+}

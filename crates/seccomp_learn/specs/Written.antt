@@ -1,5 +1,5 @@
 -- Which texts are of policies that have filters.
-use Rattle.std.specs.Prelude.{◌≡◌, ℕ, List, Option, Some, bytes_eq}
+use Rattle.std.specs.Prelude.{ℕ, List, Option, Some, bytes_eq}
 use Rattle.std.specs.BTreeMap.{get_by_text}
 use Rattle.std.specs.Map.{update}
 use Rattle.seccompiler.specs.JsonAnswers.{OfValue}

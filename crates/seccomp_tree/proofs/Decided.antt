@@ -195,7 +195,8 @@ answer_seen {d} {code} seen e all among alike =
 pub seen_grown : {most : ℕ} {old new : List sock_filter} (d : DecisionSet) (seen : List (ℕ × Target)) → Grows old most new
     → AllAnswer d old seen → AllAnswer d new seen
 seen_grown {old = old} {new} d seen grows all =
-    All-weaker (λ (x : ℕ × Target). Answers d old x.0 x.1) (λ (x : ℕ × Target). Answers d new x.0 x.1) (λ x h. answer_grown grows h) seen all
+    All-weaker (λ (x : ℕ × Target). Answers d old x.0 x.1) (λ (x : ℕ × Target). Answers d new x.0 x.1)
+    (λ x h. answer_grown grows h) seen all
 
 pub seen_more : {most : ℕ} {old new : List sock_filter} {t : Target} (d : DecisionSet) (seen : List (ℕ × Target)) (n : ℕ)
     → Grows old most new → AllAnswer d old seen → Answers d new n t → AllAnswer d new (seen ++ (n, t) ∷ [])

@@ -1,4 +1,5 @@
-use Rattle.seccomp_tree.proofs.{Begun.steps_more, Common.arith, Common.At, Common.IsPushed, Common.List, Common.Step, Common.ℕ, Common.◌<◌, Common.◌+◌}
+use Rattle.seccomp_tree.proofs.Common.{arith, At, IsPushed, List, Step, ℕ, ◌<◌, ◌+◌}
+use Rattle.seccomp_tree.proofs.Begun.{steps_more}
 use Rattle.seccomp_tree.specs.Code.{AreOpenTo}
 use Rattle.seccomp_tree.proofs.steps.open_to.Goals as goal
 

@@ -1,4 +1,4 @@
-"""What tools/try-jail tries of tools/catch-filter.c: the programs that it writes are those that were installed.
+"""What tools/try-jail tries of examples/jail/catch-filter.c: the programs that it writes are those that were installed.
 
 Each program that is installed here allows all calls, and they differ in length; except those that runc and crun install for
 a container, which seccomptool shows, explains and compares with the profile. If the kernel allows no process to be traced, or
@@ -224,10 +224,10 @@ def try_runtimes(results, program, folder):
 
 
 def try_catching(results, folder):
-    """Builds tools/catch-filter.c, and runs its cases."""
+    """Builds examples/jail/catch-filter.c, and runs its cases."""
     program = folder / "bin/catch-filter"
     flags = ["-std=gnu11", "-O2", "-Wall", "-Wextra", "-Wpedantic", "-Werror", '-DVERSION="1.2.3"']
-    if not step(results, "catch-filter.c", ["cc", *flags, TOP / "tools/catch-filter.c", "-o", program]):
+    if not step(results, "catch-filter.c", ["cc", *flags, TOP / "examples/jail/catch-filter.c", "-o", program]):
         return
     results.compare("catch-filter --version", ("catch-filter 1.2.3\n", "", 0), run([program, "--version"], folder))
     room = pathlib.Path(folder / "caught")

@@ -11,8 +11,7 @@ import random
 import re
 import struct
 
-LOAD, MASK, JUMP, RETURN = 0x20, 0x54, 0x05, 0x06
-TESTS = {0x15: lambda a, k: a == k, 0x25: lambda a, k: a > k, 0x35: lambda a, k: a >= k, 0x45: lambda a, k: a & k != 0}
+from model import JUMP, LOAD, MASK, RETURN, TESTS, run as run_on
 
 # An `AUDIT_ARCH_*` value (linux/audit.h).
 X86_64 = 0xC000003E
@@ -48,20 +47,7 @@ def next_of(program, place):
 
 def answer_of(program, record):
     """Returns what a program returns for the sixteen numbers of a record."""
-    place, accumulator = 0, 0
-    while True:
-        code, if_so, if_not, k = program[place]
-        place += 1
-        if code == RETURN:
-            return k
-        if code == LOAD:
-            accumulator = record[k // 4]
-        elif code == MASK:
-            accumulator &= k
-        elif code == JUMP:
-            place += k
-        else:
-            place += if_so if TESTS[code](accumulator, k) else if_not
+    return run_on(program, record)[0]
 
 
 def made(numbers):

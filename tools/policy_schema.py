@@ -1,8 +1,7 @@
 """Whether docs/policy.schema.json says of the policies of all cases what the built programs do.
 
-Each policy that a case has accepted is valid, and each of which a case reports a wrong shape is not. The schema is then
-changed in each of its words and numbers: there has to be a policy of which each changed one says something else.
-Prints how many policies and changes were tried, and how many policies were left out.
+Each policy that a case has accepted is valid, and each of which a case reports a wrong shape is not. Prints how many policies were
+tried, and how many were left out.
 
 What JSON Schema can't say, and so is asked of no policy: that a text is no JSON, repeats a key, names no call of the
 architecture, has two equal actions, or takes too many instructions; and that a whole number is written with a
@@ -11,7 +10,6 @@ is neither among them nor of a wrong shape is a difference, so that no policy is
 `jsonschema` (Debian: python3-jsonschema) nothing is compared, which is said.
 """
 
-import copy
 import json
 import pathlib
 import re
@@ -69,16 +67,6 @@ UNSAID_AT = re.compile(
 
 # So much of a policy is shown of which the schema says something else.
 SHOWN = 200
-
-# Words of the schema that say nothing of a policy.
-ANNOTATIONS = ("$schema", "title", "description")
-
-# Words of the schema whose values are numbers.
-BOUNDS = ("minimum", "maximum", "minItems")
-
-# What no policy shows if it is left out: that a filter is an object also follows from its actions.
-FOLLOWS = ("$defs.filter.type",)
-
 
 def content_of(name, files):
     """Returns a file of the tables or of the examples, as a text or bytes; None if it is neither."""
@@ -201,43 +189,8 @@ def judged_policies(results):
     return [(json.loads(it), judged[it]) for it in sorted(judged, key=len)], len(others - set(judged))
 
 
-def places_of(value, place=()):
-    """Yields the place of each part of a schema that says something of policies: the keys and indices that lead to
-    it."""
-    parts = value.items() if isinstance(value, dict) else enumerate(value) if isinstance(value, list) else ()
-    for key, part in parts:
-        if key not in ANNOTATIONS:
-            yield (*place, key)
-            yield from places_of(part, (*place, key))
-
-
-def changed(schema, place, difference):
-    """Returns the schema with a number changed by the difference, or with a part left out if that is 0."""
-    around = schema = copy.deepcopy(schema)
-    for key in place[:-1]:
-        around = around[key]
-    if difference:
-        around[place[-1]] += difference
-    else:
-        del around[place[-1]]
-    return schema
-
-
-def changes_of(schema):
-    """Yields each change of a schema: what it is, and the schema so changed."""
-    for place in places_of(schema):
-        name = ".".join(map(str, place))
-        # What is defined is changed in its parts alone, since others refer to it.
-        if "$defs" in place[-2:] or name in FOLLOWS:
-            continue
-        yield f"without {name}", changed(schema, place, 0)
-        if place[-1] in BOUNDS:
-            yield f"{name} less by 1", changed(schema, place, -1)
-            yield f"{name} more by 1", changed(schema, place, 1)
-
-
 def compare_schema(results):
-    """Compares what the schema says of each policy, and looks for a policy that shows each change of the schema."""
+    """Compares what the schema says of each policy."""
     try:
         from jsonschema import Draft202012Validator as Validator
     except ImportError:
@@ -248,11 +201,6 @@ def compare_schema(results):
     validator, (judged, others) = Validator(schema), judged_policies(results)
     for value, valid in judged:
         results.compare(f"{name} on {json.dumps(value)[:SHOWN]}", (valid,), (validator.is_valid(value),))
-    changes = list(changes_of(schema))
-    for what, other in changes:
-        changed_one = Validator(other)
-        shown = any(changed_one.is_valid(value) != valid for value, valid in judged)
-        results.compare(f"{name} {what}: whether a policy shows it", (True,), (shown,))
     accepted = sum(valid for _, valid in judged)
-    print(f"{name}: {len(judged)} policies tried, {accepted} of them accepted, and {len(changes)} changes of it;"
-          f" {others} policies left out, of whose shape no case says anything")
+    print(f"{name}: {len(judged)} policies tried, {accepted} of them accepted; {others} policies left out,"
+          f" of whose shape no case says anything")

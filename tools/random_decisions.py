@@ -2,8 +2,8 @@
 
 `decide` below is the definition, written from the meaning of the operators alone. Per decisions the program of
 crates/seccomp_vectors is asked for the instructions, and for a record what is decided, and what the program returns, which has
-to be one that a kernel takes, and in how many steps; a machine that is written here runs the instructions on this record and
-on more. The records lie at the values of the conditions and beside them. `try_on_kernel` installs some programs, and makes the calls.
+to be one that a kernel takes, and in how many steps; the machine of model.py runs the instructions on this record and on
+more. The records lie at the values of the conditions and beside them. `try_on_kernel` installs some programs, and makes the calls.
 """
 
 import ctypes
@@ -13,6 +13,7 @@ import struct
 import subprocess
 
 import driver_rows
+from model import DWORD, OPERATORS, QWORD, holds, run
 from running_kernel import SECCOMP
 
 COUNT, SEED, RECORDS, ASKED = 10_000, 57, 24, 1
@@ -20,22 +21,11 @@ ON_KERNEL = 200
 
 # From linux/audit.h.
 ARCHITECTURES = {"x86_64": 0xC000003E, "aarch64": 0xC00000B7, "riscv64": 0xC00000F3}
-DWORD, QWORD = 1 << 32, 1 << 64
 KILL_PROCESS, ALLOW, ERRNO = 0x80000000, 0x7FFF0000, 0x00050000
 VALUES = [0, KILL_PROCESS, ALLOW, 0x00030000, 0x7FFC0000, ERRNO | 1, ERRNO | 38, 0x7FF00005]
-OPERATORS = {
-    "eq": lambda a, v, m: a == v, "ne": lambda a, v, m: a != v, "ge": lambda a, v, m: a >= v, "gt": lambda a, v, m: a > v,
-    "le": lambda a, v, m: a <= v, "lt": lambda a, v, m: a < v, "masked_eq": lambda a, v, m: a & m == v & m,
-}
 OFTEN = [*OPERATORS, "eq", "eq", "eq"]
 NUMBERS = [0, 1, 2, 3, 5, DWORD - 1, DWORD, DWORD + 1, QWORD - 1, 1 << 31, 1 << 63, 5 * DWORD + 7, 7 * DWORD]
 MASKS = [0, 1, 0xFF, DWORD - 1, QWORD - 1, QWORD - DWORD]
-
-
-def holds(condition, arguments):
-    """Whether a condition holds: its operator, of the argument or its low half."""
-    index, size, operator, value, mask = condition
-    return OPERATORS[operator](arguments[index] % size, value % size, mask % size)
 
 
 def decide(decisions, record):
@@ -45,7 +35,7 @@ def decide(decisions, record):
     if own != ARCHITECTURES[arch]:
         return KILL_PROCESS
     for conditions, value in calls.get(number, []):
-        if all(holds(it, arguments) for it in conditions):
+        if all(holds(size, operator, arguments[index], of, mask) for index, size, operator, of, mask in conditions):
             return value
     return [value for start, value in defaults if start <= number][-1]
 
@@ -119,30 +109,18 @@ def words_of(record):
 
 
 def instructions_of(text):
-    """Instructions of a row, as name, operand and distances."""
+    """Instructions of a row, each its code, two distances and an operand."""
+    codes = {"LD": 0x20, "AND": 0x54, "JA": 0x05, "RET": 0x06, "JEQ": 0x15, "JGE": 0x35}
     for part in text.split("; "):
         name, operands = part.split(" ")
-        yield (name, *(int(it, 0) for it in operands.split(",")), 0, 0)[:4]
+        k, if_so, if_not = (*(int(it, 0) for it in operands.split(",")), 0, 0)[:3]
+        yield codes[name], if_so, if_not, k
 
 
-def run(code, record):
-    """Runs instructions: the value that is returned, and the steps."""
+def numbers_of(record):
+    """The sixteen numbers of a record."""
     arch, number, arguments = record
-    words = [number, arch, 0, 0] + [part for it in arguments for part in (it % DWORD, it // DWORD)]
-    place = accumulator = steps = 0
-    while True:
-        name, k, met, other = code[place]
-        place, steps = place + 1, steps + 1
-        if name == "RET":
-            return k, steps
-        if name == "LD":
-            accumulator = words[k // 4]
-        elif name == "AND":
-            accumulator &= k
-        elif name == "JA":
-            place += k
-        else:
-            place += met if (accumulator == k if name == "JEQ" else accumulator >= k) else other
+    return [number, arch, 0, 0] + [part for it in arguments for part in (it % DWORD, it // DWORD)]
 
 
 def ask(all_of):
@@ -163,7 +141,7 @@ def fault_of(decisions, records, answers):
     code = list(instructions_of(answers[0]))
     for place, record in enumerate(records):
         wanted = decide(decisions, record)
-        value, steps = run(code, record)
+        value, steps = run(code, numbers_of(record))
         told = answers[1 + 2 * place:3 + 2 * place] if place < ASKED else [f"{wanted:#010x}", f"{value:#010x} {steps}"]
         if value != wanted or told != [f"{wanted:#010x}", f"{wanted:#010x} {steps}"]:
             return words_of(record), f"{wanted:#010x}", f"{value:#010x} {steps}", told
@@ -192,8 +170,7 @@ ERRORS = [ALLOW, *(ERRNO | it for it in (1, 2, 13, 4095))]
 
 def called(library, code, records):
     """Installs a program in a process of its own, makes the calls, and returns their error numbers, or what goes wrong."""
-    codes = {"LD": 0x20, "AND": 0x54, "JA": 0x05, "RET": 0x06, "JEQ": 0x15, "JGE": 0x35}
-    packed = b"".join(struct.pack("=HBBI", codes[name], met, other, k) for name, k, met, other in code)
+    packed = b"".join(struct.pack("=HBBI", *it) for it in code)
     held = ctypes.create_string_buffer(packed)
     program = struct.pack("@HP", len(code), ctypes.addressof(held))
     reader, writer = os.pipe()

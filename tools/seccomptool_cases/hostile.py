@@ -14,8 +14,9 @@ from .show import LOGS_SHOWN
 from .stats import LOGS_STEPS
 
 # Control characters, marks and embeddings of the direction of writing, and characters without a width; and then what isn't hostile.
-HOSTILE = "\x07\x1b\n\x7f\u0085\u009b\u061c\u200b\u200c\u200d\u200e\u200f\u2028\u202a\u202b\u202c\u202d\u202e\u2060\u2066\u2067\u2068\u2069\ufeff"
-HARMLESS = "\u00b5\u0627\u2027\u202f\u2065\u206a\u200a\u2010\u00ad\U0001f600"
+HOSTILE = "\x07\x1b\n\x7f\u0085\u009b\u061c\u200b\u200c\u200d\u200e\u200f\u2028\u202a\u202b\u202c\u202d\u202e\u2060\u2066\u2067\u2068\u2069\ufeff" \
+    "\u00ad\u180e\u2061\u2064\u206a\u206f\ufff9\ufffb\U000e0001\U000e007f"
+HARMLESS = "\u00b5\u0627\u2027\u202f\u200a\u2010\u2070\u00ac\u00ae\u180d\u180f\ufffc\U000e0100\U0001f600"
 
 # The same without what is white space, which `clap` writes in quotes as Rust does.
 UNQUOTED = "".join(it for it in HOSTILE if not it.isspace())

@@ -9,12 +9,9 @@ import json
 import random
 import re
 
+from model import DWORD, QWORD, holds
+
 DRAW = random.Random(7)
-DWORD, QWORD = 1 << 32, 1 << 64
-OPERATORS = {
-    "eq": lambda a, v: a == v, "ne": lambda a, v: a != v, "lt": lambda a, v: a < v, "ge": lambda a, v: a >= v,
-    "le": lambda a, v: a <= v, "gt": lambda a, v: a > v,
-}
 OPPOSITES = {"eq": "ne", "ne": "eq", "lt": "ge", "ge": "lt", "le": "gt", "gt": "le"}
 VALUES = [0, 1, 2, 5, 7, 100, 1 << 31, DWORD, DWORD + 5, QWORD - 1]
 MASKS = [1, 3, 12, 255, DWORD - 1]
@@ -25,7 +22,7 @@ KINDS = [(1500, 8, False), (60, 64, False), (600, 8, True)]
 
 def some_condition(masked=False):
     """Returns a condition by chance."""
-    operator = {"masked_eq": DRAW.choice(MASKS)} if masked and DRAW.random() < 0.4 else DRAW.choice([*OPERATORS])
+    operator = {"masked_eq": DRAW.choice(MASKS)} if masked and DRAW.random() < 0.4 else DRAW.choice([*OPPOSITES])
     value = DRAW.choice([*VALUES, DRAW.getrandbits(8)])
     return {"index": DRAW.randrange(6), "type": DRAW.choice(["dword", "qword"]), "op": operator, "val": value}
 
@@ -50,19 +47,18 @@ def changed(entries):
     return parts
 
 
-def holds(condition, arguments):
-    """Whether a condition holds, of the argument or its low half."""
+def is_met(condition, arguments):
+    """Whether a condition holds."""
+    argument, value, operator = arguments[condition["index"]], condition["val"], condition["op"]
     size = DWORD if condition["type"] == "dword" else QWORD
-    argument, value, operator = arguments[condition["index"]] % size, condition["val"] % size, condition["op"]
     if isinstance(operator, dict):
-        mask = operator["masked_eq"] % size
-        return argument & mask == value & mask
-    return OPERATORS[operator](argument, value)
+        return holds(size, "masked_eq", argument, value, operator["masked_eq"])
+    return holds(size, operator, argument, value)
 
 
 def decide(entries, arguments):
     """The action that entries decide."""
-    return "allow" if any(all(holds(it, arguments) for it in entry) for entry in entries) else "log"
+    return "allow" if any(all(is_met(it, arguments) for it in entry) for entry in entries) else "log"
 
 
 def policy(filters):

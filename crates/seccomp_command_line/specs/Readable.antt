@@ -10,8 +10,8 @@ use Rattle.seccomp_command_line.specs.declared.readable.TextKind.TheVariants.{Na
 
 -- The characters that turn the direction of writing, or aren't seen.
 abbrev pub is_invisible : ℕ → Bool
-is_invisible c = (c == 0x61C) || is_in_range 0x200B 0x200F c || is_in_range 0x2028 0x202E c || (c == 0x2060)
-    || is_in_range 0x2066 0x2069 c || (c == 0xFEFF)
+is_invisible c = (c == 0xAD) || (c == 0x61C) || (c == 0x180E) || is_in_range 0x200B 0x200F c || is_in_range 0x2028 0x202E c
+    || is_in_range 0x2060 0x206F c || (c == 0xFEFF) || is_in_range 0xFFF9 0xFFFB c || is_in_range 0xE0000 0xE007F c
 
 -- The characters that steer a terminal or aren't seen there: these, and the control characters, which are U+0000 to U+001F
 -- and U+007F to U+009F.

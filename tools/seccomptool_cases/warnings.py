@@ -76,7 +76,9 @@ KEYS = {
 # A line for each section of docs/CHECKS.md: the code, and what the section begins with, without the marks.
 PAGE = (pathlib.Path(__file__).resolve().parents[2] / "docs/CHECKS.md").read_text(encoding="utf-8")
 SECTIONS = re.findall(r"^### `([a-z0-9-]+)`\n\n(.*)\n", PAGE, re.M)
-CODES_LISTED = "".join(f"{code}: {first.replace('`', '')}\n" for code, first in SECTIONS)
+MEANINGS = [(code, first.replace("`", "")) for code, first in SECTIONS]
+# `check --list` prints of each what stands up to the first point or colon.
+CODES_LISTED = "".join(f"{code:22} {re.split('[.:] ', said)[0].rstrip('.')}\n" for code, said in MEANINGS)
 
 LOW = 2**32 - 1
 WHOLE = 2**64 - 1

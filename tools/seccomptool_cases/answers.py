@@ -22,7 +22,7 @@ from .records import X86_64, numbers_on, record_of
 from .show import CALLS, CALLS_SHOWN, LOADS_SHOWN, LOGS_AS_TREE, OF_LOADS, READ_SHOWN
 from .show import LOGS as SHOWN
 from .stats import TWO_CALLS
-from .warnings import CODES_LISTED
+from .warnings import CODES_LISTED, MEANINGS
 
 CODES = {
     "ld": LOAD, "and": MASK, "ja": JUMP, "ret": RETURN, "jeq": JUMP_EQUAL, "jgt": JUMP_GREATER, "jge": JUMP_AT_LEAST, "jset": JUMP_IF_SET
@@ -73,8 +73,7 @@ def action(text):
 
 def decision(line, name="a", steps=None):
     """Returns the object of a line of `explain`, of a policy whose filter has this name, of a profile, or of a program."""
-    head, text = re.fullmatch(r"(\w+\[\d+\]: )?(.*)\n?", line).groups()
-    caller, process = re.match(r"(\w+)\[(\d+)\]", head).groups() if head else (None, None)
+    caller, process, alone, text = re.fullmatch(r"(?:(\w+)\[(\d+)\]: |(\d+): )?(.*)\n?", line).groups()
     done, _, why = text.partition(": ")
     entry, condition = (re.search(rf"{it}\[(\d+)\]", why) for it in (r"(?:\.filter|syscalls)", r"\.args"))
     entry, condition = (int(it[1]) if it else None for it in (entry, condition))
@@ -86,7 +85,7 @@ def decision(line, name="a", steps=None):
     return {
         "action": action(done), "call": call and call[1], "number": number and int(number[1] or number[2]), "entry": entry,
         "reason": next((it for begin, it in kinds.items() if why.startswith(begin) and not steps), kind), "condition": condition,
-        "path": path if condition is None else f"{path}.args[{condition}]", "steps": steps, "program": caller, "process": process
+        "path": path if condition is None else f"{path}.args[{condition}]", "steps": steps, "program": caller, "process": process or alone
     }
 
 
@@ -142,7 +141,7 @@ def misused(words, told):
     return Case(words, 2, "", told)
 
 
-CODE_ITEMS = [dict(zip(("code", "meaning"), it.split(": ", 1))) for it in CODES_LISTED.splitlines()]
+CODE_ITEMS = [dict(zip(("code", "meaning"), it)) for it in MEANINGS]
 SAME, ELSEWHERE = found("a", "a", "same"), found("a", "program", "same", arch=None)
 KEPT = [("fcntl", 1), ("ioctl", 1), ("prctl", 0), ("socket", 0), ("socket", 1), ("socket", 2)]
 OF_X32 = "  x32 calls 1073741824 to 4294967295: log -> trap, less: 1073741824(0x0, 0x0, 0x0, 0x0, 0x0, 0x0)\n"

@@ -41,10 +41,10 @@ TRACED = """77 accept4(3, NULL, NULL, SOCK_CLOEXEC) = 4
 77 --- SIGCHLD {si_signo=SIGCHLD} ---
 77 close(0x3) = 0
 """
-ON_TRACED = """allow: a.filter[0] of accept4 (288)
-allow: a.filter[2] of fcntl (72)
-trap: no match: a.filter[1].args[0] of fcntl (72) does not hold, the nearest of 3 entries
-allow: a.filter[3] of close (3)
+ON_TRACED = """77: allow: a.filter[0] of accept4 (288)
+77: allow: a.filter[2] of fcntl (72)
+77: trap: no match: a.filter[1].args[0] of fcntl (72) does not hold, the nearest of 3 entries
+77: allow: a.filter[3] of close (3)
 """
 
 ON_AARCH64 = """call[1234]: trap: no match: a.filter[1].args[0] of fcntl (25) does not hold, the nearest of 3 entries
@@ -52,9 +52,10 @@ x[1]: kill_process: another architecture
 allow: a.filter[3] of close (57)
 """
 
-# The calls of FRONTS of learn.py, none of which the policy has an entry of.
-OF_FRONTS = ("getpid (39)", "getppid (110)", "getuid (102)", "getgid (104)", "geteuid (107)", "getpgrp (111)", "read (0)", "rt_sigreturn (15)",
-             "write (1)", "futex (202)", "getpid (39)", "exit (60)")
+# The calls of FRONTS of learn.py with their processes, none of which the policy has an entry of.
+OF_FRONTS = (
+    ("77", "getpid (39)"), ("77", "getppid (110)"), ("", "getuid (102)"), ("", "getgid (104)"), ("77", "geteuid (107)"), ("", "getpgrp (111)"),
+    ("78", "read (0)"), ("77", "rt_sigreturn (15)"), ("77", "write (1)"), ("77", "futex (202)"), ("77", "getpid (39)"), ("77", "exit (60)"))
 
 FILES = {
     "denied.log": DENIED, "audited.log": AUDITED, "traced.trace": TRACED, "logged.json": POLICY, "logged.bpf": TRAPS,
@@ -78,7 +79,7 @@ CASES = [
     explains("--log denied.log -", ON_DENIED, POLICY),
     explains("logged.json --log audited.log", ON_AUDITED),
     explains("logged.json --log traced.trace", ON_TRACED),
-    explains("logged.json --log fronts.trace", "".join(f"trap: no entry of {it}\n" for it in OF_FRONTS)),
+    explains("logged.json --log fronts.trace", "".join(f"{it and it + ': '}trap: no entry of {call}\n" for it, call in OF_FRONTS)),
     explains("logged.json --log -", ""),
     explains("logged.json --log -", ON_TRACED + ON_AUDITED + ON_DENIED, TRACED + AUDITED + DENIED),
     explains("logged.json --log examples/traces/denied.log",
@@ -97,7 +98,7 @@ nginx[8]: trap: fcntl (72)
 old[9]: trap: another architecture
 call[10]: trap: call 500
 """),
-    explains("--log traced.trace -", "trap: accept4 (288)\ntrap: fcntl (72)\ntrap: fcntl (72)\ntrap: close (3)\n", TRAPS),
+    explains("--log traced.trace -", "77: trap: accept4 (288)\n77: trap: fcntl (72)\n77: trap: fcntl (72)\n77: trap: close (3)\n", TRAPS),
     # What isn't understood is noted, and the rest explained.
     Case("explain logs.json --log strange.trace", 0,
          "".join(f"log: no entry of {it}\n" for it in ("getpid (39)", "read (0)", "close (3)", "getuid (102)")),
@@ -106,6 +107,11 @@ call[10]: trap: call 500
     # A program's name is printed with its characters that steer a terminal by number.
     explains("logs.json --log -", f"{HOSTILE_TOLD}[5]: log: no entry of read (0)\n", filtered(0, HOSTILE, 5)),
     explains("logs.json --log -", f"x[{HOSTILE_TOLD}]: log: no entry of read (0)\n", filtered(0, "x", HOSTILE)),
+    # A name with a blank, a quote, a control character or others than ASCII's is written in hexadecimal digits.
+    explains("logs.json --log -", "my app[5]: log: no entry of read (0)\n", filtered(0, "?", 5).replace('"?"', "6D7920617070", 1)),
+    explains("logs.json --log -", r"a\x1b\x22[5]: log: no entry of read (0)" "\n", filtered(0, "?", 5).replace('"?"', "611B22", 1)),
+    *[explains("logs.json --log -", f"{name}[5]: log: no entry of read (0)\n", filtered(0, "?", 5).replace('"?"', written, 1))
+      for name, written in (("cafe", '"cafe"'), ("CAFE", '"CAFE"'), ("dd", "dd"))],
     # Files and words that are wrong.
     rejects("explain logs.json --log missing.log", "", MISSING, TOOL + "missing.log: "),
     rejects("explain logs.json --log examples", "", FOLDER, TOOL + "examples: "),

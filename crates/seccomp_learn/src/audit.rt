@@ -26,7 +26,7 @@ fn told(line: &str) -> Option<Told<'_>> {
         arch_word: word_of(field(line, "arch=")?)?,
         call: field(line, "syscall=")?,
         arguments: arguments(line),
-        program: field(line, "comm=").unwrap_or("").trim_matches('"'),
+        program: field(line, "comm=").unwrap_or(""),
         process: field(line, "pid=").unwrap_or(""),
         returned: returned(line),
     })

@@ -14,7 +14,7 @@ pub struct Told<'a> {
     pub call: &'a str,
     /// What is known of its arguments.
     pub arguments: [Option<u64>; 6],
-    /// The program that made it, as it is written: no bytes where the line doesn't say that.
+    /// The program that made it, as it is written, in quotes or in hexadecimal digits: no bytes where the line doesn't say that.
     pub program: &'a str,
     /// The process that made it, as it is written: no bytes where the line doesn't say that.
     pub process: &'a str,
@@ -47,7 +47,7 @@ pub fn line_of(arch: TargetArch, line: &[u8]) -> Line<'_> {
                 call: begun.call,
                 arguments: arguments.values,
                 program: "",
-                process: "",
+                process: begun.thread,
                 returned: None,
             })
         }

@@ -204,8 +204,8 @@ fn push_shown(
     Ok(())
 }
 
-// A line for each code of a warning, in the order of `Code::all`: its name, `: `, and what is so if a warning has the code. As JSON
-// their list.
+// A line for each code of a warning, in the order of `Code::all`: its name, and what is so if a warning has the code, up to the first
+// point or colon. As JSON their list, with all that is said of each.
 pub(crate) fn codes_made(alloc: Global, json: bool) -> Result<Made, ToolError>
     ensures made { IfOk result IsPlain }
     ensures failed { IfErr result (λ error. error ≡ OutOfMemory) }
@@ -219,10 +219,22 @@ pub(crate) fn codes_made(alloc: Global, json: bool) -> Result<Made, ToolError>
             item.field("meaning", paragraph);
             text.push_item(item);
         } else {
-            text.push_format(format!(in alloc; "{name}: {paragraph}\n"));
+            let head = head_of(paragraph);
+            text.push_format(format!(in alloc; "{name:22} {head}\n"));
         }
     }
     Made::plain(alloc, written(text, json, "codes"))
+}
+
+// What a paragraph says up to its first point or colon.
+fn head_of(paragraph: &str) -> &str {
+    let mut head = paragraph.trim_end_matches('.');
+    for end in [". ", ": "] {
+        if let Some((front, _)) = head.split_once(end) {
+            head = front;
+        }
+    }
+    head
 }
 
 pub(crate) fn call_made(alloc: Global, asked: &Asked<'_>) -> Result<Made, ToolError>

@@ -1,4 +1,7 @@
+use Rattle.std.proofs.Common.{List, subst, sym}
 use Rattle.std.specs.Prelude.{All}
+use Rattle.seccomp_profile_checks.specs.Doubts.{IsDoubt}
+use Rattle.seccomp_profile_checks.specs.declared.doubts.Doubt.{Doubt}
 use Rattle.std.proofs.lemmas.List.Elements.{All-nil}
 use Rattle.seccomp_profile_checks.specs.Warnings.{IsTold}
 use Rattle.seccomp_profile_checks.proofs.warnings.own_warnings.Goals as goal
@@ -16,3 +19,8 @@ returns c =
 
 pub loop-doubt-preserved : goal.loop-doubt-preserved
 loop-doubt-preserved c = λ told. c.push.ensures (c.loop-doubt.invariant told)
+
+pub push-requires : goal.push-requires
+push-requires c =
+    subst (λ (ds : List Doubt). All (IsDoubt c.args.target c.args.container.now c.args.profile.now) ds)
+    (sym c.deref-doubt-items.ensures.value) c.in_ok-doubts_of.ensures c.loop-doubt.doubt-index _ c.loop-doubt-test.true

@@ -68,7 +68,7 @@ PROGRAMS = [
 ]
 
 # The parts of tools/library-calls.c that its trace doesn't have, and how each ends.
-PARTS = {"plain": 0, "threads": 0, "large": 0, "sleep": 0, "abort": -signal.SIGABRT, "system": 0, "time": 0}
+PARTS = {"plain": 0, "threads": 0, "large": 0, "sort": 0, "failure": 3, "sleep": 0, "abort": -signal.SIGABRT, "system": 0, "time": 0}
 
 
 def traced(results, name, example, prepare, folder):

@@ -3,6 +3,7 @@
  * and runs the others under the policy of that trace.
  */
 
+#include <errno.h>
 #include <pthread.h>
 #include <signal.h>
 #include <stdio.h>
@@ -49,6 +50,27 @@ static int large(void)
     return 0;
 }
 
+static int compare(const void *one, const void *other)
+{
+    return *(const int *)one - *(const int *)other;
+}
+
+static int sorted(void)
+{
+    static int numbers[100000];
+    for (int k = 0; k < 100000; k++)
+        numbers[k] = 100000 - k;
+    qsort(numbers, 100000, sizeof numbers[0], compare);
+    return numbers[0] != 1;
+}
+
+static int told_failure(void)
+{
+    errno = ENOENT;
+    perror("told");
+    return 3;
+}
+
 static int slept(void)
 {
     struct timespec left = {2, 0};
@@ -72,6 +94,10 @@ int main(int count, char **words)
         return threads();
     if (strcmp(part, "large") == 0)
         return large();
+    if (strcmp(part, "sort") == 0)
+        return sorted();
+    if (strcmp(part, "failure") == 0)
+        return told_failure();
     if (strcmp(part, "sleep") == 0)
         return slept();
     if (strcmp(part, "abort") == 0)

@@ -285,7 +285,7 @@ BOTH = "error: TRACE and POLICY can't both be read from standard input\n.."
 # The calls that the C library makes by itself, as docs/LEARNING.md has them.
 TABLE = re.search(r"^\| call \| .*?\n\|---.*?\n(.*?)\n\n", (TOP / "docs/LEARNING.md").read_text(encoding="utf-8"), re.M | re.S)[1]
 RUNNABLE = sorted({name for row in TABLE.splitlines() for name in re.findall(r"`([a-z0-9_]+)`", row.split("|")[1])})
-REQUESTS = {"fcntl": [2], "ioctl": [0x5401, 0x5413]}
+REQUESTS = {"fcntl": [2, 3], "ioctl": [0x5401, 0x5413]}
 OTHERS = {"x86_64": {"riscv_hwprobe"}, "aarch64": {
     "access", "arch_prctl", "open", "readlink", "riscv_hwprobe", "stat", "time"}}
 

@@ -5,3 +5,4 @@ pub mod Entries
 pub mod Seen
 pub mod Differences
 pub mod OfNames
+pub mod Beside

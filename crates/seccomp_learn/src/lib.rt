@@ -51,4 +51,4 @@ pub use crate::profile::profile_text;
 pub use crate::text::policy_text;
 pub use crate::trace::{StrangeLine, Symbolic, Trace, read_trace, told_number};
 pub use crate::usual::{asked_kept, cloning_calls, runnable_calls, usual_kept};
-pub use crate::written::written_policy;
+pub use crate::written::{take_filter, written_policy};

@@ -18,7 +18,7 @@ const CHOOSING: [(&str, u8); 6] = [
 ];
 
 // The calls that the C library makes by itself, each with its argument 1 if that is compared. docs/LEARNING.md has the reason of each.
-const RUNNABLE: [(&str, Option<u64>); 62] = [
+const RUNNABLE: [(&str, Option<u64>); 65] = [
     ("access", None),
     ("arch_prctl", None),
     ("brk", None),
@@ -28,11 +28,13 @@ const RUNNABLE: [(&str, Option<u64>); 62] = [
     ("clone", None),
     ("clone3", None),
     ("close", None),
+    ("dup", None),
     ("execve", None),
     ("exit", None),
     ("exit_group", None),
     ("faccessat", None),
     ("fcntl", Some(2)),
+    ("fcntl", Some(3)),
     ("fstat", None),
     ("futex", None),
     ("getcwd", None),
@@ -75,6 +77,7 @@ const RUNNABLE: [(&str, Option<u64>); 62] = [
     ("set_robust_list", None),
     ("set_tid_address", None),
     ("stat", None),
+    ("sysinfo", None),
     ("tgkill", None),
     ("time", None),
     ("tkill", None),

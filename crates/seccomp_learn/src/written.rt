@@ -1,19 +1,19 @@
 // Policies that are written as text, and read back.
 
-ghost use Rattle.std.specs.Prelude.{IfOk, IsTrue};
-ghost use Rattle.seccomp_learn.specs.Written.{HasFilter};
+ghost use Rattle.std.specs.Prelude.{◌≡◌, IfOk, IfSome};
+ghost use Rattle.seccomp_learn.specs.Written.{HasFilters, beside, found_in};
 
 use crate::text::policy_text;
 use seccompiler::json::filters_of;
 use seccompiler::{JsonFilter, JsonFilterMap, JsonFrontendError};
 use std::alloc::Global;
 
-/// The text of a policy that has this filter under this name, beside others, in the format of `docs/JSON.md`. The text is read
-/// back, and given only if it has the filter.
+/// The text of a policy that has this filter under this name, and the others under theirs, in the format of `docs/JSON.md`. The text
+/// is read back, and given only if it has exactly these filters.
 ///
 /// # Errors
 ///
-/// What [`filters_of`] rejects the text for, or `Shape` with the name if the filter isn't there; neither was ever seen.
+/// What [`filters_of`] rejects the text for, or `Shape` with the name if a filter isn't there; neither was ever seen.
 /// `OutOfMemory` if memory runs out.
 ///
 /// [`filters_of`]: seccompiler::json::filters_of
@@ -23,12 +23,19 @@ pub fn written_policy(
     name: &str,
     filter: &JsonFilter,
 ) -> Result<Vec<u8>, JsonFrontendError>
-    ensures { IfOk result (λ text. HasFilter text.items name.now filter.now) }
+    ensures { IfOk result (λ text. HasFilters text.items (beside (found_in others.now) name.now filter.now)) }
 {
     let text = policy_text(alloc, others, name, filter)?;
-    let read = filters_of(alloc, &text)?;
-    match read.0.get(name) {
-        Some(found) if *found == *filter => Ok(text),
+    let mut read = filters_of(alloc, &text)?;
+    match take_filter(&mut read, name) {
+        Some(found) if found == *filter && read == *others => Ok(text),
         _ => Err(JsonFrontendError::Shape(String::from_str(alloc, name)?)),
     }
+}
+
+/// Takes the filter of this name out of a policy's filters, if there is one. The others stay.
+pub fn take_filter(filters: &mut JsonFilterMap, name: &str) -> Option<JsonFilter>
+    ensures { IfSome result (λ filter. found_in filters.old ≡ beside (found_in filters.new) name.now filter) }
+{
+    filters.0.remove(name)
 }

@@ -57,25 +57,27 @@ fn middle(steps: &[Step], most: usize) -> usize
     ensures { IsMiddle (length steps.now) most result }
 {
     let near = steps.len() / 2;
-    let half = better(steps, most, near, near + 1);
-    let half = better(steps, most, half, near.saturating_sub(1));
+    let half = (near, tests_around(steps, near, near));
+    let half = better(steps, most, half, near + 1);
     let half = better(steps, most, half, near + 2);
-    better(steps, most, half, near.saturating_sub(2))
+    let half = better(steps, most, half, near.saturating_sub(1));
+    better(steps, most, half, near.saturating_sub(2)).0
 }
 
-// The other place, if steps may be halved there, and need fewer tests then.
-fn better(steps: &[Step], most: usize, half: usize, other: usize) -> usize
-    requires half { IsMiddle (length steps.now) most half }
+// The other place and how many tests are needed there, if steps may be halved there, and those are fewer.
+fn better(steps: &[Step], most: usize, half: (usize, usize), other: usize) -> (usize, usize)
+    requires half { IsMiddle (length steps.now) most half.0 }
     requires near { other ≤ length steps.now / 2 + 2 }
     requires near_back { length steps.now / 2 ≤ other + 2 }
-    ensures { IsMiddle (length steps.now) most result }
+    ensures { IsMiddle (length steps.now) most result.0 }
 {
     let len = steps.len();
     if other == 0 || len <= other || other.max(len - other) > most - most / 2 {
         return half;
     }
-    if tests_around(steps, len / 2, other) < tests_around(steps, len / 2, half) {
-        other
+    let needed = tests_around(steps, len / 2, other);
+    if needed < half.1 {
+        (other, needed)
     } else {
         half
     }

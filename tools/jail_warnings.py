@@ -139,6 +139,9 @@ WARNED = {
     "denies all": Shown(["denies-everything", "kills-exit"], filter_of("trap", {"errno": 1}), []),
     "opens to write": Shown(["flag-evades"], denying(when("openat", (2, "dword", "eq", 1))), [
         ("openat 0 0 1", DENIED), ("openat 0 0 0x80001", NO_ADDRESS)]),
+    "a pipe": Shown(["flag-evades"], denying(when("pipe2", (1, "dword", "eq", 0))), [("pipe2 0 0", DENIED), ("pipe2 0 0x80000", NO_ADDRESS)]),
+    "memory with a name": Shown(["flag-evades"], denying(when("memfd_create", (1, "dword", "eq", 0))), [
+        ("memfd_create 0 0", DENIED), ("memfd_create 0 1", NO_ADDRESS)]),
     "opens to write under a mask": Shown([], denying(when("openat", (2, "dword", {"masked_eq": 3}, 1))), [
         ("openat 0 0 1", DENIED), ("openat 0 0 0x80001", DENIED), ("openat 0 0 0x80002", NO_ADDRESS)]),
     "at an address": Shown(["pointer-compared"], denying(when("openat", (1, "qword", "eq", LOW + 2))), [
@@ -149,13 +152,17 @@ WARNED = {
     "at one offset": Shown([], denying(when("lseek", (1, "qword", "eq", LOW + 2))), [
         (f"lseek -1 {LOW + 2} 0", DENIED), ("lseek -1 -1 0", NO_FILE)]),
     "lists no execve": Shown(["no-execve"], {**CAT, "filter": [it for it in CAT["filter"] if it["syscall"] != "execve"]}, []),
-    "denies clone": Shown(["clone-by-clone3"], denying("clone"), [(CLONE, DENIED), (CLONE3, INVALID)]),
-    "denies clone and clone3": Shown([], denying("clone", "clone3"), [(CLONE, DENIED), (CLONE3, DENIED)]),
+    "denies clone": Shown(["clone-by-clone3", "sibling-allowed"], denying("clone"), [(CLONE, DENIED), (CLONE3, INVALID)]),
+    "denies clone and its siblings": Shown([], denying("clone", "clone3", "fork", "vfork"), [(CLONE, DENIED), (CLONE3, DENIED), ("fork", DENIED)]),
     "allows clone3": Shown(["clone-by-clone3"], allowing("clone3"), [(CLONE, DENIED), (CLONE3, INVALID)]),
     "allows clone and clone3": Shown([], allowing("clone3", "clone"), [(CLONE, INVALID), (CLONE3, INVALID)]),
     "allows clone": Shown([], allowing("clone"), [(CLONE, INVALID), (CLONE3, DENIED)]),
-    "denies kill": Shown(["sibling-allowed"], denying("kill"), [("kill 0 0", DENIED), (TGKILL, INVALID)]),
-    "denies kill and its siblings": Shown([], denying("kill", "tgkill", "pidfd_send_signal"), [("kill 0 0", DENIED), (TGKILL, DENIED)]),
+    "denies kill": Shown(["sibling-allowed"], denying("kill"), [
+        ("kill 0 0", DENIED), (TGKILL, INVALID), ("tkill -1 0", INVALID), ("rt_sigqueueinfo 0 0 0", NO_ADDRESS)]),
+    "denies kill and its siblings": Shown([], denying("kill", "tgkill", "tkill", "rt_sigqueueinfo", "pidfd_send_signal"), [
+        ("kill 0 0", DENIED), (TGKILL, DENIED), ("tkill -1 0", DENIED), ("rt_sigqueueinfo 0 0 0", DENIED)]),
+    "denies open": Shown(["sibling-allowed"] * 2, denying("open", "openat", "openat2"), [("open 0 0", DENIED), ("creat 0 0", NO_ADDRESS)]),
+    "denies unlink": Shown(["sibling-allowed"], denying("unlink"), [("unlink 0", DENIED), ("unlinkat 0 0 0", NO_ADDRESS)]),
     "with and without args": Shown(
         ["crate-differs", "redundant-entry"], denying("sched_yield", when("sched_yield", (0, "dword", "eq", 5))),
         [("sched_yield 5", DENIED), ("sched_yield 4", DENIED)]),

@@ -48,6 +48,11 @@ def at(code, *places):
     return [(f"filter[{it}]", code) for it in places]
 
 
+def let_through(place, call):
+    """Returns the warning of the entry at this place that this call does the same."""
+    return (f"filter[{place}] ({call})", "sibling-allowed")
+
+
 PASSED_BY = [("mismatch_action (clone3)", "clone-by-clone3")]
 
 KILLS_EXIT = [
@@ -102,13 +107,15 @@ NO_RESTART = [
 ]
 
 CLONE_BY_CLONE3 = [
-    ("allow", {"errno": 1}, ["clone"], PASSED_BY),
+    ("allow", {"errno": 1}, ["clone"], [*PASSED_BY, let_through(0, "fork")]),
+    ("allow", {"errno": 1}, ["clone", "fork", "vfork"], [*PASSED_BY, let_through(1, "clone3")]),
     ("log", "kill_process", ["read", asking("clone")], [*PASSED_BY, ("filter[1].args[0]", "flag-evades")]),
-    ("allow", {"errno": 1}, ["clone", "clone3"], []),
+    ("allow", {"errno": 1}, ["clone", "clone3"], [let_through(0, "fork")]),
+    ("allow", {"errno": 1}, ["clone", "clone3", "fork", "vfork"], []),
     # An entry with args names clone3 too.
-    ("allow", {"errno": 1}, ["clone", asking("clone3")], []),
+    ("allow", {"errno": 1}, ["clone", asking("clone3")], [let_through(0, "fork")]),
     ("allow", {"errno": 1}, ["clone3"], []),
-    ("allow", {"errno": 1}, ["fork", "vfork"], []),
+    ("allow", {"errno": 1}, ["fork", "vfork"], [let_through(0, "clone")]),
     # If the calls that an entry names are let through as well, or none is, clone isn't denied alone.
     ("allow", "log", ["clone"], []),
     ("trap", {"errno": 1}, ["clone"], killed(*EXITS)),
@@ -122,21 +129,25 @@ CLONE_BY_CLONE3 = [
     ("trap", "kill_process", ["clone3"], killed(*EXITS)),
 ]
 
-def let_through(place, call):
-    """Returns the warning of the entry at this place that this call does the same."""
-    return (f"filter[{place}] ({call})", "sibling-allowed")
-
-
 SIBLING_ALLOWED = [
     ("allow", {"errno": 1}, ["open"], [let_through(0, "openat")]),
     ("log", "kill_process", ["read", "open", "openat"], [let_through(1, "openat2"), let_through(2, "openat2")]),
+    ("allow", {"errno": 1}, ["openat"], [let_through(0, "open")]),
     ("allow", {"errno": 1}, ["openat", "openat2"], [let_through(0, "open")]),
-    ("allow", {"errno": 1}, ["openat2", "openat", "open"], [let_through(1, "io_uring_setup"), let_through(2, "io_uring_setup")]),
-    ("allow", {"errno": 1}, ["io_uring_setup", "openat2", "openat", "open"], []),
+    ("allow", {"errno": 1}, ["openat2", "openat", "open"], [let_through(1, "creat"), let_through(2, "creat")]),
+    ("allow", {"errno": 1}, ["openat2", "openat", "open", "creat"], [let_through(it, "io_uring_setup") for it in (1, 2, 3)]),
+    ("allow", {"errno": 1}, ["io_uring_setup", "openat2", "openat", "open", "creat"], []),
+    *(("allow", {"errno": 1}, [name], [let_through(0, other)]) for name, other in (
+        ("unlink", "unlinkat"), ("rmdir", "unlinkat"), ("rename", "renameat"), ("mkdir", "mkdirat"), ("mknod", "mknodat"), ("link", "linkat"),
+        ("symlink", "symlinkat"), ("chmod", "fchmodat"), ("chown", "fchownat"), ("creat", "open"), ("fork", "vfork"))),
+    ("allow", {"errno": 1}, ["kill", "tgkill", "pidfd_send_signal"], [let_through(0, "tkill")]),
+    ("allow", {"errno": 1}, ["kill", "tgkill", "tkill", "pidfd_send_signal"], [let_through(0, "rt_sigqueueinfo")]),
+    ("allow", {"errno": 1}, ["rename", "renameat"], [let_through(0, "renameat2")]),
+    ("allow", {"errno": 1}, ["chmod", "fchmodat"], [let_through(0, "fchmodat2")]),
     # An entry with args names its call too, and denies only some of its calls.
-    ("allow", {"errno": 1}, ["kill", "pidfd_send_signal", asking("tgkill")], []),
+    ("allow", {"errno": 1}, ["kill", "pidfd_send_signal", asking("tgkill"), "tkill", asking("rt_sigqueueinfo")], []),
     ("allow", {"errno": 1}, [asking("kill")], []),
-    ("allow", "trap", ["kill", "tgkill", "kill"], [let_through(0, "pidfd_send_signal"), let_through(2, "pidfd_send_signal")]),
+    ("allow", "trap", ["kill", "tgkill", "kill"], [let_through(0, "tkill"), let_through(2, "tkill")]),
     ("allow", {"errno": 1}, ["execve"], [let_through(0, "execveat")]),
     ("allow", {"errno": 1}, ["execveat"], []),
     ("allow", {"errno": 1}, ["mount"], [let_through(0, "move_mount")]),
@@ -145,8 +156,8 @@ SIBLING_ALLOWED = [
     ("allow", {"errno": 1}, ["ptrace"], [let_through(0, "process_vm_writev")]),
     ("allow", {"errno": 1}, ["mprotect", "unshare", "socket", "connect"], [
         let_through(0, "pkey_mprotect"), let_through(1, "clone"), let_through(2, "io_uring_setup"), let_through(3, "io_uring_setup")]),
-    ("allow", {"errno": 1}, ["unshare", "clone"], [*PASSED_BY, let_through(0, "clone3")]),
-    ("allow", {"errno": 1}, ["unshare", "clone", "clone3"], []),
+    ("allow", {"errno": 1}, ["unshare", "clone"], [*PASSED_BY, let_through(0, "clone3"), let_through(1, "fork")]),
+    ("allow", {"errno": 1}, ["unshare", "clone", "clone3", "fork", "vfork"], []),
     # Nothing is let through that isn't listed, or what is listed isn't denied.
     ("trap", "allow", ["open", *EXITS], []),
     ("trap", {"errno": 1}, ["open"], killed(*EXITS)),

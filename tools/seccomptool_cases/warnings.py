@@ -198,6 +198,18 @@ ARGUMENTS = [
     ("openat", 2, "dword", "eq", 2, ["flag-evades"]),
     ("openat", 3, "dword", "eq", 2, []),
     ("accept4", 3, "dword", "eq", 0x800, ["flag-evades"]),
+    ("open_by_handle_at", 2, "dword", "eq", 2, ["flag-evades"]),
+    ("pipe2", 1, "dword", "eq", 0, ["flag-evades"]),
+    ("dup3", 2, "dword", "eq", 0, ["flag-evades"]),
+    ("eventfd2", 1, "dword", "eq", 0, ["flag-evades"]),
+    ("signalfd4", 3, "dword", "eq", 0, ["flag-evades"]),
+    ("timerfd_create", 1, "dword", "eq", 0, ["flag-evades"]),
+    ("epoll_create1", 0, "dword", "eq", 0, ["flag-evades"]),
+    ("inotify_init1", 0, "dword", "eq", 0, ["flag-evades"]),
+    ("userfaultfd", 0, "dword", "eq", 0, ["flag-evades"]),
+    ("memfd_create", 1, "dword", "eq", 2, ["flag-evades"]),
+    ("memfd_create", 1, "dword", "eq", 3, []),
+    ("memfd_create", 2, "dword", "eq", 2, []),
     ("clone", 0, "dword", "eq", CLONE_NEWUSER | SIGCHLD, ["flag-evades"]),
     ("clone", 0, "dword", masked(CLONE_NEWUSER), CLONE_NEWUSER, []),
     ("unshare", 0, "dword", "eq", CLONE_FILES, []),
@@ -213,6 +225,17 @@ ARGUMENTS = [
     ("execve", 2, "qword", masked(1), 1, ["pointer-compared"]),
     ("execveat", 3, "qword", "gt", 1, ["pointer-compared"]),
     ("execveat", 4, "qword", "gt", 1, []),
+    ("accept", 2, "qword", "gt", 1, ["pointer-compared"]),
+    ("accept4", 3, "qword", "gt", 1, []),
+    ("statx", 4, "qword", "eq", 1, ["pointer-compared"]),
+    ("statx", 2, "qword", "eq", 1, []),
+    ("fanotify_mark", 4, "qword", "eq", 1, ["pointer-compared"]),
+    ("recvfrom", 5, "qword", "ne", 1, ["pointer-compared"]),
+    ("symlinkat", 0, "qword", "eq", 1, ["pointer-compared"]),
+    ("symlinkat", 1, "qword", "eq", 1, []),
+    ("truncate", 0, "qword", "eq", 1, ["pointer-compared"]),
+    ("truncate", 1, "qword", "gt", 1, []),
+    ("ftruncate", 1, "qword", "gt", 1, []),
     ("sendto", 4, "qword", "ne", 0, [], *ALLOWING),
     ("sendto", 4, "qword", "ne", 1, ["pointer-compared"], *ALLOWING),
     ("kill", 0, "dword", "gt", 1, ["signed-compared"]),
@@ -381,16 +404,28 @@ def is_evaded(it, mismatch, match):
 
 # The calls that take a flag, at the index of an argument, by the flag; and whose argument of an index is an address, or is signed.
 FLAGS = {
-    0x80000: {1: ("open", "socket", "socketpair"), 2: ("openat",), 3: ("accept4",)},
+    0x80000: {0: ("epoll_create1", "inotify_init1", "userfaultfd"), 3: ("accept4", "signalfd4"),
+              1: ("open", "socket", "socketpair", "pipe2", "eventfd2", "timerfd_create"), 2: ("openat", "dup3", "open_by_handle_at")},
     0x400: {0: ("clone", "unshare"), 3: ("mount",)},
-    1: {2: ("mmap", "mprotect", "pkey_mprotect")},
+    1: {1: ("memfd_create",), 2: ("mmap", "mprotect", "pkey_mprotect")},
 }
 POINTERS = {
-    0: ("open", "execve", "mount", "umount2", "chroot", "unlink", "rename", "symlink"),
-    1: ("openat", "execve", "execveat", "connect", "bind", "read", "write", "mount", "unlinkat"),
-    2: ("execve", "execveat", "mount"),
-    3: ("execveat",),
-    4: ("mount", "sendto"),
+    0: ("access acct chdir chmod chown chroot creat execve fsopen getcwd getxattr lchown lgetxattr link listmount listxattr llistxattr "
+        "lremovexattr lsetxattr lstat memfd_create mkdir mknod mount open pipe pipe2 pivot_root readlink removexattr rename rmdir "
+        "setxattr stat statfs statmount swapoff swapon symlink symlinkat truncate umount2 unlink uselib utime utimes").split(),
+    1: ("accept accept4 bind cachestat connect copy_file_range execve execveat faccessat faccessat2 fchmodat fchmodat2 fchownat "
+        "fgetxattr flistxattr fremovexattr fsetxattr fspick fstat fstatfs futimesat getdents getdents64 getpeername getsockname "
+        "getxattr inotify_add_watch lgetxattr link linkat listmount listxattr llistxattr lremovexattr lsetxattr lstat mkdirat mknodat "
+        "mount mount_setattr move_mount name_to_handle_at newfstatat open_by_handle_at open_tree openat openat2 pivot_root pread64 "
+        "preadv preadv2 pwrite64 pwritev pwritev2 quotactl read readlink readlinkat readv recvfrom recvmmsg recvmsg removexattr rename "
+        "renameat renameat2 sendmmsg sendmsg sendto setxattr splice stat statfs statmount statx symlink unlinkat ustat utime utimensat "
+        "utimes vmsplice write writev").split(),
+    2: ("accept accept4 cachestat execve execveat fgetxattr fsconfig fsetxattr futimesat getpeername getsockname getxattr lgetxattr "
+        "lsetxattr mount name_to_handle_at newfstatat openat2 readlinkat sendfile setxattr symlinkat utimensat").split(),
+    3: ("copy_file_range execveat fsconfig getsockopt linkat mount_setattr move_mount name_to_handle_at quotactl renameat renameat2 "
+        "setsockopt socketpair splice").split(),
+    4: "fanotify_mark getsockopt mount recvfrom recvmmsg sendto statx".split(),
+    5: "recvfrom".split(),
 }
 SIGNED = {
     0: ("kill", "tkill", "wait4", "openat", "prlimit64"),
@@ -446,16 +481,28 @@ WAITING = ("nanosleep", "clock_nanosleep", "poll", "futex")
 
 # The calls of x86_64 by which what a call does can be done too: by another call of the same kind, or by a ring of io_uring.
 SIBLINGS = {
-    "open": ["openat", "openat2", "io_uring_setup"],
-    "openat": ["openat2", "open", "io_uring_setup"],
+    "open": ["openat", "openat2", "creat", "io_uring_setup"],
+    "openat": ["open", "openat2", "creat", "io_uring_setup"],
+    "creat": ["open", "openat", "openat2", "io_uring_setup"],
     "execve": ["execveat"],
     "mount": ["move_mount", "fsmount"],
     "ptrace": ["process_vm_writev"],
     "mprotect": ["pkey_mprotect"],
-    "kill": ["tgkill", "pidfd_send_signal"],
+    "kill": ["tgkill", "tkill", "rt_sigqueueinfo", "pidfd_send_signal"],
     "unshare": ["clone", "clone3"],
+    "fork": ["vfork", "clone", "clone3"],
+    "clone": ["fork", "vfork"],
     "socket": ["io_uring_setup"],
     "connect": ["io_uring_setup"],
+    "unlink": ["unlinkat"],
+    "rmdir": ["unlinkat"],
+    "rename": ["renameat", "renameat2"],
+    "mkdir": ["mkdirat"],
+    "mknod": ["mknodat"],
+    "link": ["linkat"],
+    "symlink": ["symlinkat"],
+    "chmod": ["fchmodat", "fchmodat2"],
+    "chown": ["fchownat"],
 }
 
 # The calls by which a thread or a process ends, or a signal handler returns.

@@ -1,5 +1,8 @@
 -- What decisions decide: one word for each record, and for a filter what it decides; and steps over call numbers, as few as can be.
 use Rattle.seccomp_tree.proofs.{Begun.found_first, Begun.over_below, Begun.steps_more, Runs.is_in_grown, Runs.leads_grown, Runs.grows_on}
+use Rattle.seccomp_tree.specs.Code.{AllAnswer, Answers, AreAnsweredAlike}
+use Rattle.std.specs.List.{Contains}
+use Rattle.std.proofs.lemmas.List.Elements.{All-contains, All-push, All-weaker}
 use Rattle.std.{proofs.lemmas.Map.Keys.sorted_tail, proofs.lemmas.Map.Views.All-after_first, specs.List.Sorted.IsStrictlySortedBy}
 use Rattle.seccomp_tree.proofs.{Common.other_architecture, Common.AreCallNumbers, Common.DecisionSet, Meeting.first_alone, Meeting.first_is}
 use Rattle.seccomp_tree.proofs.Common.{policy_differs, if◌then◌else◌, AreCallSteps, ChainMatches, DefaultValue, IsCallNumber, append_assoc}
@@ -174,6 +177,32 @@ below_one (e ∷ calls) n m lt = grind (arith, nat_tests, below_one calls n m lt
 pub calls_less : (calls : List (ℕ × List Ruling)) (n : ℕ) → rules_length (rulings_for calls n) ≤ calls_length calls
 calls_less calls n = omega (arith, below_one calls n (n + 1) (omega arith), below_all calls (n + 1))
 
+-- what answers still does when more is written
+pub answer_grown : {default most : ℕ} {rulings : List Ruling} {old new : List sock_filter} {t : Target} → Grows old most new
+    → IsAnswer old default rulings t → IsAnswer new default rulings t
+answer_grown grows h = record {
+  inside = is_in_grown _ grows h.inside;
+  one = h.one;
+  leads = λ r rec w n first takes a small. leads_grown grows (h.leads r rec w n first takes a small);
+}
+
+-- and calls of another number too, if they are answered alike
+pub answer_seen : {d : DecisionSet} {code : List sock_filter} {n : ℕ} (seen : List (ℕ × Target)) (e : ℕ × Target)
+    → AllAnswer d code seen → Contains seen e → AreAnsweredAlike d e.0 n → Answers d code n e.1
+answer_seen {d} {code} seen e all among alike =
+    rw (← alike.rulings, ← alike.default) (All-contains (λ (x : ℕ × Target). Answers d code x.0 x.1) seen e all among)
+
+pub seen_grown : {most : ℕ} {old new : List sock_filter} (d : DecisionSet) (seen : List (ℕ × Target)) → Grows old most new
+    → AllAnswer d old seen → AllAnswer d new seen
+seen_grown {old = old} {new} d seen grows all =
+    All-weaker (λ (x : ℕ × Target). Answers d old x.0 x.1) (λ (x : ℕ × Target). Answers d new x.0 x.1)
+    (λ x h. answer_grown grows h) seen all
+
+pub seen_more : {most : ℕ} {old new : List sock_filter} {t : Target} (d : DecisionSet) (seen : List (ℕ × Target)) (n : ℕ)
+    → Grows old most new → AllAnswer d old seen → Answers d new n t → AllAnswer d new (seen ++ (n, t) ∷ [])
+seen_more {new = new} {t} d seen n grows all answer =
+    All-push (λ (x : ℕ × Target). Answers d new x.0 x.1) seen (n, t) (seen_grown d seen grows all) answer
+
 pub calls_on : {d : DecisionSet} {old mid new : List sock_filter} {steps more : List Step} {number next : ℕ} {t : Target}
     → AreCallSteps old d (below_length d.calls number) number steps mid → Grows mid (rules_length (rulings_for d.calls number)) new
     → IsAnswer new (default_for d.defaults number) (rulings_for d.calls number) t → IsPushed steps number t more → number < next
@@ -184,13 +213,7 @@ calls_on {d} {number = number} {next} h grows answer pushed up defaults rulings 
   grows = grows_on _ h.grows grows (below_one d.calls number next up);
   are = steps_more (number + 1) next _ (omega arith) (omega (arith, up)) pushed.are;
   each = λ n lt. elim (cases_lt n number) [
-    | inl less ↦
-        let old = h.each n less in
-        rw (pushed.below n less) record {
-          inside = is_in_grown _ grows old.inside;
-          one = old.one;
-          leads = λ r rec w n first takes a small. leads_grown grows (old.leads r rec w n first takes a small);
-        }
+    | inl less ↦ rw (pushed.below n less) (answer_grown grows (h.each n less))
     | inr le ↦ rw (pushed.from n le, defaults n le lt, rulings n le lt) answer
   ];
 }

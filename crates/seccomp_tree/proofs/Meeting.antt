@@ -11,7 +11,8 @@ use Rattle.seccomp_tree.proofs.Common.{holds, masks, stops, Bool, Give, IsIn, Li
 use Rattle.seccomp_tree.proofs.Common.{true, zero, ◌&&◌, suc, sym, ◌%◌, ◌*◌, ◌+◌, ◌-◌, ◌/◌, ◌<◌, ◌^◌, ◌∙◌, ◌∷◌, ◌≡◌, ◌≤◌, ◌⊎◌, At, [], ap}
 use Rattle.seccomp_tree.proofs.Runs.{leads_grown, starts_last, starts_more, grows_not, grows_one, grows_on, leads_by}
 use Rattle.seccomp_tree.proofs.{Begun.numbers_many, Begun.single, Trees.high_word, Trees.load_run, Trees.low_word}
-use Rattle.seccomp_tree.specs.Code.{AreAlike, AreFilled, AreRunSteps, IsRun, chosen, filled_by, meets, numbers_of}
+use Rattle.seccomp_tree.specs.Code.{AreAlike, AreFilled, AreOpenTo, AreRunSteps, IsAsked, IsRun, chosen, filled_by, meets, numbers_of}
+use Rattle.seccomp_tree.proofs.Common.{cases_lt, drop_all, found_in, AreSteps, IsPushed}
 use Rattle.seccomp_tree.specs.Decisions.{conditions_length}
 use Rattle.std.proofs.lemmas.List.{take-append-drop}
 
@@ -357,6 +358,99 @@ run_halves c n run front back steps h k filled =
           ∙ rw (h.each a lt, k.each a lt, ← chosen_parts (take n run) (drop n run) a, take-append-drop n run) refl;
       small = λ a v lt is. grind (arith, filled.each a lt, h.small a v lt, k.small a v lt, is);
       few = omega (arith, filled.few, h.few, k.few, long);
+    }
+
+-- ---- values that ascend
+
+-- So many rulings of a run are settled by steps over the numbers below the next one: where these are open, the others choose.
+pub record Ascending (c : Condition) (run : List Ruling) (settled next : ℕ) (steps : List Step) : Type 0 where
+  pub within : next ≤ numbers_of c.arg_len
+  pub are : AreSteps next steps
+  pub each : (a : ℕ) → a < next → chosen run a ≡ filled_by (found_in steps a) (chosen (drop settled run) a)
+  pub behind : (a : ℕ) → next ≤ a → chosen run a ≡ chosen (drop settled run) a
+  pub small : (a v : ℕ) → a < next → found_in steps a ≡ Give v → v < 2 ^ 32
+  pub few : length steps ≤ 2 * settled
+
+pub ascending_none : (c : Condition) (run : List Ruling) → Ascending c run 0 0 []
+ascending_none c run = record {
+  within = omega arith;
+  are = refl;
+  each = λ a lt. absurd (omega (arith, lt));
+  behind = λ a le. refl;
+  small = λ a v lt is. absurd (omega (arith, lt));
+  few = omega arith;
+}
+
+-- a ruling that asks for a number is met by it alone
+asked_meets : (o : Option Condition) (c : Condition) (v a : ℕ) → IsAsked o v → alike o (Some c) ≡ true
+    → (meets o a ≡ nat_eq a v) × (v < numbers_of c.arg_len)
+asked_meets (Some x) c v a asked like =
+    let same : x.arg_len ≡ c.arg_len = grind (arith, nat_tests, like) in
+    (rw (asked.0, ← asked.1) refl, rw (← same) asked.2)
+asked_meets None c v a asked like = absurd asked
+
+filled_open : (t : Target) → filled_by t (At 0) ≡ t
+filled_open (Give w) = refl
+filled_open (At n) = grind (arith, nat_tests)
+
+module _ {c : Condition} {run : List Ruling} {i next v : ℕ} {d : Ruling} {steps opened more : List Step} (h : Ascending c run i next steps)
+    (here : drop i run ≡ d ∷ drop (i + 1) run) (asked : IsAsked (only d.conditions) v) (like : alike (only d.conditions) (Some c) ≡ true)
+    (fits : d.value < 2 ^ 32) (above : next ≤ v) (gap : AreOpenTo steps next v opened) (pushed : IsPushed opened v (Give d.value) more)
+  where
+    -- what is chosen of the ruling and those behind it
+    choice : (a : ℕ) → chosen (drop i run) a ≡ (if nat_eq a v then Give d.value else chosen (drop (i + 1) run) a)
+    choice a = ap (λ l. chosen l a) here
+        ∙ ap (λ b. if b then Give d.value else chosen (drop (i + 1) run) a) ((asked_meets (only d.conditions) c v a asked like).0)
+
+    -- what the steps have
+    below_next : (a : ℕ) → a < next → found_in more a ≡ found_in steps a
+    below_next a lt = pushed.below a (omega (arith, lt, above)) ∙ gap.below a lt
+
+    pub ascending_on : Ascending c run (i + 1) (v + 1) more
+    ascending_on = record {
+      within = let lt = (asked_meets (only d.conditions) c v 0 asked like).1 in omega (arith, lt);
+      are = pushed.are;
+      each = λ a lt. elim (cases_lt a next) [
+        | inl low ↦
+            let other : nat_eq a v ≡ false = grind (arith, nat_tests, low, above) in
+            rw (below_next a low) (h.each a low ∙ ap (filled_by (found_in steps a)) (choice a ∙ rw other refl))
+        | inr le ↦ h.behind a le ∙ choice a ∙ elim (cases_lt a v) [
+          | inl less ↦
+              let other : nat_eq a v ≡ false = grind (arith, nat_tests, less) in
+              rw (pushed.below a less, gap.gap a le less, other) refl
+          | inr at ↦
+              let is : a ≡ v = omega (arith, lt, at) in
+              let own : nat_eq a v ≡ true = grind (arith, nat_tests, is) in
+              rw (pushed.from a at, own) refl
+        ]
+      ];
+      behind = λ a le. h.behind a (omega (arith, le, above)) ∙ choice a
+          ∙ (let other : nat_eq a v ≡ false = grind (arith, nat_tests, le) in rw other refl);
+      small = λ a w lt is. elim (cases_lt a next) [
+        | inl low ↦ h.small a w low (sym (below_next a low) ∙ is)
+        | inr le ↦ elim (cases_lt a v) [
+          | inl less ↦ absurd (grind (arith, pushed.below a less, gap.gap a le less, is))
+          | inr at ↦ grind (arith, pushed.from a at, is, fits)
+        ]
+      ];
+      few = omega (arith, h.few, gap.few, pushed.few);
+    }
+
+pub ascending_all : {c : Condition} {run : List Ruling} {i next : ℕ} {steps more : List Step} → Ascending c run i next steps
+    → length run ≤ i → i ≤ length run → AreOpenTo steps next (numbers_of c.arg_len) more → AreRunSteps c run more
+ascending_all {c} {run} {i} {next} {steps} {more} h all within gap =
+    let none : drop i run ≡ [] = drop_all i run all in record {
+      are = gap.are;
+      each = λ a lt. elim (cases_lt a next) [
+        | inl low ↦ gap.below a low ∙ sym (h.each a low ∙ ap (λ l. filled_by (found_in steps a) (chosen l a)) none
+            ∙ filled_open (found_in steps a))
+        | inr le ↦ gap.gap a le lt ∙ sym (h.behind a le ∙ ap (λ l. chosen l a) none)
+      ];
+      small = λ a v lt is. elim (cases_lt a next) [
+        | inl low ↦ h.small a v low (sym (gap.below a low) ∙ is)
+        | inr le ↦ absurd (grind (arith, gap.gap a le lt, is))
+      ];
+      few = omega (arith, h.few, gap.few, within);
     }
 
 -- what a run gives, or else what comes after it, is in the code

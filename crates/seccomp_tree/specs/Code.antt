@@ -1,7 +1,7 @@
 -- What private functions promise each other: of steps that are looked up by a number, of code that is written from its end to its
 -- front, conditions, rulings and call numbers.
 use Rattle.std.specs.Prelude.{◌≡◌, ℕ, suc, ◌+◌, ◌-◌, ◌*◌, ◌/◌, ◌<◌, ◌≤◌, ◌^◌, List, [], ◌∷◌, ◌++◌, length, drop}
-use Rattle.std.specs.Prelude.{nat_eq, nat_le, nat_lt, not}
+use Rattle.std.specs.Prelude.{nat_eq, nat_le, nat_lt, not, All}
 use Rattle.std.specs.Prelude.{if◌then◌else◌, bit_and, slice_get, Some, None, Option, Bool, true, ◌≢◌, false, ◌&&◌, ⊤}
 use Rattle.std.specs.List.{list_all}
 use Rattle.seccompiler.specs.declared.bpf.sock_filter.{sock_filter}
@@ -44,6 +44,13 @@ pub record IsPushed (old : List Step) (start : ℕ) (target : Target) (new : Lis
   pub are : AreSteps (start + 1) new
   pub from : (a : ℕ) → start ≤ a → found_in new a ≡ target
   pub below : (a : ℕ) → a < start → found_in new a ≡ found_in old a
+  pub few : length new ≤ length old + 1
+
+-- The steps are over the numbers below an end: they have what the old ones had below the next number, and leave the others open.
+pub record AreOpenTo (old : List Step) (next end : ℕ) (new : List Step) : Type 0 where
+  pub are : AreSteps end new
+  pub below : (a : ℕ) → a < next → found_in new a ≡ found_in old a
+  pub gap : (a : ℕ) → next ≤ a → a < end → found_in new a ≡ At 0
   pub few : length new ≤ length old + 1
 
 -- ---- rows: how many tests tell steps apart, one after the other
@@ -235,6 +242,11 @@ abbrev pub meets : Option Condition → ℕ → Bool
 meets (Some c) a = compares c.operator a (part_of c.arg_len c.value)
 meets None a = false
 
+-- There is a condition, and its comparison holds for this number alone.
+abbrev pub IsAsked : Option Condition → ℕ → Type 0
+IsAsked (Some c) v = (c.operator ≡ Eq) × (v ≡ part_of c.arg_len c.value) × (v < numbers_of c.arg_len)
+IsAsked None v = ⊥
+
 -- What the first ruling of a run gives whose comparison holds for a number; if none does, that is left open.
 abbrev pub chosen : List Ruling → ℕ → Target
 chosen [] a = At 0
@@ -261,9 +273,22 @@ pub record IsAnswer (code : List sock_filter) (default : ℕ) (rulings : List Ru
   pub one : (v : ℕ) → one_value default rulings ≡ Some v → t ≡ Give v
   pub leads : (r : List ℕ) → IsRecord r → (w n : ℕ) → First default r rulings w → Takes r 0 rulings n → Leads 0 code r t w (n + 1)
 
+-- The target answers calls of a number.
+abbrev pub Answers : DecisionSet → List sock_filter → ℕ → Target → Type 0
+Answers d code n t = IsAnswer code (default_for d.defaults n) (rulings_for d.calls n) t
+
+-- Each of these targets answers calls of its number.
+abbrev pub AllAnswer : DecisionSet → List sock_filter → List (ℕ × Target) → Type 0
+AllAnswer d code seen = All (λ e. Answers d code e.0 e.1) seen
+
+-- Two numbers have the same rulings and the same default.
+pub record AreAnsweredAlike (d : DecisionSet) (m n : ℕ) : Type 0 where
+  pub rulings : rulings_for d.calls m ≡ rulings_for d.calls n
+  pub default : default_for d.defaults m ≡ default_for d.defaults n
+
 -- At most so many instructions were put in front, and the steps over the numbers below one answer each of them.
 pub record AreCallSteps (old : List sock_filter) (d : DecisionSet) (most next : ℕ) (steps : List Step) (new : List sock_filter) :
     Type 0 where
   pub grows : Grows old most new
   pub are : AreSteps next steps
-  pub each : (n : ℕ) → n < next → IsAnswer new (default_for d.defaults n) (rulings_for d.calls n) (found_in steps n)
+  pub each : (n : ℕ) → n < next → Answers d new n (found_in steps n)

@@ -30,6 +30,8 @@ pub(crate) enum Test {
 pub(crate) struct Code {
     // The last instruction first.
     back: Vec<sock_filter>,
+    // Where there is a return or a jump, in ascending order.
+    exits: Vec<usize>,
 }
 
 impl Model for Code {
@@ -50,7 +52,8 @@ impl Code {
         ensures { IfOk result (λ code. code ≡ give 0x80000000 ∷ []) }
     {
         let back = vec![in alloc; bpf_stmt(RETURN, 0x8000_0000)]?;
-        Ok(Code { back })
+        let exits = vec![in alloc; 0]?;
+        Ok(Code { back, exits })
     }
 
     /// How many instructions there are.
@@ -95,12 +98,17 @@ impl Code {
             }
         }
         let len = self.len();
-        for place in (len.saturating_sub(REACH + 1)..len).rev() {
+        for nearer in (0..self.exits.len()).rev() {
+            let place = self.exits[nearer];
+            if len <= place || self.over(place) > REACH {
+                break;
+            }
             if self.back[place] == stand_in(target, place) {
                 return Ok(place);
             }
         }
         self.push(stand_in(target, len))?;
+        self.exits.push(len)?;
         Ok(len)
     }
 
@@ -127,7 +135,7 @@ impl Code {
         ensures program { result.items ≡ self }
         ensures sound { IsSound result.items }
     {
-        let Code { mut back } = self;
+        let Code { mut back, .. } = self;
         back.reverse();
         back
     }

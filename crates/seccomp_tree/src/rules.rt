@@ -1,16 +1,16 @@
 // Conditions and rulings as targets: what a condition chooses, and what the first ruling that holds says.
 
-ghost use Rattle.std.specs.Prelude.{◌≡◌, ◌<◌, ◌≤◌, ◌%◌, ◌∷◌, [], Some, IfOk, IfErr, bit_and, length, nat_eq};
+ghost use Rattle.std.specs.Prelude.{◌≡◌, ◌<◌, ◌≤◌, ◌%◌, ◌∷◌, [], Some, IfOk, IfErr, IfSome, bit_and, length, nat_eq};
 ghost use Rattle.seccompiler.specs.Machine.{greatest_length, word_at};
 ghost use Rattle.seccomp_tree.specs.declared.error.TreeError.TheVariants as tree;
 ghost use Rattle.seccomp_tree.specs.declared.steps.Target.TheVariants.{Give};
-ghost use Rattle.seccomp_tree.specs.Code.{AreAlike, AreMet, AreRunSteps, Grows, IsAnswer, IsIn, IsMet, IsRun};
+ghost use Rattle.seccomp_tree.specs.Code.{AreAlike, AreMet, AreRunSteps, Grows, IsAnswer, IsAsked, IsIn, IsMet, IsRun};
 ghost use Rattle.seccomp_tree.specs.Decisions.{alike, only, rules_length};
 
 use crate::code::{Code, Test};
 use crate::decisions::Decision;
 use crate::error::TreeError;
-use crate::steps::{OPEN, Step, Target, WORDS, filled, laid, one};
+use crate::steps::{OPEN, Step, Target, WORDS, filled, laid, numbers_of, one, open_to, push_step};
 use seccompiler::bpf::{BPF_MAX_LEN, LOAD, MASK, bpf_stmt};
 use seccompiler::{SeccompCmpArgLen, SeccompCmpOp, SeccompCondition};
 use std::alloc::{AllocError, Global};
@@ -162,6 +162,9 @@ fn run_steps(
     requires { AreAlike like.now run.now }
     ensures { IfOk result (λ steps. AreRunSteps like.now run.now steps.items) }
 {
+    if let Some(steps) = ascending_steps(alloc, like, run)? {
+        return Ok(steps);
+    }
     if run.len() < 2 {
         return match run.first() {
             Some(ruling) => match only(ruling) {
@@ -175,6 +178,47 @@ fn run_steps(
     let front = run_steps(alloc, like, &run[..half])?;
     let back = run_steps(alloc, like, &run[half..])?;
     filled(alloc, like.arg_len(), &front, &back)
+}
+
+// The same, if each ruling of the run compares for one value, and these ascend.
+fn ascending_steps(
+    alloc: Global,
+    like: &SeccompCondition,
+    run: &[Decision],
+) -> Result<Option<Vec<Step>>, AllocError>
+    requires { AreAlike like.now run.now }
+    ensures { IfOk result (λ given. IfSome given (λ steps. AreRunSteps like.now run.now steps.items)) }
+{
+    let size = numbers_of(like.arg_len());
+    let mut steps = Vec::with_capacity(alloc, 2 * run.len() + 1)?;
+    let mut next = 0;
+    for ruling in run {
+        let Some(value) = asked(ruling) else {
+            return Ok(None);
+        };
+        if value < next {
+            return Ok(None);
+        }
+        open_to(&mut steps, next, value)?;
+        push_step(&mut steps, value as u64, Target::Give(ruling.value))?;
+        next = value + 1;
+    }
+    open_to(&mut steps, next, size)?;
+    Ok(Some(steps))
+}
+
+// What a ruling compares for, if its one condition is for one value.
+fn asked(ruling: &Decision) -> Option<u128>
+    ensures { IfSome result (IsAsked (only ruling.now.conditions)) }
+{
+    let condition = only(ruling)?;
+    let SeccompCmpOp::Eq = condition.operator() else {
+        return None;
+    };
+    match condition.arg_len() {
+        SeccompCmpArgLen::Dword => Some(u128::from(condition.value() % WORDS)),
+        SeccompCmpArgLen::Qword => Some(u128::from(condition.value())),
+    }
 }
 
 // Whether a ruling has one condition, without a mask, that compares the same as the other.

@@ -1,7 +1,7 @@
 // What is looked up by a number: steps, each from its start up to the next one's; and comparisons laid over them.
 
-ghost use Rattle.std.specs.Prelude.{◌≡◌, ◌<◌, ◌∷◌, [], IfOk, true};
-ghost use Rattle.seccomp_tree.specs.Code.{AreFilled, AreLaid, AreSteps, IsPushed, IsTurn, compares, filled_by, numbers_of};
+ghost use Rattle.std.specs.Prelude.{◌≡◌, ◌<◌, ◌≤◌, ◌^◌, ◌∷◌, [], IfOk, true};
+ghost use Rattle.seccomp_tree.specs.Code.{AreFilled, AreLaid, AreOpenTo, AreSteps, IsPushed, IsTurn, compares, filled_by, numbers_of};
 ghost use Rattle.seccomp_tree.specs.Decisions.{is_plain};
 
 use seccompiler::{SeccompCmpArgLen, SeccompCmpOp, SeccompCondition};
@@ -44,6 +44,19 @@ pub(crate) fn push_step(steps: &mut Vec<Step>, start: u64, target: Target) -> Re
     // Neighbours with one target are one step.
     if steps.is_empty() || steps[steps.len() - 1].target != target {
         steps.push(Step { start, target })?;
+    }
+    Ok(())
+}
+
+/// Leaves the numbers from `next` up to `end` open. The steps are over the numbers below `next`.
+pub(crate) fn open_to(steps: &mut Vec<Step>, next: u128, end: u128) -> Result<(), AllocError>
+    requires below { AreSteps next steps.old.items }
+    requires ascends { next ≤ end }
+    requires fits { end ≤ 2 ^ 64 }
+    ensures { IfOk result (λ _. AreOpenTo steps.old.items next end steps.new.items) }
+{
+    if next < end {
+        push_step(steps, next as u64, OPEN)?;
     }
     Ok(())
 }
@@ -107,8 +120,8 @@ fn filled_by(front: Target, back: Target) -> Target
     if front == OPEN { back } else { front }
 }
 
-// How many numbers a length has.
-fn numbers_of(length: SeccompCmpArgLen) -> u128
+/// How many numbers a length has.
+pub(crate) fn numbers_of(length: SeccompCmpArgLen) -> u128
     ensures { result ≡ numbers_of length }
 {
     match length {

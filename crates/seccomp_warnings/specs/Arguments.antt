@@ -14,16 +14,41 @@ use Rattle.seccomp_warnings.specs.declared.code.Code.TheVariants as code
 use Rattle.seccomp_warnings.specs.declared.warning.Actions.{Actions}
 use Rattle.seccomp_warnings.specs.declared.warning.Comparison.{Comparison}
 
--- The calls whose argument of this index is an address.
+-- The calls on files, programs, mounts and sockets whose argument of this index is an address, by the prototypes of Linux 6.12
+-- (include/linux/syscalls.h).
 abbrev pub pointer_calls : ℕ → List (List ℕ)
 pointer_calls index =
-    if index == 0 then codes "open" ∷ codes "execve" ∷ codes "mount" ∷ codes "umount2" ∷ codes "chroot" ∷ codes "unlink"
-    ∷ codes "rename" ∷ codes "symlink" ∷ []
-    else if index == 1 then codes "openat" ∷ codes "execve" ∷ codes "execveat" ∷ codes "connect" ∷ codes "bind" ∷ codes "read"
-    ∷ codes "write" ∷ codes "mount" ∷ codes "unlinkat" ∷ []
-    else if index == 2 then codes "execve" ∷ codes "execveat" ∷ codes "mount" ∷ []
-    else if index == 3 then codes "execveat" ∷ []
-    else if index == 4 then codes "mount" ∷ codes "sendto" ∷ []
+    if index == 0 then codes "access" ∷ codes "acct" ∷ codes "chdir" ∷ codes "chmod" ∷ codes "chown" ∷ codes "chroot" ∷ codes "creat"
+    ∷ codes "execve" ∷ codes "fsopen" ∷ codes "getcwd" ∷ codes "getxattr" ∷ codes "lchown" ∷ codes "lgetxattr" ∷ codes "link"
+    ∷ codes "listmount" ∷ codes "listxattr" ∷ codes "llistxattr" ∷ codes "lremovexattr" ∷ codes "lsetxattr" ∷ codes "lstat"
+    ∷ codes "memfd_create" ∷ codes "mkdir" ∷ codes "mknod" ∷ codes "mount" ∷ codes "open" ∷ codes "pipe" ∷ codes "pipe2"
+    ∷ codes "pivot_root" ∷ codes "readlink" ∷ codes "removexattr" ∷ codes "rename" ∷ codes "rmdir" ∷ codes "setxattr"
+    ∷ codes "stat" ∷ codes "statfs" ∷ codes "statmount" ∷ codes "swapoff" ∷ codes "swapon" ∷ codes "symlink" ∷ codes "symlinkat"
+    ∷ codes "truncate" ∷ codes "umount2" ∷ codes "unlink" ∷ codes "uselib" ∷ codes "utime" ∷ codes "utimes" ∷ []
+    else if index == 1 then codes "accept" ∷ codes "accept4" ∷ codes "bind" ∷ codes "cachestat" ∷ codes "connect"
+    ∷ codes "copy_file_range" ∷ codes "execve" ∷ codes "execveat" ∷ codes "faccessat" ∷ codes "faccessat2" ∷ codes "fchmodat"
+    ∷ codes "fchmodat2" ∷ codes "fchownat" ∷ codes "fgetxattr" ∷ codes "flistxattr" ∷ codes "fremovexattr" ∷ codes "fsetxattr"
+    ∷ codes "fspick" ∷ codes "fstat" ∷ codes "fstatfs" ∷ codes "futimesat" ∷ codes "getdents" ∷ codes "getdents64"
+    ∷ codes "getpeername" ∷ codes "getsockname" ∷ codes "getxattr" ∷ codes "inotify_add_watch" ∷ codes "lgetxattr" ∷ codes "link"
+    ∷ codes "linkat" ∷ codes "listmount" ∷ codes "listxattr" ∷ codes "llistxattr" ∷ codes "lremovexattr" ∷ codes "lsetxattr"
+    ∷ codes "lstat" ∷ codes "mkdirat" ∷ codes "mknodat" ∷ codes "mount" ∷ codes "mount_setattr" ∷ codes "move_mount"
+    ∷ codes "name_to_handle_at" ∷ codes "newfstatat" ∷ codes "open_by_handle_at" ∷ codes "open_tree" ∷ codes "openat"
+    ∷ codes "openat2" ∷ codes "pivot_root" ∷ codes "pread64" ∷ codes "preadv" ∷ codes "preadv2" ∷ codes "pwrite64"
+    ∷ codes "pwritev" ∷ codes "pwritev2" ∷ codes "quotactl" ∷ codes "read" ∷ codes "readlink" ∷ codes "readlinkat" ∷ codes "readv"
+    ∷ codes "recvfrom" ∷ codes "recvmmsg" ∷ codes "recvmsg" ∷ codes "removexattr" ∷ codes "rename" ∷ codes "renameat"
+    ∷ codes "renameat2" ∷ codes "sendmmsg" ∷ codes "sendmsg" ∷ codes "sendto" ∷ codes "setxattr" ∷ codes "splice" ∷ codes "stat"
+    ∷ codes "statfs" ∷ codes "statmount" ∷ codes "statx" ∷ codes "symlink" ∷ codes "unlinkat" ∷ codes "ustat" ∷ codes "utime"
+    ∷ codes "utimensat" ∷ codes "utimes" ∷ codes "vmsplice" ∷ codes "write" ∷ codes "writev" ∷ []
+    else if index == 2 then codes "accept" ∷ codes "accept4" ∷ codes "cachestat" ∷ codes "execve" ∷ codes "execveat"
+    ∷ codes "fgetxattr" ∷ codes "fsconfig" ∷ codes "fsetxattr" ∷ codes "futimesat" ∷ codes "getpeername" ∷ codes "getsockname"
+    ∷ codes "getxattr" ∷ codes "lgetxattr" ∷ codes "lsetxattr" ∷ codes "mount" ∷ codes "name_to_handle_at" ∷ codes "newfstatat"
+    ∷ codes "openat2" ∷ codes "readlinkat" ∷ codes "sendfile" ∷ codes "setxattr" ∷ codes "symlinkat" ∷ codes "utimensat" ∷ []
+    else if index == 3 then codes "copy_file_range" ∷ codes "execveat" ∷ codes "fsconfig" ∷ codes "getsockopt" ∷ codes "linkat"
+    ∷ codes "mount_setattr" ∷ codes "move_mount" ∷ codes "name_to_handle_at" ∷ codes "quotactl" ∷ codes "renameat"
+    ∷ codes "renameat2" ∷ codes "setsockopt" ∷ codes "socketpair" ∷ codes "splice" ∷ []
+    else if index == 4 then codes "fanotify_mark" ∷ codes "getsockopt" ∷ codes "mount" ∷ codes "recvfrom" ∷ codes "recvmmsg"
+    ∷ codes "sendto" ∷ codes "statx" ∷ []
+    else if index == 5 then codes "recvfrom" ∷ []
     else []
 
 -- The calls whose argument of this index is signed.
@@ -38,9 +63,11 @@ signed_calls index =
 -- The calls that take O_CLOEXEC, SOCK_CLOEXEC, in the argument of this index.
 abbrev pub close_on_exec_calls : ℕ → List (List ℕ)
 close_on_exec_calls index =
-    if index == 1 then codes "open" ∷ codes "socket" ∷ codes "socketpair" ∷ []
-    else if index == 2 then codes "openat" ∷ []
-    else if index == 3 then codes "accept4" ∷ []
+    if index == 0 then codes "epoll_create1" ∷ codes "inotify_init1" ∷ codes "userfaultfd" ∷ []
+    else if index == 1 then codes "open" ∷ codes "socket" ∷ codes "socketpair" ∷ codes "pipe2" ∷ codes "eventfd2"
+    ∷ codes "timerfd_create" ∷ []
+    else if index == 2 then codes "openat" ∷ codes "dup3" ∷ codes "open_by_handle_at" ∷ []
+    else if index == 3 then codes "accept4" ∷ codes "signalfd4" ∷ []
     else []
 
 -- The calls that take CLONE_FILES, or mount its MS_NOATIME, in the argument of this index.
@@ -48,6 +75,12 @@ abbrev pub files_calls : ℕ → List (List ℕ)
 files_calls index =
     if index == 0 then codes "clone" ∷ codes "unshare" ∷ []
     else if index == 3 then codes "mount" ∷ []
+    else []
+
+-- The calls that take MFD_CLOEXEC in the argument of this index.
+abbrev pub memory_calls : ℕ → List (List ℕ)
+memory_calls index =
+    if index == 1 then codes "memfd_create" ∷ []
     else []
 
 -- The calls that take PROT_READ in the argument of this index.
@@ -76,6 +109,7 @@ abbrev pub flag_of : TargetArch → (number index : ℕ) → ℕ
 flag_of arch number index =
     if is_among arch number (close_on_exec_calls index) then 0x80000
     else if is_among arch number (files_calls index) then 0x400
+    else if is_among arch number (memory_calls index) then 1
     else if is_among arch number (read_calls index) then 1
     else 0
 

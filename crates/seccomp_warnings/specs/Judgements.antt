@@ -17,22 +17,35 @@ use Rattle.seccomp_warnings.specs.declared.judgement.Judgement.{Judgement}
 
 -- The calls of which another one can do the same.
 abbrev pub all_undone : List (List ℕ)
-all_undone = codes "open" ∷ codes "openat" ∷ codes "execve" ∷ codes "mount" ∷ codes "ptrace" ∷ codes "mprotect" ∷ codes "kill"
-    ∷ codes "unshare" ∷ codes "socket" ∷ codes "connect" ∷ []
+all_undone = codes "open" ∷ codes "openat" ∷ codes "creat" ∷ codes "execve" ∷ codes "mount" ∷ codes "ptrace" ∷ codes "mprotect"
+    ∷ codes "kill" ∷ codes "unshare" ∷ codes "fork" ∷ codes "clone" ∷ codes "socket" ∷ codes "connect" ∷ codes "unlink" ∷ codes "rmdir"
+    ∷ codes "rename" ∷ codes "mkdir" ∷ codes "mknod" ∷ codes "link" ∷ codes "symlink" ∷ codes "chmod" ∷ codes "chown" ∷ []
 
 -- The calls by which what the call of this name does can be done too. docs/CHECKS.md says how.
 abbrev pub siblings_of : List ℕ → List (List ℕ)
 siblings_of name =
-    if bytes_eq name (codes "open") then codes "openat" ∷ codes "openat2" ∷ codes "io_uring_setup" ∷ []
-    else if bytes_eq name (codes "openat") then codes "openat2" ∷ codes "open" ∷ codes "io_uring_setup" ∷ []
+    if bytes_eq name (codes "open") then codes "openat" ∷ codes "openat2" ∷ codes "creat" ∷ codes "io_uring_setup" ∷ []
+    else if bytes_eq name (codes "openat") then codes "open" ∷ codes "openat2" ∷ codes "creat" ∷ codes "io_uring_setup" ∷ []
+    else if bytes_eq name (codes "creat") then codes "open" ∷ codes "openat" ∷ codes "openat2" ∷ codes "io_uring_setup" ∷ []
     else if bytes_eq name (codes "execve") then codes "execveat" ∷ []
     else if bytes_eq name (codes "mount") then codes "move_mount" ∷ codes "fsmount" ∷ []
     else if bytes_eq name (codes "ptrace") then codes "process_vm_writev" ∷ []
     else if bytes_eq name (codes "mprotect") then codes "pkey_mprotect" ∷ []
-    else if bytes_eq name (codes "kill") then codes "tgkill" ∷ codes "pidfd_send_signal" ∷ []
+    else if bytes_eq name (codes "kill") then codes "tgkill" ∷ codes "tkill" ∷ codes "rt_sigqueueinfo" ∷ codes "pidfd_send_signal" ∷ []
     else if bytes_eq name (codes "unshare") then codes "clone" ∷ codes "clone3" ∷ []
+    else if bytes_eq name (codes "fork") then codes "vfork" ∷ codes "clone" ∷ codes "clone3" ∷ []
+    else if bytes_eq name (codes "clone") then codes "fork" ∷ codes "vfork" ∷ []
     else if bytes_eq name (codes "socket") then codes "io_uring_setup" ∷ []
     else if bytes_eq name (codes "connect") then codes "io_uring_setup" ∷ []
+    else if bytes_eq name (codes "unlink") then codes "unlinkat" ∷ []
+    else if bytes_eq name (codes "rmdir") then codes "unlinkat" ∷ []
+    else if bytes_eq name (codes "rename") then codes "renameat" ∷ codes "renameat2" ∷ []
+    else if bytes_eq name (codes "mkdir") then codes "mkdirat" ∷ []
+    else if bytes_eq name (codes "mknod") then codes "mknodat" ∷ []
+    else if bytes_eq name (codes "link") then codes "linkat" ∷ []
+    else if bytes_eq name (codes "symlink") then codes "symlinkat" ∷ []
+    else if bytes_eq name (codes "chmod") then codes "fchmodat" ∷ codes "fchmodat2" ∷ []
+    else if bytes_eq name (codes "chown") then codes "fchownat" ∷ []
     else []
 
 -- By this call what the call of a number does can be done too.

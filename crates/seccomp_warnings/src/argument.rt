@@ -9,31 +9,9 @@ use crate::action::permits;
 use crate::call::is_number_of;
 use crate::code::Code;
 use crate::condition::part_of;
+use crate::pointers::pointer_calls;
 use crate::warning::{Actions, Comparison};
 use seccompiler::{SeccompCmpOp, TargetArch};
-
-// The calls whose argument of this index is an address.
-fn pointer_calls(index: u8) -> &'static [&'static str]
-    ensures { map (λ n. n.now) result.now ≡ spec.pointer_calls index }
-{
-    if index == 0 {
-        &[
-            "open", "execve", "mount", "umount2", "chroot", "unlink", "rename", "symlink",
-        ]
-    } else if index == 1 {
-        &[
-            "openat", "execve", "execveat", "connect", "bind", "read", "write", "mount", "unlinkat",
-        ]
-    } else if index == 2 {
-        &["execve", "execveat", "mount"]
-    } else if index == 3 {
-        &["execveat"]
-    } else if index == 4 {
-        &["mount", "sendto"]
-    } else {
-        &[]
-    }
-}
 
 // The calls whose argument of this index is signed.
 fn signed_calls(index: u8) -> &'static [&'static str]
@@ -56,12 +34,21 @@ fn signed_calls(index: u8) -> &'static [&'static str]
 fn close_on_exec_calls(index: u8) -> &'static [&'static str]
     ensures { map (λ n. n.now) result.now ≡ spec.close_on_exec_calls index }
 {
-    if index == 1 {
-        &["open", "socket", "socketpair"]
+    if index == 0 {
+        &["epoll_create1", "inotify_init1", "userfaultfd"]
+    } else if index == 1 {
+        &[
+            "open",
+            "socket",
+            "socketpair",
+            "pipe2",
+            "eventfd2",
+            "timerfd_create",
+        ]
     } else if index == 2 {
-        &["openat"]
+        &["openat", "dup3", "open_by_handle_at"]
     } else if index == 3 {
-        &["accept4"]
+        &["accept4", "signalfd4"]
     } else {
         &[]
     }
@@ -78,6 +65,13 @@ fn files_calls(index: u8) -> &'static [&'static str]
     } else {
         &[]
     }
+}
+
+// The calls that take MFD_CLOEXEC in the argument of this index.
+fn memory_calls(index: u8) -> &'static [&'static str]
+    ensures { map (λ n. n.now) result.now ≡ spec.memory_calls index }
+{
+    if index == 1 { &["memfd_create"] } else { &[] }
 }
 
 // The calls that take PROT_READ in the argument of this index.
@@ -111,6 +105,8 @@ fn flag_of(arch: TargetArch, number: u32, index: u8) -> u64
         0x8_0000
     } else if is_among(arch, number, files_calls(index)) {
         0x400
+    } else if is_among(arch, number, memory_calls(index)) {
+        0x1
     } else if is_among(arch, number, read_calls(index)) {
         1
     } else {

@@ -23,6 +23,7 @@ pub mod code;
 mod condition;
 pub mod judgement;
 mod part;
+mod pointers;
 mod sibling;
 mod text;
 pub mod unlisted;

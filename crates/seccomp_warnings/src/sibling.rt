@@ -15,8 +15,9 @@ fn all_undone() -> &'static [&'static str]
     ensures { map (λ n. n.now) result.now ≡ spec.all_undone }
 {
     &[
-        "open", "openat", "execve", "mount", "ptrace", "mprotect", "kill", "unshare", "socket",
-        "connect",
+        "open", "openat", "creat", "execve", "mount", "ptrace", "mprotect", "kill", "unshare",
+        "fork", "clone", "socket", "connect", "unlink", "rmdir", "rename", "mkdir", "mknod",
+        "link", "symlink", "chmod", "chown",
     ]
 }
 
@@ -25,9 +26,11 @@ fn siblings_of(name: &str) -> &'static [&'static str]
     ensures { map (λ n. n.now) result.now ≡ spec.siblings_of name.now }
 {
     if name == "open" {
-        &["openat", "openat2", "io_uring_setup"]
+        &["openat", "openat2", "creat", "io_uring_setup"]
     } else if name == "openat" {
-        &["openat2", "open", "io_uring_setup"]
+        &["open", "openat2", "creat", "io_uring_setup"]
+    } else if name == "creat" {
+        &["open", "openat", "openat2", "io_uring_setup"]
     } else if name == "execve" {
         &["execveat"]
     } else if name == "mount" {
@@ -37,13 +40,35 @@ fn siblings_of(name: &str) -> &'static [&'static str]
     } else if name == "mprotect" {
         &["pkey_mprotect"]
     } else if name == "kill" {
-        &["tgkill", "pidfd_send_signal"]
+        &["tgkill", "tkill", "rt_sigqueueinfo", "pidfd_send_signal"]
     } else if name == "unshare" {
         &["clone", "clone3"]
+    } else if name == "fork" {
+        &["vfork", "clone", "clone3"]
+    } else if name == "clone" {
+        &["fork", "vfork"]
     } else if name == "socket" {
         &["io_uring_setup"]
     } else if name == "connect" {
         &["io_uring_setup"]
+    } else if name == "unlink" {
+        &["unlinkat"]
+    } else if name == "rmdir" {
+        &["unlinkat"]
+    } else if name == "rename" {
+        &["renameat", "renameat2"]
+    } else if name == "mkdir" {
+        &["mkdirat"]
+    } else if name == "mknod" {
+        &["mknodat"]
+    } else if name == "link" {
+        &["linkat"]
+    } else if name == "symlink" {
+        &["symlinkat"]
+    } else if name == "chmod" {
+        &["fchmodat", "fchmodat2"]
+    } else if name == "chown" {
+        &["fchownat"]
     } else {
         &[]
     }

@@ -4,14 +4,14 @@ use Rattle.seccomp_tree.proofs.decisions.Decisions.call_steps.Goals as goal
 pub loop-next-preserved : goal.loop-next-preserved
 loop-next-preserved c = (
   c.next_start-next.ensures.within,
-  calls_on c.loop-next.invariant.1 (rw c.rulings_for.ensures at c.in_ok-target.ensures.grows)
-      (rw (c.default_for.ensures, c.rulings_for.ensures) at c.in_ok-target.ensures.answer) c.in_ok-push_step.ensures
+  c.in_ok-target.ensures.seen,
+  calls_on c.loop-next.invariant.2 c.in_ok-target.ensures.grows c.in_ok-target.ensures.answer c.in_ok-push_step.ensures
       c.next_start-next.ensures.above c.next_start-next.ensures.default c.next_start-next.ensures.rulings,
 )
 
 pub returns-clause-steps : goal.returns-clause-steps
 returns-clause-steps c =
     let end : c.loop-next.next ≡ 2 ^ 32 = omega arith in
-    let h = rw end at c.loop-next.invariant.1 in
+    let h = rw end at c.loop-next.invariant.2 in
     let grows = grows_on _ h.grows (grows_not _ 0) (omega (arith, below_all c.args.self.now.calls (2 ^ 32))) in
     record { grows = grows; are = h.are; each = h.each }

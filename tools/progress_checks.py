@@ -15,6 +15,8 @@ with standard error as a terminal and as a pipe:
 A comparison that takes no time shows nothing on a terminal, and if a policy is rejected the error stands there alone,
 as on a pipe.
 
+If nobody reads standard output any more, a command ends at once with status 2, and says nothing.
+
 If standard output is a terminal, a command that would write bytes there fails and writes none; text is written as it is.
 
 Prints each difference, and as its last line 'N passed, M failed'.
@@ -165,9 +167,28 @@ def compare_outputs(results, program):
             results.compare(f"seccomptool {' '.join(words)} to a terminal", (0, "", text.replace("\n", "\r\n").encode()), found)
 
 
+# Commands whose output nobody reads: each ends at once, and says nothing. A file behind the first isn't looked for.
+UNREAD = (["check", "few.json", "missing.json"], ["show", "few.json"], ["explain", "few.json", "read"], ["call", "read"], ["--help"])
+
+
+def compare_unread(results, program):
+    """Runs commands with standard output as a pipe that nobody reads, of the program with this path."""
+    with tempfile.TemporaryDirectory(prefix="unread-") as room:
+        folder = pathlib.Path(room)
+        (folder / "few.json").write_text('{"a":{"mismatch_action":"trap","match_action":"allow","filter":[]}}')
+        for words in UNREAD:
+            reads, writes = os.pipe()
+            os.close(reads)
+            with open(writes, "wb") as output:
+                ran = subprocess.run(
+                    [program, *words], cwd=folder, stdin=subprocess.DEVNULL, stdout=output, stderr=subprocess.PIPE, timeout=SECONDS)
+            results.compare(f"seccomptool {' '.join(words)} with an output that nobody reads", (2, b""), (ran.returncode, ran.stderr))
+
+
 def main():
     results = Results()
     program = TOP / "crates/seccomptool/out/seccomptool"
+    compare_unread(results, program)
     compare_outputs(results, program)
     compare_progress(results, program)
     return results.close()

@@ -6,7 +6,7 @@ from the program's output.
 """
 
 from . import (
-    answers, call, calls, check, compile, compiled_profiles, conditions, counts, diff, entries, explain, formats, gone, hostile, initializers, learn, lines, logs, oci,
+    answers, call, calls, check, compile, compiled_profiles, conditions, counts, diff, entries, explain, formats, hostile, initializers, learn, lines, logs, oci,
     outputs, profile_checks, profile_faults, profile_stats, program_diffs, programs, random_filters, same_filters, show, stats, subjects, warnings,
     words
 )
@@ -31,7 +31,7 @@ CASES = [
         case
         for it in (
             show, check, warnings, conditions, calls, entries, explain, logs, programs, stats, call, counts, program_diffs,
-            compiled_profiles, initializers, profile_faults, oci, profile_checks, profile_stats, words, gone, hostile, outputs,
+            compiled_profiles, initializers, profile_faults, oci, profile_checks, profile_stats, words, hostile, outputs,
             subjects, learn, lines, formats, answers, same_filters
         )
         for case in it.CASES

@@ -42,6 +42,7 @@ fn main(rt: HostRuntime) -> ExitCode {
             let mut streams = Streams {
                 rt: &rt,
                 lacks_memory: false,
+                is_closed: false,
             };
             answer(
                 &rt,

@@ -6,7 +6,7 @@ use crate::error::ToolError;
 use crate::files::write_whole;
 use crate::notes::{tell, tell_notes};
 use crate::words::Inputs;
-use std::alloc::AllocError;
+use std::alloc::{AllocError, Global};
 use std::io;
 use std::io::Write;
 
@@ -24,6 +24,10 @@ pub(crate) trait Outside {
 
     // What is done so far, if that is known.
     ghost done: { Self → Option (List Event) };
+
+    /// Fails once nobody reads standard output any more.
+    fn check_reader(&self, alloc: Global) -> Result<(), ToolError>
+        ensures { IfErr result IsOfFile };
 
     /// Writes a file whole, or standard output.
     fn write(&mut self, output: Option<&str>, text: &[u8]) -> Result<(), ToolError>
@@ -46,6 +50,8 @@ pub(crate) struct Streams<'a> {
     pub rt: &'a HostRuntime,
     /// Whether it is reported that memory ran out, which is reported once.
     pub lacks_memory: bool,
+    /// Whether nobody reads standard output any more. Nothing is reported then.
+    pub is_closed: bool,
 }
 
 impl Outside for Streams<'_> {
@@ -53,19 +59,30 @@ impl Outside for Streams<'_> {
 
     ghost done = { λ streams. None };
 
+    fn check_reader(&self, alloc: Global) -> Result<(), ToolError> {
+        if self.is_closed {
+            return Err(ToolError::of_path(alloc, OUTPUT, "nobody reads it"));
+        }
+        Ok(())
+    }
+
     fn write(&mut self, output: Option<&str>, text: &[u8]) -> Result<(), ToolError> {
         let rt = self.rt;
         let written = match output {
             Some(path) => write_whole(rt, path, text),
             None => io::writer(rt).write_all(text),
         };
-        match written {
-            Ok(()) => Ok(()),
-            Err(error) => Err(ToolError::of_io(rt.alloc(), output.unwrap_or(OUTPUT), error)),
-        }
+        let Err(error) = written else {
+            return Ok(());
+        };
+        self.is_closed = output.is_none() && error.kind() == io::ErrorKind::BrokenPipe;
+        Err(ToolError::of_io(rt.alloc(), output.unwrap_or(OUTPUT), error))
     }
 
     fn tell(&mut self, inputs: Inputs<'_>, error: &ToolError) {
+        if self.is_closed {
+            return;
+        }
         if !matches!(error, ToolError::OutOfMemory) && tell(self.rt, inputs, error).is_ok() {
             return;
         }

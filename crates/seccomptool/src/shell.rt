@@ -30,16 +30,6 @@ use std::process::ExitCode;
 // The status of a command that fails.
 const TROUBLE: u8 = 2;
 
-// The commands that are gone, and what does now what they did.
-const GONE: [(&str, &str); 6] = [
-    ("stats", "show --stats"),
-    ("run", "explain"),
-    ("record", "call --record"),
-    ("verify", "diff"),
-    ("compat", "check"),
-    ("import", "compile"),
-];
-
 /// Carries out what the arguments after the program's name ask for, or says what is wrong with
 /// them, or writes the help or the version that they ask for. `to_terminal` says whether standard output
 /// is a terminal; `progress` gets how far comparisons are.
@@ -52,14 +42,6 @@ pub(crate) fn answer<O: Outside>(
 ) -> ExitCode
     ensures ended { exit_status result ≤ 3 }
 {
-    if let Some(word) = words.first() {
-        for (gone, verb) in &GONE {
-            if word.as_str() == *gone {
-                let _ = eprintln!(rt; "seccomptool: '{gone}' is now '{verb}'");
-                return ExitCode::from(TROUBLE);
-            }
-        }
-    }
     let mut codes = Vec::new(rt.alloc());
     match read(rt.alloc(), words, &mut codes) {
         Ok(asked) => ExitCode::from(carry_out_each(rt, out, &asked, to_terminal, progress)),
@@ -76,7 +58,9 @@ fn misused(rt: &HostRuntime, error: &clap::Error) -> ExitCode
         ErrorKind::DisplayHelp | ErrorKind::DisplayVersion => match error.print(rt) {
             Ok(()) => ExitCode::SUCCESS,
             Err(error) => {
-                let _ = eprintln!(rt; "seccomptool: standard output: {error}");
+                if error.kind() != io::ErrorKind::BrokenPipe {
+                    let _ = eprintln!(rt; "seccomptool: standard output: {error}");
+                }
                 ExitCode::from(TROUBLE)
             }
         },
@@ -220,6 +204,7 @@ fn carried_out<O: Outside>(
     ensures unwritten { OnErr result (Adds (O.done out.old) (O.done out.new) []) }
     ensures ungathered { OnErr result (gathered.new.items ≡ gathered.old.items) }
 {
+    out.check_reader(rt.alloc())?;
     refuse_output(rt, asked, inputs, to_terminal)?;
     let first = first_of(rt, asked, inputs)?;
     let traces = traces_of(rt, asked, inputs)?;

@@ -29,7 +29,7 @@ FOREIGN = ("one-test", "two-borders", "two-halves", "mask-of-a-bit", "crun", "ru
            "libseccomp-calls")
 
 # Compares a file with each of others, and prints the exit statuses.
-DIFFS = 'old=$1; shift; for new; do "$0" diff -q --all "$old" "$new" > "${new%.bpf}.out" 2>&1; echo $?; done'
+DIFFS = 'old=$1; shift; for new; do "$0" diff -q --each --all "$old" "$new" > "${new%.bpf}.out" 2>&1; echo $?; done'
 
 # A line of calls on which two programs differ: other numbers, other architectures or a name; and at its end an example, its name or
 # number, after the `AUDIT_ARCH_*` value if that is another, its arguments, and the instruction pointer.

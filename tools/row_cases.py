@@ -224,7 +224,7 @@ class Policy:
         """Returns what `seccomptool diff` says of an old policy and this one."""
         for policy, name in ((old, "old.json"), (self, "row.json")):
             (self.folder / name).write_text(json.dumps({"a": policy.filter}))
-        status, output, errors = run(f"./seccomptool diff {words} -a {self.arch} old.json row.json", self.folder)
+        status, output, errors = run(f"./seccomptool diff --each {words} -a {self.arch} old.json row.json", self.folder)
         head, *lines = output.splitlines() or [""]
         if status == 0 and not lines:
             return head.removeprefix("filter a: ")

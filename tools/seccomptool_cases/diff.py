@@ -39,6 +39,9 @@ FILES = {
     "filters-b-a.json": filters("b", "a"),
     "filters-c-a.json": filters("c", "a"),
     "opens.json": policy('{"syscall":"open"}'),
+    "reads-writes.json": policy('{"syscall":"read"},{"syscall":"write"}'),
+    "reads-writes-of-5.json": policy(READ + "," + READ_OF_5.replace("read", "write")),
+    "reads-parted.json": policy(READ_OF_5 + "," + READ_OF_5.replace("eq", "ne") + ',{"syscall":"write"}'),
 }
 
 SAME = "filter a: same\n"
@@ -89,10 +92,19 @@ CASES = [
     differ("logs.json allows-read-of-5.json", "filter a: different\n" + READS_5),
     differ("-a riscv64 logs.json allows-read.json", "filter a: different\n" + READS),
     differ("errno-1.json errno-2.json", "filter a: different\n" + OTHER_ERRNO),
-    # Each call has a line if the default changes, and so has each range of numbers without a name.
+    # Calls that change alike have one line, and each range of numbers without a name has its own; with `--each` each call has one.
     differ("logs.json traps.json",
+           "filter a: different\n"
+           "  375 calls: log -> trap, less: _sysctl accept accept4 access acct add_key .. (--each names them)\n"
+           "  other calls 335 to 423: log -> trap, less: 335(0x0, 0x0, 0x0, 0x0, 0x0, 0x0)\n.."),
+    differ("--each logs.json traps.json",
            "filter a: different\n  read: log -> trap, less: read(0x0, 0x0, 0x0, 0x0, 0x0, 0x0)\n"
            "  write: log -> trap, less: write(0x0, 0x0, 0x0, 0x0, 0x0, 0x0)\n.."),
+    differ("logs.json reads-writes.json", "filter a: different\n  2 calls: log -> allow, more: read write\n"),
+    differ("logs.json reads-writes-of-5.json", "filter a: different\n" + READS
+           + "  write: log -> allow, more: write(0x5, 0x0, 0x0, 0x0, 0x0, 0x0)\n"),
+    # All of its arguments are compared, and yet each is allowed.
+    differ("logs.json reads-parted.json", "filter a: different\n  2 calls: log -> allow, more: read write\n"),
     # With `--only-more` a policy that permits less, or as much of another kind, is none that differs.
     differ("--only-more logs.json allows-read.json", "filter a: more permissive\n" + READS),
     same("--only-more allows-read.json logs.json", "filter a: nowhere more permissive\n"),

@@ -197,13 +197,13 @@ def is_example(line, words, old, new, numbers):
 def compare_pairs(results, run):
     """Compares each profile with the next one for the same container, and with itself."""
     for place, (what, words, given, rows) in enumerate(PROFILES):
-        for asked in ways("diff", f"{words} {file_of(place)} {file_of(place)}"):
+        for asked in ways("diff --each", f"{words} {file_of(place)} {file_of(place)}"):
             results.compare(f"{what}: {asked}", (0, "profile: same\n", ""), run(asked, ""))
         other = next((it for it in range(place + 1, len(PROFILES)) if PROFILES[it][1] == words), None)
         if other is None:
             continue
         new, numbers = PROFILES[other][2], numbers_of(words)
-        asked = f"diff --oci {words} {file_of(place)} {file_of(other)}"
+        asked = f"diff --each --oci {words} {file_of(place)} {file_of(other)}"
         status, output, errors = run(asked, "")
         heading, *lines = output.splitlines()
         # Two of the profiles decide alike: whatever is listed has to be so, and what differs has to be listed.
@@ -214,10 +214,10 @@ def compare_pairs(results, run):
         calls = {(call, whole(arguments)) for call, arguments, _ in (*rows, *PROFILES[other][3]) if not isinstance(call, int)}
         wanted = {call for call, it in calls if decision(given, words, call, it)[0] != decision(new, words, call, it)[0]}
         results.compare(f"{asked} lists calls of both", (set(),), (wanted - listed,))
-        for other_way in ways("diff", f"{words} {file_of(place)} {file_of(other)}")[1:]:
+        for other_way in ways("diff --each", f"{words} {file_of(place)} {file_of(other)}")[1:]:
             results.compare(f"{what}: {other_way}", (status, output, errors), run(other_way, ""))
         # The other way round the same calls differ, and what permits more is named as it is.
-        back = run(f"diff --oci {words} {file_of(other)} {file_of(place)}", "")
+        back = run(f"diff --each --oci {words} {file_of(other)} {file_of(place)}", "")
         results.compare(f"{asked}, back", (verdict[0], listed), (back[0], {it.split(":")[0].strip() for it in back[1].splitlines()[1:]}))
 
 

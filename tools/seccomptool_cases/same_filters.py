@@ -81,4 +81,7 @@ CASES = [
             Case(f"compile -q --layout {layout} {name}.json | ./seccomptool diff -q - {name}.json", 0, SAME + OTHERS, ""),
         )
     ],
+    # Beside the program of the entries in another order the search ends without an answer.
+    Case("compile -q --layout linear four-masks-reversed.json | ./seccomptool diff -q --most 100000 four-masks.json -", 3,
+         "filter a: undecided\n  read: undecided\n" + OTHERS, ""),
 ]

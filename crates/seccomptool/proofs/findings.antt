@@ -5,3 +5,5 @@ pub mod Covered
 pub mod Ending
 pub mod Decided
 pub mod Settled
+pub mod Kept
+pub mod Returned

@@ -62,6 +62,7 @@ pub record IsAskedFor (found : Found) (asked : Asked) : Type 0 where
   pub layout : asked.layout ≡ layout_named (first_value found (codes "layout"))
   pub relation : IsFlag found (codes "only-more") (is_only_more asked.terms.relation)
   pub scope : IsFlag found (codes "all") (is_of_all asked.scope)
+  pub each : IsFlag found (codes "each") asked.each
   pub denied : IsFlag found (codes "deny-warnings") asked.denied
   pub strict : IsFlag found (codes "strict") asked.strict
   pub recorded : IsFlag found (codes "record") asked.recorded

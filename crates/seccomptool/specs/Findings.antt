@@ -1,6 +1,6 @@
 -- The sets of calls that a comparison of two programs goes through, what it finds on each, and its verdict.
 use Rattle.std.specs.Prelude.{◌≡◌, ◌≢◌, ℕ, pos, ◌+◌, ◌-◌, ◌^◌, ◌<◌, ◌≤◌, ◌⊎◌, List, [], ◌∷◌, ◌++◌, map, All, Option, Some, None}
-use Rattle.std.specs.Prelude.{if◌then◌else◌, ⊤}
+use Rattle.std.specs.Prelude.{if◌then◌else◌, Bool, true, false, IsTrue, ⊤}
 use Rattle.std.specs.Ordering.{int_eq}
 use Rattle.seccompiler.specs.declared.backend.TargetArch.{TargetArch}
 use Rattle.seccomp_compare.specs.declared.Relation.{Relation}
@@ -60,11 +60,12 @@ pub data ArePartsBelow (table : List Pair) : List Part → ℕ → Type 0 where
 
 -- What is found on a part, if Words r new old says that the new side's word for the record is the one and the old side's
 -- the other: that the relation holds of the words for each of these calls; or a call of them, with its words, for which it
--- doesn't; or nothing.
+-- doesn't, and which are the words for each of these calls if it is said so; or nothing.
 abbrev pub IsFound : (TargetArch) → Relation → (List ℕ → ℕ → ℕ → Type 0) → Part → Answer → Type 0
 IsFound target relation Words part Holds = (r : List ℕ) → IsInPart target part r
     → (new : ℕ) × (old : ℕ) × Words r new old × Related relation new old
-IsFound target relation Words part (Fails call old new) = IsInPart target part call × Words call new old × (Related relation new old → ⊥)
+IsFound target relation Words part (Fails call old new throughout) = IsInPart target part call × Words call new old
+    × (Related relation new old → ⊥) × (IsTrue throughout → (r : List ℕ) → IsInPart target part r → Words r new old)
 IsFound target relation Words part Undecided = ⊤
 
 -- These are found on these parts, one on each.
@@ -72,6 +73,14 @@ pub record AreFoundOn (target : TargetArch) (relation : Relation) (Words : List 
     (findings : List Finding) : Type 0 where
   pub parts_are : map (λ (f : Finding). f.part) findings ≡ parts
   pub each : All (λ (f : Finding). IsFound target relation Words f.part f.answer) findings
+
+-- A finding is kept if the relation doesn't hold on its part, or nothing is known.
+abbrev pub is_kept : Finding → Bool
+is_kept f = by f.answer
+  where
+    by : Answer → Bool
+    by Holds = false
+    by other = true
 
 -- These are found on the parts of all calls of an architecture.
 pub record AreFindings (target : TargetArch) (relation : Relation) (Words : List ℕ → ℕ → ℕ
@@ -102,7 +111,7 @@ worse verdict.Same other = other
 
 abbrev pub verdict_on : Answer → Verdict
 verdict_on Holds = verdict.Same
-verdict_on (Fails call old new) = verdict.Different
+verdict_on (Fails call old new throughout) = verdict.Different
 verdict_on Undecided = verdict.Undecided
 
 -- The verdict of all that is found.

@@ -1,5 +1,6 @@
 -- What decides calls, a program that stands for it, and what is found of two that do.
 use Rattle.std.specs.Prelude.{◌≡◌, ℕ, List}
+use Rattle.std.specs.List.{filter}
 use Rattle.seccompiler.specs.declared.backend.SeccompAction.{SeccompAction}
 use Rattle.seccompiler.specs.declared.backend.TargetArch.{TargetArch}
 use Rattle.seccompiler.specs.declared.bpf.sock_filter.{sock_filter}
@@ -12,7 +13,7 @@ use Rattle.seccomp_oci.specs.Decision.{IsProfileDecision}
 use Rattle.seccomp_oci.specs.Types.{Container, Profile}
 use Rattle.seccomptool.specs.declared.findings.Finding.{Finding}
 use Rattle.seccomptool.specs.declared.findings.Verdict.TheVariants.{Same}
-use Rattle.seccomptool.specs.Findings.{AreFindings, HoldsThroughout, verdict_of}
+use Rattle.seccomptool.specs.Findings.{AreFindings, HoldsThroughout, is_kept, verdict_of}
 
 -- What decides: a filter, a profile in a container, or a program.
 pub data Ruling : Type 0 where
@@ -43,8 +44,10 @@ pub record StandsFor (target : TargetArch) (ruling : Ruling) (p : List sock_filt
 abbrev pub AreDecided : TargetArch → (new old : Ruling) → List ℕ → ℕ → ℕ → Type 0
 AreDecided target new old r new_word old_word = Decides target new r new_word × Decides target old r old_word
 
--- These are found of what the new and the old ruling decide. If the verdict is that nothing differs, the relation holds of
--- both for every call of the architecture.
+-- These are kept of all that is found of what the new and the old ruling decide. If the verdict is that nothing differs, the relation
+-- holds of both for every call of the architecture.
 pub record AreFindingsOf (target : TargetArch) (relation : Relation) (new old : Ruling) (findings : List Finding) : Type 0 where
-  pub are : AreFindings target relation (AreDecided target new old) findings
+  pub all : List Finding
+  pub are : AreFindings target relation (AreDecided target new old) all
+  pub kept : findings ≡ filter is_kept all
   pub holds : verdict_of findings ≡ Same → HoldsThroughout target relation (AreDecided target new old)

@@ -28,7 +28,7 @@ pub enum Found {
     OnlyOld,
     /// The new policy alone has the name.
     OnlyNew,
-    /// What is found on each part of the calls.
+    /// What is found on parts of the calls: nothing on those on which the relation holds.
     Both(Vec<Finding>),
 }
 

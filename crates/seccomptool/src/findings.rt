@@ -3,26 +3,31 @@
 pub(crate) mod lines;
 pub(crate) mod parts;
 
-ghost use Rattle.std.specs.Prelude.{◌≡◌, ℕ, List, ◌↔◌, All, IfOk, IsTrue, option_map};
+ghost use Rattle.std.specs.List.{filter};
+ghost use Rattle.std.specs.Prelude.{◌≡◌, ℕ, List, [], ◌∷◌, ◌++◌, ◌↔◌, All, IfOk, IsTrue, option_map};
 ghost use Rattle.seccomp_compare.specs.Rules.{AreRelatedOn};
 ghost use Rattle.seccompiler.specs.declared.backend.TargetArch.{TargetArch};
 ghost use Rattle.seccompiler.specs.declared.bpf.sock_filter.{sock_filter};
 ghost use Rattle.seccomp_compare.specs.declared.Relation.{Relation};
 ghost use Rattle.seccomptool.specs.declared.findings.Answer.TheVariants.{Holds};
 ghost use Rattle.seccomptool.specs.Settled.{AreSettled, AreSettledOf};
-ghost use Rattle.seccomp_compare.specs.Compare.{IsCallOf};
-ghost use Rattle.seccomp_compare.specs.Machine.{IsChecked};
-ghost use Rattle.seccomptool.specs.Findings.{AreReturned, IsFound, IsInPart, worse, verdict_of};
+ghost use Rattle.seccomp_compare.specs.Compare.{AnswersUnrelated, IsCallOf};
+ghost use Rattle.seccomp_compare.specs.Machine.{Ends, IsChecked};
+ghost use Rattle.seccomptool.specs.Findings.{AreReturned, IsFound, IsInPart, is_kept, worse, verdict_of};
 ghost use Rattle.seccomptool.specs.Rulings.{AreFindingsOf, Ruling, StandsFor};
 
 use crate::findings::parts::parts;
 use crate::progress::Watch;
 use seccomp_compare::{Calls, Comparison, Relation, compare, is_related_on, machine};
+use seccompiler::bpf::{RETURN, sock_filter};
 use seccompiler::{BpfProgramRef, SeccompFilter, TargetArch};
 use std::alloc::{AllocError, Global};
 
 // So many sets of records are looked at in the first of several tries.
 const FIRST: usize = 250_000;
+
+// So many of each program are, to see whether it returns one value throughout.
+const MOST_THROUGHOUT: usize = 1_000;
 
 // So many sets of arguments are looked at of each rule.
 const MOST_BY_RULES: usize = 10_000;
@@ -54,8 +59,13 @@ pub enum Part {
 pub enum Answer {
     /// The relation holds for every call of the part.
     Holds,
-    /// It doesn't for the call of this record, for which the sides have these values.
-    Fails { call: [u8; 64], old: u32, new: u32 },
+    /// It doesn't for the call of this record, for which the sides have these values; and for each call of the part, if that is seen.
+    Fails {
+        call: [u8; 64],
+        old: u32,
+        new: u32,
+        throughout: bool,
+    },
     /// As many sets of records were looked at as was allowed, and neither was found.
     Undecided,
 }
@@ -196,7 +206,19 @@ fn answer_beside(
     answer_on(alloc, terms, part, new, old, progress)
 }
 
-/// What is found of two programs, on each part of the architecture's calls. Those of some numbers are settled.
+// Adds a finding, if the relation doesn't hold on its part or nothing is known.
+fn push_kept(findings: &mut Vec<Finding>, finding: Finding) -> Result<(), AllocError>
+    ensures { IfOk result (λ _. findings.new.items ≡ findings.old.items ++ filter is_kept (finding ∷ [])) }
+{
+    if let Answer::Holds = finding.answer {
+        return Ok(());
+    }
+    findings.push(finding)?;
+    Ok(())
+}
+
+/// What is found of two programs, on each part of the architecture's calls: nothing of parts on which the relation holds. Those of some
+/// numbers are settled.
 pub(crate) fn findings_of(
     alloc: Global,
     terms: Terms,
@@ -216,7 +238,7 @@ pub(crate) fn findings_of(
     for part in &parts {
         let part = *part;
         let answer = answer_beside(alloc, terms, part, new, old, settled, progress)?;
-        findings.push(Finding { part, answer })?;
+        push_kept(&mut findings, Finding { part, answer })?;
     }
     Ok(findings)
 }
@@ -249,11 +271,7 @@ pub(crate) fn answer_on(
         match compare(alloc, new, old, &calls, terms.relation, sets) {
             Ok(Comparison::Holds) => return Ok(Answer::Holds),
             Ok(Comparison::Fails(call)) => {
-                return Ok(Answer::Fails {
-                    call,
-                    old: machine::run(old, &call).word,
-                    new: machine::run(new, &call).word,
-                });
+                return answer_at(alloc, terms, part, new, old, call);
             }
             Ok(Comparison::Undecided) => progress.looked_at(terms.target, part, sets),
             // It fails for want of memory alone.
@@ -266,5 +284,80 @@ pub(crate) fn answer_on(
             return Ok(Answer::Undecided);
         }
         sets = sets.saturating_add(sets).min(terms.most);
+    }
+}
+
+// What the programs return for a call on which the relation doesn't hold, and whether they are seen to do so for each call of the part.
+fn answer_at(
+    alloc: Global,
+    terms: Terms,
+    part: Part,
+    new: BpfProgramRef<'_>,
+    old: BpfProgramRef<'_>,
+    call: [u8; 64],
+) -> Result<Answer, AllocError>
+    requires new_checked { IsChecked new.now }
+    requires old_checked { IsChecked old.now }
+    requires within { IsInPart terms.target part call }
+    requires unrelated { AnswersUnrelated terms.relation new.now old.now call }
+    ensures { IfOk result (IsFound terms.target terms.relation (AreReturned new.now old.now) part) }
+{
+    let by_old = machine::run(old, &call).word;
+    let by_new = machine::run(new, &call).word;
+    let throughout = return_both(alloc, terms.target, part, new, old, by_new, by_old)?;
+    Ok(Answer::Fails {
+        call,
+        old: by_old,
+        new: by_new,
+        throughout,
+    })
+}
+
+// Whether two programs are seen to return these words for each call of a part.
+fn return_both(
+    alloc: Global,
+    target: TargetArch,
+    part: Part,
+    new: BpfProgramRef<'_>,
+    old: BpfProgramRef<'_>,
+    by_new: u32,
+    by_old: u32,
+) -> Result<bool, AllocError>
+    requires new_checked { IsChecked new.now }
+    requires old_checked { IsChecked old.now }
+    ensures { IfOk result (λ are. IsTrue are → (r : List ℕ) → IsInPart target part r → AreReturned new.now old.now r by_new by_old) }
+{
+    if !returns(alloc, target, part, new, by_new)? {
+        return Ok(false);
+    }
+    returns(alloc, target, part, old, by_old)
+}
+
+// Whether a program is seen to return this word for each call of a part.
+fn returns(
+    alloc: Global,
+    target: TargetArch,
+    part: Part,
+    program: BpfProgramRef<'_>,
+    word: u32,
+) -> Result<bool, AllocError>
+    requires { IsChecked program.now }
+    ensures { IfOk result (λ is. IsTrue is → (r : List ℕ) → IsInPart target part r → (steps : ℕ) × Ends program.now r steps word) }
+{
+    let only = [sock_filter {
+        code: RETURN,
+        jt: 0,
+        jf: 0,
+        k: word,
+    }];
+    let calls = calls_of(target, part);
+    match compare(alloc, program, &only, &calls, Relation::Alike, MOST_THROUGHOUT) {
+        Ok(Comparison::Holds) => Ok(true),
+        Ok(_) => Ok(false),
+        // It fails for want of memory alone.
+        Err(error) => {
+            drop(error);
+            Err(AllocError)
+        }
     }
 }

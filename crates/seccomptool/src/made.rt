@@ -10,7 +10,7 @@ ghost use Rattle.seccomptool.specs.declared.kind.Subject.TheVariants.{Policy, Pr
 use crate::chosen::{chosen_of, refuse_name};
 use crate::compile::{program_text, too_large};
 use crate::diff::diff_of;
-use crate::diff::text::diff_text;
+use crate::diff::text::{Style, diff_text};
 use crate::error::ToolError;
 use crate::findings::Verdict;
 use crate::json::{Object, written};
@@ -294,7 +294,11 @@ pub(crate) fn diff_made(
     let found = diff_of(alloc, terms, old, new, progress);
     progress.end();
     let found = found?;
-    let text = diff_text(alloc, terms, asked.json, old, new, &found);
+    let style = Style {
+        json: asked.json,
+        each: asked.each,
+    };
+    let text = diff_text(alloc, terms, style, old, new, &found);
     let verdict = found.verdict(asked.scope);
     // By one call, and not variant by variant.
     drop(found);

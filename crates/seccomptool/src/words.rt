@@ -84,7 +84,8 @@ const DIFF: &str = "\
 diff: Print the calls that OLD and NEW decide differently
 --only-more: Report only calls of which NEW permits more than OLD
 --all: Count other architectures for the exit status too, if a program is compared
---most N=1000000: The most sets of arguments to examine for each call
+--each !json: Print a line for each call, even if many change in the same way
+--most N=10000000: The most sets of arguments to examine for each call
 --json: Write the answer as one JSON object
 --quiet -q: Don't print the number of warnings
 OLD: The old file, or - for standard input; append :FILTER to name a filter
@@ -213,6 +214,8 @@ pub struct Asked<'a> {
     pub recorded: bool,
     /// On which terms two sides are compared.
     pub terms: Terms,
+    /// Whether `diff` prints a line for each call.
+    pub each: bool,
     /// The name of the old filter, if it is asked for.
     pub old: Option<&'a str>,
     /// The name of the new one.
@@ -337,6 +340,7 @@ fn asked_for<'a>(name: &str, found: &ArgMatches<'a>, wrong: &mut Text) -> Asked<
             relation: relation_in(found),
             most: number_in(found, wrong, "most"),
         },
+        each: found.get_flag("each"),
         old: named_in(path_in(found, "OLD")).1,
         new: named_in(path_in(found, "NEW")).1,
         scope: scope_in(found),

@@ -1,5 +1,6 @@
 -- For `findings_of` and `diff_pair`: what is found of two programs is found of whatever they stand for.
-use Rattle.std.proofs.Common.{ℕ, ◌^◌, List, refl, sym, subst}
+use Rattle.std.proofs.Common.{◌≡◌, ℕ, ◌^◌, List, refl, sym, ap, ◌∙◌, subst}
+use Rattle.std.specs.List.{filter}
 use Rattle.std.proofs.lemmas.List.Elements.{All-weaker}
 use Rattle.seccompiler.specs.declared.backend.TargetArch.{TargetArch}
 use Rattle.seccompiler.specs.declared.bpf.sock_filter.{sock_filter}
@@ -12,9 +13,10 @@ use Rattle.seccomptool.specs.declared.findings.Answer.{Answer}
 use Rattle.seccomptool.specs.declared.findings.Answer.TheVariants.{Holds, Fails, Undecided}
 use Rattle.seccomptool.specs.declared.findings.Finding.{Finding}
 use Rattle.seccomptool.specs.declared.findings.Part.{Part}
-use Rattle.seccomptool.specs.Findings.{AreFindings, AreFoundOn, ArePartsBelow, AreReturned, IsFound}
+use Rattle.seccomptool.specs.Findings.{AreFindings, AreFoundOn, ArePartsBelow, AreReturned, IsFound, is_kept, verdict_of}
 use Rattle.seccomptool.specs.Rulings.{AreDecided, AreFindingsOf, Decides, EndsAsDecided, Ruling, StandsFor}
 use Rattle.seccomptool.proofs.findings.Covered.{covered}
+use Rattle.seccomptool.proofs.findings.Kept.{kept_verdict}
 use Rattle.seccomptool.proofs.findings.Ending.{record_in}
 
 -- A program that ends as decided ends with no other word.
@@ -37,8 +39,12 @@ module _ (target : TargetArch) (relation : Relation) (new old : List sock_filter
   found_decided part Holds found = λ r own.
       let are = found r own in
       (are.0, are.1, words_decided r (record_in target part r own) are.0 are.1 are.2, are.3)
-  found_decided part (Fails call old_word new_word) found =
-      (found.0, words_decided call (record_in target part call found.0) new_word old_word found.1, found.2)
+  found_decided part (Fails call old_word new_word throughout) found = (
+    found.0,
+    words_decided call (record_in target part call found.0) new_word old_word found.1,
+    found.2,
+    λ all r own. words_decided r (record_in target part r own) new_word old_word (found.3 all r own),
+  )
   found_decided part Undecided found = tt
 
   -- It is found of them on the same parts.
@@ -52,12 +58,19 @@ module _ (target : TargetArch) (relation : Relation) (new old : List sock_filter
   }
 
   -- Where the parts are those of all calls, they are findings of both.
-  pub decided : (parts : List Part) (findings : List Finding) → ArePartsBelow (table_of target) parts (2 ^ 32)
-      → AreFoundOn target relation (AreReturned new old) parts findings → AreFindingsOf target relation by_new by_old findings
-  decided parts findings all are =
-      let on = decided_on parts findings are in
-      let own : AreFindings target relation (AreDecided target by_new by_old) findings = record {
-        parts = subst (λ ps. ArePartsBelow (table_of target) ps (2 ^ 32)) (sym on.parts_are) all;
+  pub decided : (parts : List Part) (all kept : List Finding) → ArePartsBelow (table_of target) parts (2 ^ 32)
+      → AreFoundOn target relation (AreReturned new old) parts all → kept ≡ filter is_kept all
+      → AreFindingsOf target relation by_new by_old kept
+  decided parts all kept whole are is =
+      let on = decided_on parts all are in
+      let own : AreFindings target relation (AreDecided target by_new by_old) all = record {
+        parts = subst (λ ps. ArePartsBelow (table_of target) ps (2 ^ 32)) (sym on.parts_are) whole;
         each = on.each;
       } in
-      record { are = own; holds = covered target relation (AreDecided target by_new by_old) findings own }
+      record {
+        all = all;
+        are = own;
+        kept = is;
+        holds = λ same. covered target relation (AreDecided target by_new by_old) all own
+            (sym (kept_verdict all) ∙ ap verdict_of (sym is) ∙ same);
+      }

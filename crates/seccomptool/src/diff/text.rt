@@ -1,7 +1,8 @@
 // What is written of a comparison: lines, or JSON.
 
 use crate::diff::{Diff, Found, NamedFound, Pair};
-use crate::findings::lines::{part_value, push_filter, push_finding};
+use crate::findings::lines::{part_value, push_calls, push_filter, push_finding};
+use crate::findings::parts::name_of;
 use crate::findings::{Answer, Finding, Part, Terms, Verdict, verdict_of};
 use crate::json::{List, Object, OrNull, written};
 use crate::kind::Subject;
@@ -11,6 +12,15 @@ use seccomp_command_line::readable::TextKind;
 use seccomp_compare::Relation;
 use seccompiler::TargetArch;
 use std::alloc::{AllocError, Global};
+
+/// How what is found is written.
+#[derive(Clone, Copy)]
+pub(crate) struct Style {
+    /// Whether it is JSON, with an item for each call.
+    pub json: bool,
+    /// Whether each call has a line of its own.
+    pub each: bool,
+}
 
 // What is found of the calls of an architecture, or of all others.
 #[derive(Drop)]
@@ -32,7 +42,7 @@ struct Section<'a> {
 pub(crate) fn diff_text(
     alloc: Global,
     terms: Terms,
-    json: bool,
+    style: Style,
     old: Side<'_>,
     new: Side<'_>,
     found: &Diff,
@@ -41,22 +51,22 @@ pub(crate) fn diff_text(
     match found {
         Diff::ByName(all) => {
             for named in all {
-                push_named(&mut text, terms, json, named);
+                push_named(&mut text, terms, style, named);
             }
         }
         Diff::OfPair(pair) => {
             let kinds = (old.kind, new.kind);
-            push_pair(&mut text, terms, json, kinds, pair, false);
+            push_pair(&mut text, terms, style, kinds, pair, false);
             if matches!(kinds, (Subject::Program, _) | (_, Subject::Program)) {
-                push_pair(&mut text, terms, json, kinds, pair, true);
+                push_pair(&mut text, terms, style, kinds, pair, true);
             }
         }
     }
-    written(text, json, "compared")
+    written(text, style.json, "compared")
 }
 
 // Adds what is found under a name.
-fn push_named(text: &mut Text, terms: Terms, json: bool, named: &NamedFound) {
+fn push_named(text: &mut Text, terms: Terms, style: Style, named: &NamedFound) {
     let name = Some(named.name.as_str());
     let none: &[Finding] = &[];
     let (old, new, verdict, findings) = match &named.found {
@@ -64,7 +74,7 @@ fn push_named(text: &mut Text, terms: Terms, json: bool, named: &NamedFound) {
         Found::OnlyNew => (None, name, Verdict::Different, none),
         Found::Both(findings) => (name, name, verdict_of(findings), findings.as_slice()),
     };
-    if !json {
+    if !style.json {
         push_filter(text, named.name.as_str());
     }
     let section = Section {
@@ -76,7 +86,7 @@ fn push_named(text: &mut Text, terms: Terms, json: bool, named: &NamedFound) {
         verdict,
         findings,
     };
-    push_compared(text, terms, json, section);
+    push_compared(text, terms, style, section);
 }
 
 // Adds what is found of a pair of sides, on the calls of the architecture or on those of others. The title is what is compared: a
@@ -84,14 +94,14 @@ fn push_named(text: &mut Text, terms: Terms, json: bool, named: &NamedFound) {
 fn push_pair(
     text: &mut Text,
     terms: Terms,
-    json: bool,
+    style: Style,
     kinds: (Subject<'_>, Subject<'_>),
     pair: &Pair,
     others: bool,
 ) {
     let (old, new) = (pair.old_name.as_str(), pair.new_name.as_str());
     match kinds {
-        _ if json => {}
+        _ if style.json => {}
         _ if others => text.push_str("other architectures"),
         (Subject::Policy, Subject::Policy) if old != new => {
             push_filter(text, old);
@@ -117,13 +127,13 @@ fn push_pair(
         verdict: verdict_of(findings),
         findings,
     };
-    push_compared(text, terms, json, section);
+    push_compared(text, terms, style, section);
 }
 
 // Adds what is found: as JSON an item, else behind a title the verdict and the lines of findings.
-fn push_compared(text: &mut Text, terms: Terms, json: bool, section: Section<'_>) {
+fn push_compared(text: &mut Text, terms: Terms, style: Style, section: Section<'_>) {
     let target = terms.target;
-    if json {
+    if style.json {
         return text.push_item(object_of(text.alloc(), target, section));
     }
     let alike = matches!(terms.relation, Relation::Alike);
@@ -140,13 +150,66 @@ fn push_compared(text: &mut Text, terms: Terms, json: bool, section: Section<'_>
         for finding in section.findings {
             let is_named = matches!(finding.part, Part::Named { .. });
             if (section.in_order || is_named) == is_first {
-                push_finding(text, target, section.pointer, *finding);
+                push_found(text, target, style, &section, *finding);
             }
         }
     }
 }
 
-// What is found, as an object: no part on which the relation holds.
+// Adds the line of a finding. Of several calls that change throughout in the same way, the first has a line for all.
+fn push_found(
+    text: &mut Text,
+    target: TargetArch,
+    style: Style,
+    section: &Section<'_>,
+    finding: Finding,
+) {
+    if let Some((number, old, new)) = change_of(finding)
+        && !style.each
+    {
+        let numbers = numbers_changing(text, section.findings, old, new);
+        if numbers.len() > 1 {
+            if numbers.first() == Some(&number) {
+                push_calls(text, target, &numbers, old, new);
+            }
+            return;
+        }
+    }
+    push_finding(text, target, section.pointer, finding);
+}
+
+// The number of a call that changes throughout in one way, and the two values.
+fn change_of(finding: Finding) -> Option<(u32, u32, u32)> {
+    match (finding.part, finding.answer) {
+        (
+            Part::Named { number },
+            Answer::Fails {
+                old,
+                new,
+                throughout: true,
+                ..
+            },
+        ) => Some((number, old, new)),
+        _ => None,
+    }
+}
+
+// The numbers of all calls that change throughout from the one value to the other.
+fn numbers_changing(text: &mut Text, findings: &[Finding], old: u32, new: u32) -> Vec<u32> {
+    let mut numbers = Vec::new(text.alloc());
+    for finding in findings {
+        if let Some((number, old_value, new_value)) = change_of(*finding)
+            && old_value == old
+            && new_value == new
+            && numbers.push(number).is_err()
+        {
+            text.fail();
+        }
+    }
+    numbers
+}
+
+// What is found, as an object.
 fn object_of(alloc: Global, target: TargetArch, section: Section<'_>) -> Object {
     let mut parts = List::new(alloc);
     for finding in section.findings {

@@ -14,6 +14,9 @@ use seccompiler::TargetArch;
 use serde_json::{ToValue, Value};
 use std::alloc::{AllocError, Global};
 
+// So many columns of a line are for the names of calls.
+const ROOM: usize = 48;
+
 /// Adds a filter by its name.
 pub(crate) fn push_filter(text: &mut Text, name: &str) {
     text.push_str("filter ");
@@ -45,18 +48,66 @@ pub(crate) fn push_finding(text: &mut Text, target: TargetArch, pointer: bool, f
             push_hexadecimal(text, greatest as u64);
         }
     }
-    let Answer::Fails { call, old, new } = finding.answer else {
+    let Answer::Fails { call, old, new, .. } = finding.answer else {
         return text.push_str(": undecided\n");
     };
+    push_change(text, old, new);
+    text.push_str(": ");
+    push_example(text, target, pointer, &call);
+    text.push_str("\n");
+}
+
+/// Adds the line of calls for which both sides have these values throughout: as many of their names as fit it, in byte order.
+pub(crate) fn push_calls(
+    text: &mut Text,
+    target: TargetArch,
+    numbers: &[u32],
+    old: u32,
+    new: u32,
+) {
+    text.push_str("  ");
+    text.push_display(&numbers.len());
+    text.push_str(" calls");
+    push_change(text, old, new);
+    text.push_str(":");
+    let names = names_of(text, target, numbers);
+    let mut room = ROOM;
+    for name in &names {
+        if name.len() >= room {
+            text.push_str(" .. (--each names them)");
+            break;
+        }
+        room -= name.len() + 1;
+        text.push_str(" ");
+        text.push_str(name);
+    }
+    text.push_str("\n");
+}
+
+// The names of these numbers, in byte order.
+fn names_of(text: &mut Text, target: TargetArch, numbers: &[u32]) -> Vec<&'static str> {
+    let mut names = Vec::new(text.alloc());
+    for number in numbers {
+        if let Some(name) = name_of(target, *number)
+            && names.push(name).is_err()
+        {
+            text.fail();
+        }
+    }
+    if names.sort().is_err() {
+        text.fail();
+    }
+    names
+}
+
+// Adds the values of both sides, and whether the new one permits more.
+fn push_change(text: &mut Text, old: u32, new: u32) {
     text.push_str(": ");
     push_word(text, old);
     text.push_str(" -> ");
     push_word(text, new);
     text.push_str(", ");
     text.push_str(kind_of(old, new));
-    text.push_str(": ");
-    push_example(text, target, pointer, &call);
-    text.push_str("\n");
 }
 
 // Adds a number in hexadecimal digits.
@@ -183,7 +234,7 @@ pub(crate) fn part_value(alloc: Global, target: TargetArch, finding: Finding) ->
     part.field("number", number);
     part.field("least", least);
     part.field("greatest", greatest);
-    if let Answer::Fails { call, old, new } = finding.answer {
+    if let Answer::Fails { call, old, new, .. } = finding.answer {
         part.field("verdict", "different");
         part.field("old", word_value(alloc, old));
         part.field("new", word_value(alloc, new));

@@ -1,8 +1,11 @@
-use Rattle.std.proofs.Common.{take}
-use Rattle.seccomptool.specs.Findings.{AreFoundOn, AreReturned}
+use Rattle.std.proofs.Common.{take, ◌≡◌, List}
+use Rattle.std.specs.List.{filter}
+use Rattle.seccomptool.specs.Findings.{AreFoundOn, AreReturned, is_kept}
+use Rattle.seccomptool.specs.declared.findings.Finding.{Finding}
 use Rattle.seccomptool.proofs.findings.findings_of.Given as goal
 
--- what is found is that of the parts so far
+-- what is kept is that of the parts so far
 abbrev pub invariant-loop-part : goal.invariant-loop-part
-invariant-loop-part l =
-    AreFoundOn l.terms.target l.terms.relation (AreReturned l.new l.old) (take l.part-index l.part-items) l.findings.items
+invariant-loop-part l = (all : List Finding)
+    × AreFoundOn l.terms.target l.terms.relation (AreReturned l.new l.old) (take l.part-index l.part-items) all
+    × (l.findings.items ≡ filter is_kept all)

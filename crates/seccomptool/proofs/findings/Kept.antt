@@ -1,0 +1,18 @@
+-- For `findings_of`: the findings that are kept.
+use Rattle.std.proofs.Common.{◌≡◌, List, [], ◌∷◌, refl, ap}
+use Rattle.std.specs.List.{filter}
+use Rattle.seccomptool.specs.Findings.{is_kept, verdict_of, verdict_on, worse}
+use Rattle.seccomptool.specs.declared.findings.Answer.{Answer}
+use Rattle.seccomptool.specs.declared.findings.Answer.TheVariants.{Holds, Fails, Undecided}
+use Rattle.seccomptool.specs.declared.findings.Finding.{Finding}
+use Rattle.seccomptool.specs.declared.findings.Verdict.TheVariants as verdict
+
+-- They have the verdict of all.
+pub kept_verdict : (all : List Finding) → verdict_of (filter is_kept all) ≡ verdict_of all
+kept_verdict [] = refl
+kept_verdict (f ∷ all) = by f.answer refl
+  where
+    by : (a : Answer) → f.answer ≡ a → verdict_of (filter is_kept (f ∷ all)) ≡ verdict_of (f ∷ all)
+    by Holds is = rw is (kept_verdict all)
+    by (Fails call old new throughout) is = rw is refl
+    by Undecided is = rw is (ap (worse verdict.Undecided) (kept_verdict all))

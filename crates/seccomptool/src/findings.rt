@@ -351,7 +351,14 @@ fn returns(
         k: word,
     }];
     let calls = calls_of(target, part);
-    match compare(alloc, program, &only, &calls, Relation::Alike, MOST_THROUGHOUT) {
+    match compare(
+        alloc,
+        program,
+        &only,
+        &calls,
+        Relation::Alike,
+        MOST_THROUGHOUT,
+    ) {
         Ok(Comparison::Holds) => Ok(true),
         Ok(_) => Ok(false),
         // It fails for want of memory alone.

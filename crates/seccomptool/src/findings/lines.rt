@@ -58,13 +58,7 @@ pub(crate) fn push_finding(text: &mut Text, target: TargetArch, pointer: bool, f
 }
 
 /// Adds the line of calls for which both sides have these values throughout: as many of their names as fit it, in byte order.
-pub(crate) fn push_calls(
-    text: &mut Text,
-    target: TargetArch,
-    numbers: &[u32],
-    old: u32,
-    new: u32,
-) {
+pub(crate) fn push_calls(text: &mut Text, target: TargetArch, numbers: &[u32], old: u32, new: u32) {
     text.push_str("  ");
     text.push_display(&numbers.len());
     text.push_str(" calls");

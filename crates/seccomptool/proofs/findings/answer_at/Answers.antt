@@ -16,6 +16,7 @@ returns c =
         old_ends = c.run.ensures.ends;
       },
       λ related. known.unrelated
-          (subst (λ w. Related relation w known.other_word) (sym by_new.1) (subst (Related relation c.run-2.result.word) (sym by_old.1) related)),
+          (subst (λ w. Related relation w known.other_word) (sym by_new.1)
+          (subst (Related relation c.run-2.result.word) (sym by_old.1) related)),
       c.in_ok-throughout.ensures,
     )

@@ -10,9 +10,10 @@ use Rattle.seccomptool.specs.declared.findings.Verdict.TheVariants as verdict
 -- They have the verdict of all.
 pub kept_verdict : (all : List Finding) → verdict_of (filter is_kept all) ≡ verdict_of all
 kept_verdict [] = refl
-kept_verdict (f ∷ all) = by f.answer refl
+kept_verdict (f ∷ all) = by (kept_verdict all) f.answer refl
   where
-    by : (a : Answer) → f.answer ≡ a → verdict_of (filter is_kept (f ∷ all)) ≡ verdict_of (f ∷ all)
-    by Holds is = rw is (kept_verdict all)
-    by (Fails call old new throughout) is = rw is refl
-    by Undecided is = rw is (ap (worse verdict.Undecided) (kept_verdict all))
+    by : verdict_of (filter is_kept all) ≡ verdict_of all → (a : Answer) → f.answer ≡ a
+        → verdict_of (filter is_kept (f ∷ all)) ≡ verdict_of (f ∷ all)
+    by rest Holds is = rw is rest
+    by rest (Fails call old new throughout) is = rw is refl
+    by rest Undecided is = rw is (ap (worse verdict.Undecided) rest)

@@ -6,17 +6,17 @@ pub returns : goal.returns
 returns c =
     let relation = c.args.terms.relation in
     let known = c.requires.unrelated in
-    let by_old = c.run.ensures.only known.other_steps known.other_word known.other_ends in
-    let by_new = c.run-2.ensures.only known.steps known.word known.ends in (
+    let by_old = c.run-by_old.ensures.only known.other_steps known.other_word known.other_ends in
+    let by_new = c.run-by_new.ensures.only known.steps known.word known.ends in (
       c.requires.within,
       record {
-        new_steps = c.run-2.result.steps;
-        new_ends = c.run-2.ensures.ends;
-        old_steps = c.run.result.steps;
-        old_ends = c.run.ensures.ends;
+        new_steps = c.run-by_new.result.steps;
+        new_ends = c.run-by_new.ensures.ends;
+        old_steps = c.run-by_old.result.steps;
+        old_ends = c.run-by_old.ensures.ends;
       },
       λ related. known.unrelated
           (subst (λ w. Related relation w known.other_word) (sym by_new.1)
-          (subst (Related relation c.run-2.result.word) (sym by_old.1) related)),
+              (subst (Related relation c.run-by_new.result.word) (sym by_old.1) related)),
       c.in_ok-throughout.ensures,
     )

@@ -8,6 +8,7 @@ ghost use Rattle.std.specs.Prelude.{◌≡◌, ℕ, List, [], ◌∷◌, ◌++�
 ghost use Rattle.seccomp_compare.specs.Rules.{AreRelatedOn};
 ghost use Rattle.seccompiler.specs.declared.backend.TargetArch.{TargetArch};
 ghost use Rattle.seccompiler.specs.declared.bpf.sock_filter.{sock_filter};
+ghost use Rattle.seccomp_compare.specs.declared.Comparison.TheVariants as comparison;
 ghost use Rattle.seccomp_compare.specs.declared.Relation.{Relation};
 ghost use Rattle.seccomptool.specs.declared.findings.Answer.TheVariants.{Holds};
 ghost use Rattle.seccomptool.specs.Settled.{AreSettled, AreSettledOf};
@@ -359,12 +360,18 @@ fn returns(
         Relation::Alike,
         MOST_THROUGHOUT,
     ) {
-        Ok(Comparison::Holds) => Ok(true),
-        Ok(_) => Ok(false),
+        Ok(answer) => Ok(does_hold(answer)),
         // It fails for want of memory alone.
         Err(error) => {
             drop(error);
             Err(AllocError)
         }
     }
+}
+
+// Whether the relation is seen to hold.
+fn does_hold(answer: Comparison) -> bool
+    ensures { IsTrue result → answer ≡ comparison.Holds }
+{
+    matches!(answer, Comparison::Holds)
 }

@@ -17,6 +17,6 @@ returns c =
       },
       λ related. known.unrelated
           (subst (λ w. Related relation w known.other_word) (sym by_new.1)
-              (subst (Related relation c.run-by_new.result.word) (sym by_old.1) related)),
+          (subst (Related relation c.run-by_new.result.word) (sym by_old.1) related)),
       c.in_ok-throughout.ensures,
     )

@@ -96,7 +96,7 @@ CASES = [
     differ("logs.json traps.json",
            "filter a: different\n"
            "  375 calls: log -> trap, less: _sysctl accept accept4 access acct add_key .. (--each names them)\n"
-           "  other calls 335 to 423: log -> trap, less: 335(0x0, 0x0, 0x0, 0x0, 0x0, 0x0)\n.."),
+           "  other calls 336 to 423: log -> trap, less: 336(0x0, 0x0, 0x0, 0x0, 0x0, 0x0)\n.."),
     differ("--each logs.json traps.json",
            "filter a: different\n  read: log -> trap, less: read(0x0, 0x0, 0x0, 0x0, 0x0, 0x0)\n"
            "  write: log -> trap, less: write(0x0, 0x0, 0x0, 0x0, 0x0, 0x0)\n.."),

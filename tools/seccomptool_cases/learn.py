@@ -578,5 +578,5 @@ def compare_traces(results, run):
         results.compare(f"{words}: what calls are asked for", (asked,), (kept,))
         words = f"explain - --log examples/traces/{path.name}"
         status, lines, errors = run(words, output)
-        decided = [line.partition(":")[0] for line in lines.splitlines()]
+        decided = [re.match(r"(?:\d+: )?([^:]*)", line)[1] for line in lines.splitlines()]
         results.compare(f"{words} of its own policy", (0, "", ["allow"] * len(CALL.findall(text))), (status, errors, decided))

@@ -109,7 +109,7 @@ call[10]: trap: call 500
     explains("logs.json --log -", f"x[{HOSTILE_TOLD}]: log: no entry of read (0)\n", filtered(0, "x", HOSTILE)),
     # A name with a blank, a quote, a control character or others than ASCII's is written in hexadecimal digits.
     explains("logs.json --log -", "my app[5]: log: no entry of read (0)\n", filtered(0, "?", 5).replace('"?"', "6D7920617070", 1)),
-    explains("logs.json --log -", r"a\x1b\x22[5]: log: no entry of read (0)" "\n", filtered(0, "?", 5).replace('"?"', "611B22", 1)),
+    explains("logs.json --log -", r'a\x1b"[5]: log: no entry of read (0)' "\n", filtered(0, "?", 5).replace('"?"', "611B22", 1)),
     *[explains("logs.json --log -", f"{name}[5]: log: no entry of read (0)\n", filtered(0, "?", 5).replace('"?"', written, 1))
       for name, written in (("cafe", '"cafe"'), ("CAFE", '"CAFE"'), ("dd", "dd"))],
     # Files and words that are wrong.

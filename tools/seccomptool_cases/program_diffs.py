@@ -135,7 +135,8 @@ CASES = [
     differs("allows-read.json writes.bpf --only-more", MORE + WRITES + OTHERS_NO_MORE),
     same("--only-more allows-read.json reads-x32.bpf", NO_MORE + OTHERS_NO_MORE),
     same("--only-more errno-2-only.json errno-1.bpf", NO_MORE + OTHERS_NO_MORE),
-    differs("errno-2-only.json errno-1.bpf", DIFFERENT + "  read: errno 2 (ENOENT) -> errno 1 (EPERM), otherwise: read" + NONE + ".."),
+    differs("errno-2-only.json errno-1.bpf", DIFFERENT + "  375 calls: errno 2 (ENOENT) -> errno 1 (EPERM), "
+            "otherwise: _sysctl accept accept4 access acct add_key .. (--each names them)\n.."),
     # No set may be looked at, or few.
     Case("diff -q --most 0 logs.json logs.bpf", 3, UNDECIDED + "  read: undecided\n  write: undecided\n..", ""),
     same("--most 0x10 --only-more allows-read.json reads.bpf", NO_MORE + OTHERS_NO_MORE),

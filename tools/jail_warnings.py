@@ -161,7 +161,7 @@ WARNED = {
         ("kill 0 0", DENIED), (TGKILL, INVALID), ("tkill -1 0", INVALID), ("rt_sigqueueinfo 0 0 0", NO_ADDRESS)]),
     "denies kill and its siblings": Shown([], denying("kill", "tgkill", "tkill", "rt_sigqueueinfo", "pidfd_send_signal"), [
         ("kill 0 0", DENIED), (TGKILL, DENIED), ("tkill -1 0", DENIED), ("rt_sigqueueinfo 0 0 0", DENIED)]),
-    "denies open": Shown(["sibling-allowed"] * 2, denying("open", "openat", "openat2"), [("open 0 0", DENIED), ("creat 0 0", NO_ADDRESS)]),
+    "denies open": Shown(["sibling-allowed"], denying("open"), [("open 0 0", DENIED), ("creat 0 0", NO_ADDRESS)]),
     "denies unlink": Shown(["sibling-allowed"], denying("unlink"), [("unlink 0", DENIED), ("unlinkat 0 0 0", NO_ADDRESS)]),
     "with and without args": Shown(
         ["crate-differs", "redundant-entry"], denying("sched_yield", when("sched_yield", (0, "dword", "eq", 5))),

@@ -70,7 +70,8 @@ def shown(value):
 
 def stands(form, value):
     """Returns the words on a value in the place of another."""
-    return f"expected {form}, found {shown(value)}"
+    is_whole = form not in (INDEX, ACTION_NUMBER, NUMBER, NUMBER_OR_NULL) or not isinstance(value, float) or not 0 <= value < 2**64
+    return f"expected {form}, found {shown(value)}" + ("" if is_whole else ", which isn't written as a whole number")
 
 
 def strange(key, keys):
@@ -205,7 +206,7 @@ WRITTEN = [
     ('{"defaultAction": "SCMP_ACT_ERRNO", "syscalls": [{}, {}, {}, {"action": "SCMP_ACT_LOG", "args": [{"index": 6}]}]}',
      'syscalls[0]: missing "action"\n'),
     ('{"defaultAction": "SCMP_ACT_LOG", "syscalls": [{"action": "SCMP_ACT_LOG", "args": [{"index": 1e0}]}]}',
-     "syscalls[0].args[0].index: expected 0 to 5, found 1.0\n"),
+     "syscalls[0].args[0].index: expected 0 to 5, found 1.0, which isn't written as a whole number\n"),
     *[('{"defaultAction": "SCMP_ACT_LOG", "syscalls": [{"action": "SCMP_ACT_LOG", "args": [{"index": 0, "value": 0, "%s": %s}]}]}'
        % (key, TOO_GREAT), f"syscalls[0].args[0].{key}: expected {form}, found {SHOWN_TOO_GREAT}")
       for key, form in (("value", NUMBER), ("valueTwo", NUMBER_OR_NULL))],

@@ -13,8 +13,8 @@ use Rattle.seccomp_check.specs.declared.part.Kind.{Kind}
 use Rattle.seccomp_check.specs.declared.part.Kind.TheVariants as kind
 use Rattle.seccomp_check.specs.declared.part.Part.{Part}
 use Rattle.seccomp_check.specs.declared.part.Part.TheVariants as parts
-use Rattle.seccomp_check.specs.declared.fault.Step.{Step}
-use Rattle.seccomp_check.specs.declared.fault.Step.TheVariants as step
+use Rattle.seccomp_command_line.specs.declared.steps.Step.{Step}
+use Rattle.seccomp_command_line.specs.declared.steps.Step.TheVariants as step
 
 -- A step after the first: a name after a dot, and a place in brackets.
 abbrev pub step_text : Step → List ℕ

@@ -11,17 +11,9 @@ ghost use Rattle.seccomp_check.specs.declared.fault.Cause.{Cause};
 ghost use Rattle.seccomp_check.specs.declared.part.Part.{Part};
 
 use crate::part::{Kind, Part};
+use seccomp_command_line::steps::Step;
 use seccompiler::TargetArch;
 use std::alloc::{AllocError, AllocFailed, Global};
-
-/// A step from a value to one inside it.
-#[derive(Debug, Drop)]
-pub enum Step {
-    /// To what is under this name of an object.
-    Key(String),
-    /// To the value at this place of an array, from 0.
-    Item(usize),
-}
 
 /// What may stand at a place.
 #[derive(Clone, Copy, Debug)]

@@ -42,13 +42,14 @@ ghost use Rattle.seccomp_check.specs.Texts as spec;
 ghost use Rattle.seccomp_check.specs.declared.part.Part.TheVariants.{Policy};
 
 use crate::all::{all_in_policy, first_in_policy};
-pub use crate::fault::{Cause, Expected, Fault, Finding, Problem, Step};
+pub use crate::fault::{Cause, Expected, Fault, Finding, Problem};
 pub use crate::near::near_name;
 pub use crate::not_json::{JsonFault, json_fault, json_piece_len};
 pub use crate::part::{Kind, Part};
 pub use crate::policies::policies_in;
 pub use crate::rejection::Rejection;
 pub use crate::text::{fault_text, push_problem};
+pub use seccomp_command_line::steps::Step;
 use seccompiler::json::{JsonFrontendError, filters_of};
 use seccompiler::{BackendError, Error, JsonFilterMap, TargetArch, programs_of};
 use serde_json::Value;

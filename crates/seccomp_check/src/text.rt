@@ -7,9 +7,10 @@ ghost use Rattle.seccomp_command_line.specs.declared.readable.TextKind.TheVarian
 ghost use Rattle.seccomp_check.specs.Texts as spec;
 ghost use Rattle.seccomp_check.specs.declared.fault.Expected.TheVariants.{Call};
 
-use crate::fault::{Expected, Fault, Problem, Step};
+use crate::fault::{Expected, Fault, Problem};
 use crate::part::{Kind, Part};
 use seccomp_command_line::readable::{TextKind, push_readable};
+use seccomp_command_line::steps::Step;
 use seccompiler::TargetArch;
 use std::alloc::{AllocError, Global};
 

@@ -7,23 +7,23 @@ ghost use Rattle.seccomp_profiles.specs.Types.{AllOnArguments};
 
 use crate::decisions::decisions_of_profile;
 use crate::unknown::unknown_names;
-use seccomp_profiles::{Container, Flag, Profile, ProfileError, profile_of};
+use seccomp_profiles::{Container, Profile, ProfileError, profile_of};
 use seccomp_tree::TreeError;
 use seccompiler::{BpfProgram, TargetArch};
 use std::alloc::{AllocError, Global};
 use std::{error, fmt};
 
-/// The program of a whole profile.
+/// A profile that was read, and its program.
 #[derive(Debug, Drop)]
 pub struct CompiledProfile {
+    /// The profile of the text. No program has its flags: who installs it chooses them.
+    pub profile: Profile,
     /// The program: one tree. It returns what the profile decides of every call, and kills the process at one of another
     /// architecture.
     pub program: BpfProgram,
     /// The names, of entries that apply, that no call of the architecture has, in the order of the profile's text and as
     /// often as they stand there. The program gives their calls the default action, as all that no entry is for.
     pub left_out: Vec<String>,
-    /// The flags of the profile, in its order. No program has them: who installs it chooses them.
-    pub flags: Vec<Flag>,
 }
 
 /// Why the profile of a text isn't compiled.
@@ -45,7 +45,7 @@ pub enum CompileError {
 /// It is the program of [`decisions_of_profile`](crate::decisions_of_profile). Entries that don't apply to the
 /// container, `architectures`, `archMap`, `flags`, and names of calls that the architecture doesn't have add
 /// nothing to it. `left_out` lists those names, as [`unknown_names`](crate::unknown_names) does; if `strict` is
-/// set, they are an error. `flags` are listed too, and are no error.
+/// set, they are an error.
 ///
 /// # Errors
 ///
@@ -71,9 +71,9 @@ pub fn compile_profile(
     let left_out = names_left_out(alloc, arch, container, strict, &profile)?;
     let program = program_for(alloc, arch, container, &profile)?;
     Ok(CompiledProfile {
+        profile,
         program,
         left_out,
-        flags: profile.flags,
     })
 }
 

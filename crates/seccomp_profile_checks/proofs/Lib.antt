@@ -2,3 +2,4 @@
 pub mod Places
 pub mod Settled
 pub mod Actions
+pub mod Kept

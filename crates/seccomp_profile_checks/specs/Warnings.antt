@@ -1,5 +1,6 @@
 -- The warnings of a profile: those of its own, and those of its parts.
-use Rattle.std.specs.Prelude.{◌≡◌, ◌≢◌, ◌++◌, All, Contains, List, [], map, ⊤}
+use Rattle.std.specs.Prelude.{◌≡◌, ◌++◌, All, Contains, List, [], ◌∷◌, if◌then◌else◌, length, map, nat_eq}
+use Rattle.std.specs.List.{range_with_len}
 use Rattle.seccomp_entries.specs.Entries.{Entry}
 use Rattle.seccompiler.specs.declared.backend.TargetArch.{TargetArch}
 use Rattle.seccomp_oci.specs.Types.{Container, Profile}
@@ -36,43 +37,42 @@ code_of (OfEntries w origin) = w.code
 
 -- ---- warnings
 
--- What a warning of its own says of a profile is so. That the profile has the key is tested.
-abbrev pub IsSoOfProfile : TargetArch → Container → Profile → ProfileWarning → Type 0
-IsSoOfProfile arch container p (Doubtful d) = IsDoubt arch container p d
-IsSoOfProfile arch container p Flags = p.flags ≢ []
-IsSoOfProfile arch container p (UnknownKey key) = ⊤
-IsSoOfProfile arch container p (Clashing c) = ⊥
-IsSoOfProfile arch container p (OfEntries w origin) = ⊥
+-- A profile's unknown keys, each by its place.
+abbrev pub keys_told : Profile → List ProfileWarning
+keys_told p = map UnknownKey (range_with_len 0 (length p.unknown_keys))
 
--- It is so, and its code isn't allowed.
-pub record IsTold (arch : TargetArch) (container : Container) (p : Profile) (allowed : List Code) (w : ProfileWarning) : Type 0 where
-  pub is_so : IsSoOfProfile arch container p w
-  pub kept : Contains allowed (code_of w) → ⊥
+-- That a profile has flags.
+abbrev pub flags_told : Profile → List ProfileWarning
+flags_told p = if nat_eq (length p.flags) 0 then [] else Flags ∷ []
 
--- If all so far is told, all is still told with what is added.
-abbrev pub AreStillTold : TargetArch → Container → Profile → (allowed : List Code) → (old new : List ProfileWarning) → Type 0
-AreStillTold arch container p allowed old new = All (IsTold arch container p allowed) old → All (IsTold arch container p allowed) new
+-- The warnings of a profile of which these are the doubts and the clashes.
+abbrev pub own_warnings : Profile → List Doubt → List Clash → List ProfileWarning
+own_warnings p doubts clashes = ((map Doubtful doubts ++ keys_told p) ++ flags_told p) ++ map Clashing clashes
+
+-- Of these warnings exactly those whose codes aren't allowed, in order.
+pub data AreKept (allowed : List Code) : List ProfileWarning → List ProfileWarning → Type 0 where
+  none : AreKept allowed [] []
+  kept : {all told : List ProfileWarning} (w : ProfileWarning) → (Contains allowed (code_of w) → ⊥) → AreKept allowed all told
+      → AreKept allowed (all ++ w ∷ []) (told ++ w ∷ [])
+  left_out : {all told : List ProfileWarning} (w : ProfileWarning) → Contains allowed (code_of w) → AreKept allowed all told
+      → AreKept allowed (all ++ w ∷ []) told
 
 -- What is told of a part, as a warning of the profile.
 abbrev pub of_told : Told → ProfileWarning
 of_told t = OfEntries t.warning t.origin
 
--- Of these entries exactly those that libseccomp may get wrong, as warnings of the profile, unless their code is allowed.
-pub data AreClashesTold (allowed : List Code) (effective : List Entry) : List ProfileWarning → Type 0 where
-  allowed : Contains allowed code.LibseccompMiscompiles → AreClashesTold allowed effective []
-  told : (Contains allowed code.LibseccompMiscompiles → ⊥) → (clashes : List Clash) → AreClashes effective effective clashes
-      → AreClashesTold allowed effective (map Clashing clashes)
-
--- The warnings of a profile: some of its own, each of which is so; then exactly those of entries that libseccomp may get wrong; and then
--- exactly what is told of its parts.
+-- The warnings of a profile: exactly those of its own whose codes aren't allowed, of some doubts, each of which is so, of its unknown keys
+-- and flags, and of exactly the entries that libseccomp may get wrong; and then exactly what is told of its parts.
 pub record AreProfileWarnings (arch : TargetArch) (container : Container) (allowed : List Code) (p : Profile) (all : List ProfileWarning)
     : Type 0 where
-  pub own : List ProfileWarning
-  pub own_are : All (IsTold arch container p allowed) own
+  pub doubts : List Doubt
+  pub are_doubts : All (IsDoubt arch container p) doubts
   pub effective : List Entry
   pub are_effective : AreEffectiveIn arch container p effective
-  pub clashes : List ProfileWarning
-  pub are_clashes : AreClashesTold allowed effective clashes
+  pub clashes : List Clash
+  pub are_clashes : AreClashes effective effective clashes
+  pub own : List ProfileWarning
+  pub own_are : AreKept allowed (own_warnings p doubts clashes) own
   pub told : List Told
   pub are_told : AreToldOfProfile arch allowed p.default effective told
-  pub all_are : all ≡ (own ++ clashes) ++ map of_told told
+  pub all_are : all ≡ own ++ map of_told told

@@ -1,2 +1,3 @@
 -- Lemmas for the functions of `profile`.
 pub mod Arguments
+pub mod Objects

@@ -1,7 +1,9 @@
 -- Which JSON values are profiles and their entries (OCI runtime specification, `linux.seccomp`, and what Docker and Podman
 -- add to it). Nothing but the forms given here is one.
-use Rattle.std.specs.Prelude.{◌≡◌, ℕ, List, [], ◌∷◌, Option, Some, None, codes}
-use Rattle.serde_json.specs.Data.{Data, null, string, Items, no_items}
+use Rattle.std.specs.Prelude.{◌≡◌, ℕ, Bool, not, List, [], ◌∷◌, Option, Some, None, codes}
+use Rattle.std.specs.List.{filter, list_any}
+use Rattle.std.specs.Str.{bytes_eq}
+use Rattle.serde_json.specs.Data.{Data, null, string, object, Items, no_items, Members, member, no_members}
 use Rattle.serde_json.specs.Find.{get}
 use Rattle.seccompiler.specs.JsonShape.{HasOnly, IsCommented}
 use Rattle.seccomp_profiles.specs.Actions.{IsActionUnder}
@@ -46,11 +48,32 @@ pub record IsEntry (d : Data) (e : Entry) : Type 0 where
   pub includes : AreCriteriaOr (get (codes "includes") d) e.includes
   pub excludes : AreCriteriaOr (get (codes "excludes") d) e.excludes
 
+-- The keys of an object, in its order.
+abbrev pub keys_of : Members → List (List ℕ)
+keys_of no_members = []
+keys_of (member key d others) = key ∷ keys_of others
+
+-- The keys that a profile has for Docker, Podman or a runtime, and two that say nothing.
+abbrev pub profile_keys : List (List ℕ)
+profile_keys = codes "defaultAction" ∷ codes "defaultErrnoRet" ∷ codes "defaultErrno" ∷ codes "architectures" ∷ codes "archMap"
+    ∷ codes "flags" ∷ codes "syscalls" ∷ codes "listenerPath" ∷ codes "listenerMetadata" ∷ codes "$schema" ∷ codes "comment" ∷ []
+
+-- No profile has this key.
+abbrev pub is_unknown : List ℕ → Bool
+is_unknown key = not (list_any (bytes_eq key) profile_keys)
+
+-- The value is an object, and these are all its keys that no profile has, in its order.
+abbrev pub AreUnknownKeys : Data → List (List ℕ) → Type 0
+AreUnknownKeys (object members) keys = keys ≡ filter is_unknown (keys_of members)
+AreUnknownKeys d keys = ⊥
+
 -- The value is this profile: an object of `defaultAction` and, if it likes, `defaultErrnoRet`, `defaultErrno`, `flags` and `syscalls`.
--- `architectures` and `archMap`, which concern other architectures, are lists, if they are there. Other keys say nothing.
+-- `architectures` and `archMap`, which concern other architectures, are lists, if they are there. Other keys say nothing; the profile
+-- has those that are unknown.
 pub record IsProfile (d : Data) (p : Profile) : Type 0 where
   pub architectures : IsList (get (codes "architectures") d)
   pub arch_map : IsList (get (codes "archMap") d)
   pub default : IsActionUnder d (codes "defaultAction") (codes "defaultErrnoRet") (codes "defaultErrno") p.default
   pub flags : IsListed IsFlag (get (codes "flags") d) p.flags
   pub entries : IsListed IsEntry (get (codes "syscalls") d) p.entries
+  pub unknown_keys : AreUnknownKeys d p.unknown_keys

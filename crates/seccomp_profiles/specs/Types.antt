@@ -26,11 +26,12 @@ pub record Entry : Type 0 where
   pub includes : Criteria
   pub excludes : Criteria
 
--- A profile: its default action, its flags and its entries, both in order.
+-- A profile: its default action, its flags and its entries, both in order, and the keys that no profile has.
 pub record Profile : Type 0 where
   pub default : SeccompAction
   pub flags : List Flag
   pub entries : List Entry
+  pub unknown_keys : List (List ℕ)
 
 -- Each condition is on an argument that a call has.
 abbrev pub AreOnArguments : List Argument → Type 0

@@ -3,23 +3,60 @@
 use crate::form::{Form, form_of};
 use crate::members::is_among;
 use seccomp_command_line::readable::{TextKind, readable};
+use seccomp_command_line::steps::Step;
 use serde_json::Value;
 use std::alloc::{AllocError, Global};
 
 // The most bytes of a string that is shown.
 const LONGEST: usize = 80;
 
-// The faults of a value that are found so far: of each the path to its place, a colon, a space, and what is wrong there.
-type Found = Vec<String>;
+/// A fault of a text that is no profile.
+#[derive(Debug, Drop)]
+pub struct ProfileFault {
+    /// The way from the text's value to the one that is at fault.
+    pub path: Vec<Step>,
+    /// What is wrong with it, as `expected 0 to 5, found 6`.
+    pub words: String,
+}
 
-/// The text of the first fault of a value that is no profile, as the first of [`faults_of`] is.
+/// The text of a fault: the path to its place, a colon, a space, and what is wrong there, as
+/// `syscalls[3].args[0].index: expected 0 to 5, found 6`.
+///
+/// The path consists of names, and of places in brackets, from 0; the path to the value itself is `the profile`.
+///
+/// # Errors
+///
+/// `AllocError` if memory runs out.
+pub fn profile_fault_text(alloc: Global, fault: &ProfileFault) -> Result<String, AllocError> {
+    let mut text = String::new(alloc);
+    if fault.path.is_empty() {
+        text.push_str("the profile")?;
+    }
+    for (nth, step) in fault.path.iter().enumerate() {
+        match step {
+            Step::Key(key) => {
+                text.push_str(if nth == 0 { "" } else { "." })?;
+                text.push_str(key.as_str())?;
+            }
+            Step::Item(place) => {
+                let place = format!(in alloc; "[{place}]")?;
+                text.push_str(place.as_str())?;
+            }
+        }
+    }
+    text.push_str(": ")?;
+    text.push_str(fault.words.as_str())?;
+    Ok(text)
+}
+
+/// The text of the first fault of a value that is no profile, as the first of [`faults_of`] has it.
 ///
 /// # Errors
 ///
 /// `AllocError` if memory runs out.
 pub(crate) fn fault_of(alloc: Global, value: &Value) -> Result<String, AllocError> {
-    match faults_of(alloc, value)?.into_iter().next() {
-        Some(first) => Ok(first),
+    match faults_of(alloc, value)?.first() {
+        Some(first) => profile_fault_text(alloc, first),
         None => String::from_str(
             alloc,
             "The JSON value isn't a seccomp profile, or a part of it isn't supported.",
@@ -27,316 +64,286 @@ pub(crate) fn fault_of(alloc: Global, value: &Value) -> Result<String, AllocErro
     }
 }
 
-/// The texts of all faults of a value that is no profile: of each the path to its place, a colon, a space, and what
-/// is wrong there, as `syscalls[3].args[0].index: expected 0 to 5, found 6`.
+/// All faults of a value that is no profile.
 ///
-/// The path consists of names, and of places in brackets, from 0; the path to the value itself is `the
-/// profile`. A value that may not stand at its place is shown as JSON, an object as `an object` and an array as
-/// `an array`. The order inside an object is: unknown names; the comment; the action and what stands beside it;
-/// then the other parts. These words, and that each value that is no profile has them, are tested and not
-/// proved.
+/// A value that may not stand at its place is shown as JSON, an object as `an object` and an array as `an array`.
+/// The order inside an object is: unknown names; the comment; the action and what stands beside it; then the
+/// other parts. These words, and that each value that is no profile has them, are tested and not proved.
 ///
 /// # Errors
 ///
 /// `AllocError` if memory runs out.
-pub(crate) fn faults_of(alloc: Global, value: &Value) -> Result<Vec<String>, AllocError> {
-    let mut found = Vec::new(alloc);
-    in_profile(&mut found, alloc, value)?;
-    Ok(found)
-}
-
-// Adds the faults of a profile.
-fn in_profile(found: &mut Found, alloc: Global, value: &Value) -> Result<(), AllocError> {
-    if !check(found, alloc, "", Form::Object, value)? {
-        return Ok(());
-    }
-    let keys = ["defaultAction", "defaultErrnoRet", "defaultErrno"];
-    in_action(found, alloc, "", keys, value)?;
-    in_key(found, alloc, "", "architectures", Form::List, value)?;
-    in_key(found, alloc, "", "archMap", Form::List, value)?;
-    in_list(found, alloc, "", "flags", Form::Flag, value)?;
-    in_key(found, alloc, "", "syscalls", Form::List, value)?;
-    match value.get("syscalls") {
-        Some(Value::Array(items)) => in_entries(found, alloc, items.as_slice()),
-        _ => Ok(()),
-    }
-}
-
-fn in_entries(found: &mut Found, alloc: Global, items: &[Value]) -> Result<(), AllocError> {
-    for (place, item) in items.iter().enumerate() {
-        let path = format!(in alloc; "syscalls[{place}]")?;
-        in_entry(found, alloc, path.as_str(), item)?;
-    }
-    Ok(())
-}
-
-fn in_entry(found: &mut Found, alloc: Global, path: &str, value: &Value) -> Result<(), AllocError> {
-    let keys = [
-        "names", "name", "action", "errnoRet", "errno", "args", "includes", "excludes", "comment",
-    ];
-    let told = "names, name, action, errnoRet, errno, args, includes, excludes or comment";
-    if !in_object(found, alloc, path, &keys, told, value)? {
-        return Ok(());
-    }
-    in_key(found, alloc, path, "comment", Form::TextOrNull, value)?;
-    in_action(found, alloc, path, ["action", "errnoRet", "errno"], value)?;
-    in_key(found, alloc, path, "name", Form::TextOrNull, value)?;
-    in_list(found, alloc, path, "names", Form::Text, value)?;
-    in_both_names(found, alloc, path, value)?;
-    in_list(found, alloc, path, "args", Form::Condition, value)?;
-    in_criteria_under(found, alloc, path, "includes", value)?;
-    in_criteria_under(found, alloc, path, "excludes", value)
-}
-
-// That an entry has one name under `name`, or some under `names`.
-fn in_both_names(
-    found: &mut Found,
-    alloc: Global,
-    path: &str,
-    value: &Value,
-) -> Result<(), AllocError> {
-    match (value.get("name"), value.get("names")) {
-        (Some(Value::String(name)), Some(Value::Array(names)))
-            if !name.is_empty() && !names.is_empty() => refuse(
-            found,
-            alloc,
-            path,
-            "expected one of \"names\" and \"name\", found both",
-        ),
-        _ => Ok(()),
-    }
-}
-
-fn in_criteria_under(
-    found: &mut Found,
-    alloc: Global,
-    path: &str,
-    key: &str,
-    value: &Value,
-) -> Result<(), AllocError> {
-    match value.get(key) {
-        None | Some(Value::Null) => Ok(()),
-        Some(inner) => {
-            let path = under(alloc, path, key)?;
-            in_criteria(found, alloc, path.as_str(), inner)
-        }
-    }
-}
-
-fn in_criteria(
-    found: &mut Found,
-    alloc: Global,
-    path: &str,
-    value: &Value,
-) -> Result<(), AllocError> {
-    let keys = ["caps", "arches", "minKernel"];
-    if !in_object(
-        found,
+pub(crate) fn faults_of(alloc: Global, value: &Value) -> Result<Vec<ProfileFault>, AllocError> {
+    let mut walk = Walk {
         alloc,
-        path,
-        &keys,
-        "caps, arches or minKernel",
-        value,
-    )? {
-        return Ok(());
-    }
-    in_list(found, alloc, path, "caps", Form::Text, value)?;
-    in_list(found, alloc, path, "arches", Form::Text, value)?;
-    in_key(found, alloc, path, "minKernel", Form::Version, value)
-}
-
-fn in_condition(
-    found: &mut Found,
-    alloc: Global,
-    path: &str,
-    value: &Value,
-) -> Result<(), AllocError> {
-    let keys = ["index", "value", "valueTwo", "op"];
-    if !in_object(
-        found,
-        alloc,
-        path,
-        &keys,
-        "index, value, valueTwo or op",
-        value,
-    )? {
-        return Ok(());
-    }
-    in_required(found, alloc, path, "index", Form::Index, value)?;
-    in_required(found, alloc, path, "value", Form::Number, value)?;
-    in_key(found, alloc, path, "valueTwo", Form::NumberOrNull, value)?;
-    in_required(found, alloc, path, "op", Form::Operator, value)
-}
-
-// That the object has an action, and beside it what may stand there: under the first of these names, and under the others.
-fn in_action(
-    found: &mut Found,
-    alloc: Global,
-    path: &str,
-    [action, number, name]: [&str; 3],
-    value: &Value,
-) -> Result<(), AllocError> {
-    in_required(found, alloc, path, action, Form::Action, value)?;
-    in_key(found, alloc, path, number, Form::ActionNumber, value)?;
-    in_key(found, alloc, path, name, Form::ErrorName, value)?;
-    let Some(Value::String(text)) = value.get(action) else {
-        return Ok(());
+        path: Vec::new(alloc),
+        found: Vec::new(alloc),
     };
-    if is_among(text.as_str(), &["SCMP_ACT_ERRNO", "SCMP_ACT_TRACE"]) {
-        return Ok(());
-    }
-    in_beside(found, alloc, path, number, value)?;
-    in_beside(found, alloc, path, name, value)
+    walk.in_profile(value)?;
+    Ok(walk.found)
 }
 
-// That nothing stands beside an action that has no number.
-fn in_beside(
-    found: &mut Found,
+// A walk through a value: the way to where it is, and the faults that are found so far.
+#[derive(Drop)]
+struct Walk {
     alloc: Global,
-    path: &str,
-    key: &str,
-    value: &Value,
-) -> Result<(), AllocError> {
-    match value.get(key) {
-        None | Some(Value::Null) => Ok(()),
-        Some(Value::String(text)) if text.is_empty() => Ok(()),
-        Some(_) => {
-            let words = format!(in alloc; "\"{key}\" is given, but the action takes no number")?;
-            refuse(found, alloc, path, words.as_str())
+    path: Vec<Step>,
+    found: Vec<ProfileFault>,
+}
+
+impl Walk {
+    fn in_profile(&mut self, value: &Value) -> Result<(), AllocError> {
+        if !self.check(Form::Object, value)? {
+            return Ok(());
+        }
+        let keys = ["defaultAction", "defaultErrnoRet", "defaultErrno"];
+        self.in_action(keys, value)?;
+        self.in_key("architectures", Form::List, value)?;
+        self.in_key("archMap", Form::List, value)?;
+        self.in_list("flags", Form::Flag, value)?;
+        self.in_key("syscalls", Form::List, value)?;
+        match value.get("syscalls") {
+            Some(Value::Array(items)) => self.in_entries(items.as_slice()),
+            _ => Ok(()),
         }
     }
-}
 
-// The list under a name, if one is there, and its items.
-fn in_list(
-    found: &mut Found,
-    alloc: Global,
-    path: &str,
-    key: &str,
-    of: Form,
-    value: &Value,
-) -> Result<(), AllocError> {
-    in_key(found, alloc, path, key, Form::List, value)?;
-    match value.get(key) {
-        Some(Value::Array(items)) => {
-            let path = under(alloc, path, key)?;
-            in_items(found, alloc, path.as_str(), of, items.as_slice())
+    fn in_entries(&mut self, items: &[Value]) -> Result<(), AllocError> {
+        self.enter("syscalls")?;
+        for (place, item) in items.iter().enumerate() {
+            self.path.push(Step::Item(place))?;
+            self.in_entry(item)?;
+            self.leave();
         }
-        _ => Ok(()),
+        self.leave();
+        Ok(())
     }
-}
 
-fn in_items(
-    found: &mut Found,
-    alloc: Global,
-    path: &str,
-    of: Form,
-    items: &[Value],
-) -> Result<(), AllocError> {
-    for (place, item) in items.iter().enumerate() {
-        let path = format!(in alloc; "{path}[{place}]")?;
-        match of {
-            Form::Condition => in_condition(found, alloc, path.as_str(), item)?,
-            _ => {
-                let _is_so = check(found, alloc, path.as_str(), of, item)?;
+    fn in_entry(&mut self, value: &Value) -> Result<(), AllocError> {
+        let keys = [
+            "names", "name", "action", "errnoRet", "errno", "args", "includes", "excludes",
+            "comment",
+        ];
+        let told = "names, name, action, errnoRet, errno, args, includes, excludes or comment";
+        if !self.in_object(&keys, told, value)? {
+            return Ok(());
+        }
+        self.in_key("comment", Form::TextOrNull, value)?;
+        self.in_action(["action", "errnoRet", "errno"], value)?;
+        self.in_key("name", Form::TextOrNull, value)?;
+        self.in_list("names", Form::Text, value)?;
+        self.in_both_names(value)?;
+        self.in_list("args", Form::Condition, value)?;
+        self.in_criteria_under("includes", value)?;
+        self.in_criteria_under("excludes", value)
+    }
+
+    // That an entry has one name under `name`, or some under `names`.
+    fn in_both_names(&mut self, value: &Value) -> Result<(), AllocError> {
+        match (value.get("name"), value.get("names")) {
+            (Some(Value::String(name)), Some(Value::Array(names)))
+                if !name.is_empty() && !names.is_empty() => {
+                self.refuse("expected one of \"names\" and \"name\", found both")
+            }
+            _ => Ok(()),
+        }
+    }
+
+    fn in_criteria_under(&mut self, key: &str, value: &Value) -> Result<(), AllocError> {
+        match value.get(key) {
+            None | Some(Value::Null) => Ok(()),
+            Some(inner) => {
+                self.enter(key)?;
+                self.in_criteria(inner)?;
+                self.leave();
+                Ok(())
             }
         }
     }
-    Ok(())
-}
 
-// That the value is an object, with no names but these; whether it is one.
-fn in_object(
-    found: &mut Found,
-    alloc: Global,
-    path: &str,
-    keys: &[&str],
-    told: &str,
-    value: &Value,
-) -> Result<bool, AllocError> {
-    let is_object = check(found, alloc, path, Form::Object, value)?;
-    let Value::Object(members) = value else {
-        return Ok(is_object);
-    };
-    for (name, _) in members.iter() {
-        if !is_among(name.as_str(), keys) {
-            let shown = readable(alloc, name.as_str(), TextKind::Name)?;
-            let words = format!(in alloc; "\"{shown}\": unknown key; expected {told}")?;
-            refuse(found, alloc, path, words.as_str())?;
+    fn in_criteria(&mut self, value: &Value) -> Result<(), AllocError> {
+        let keys = ["caps", "arches", "minKernel"];
+        if !self.in_object(&keys, "caps, arches or minKernel", value)? {
+            return Ok(());
+        }
+        self.in_list("caps", Form::Text, value)?;
+        self.in_list("arches", Form::Text, value)?;
+        self.in_key("minKernel", Form::Version, value)
+    }
+
+    fn in_condition(&mut self, value: &Value) -> Result<(), AllocError> {
+        let keys = ["index", "value", "valueTwo", "op"];
+        if !self.in_object(&keys, "index, value, valueTwo or op", value)? {
+            return Ok(());
+        }
+        self.in_required("index", Form::Index, value)?;
+        self.in_required("value", Form::Number, value)?;
+        self.in_key("valueTwo", Form::NumberOrNull, value)?;
+        self.in_required("op", Form::Operator, value)
+    }
+
+    // That the object has an action, and beside it what may stand there: under the first of these names, and under the others.
+    fn in_action(
+        &mut self,
+        [action, number, name]: [&str; 3],
+        value: &Value,
+    ) -> Result<(), AllocError> {
+        self.in_required(action, Form::Action, value)?;
+        self.in_key(number, Form::ActionNumber, value)?;
+        self.in_key(name, Form::ErrorName, value)?;
+        let Some(Value::String(text)) = value.get(action) else {
+            return Ok(());
+        };
+        if is_among(text.as_str(), &["SCMP_ACT_ERRNO", "SCMP_ACT_TRACE"]) {
+            return Ok(());
+        }
+        self.in_beside(number, value)?;
+        self.in_beside(name, value)
+    }
+
+    // That nothing stands beside an action that has no number.
+    fn in_beside(&mut self, key: &str, value: &Value) -> Result<(), AllocError> {
+        match value.get(key) {
+            None | Some(Value::Null) => Ok(()),
+            Some(Value::String(text)) if text.is_empty() => Ok(()),
+            Some(_) => {
+                let words = format!(in self.alloc;
+                    "\"{key}\" is given, but the action takes no number"
+                )?;
+                self.refuse(words.as_str())
+            }
         }
     }
-    Ok(is_object)
-}
 
-// That something stands under the name, and is of the form.
-fn in_required(
-    found: &mut Found,
-    alloc: Global,
-    path: &str,
-    key: &str,
-    form: Form,
-    value: &Value,
-) -> Result<(), AllocError> {
-    if value.get(key).is_none() {
-        let words = format!(in alloc; "missing \"{key}\"")?;
-        return refuse(found, alloc, path, words.as_str());
-    }
-    in_key(found, alloc, path, key, form, value)
-}
-
-// That what stands under the name, if anything, is of the form.
-fn in_key(
-    found: &mut Found,
-    alloc: Global,
-    path: &str,
-    key: &str,
-    form: Form,
-    value: &Value,
-) -> Result<(), AllocError> {
-    let Some(inner) = value.get(key) else {
-        return Ok(());
-    };
-    let path = under(alloc, path, key)?;
-    let _is_so = check(found, alloc, path.as_str(), form, inner)?;
-    Ok(())
-}
-
-// That the value is of the form; whether it is.
-fn check(
-    found: &mut Found,
-    alloc: Global,
-    path: &str,
-    form: Form,
-    value: &Value,
-) -> Result<bool, AllocError> {
-    let (is_so, form) = form_of(form, value);
-    if is_so {
-        return Ok(true);
-    }
-    let shown = match value {
-        Value::Object(_) => String::from_str(alloc, "an object")?,
-        Value::Array(_) => String::from_str(alloc, "an array")?,
-        Value::String(text) if text.len() > LONGEST => {
-            format!(in alloc; "a string of {} bytes", text.len())?
+    // The list under a name, if one is there, and its items.
+    fn in_list(&mut self, key: &str, of: Form, value: &Value) -> Result<(), AllocError> {
+        self.in_key(key, Form::List, value)?;
+        match value.get(key) {
+            Some(Value::Array(items)) => {
+                self.enter(key)?;
+                self.in_items(of, items.as_slice())?;
+                self.leave();
+                Ok(())
+            }
+            _ => Ok(()),
         }
-        _ => value.to_string(alloc)?,
-    };
-    let words = format!(in alloc; "expected {form}, found {shown}")?;
-    refuse(found, alloc, path, words.as_str())?;
-    Ok(false)
-}
-
-// Adds what is wrong with the value at a path.
-fn refuse(found: &mut Found, alloc: Global, path: &str, words: &str) -> Result<(), AllocError> {
-    let path = if path.is_empty() { "the profile" } else { path };
-    found.push(format!(in alloc; "{path}: {words}")?)?;
-    Ok(())
-}
-
-// The path to what stands under a name of the value at a path.
-fn under(alloc: Global, path: &str, key: &str) -> Result<String, AllocError> {
-    if path.is_empty() {
-        return String::from_str(alloc, key);
     }
-    format!(in alloc; "{path}.{key}")
+
+    fn in_items(&mut self, of: Form, items: &[Value]) -> Result<(), AllocError> {
+        for (place, item) in items.iter().enumerate() {
+            self.path.push(Step::Item(place))?;
+            match of {
+                Form::Condition => self.in_condition(item)?,
+                _ => {
+                    let _is_so = self.check(of, item)?;
+                }
+            }
+            self.leave();
+        }
+        Ok(())
+    }
+
+    // That the value is an object, with no names but these; whether it is one.
+    fn in_object(&mut self, keys: &[&str], told: &str, value: &Value) -> Result<bool, AllocError> {
+        let is_object = self.check(Form::Object, value)?;
+        let Value::Object(members) = value else {
+            return Ok(is_object);
+        };
+        for (name, _) in members.iter() {
+            if !is_among(name.as_str(), keys) {
+                let shown = readable(self.alloc, name.as_str(), TextKind::Name)?;
+                let words = format!(in self.alloc; "\"{shown}\": unknown key; expected {told}")?;
+                self.refuse(words.as_str())?;
+            }
+        }
+        Ok(is_object)
+    }
+
+    // That something stands under the name, and is of the form.
+    fn in_required(&mut self, key: &str, form: Form, value: &Value) -> Result<(), AllocError> {
+        if value.get(key).is_none() {
+            let words = format!(in self.alloc; "missing \"{key}\"")?;
+            return self.refuse(words.as_str());
+        }
+        self.in_key(key, form, value)
+    }
+
+    // That what stands under the name, if anything, is of the form.
+    fn in_key(&mut self, key: &str, form: Form, value: &Value) -> Result<(), AllocError> {
+        let Some(inner) = value.get(key) else {
+            return Ok(());
+        };
+        self.enter(key)?;
+        let _is_so = self.check(form, inner)?;
+        self.leave();
+        Ok(())
+    }
+
+    // That the value is of the form; whether it is.
+    fn check(&mut self, form: Form, value: &Value) -> Result<bool, AllocError> {
+        let (is_so, expected) = form_of(form, value);
+        if is_so {
+            return Ok(true);
+        }
+        let remark = if is_no_whole(form, value) {
+            ", which isn't written as a whole number"
+        } else {
+            ""
+        };
+        let shown = match value {
+            Value::Object(_) => String::from_str(self.alloc, "an object")?,
+            Value::Array(_) => String::from_str(self.alloc, "an array")?,
+            Value::String(text) if text.len() > LONGEST => {
+                format!(in self.alloc; "a string of {} bytes", text.len())?
+            }
+            _ => value.to_string(self.alloc)?,
+        };
+        let words = format!(in self.alloc; "expected {expected}, found {shown}{remark}")?;
+        self.refuse(words.as_str())?;
+        Ok(false)
+    }
+
+    // Goes to what stands under a name.
+    fn enter(&mut self, key: &str) -> Result<(), AllocError> {
+        let key = String::from_str(self.alloc, key)?;
+        Ok(self.path.push(Step::Key(key))?)
+    }
+
+    // Goes back by one step.
+    fn leave(&mut self) {
+        drop(self.path.pop());
+    }
+
+    // Adds what is wrong with the value where the walk is.
+    fn refuse(&mut self, words: &str) -> Result<(), AllocError> {
+        let fault = ProfileFault {
+            path: copied(self.alloc, self.path.as_slice())?,
+            words: String::from_str(self.alloc, words)?,
+        };
+        Ok(self.found.push(fault)?)
+    }
+}
+
+// Whether a value is a number from 0 to 2^64, written with a point or an exponent, where a whole number is expected.
+fn is_no_whole(form: Form, value: &Value) -> bool {
+    match form {
+        Form::Index | Form::Number | Form::NumberOrNull | Form::ActionNumber => {
+            value.as_u64().is_none()
+                && value.as_i64().is_none()
+                && matches!(value.as_f64(), Some(number) if 0.0 <= number && number < 18446744073709551616.0)
+        }
+        _ => false,
+    }
+}
+
+// The same way.
+fn copied(alloc: Global, path: &[Step]) -> Result<Vec<Step>, AllocError> {
+    let mut copied = Vec::with_capacity(alloc, path.len())?;
+    for step in path {
+        copied.push(match step {
+            Step::Key(key) => Step::Key(String::from_str(alloc, key.as_str())?),
+            Step::Item(place) => Step::Item(*place),
+        })?;
+    }
+    Ok(copied)
 }

@@ -17,6 +17,7 @@ pub mod types;
 mod version;
 
 pub use error::ProfileError;
+pub use fault::{ProfileFault, profile_fault_text};
 pub use profile::{profile_faults, profile_of};
 pub use types::{Argument, Container, Criteria, Entry, Flag, Kernel, Operator, Profile, Runtime};
 pub use version::kernel_of;

@@ -1,20 +1,22 @@
 // From a JSON value, or a text, to a profile.
 
-ghost use Rattle.std.specs.Prelude.{◌↔◌, IsTrue, option_map, IfOk, IfErr, IfSome, IfNone};
-ghost use Rattle.serde_json.specs.View.{view};
+ghost use Rattle.std.specs.Prelude.{◌≡◌, ◌↔◌, IsTrue, map, option_map, string_bytes, IfOk, IfErr, IfSome, IfNone};
+ghost use Rattle.std.specs.List.{filter};
+ghost use Rattle.serde_json.specs.View.{members_view, view};
 ghost use Rattle.seccompiler.specs.JsonAnswers.{IsReadAs};
 ghost use Rattle.seccomp_profiles.specs.Types.{AllOnArguments};
-ghost use Rattle.seccomp_profiles.specs.ProfileShape.{IsList, IsProfile};
+ghost use Rattle.seccomp_profiles.specs.ProfileShape.{IsList, IsProfile, is_unknown, keys_of};
 ghost use Rattle.seccomp_profiles.specs.ProfileText.{IsProfileFault, IsProfileText};
 ghost use Rattle.seccomp_profiles.specs.Types.{Profile};
 
 use crate::actions::action_under;
 use crate::error::ProfileError;
-use crate::fault::{fault_of, faults_of};
+use crate::fault::{ProfileFault, fault_of, faults_of};
 use crate::lists::parts_under;
-use crate::members::items_of;
+use crate::members::{is_among, items_of};
 use crate::types::Profile;
 use serde_json::Value;
+use serde_json::value::Map;
 use std::alloc::{AllocError, Global};
 
 // Whether a list stands there, or nothing, or null.
@@ -24,12 +26,50 @@ fn is_list(value: Option<&Value>) -> bool
     items_of(value).is_some()
 }
 
+// The keys that a profile has for Docker, Podman or a runtime, and two that say nothing.
+const KEYS: [&str; 11] = [
+    "defaultAction",
+    "defaultErrnoRet",
+    "defaultErrno",
+    "architectures",
+    "archMap",
+    "flags",
+    "syscalls",
+    "listenerPath",
+    "listenerMetadata",
+    "$schema",
+    "comment",
+];
+
+// Whether no profile has the key.
+fn is_unknown(key: &str) -> bool
+    ensures { result ≡ is_unknown key.now }
+{
+    !is_among(key, &KEYS)
+}
+
+// The keys of an object that no profile has.
+fn unknown_keys(alloc: Global, members: &Map<String, Value>) -> Result<Vec<String>, AllocError>
+    ensures { IfOk result (λ keys. map string_bytes keys.items ≡ filter is_unknown (keys_of (members_view members.now.entries))) }
+{
+    let mut found = Vec::new(alloc);
+    for (key, _) in members.iter() {
+        if is_unknown(key.as_str()) {
+            found.push(String::from_str(alloc, key.as_str())?)?;
+        }
+    }
+    Ok(found)
+}
+
 // The profile that a JSON value is, or `None` where it is none.
 fn read_profile(alloc: Global, value: &Value) -> Result<Option<Profile>, AllocError>
     ensures found { IfOk result (λ o. IfSome o (IsProfile (view value.now))) }
     ensures none { IfOk result (λ o. IfNone o ((p : Profile) → IsProfile (view value.now) p → ⊥)) }
     ensures arguments { IfOk result (λ o. IfSome o (λ p. AllOnArguments p.entries)) }
 {
+    let Value::Object(members) = value else {
+        return Ok(None);
+    };
     if !is_list(value.get("architectures")) || !is_list(value.get("archMap")) {
         return Ok(None);
     }
@@ -47,6 +87,7 @@ fn read_profile(alloc: Global, value: &Value) -> Result<Option<Profile>, AllocEr
         default,
         flags,
         entries,
+        unknown_keys: unknown_keys(alloc, members)?,
     }))
 }
 
@@ -55,7 +96,7 @@ fn read_profile(alloc: Global, value: &Value) -> Result<Option<Profile>, AllocEr
 /// The text is the value of `linux.seccomp` in the OCI runtime specification, or a profile of Docker or Podman.
 /// It is no profile if an entry or a part of one has an unknown name, or if an action, operator or flag can't
 /// be carried. Podman names an errno beside its number, as `"errno": "EPERM"`: the name wins. Each condition of
-/// a profile is on an argument from 0 to 5.
+/// a profile is on an argument from 0 to 5. Keys of the whole that no profile has are in `unknown_keys`.
 ///
 /// # Errors
 ///
@@ -75,12 +116,12 @@ pub fn profile_of(alloc: Global, text: &[u8]) -> Result<Profile, ProfileError>
     }
 }
 
-/// The texts of all faults of a text that is no profile, the one of [`profile_of`] in front; none if it is no JSON, or a profile.
+/// All faults of a text that is no profile, the one of [`profile_of`] in front; none if it is no JSON, or a profile.
 ///
 /// # Errors
 ///
 /// `AllocError` if memory runs out.
-pub fn profile_faults(alloc: Global, text: &[u8]) -> Result<Vec<String>, AllocError> {
+pub fn profile_faults(alloc: Global, text: &[u8]) -> Result<Vec<ProfileFault>, AllocError> {
     match value_of(alloc, text) {
         Ok(value) => faults_of(alloc, &value),
         Err(ProfileError::OutOfMemory) => Err(AllocError),

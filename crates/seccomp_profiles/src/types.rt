@@ -136,7 +136,7 @@ impl Model for Entry {
 
 /// A profile: `linux.seccomp`.
 ///
-/// A contract sees the flags and the entries as lists.
+/// A contract sees the flags, the entries and the unknown keys as lists, and the keys as their bytes.
 #[derive(Debug, Drop)]
 pub struct Profile {
     /// The action for calls that no entry is for: `defaultAction`, with `defaultErrnoRet`.
@@ -145,12 +145,15 @@ pub struct Profile {
     pub flags: Vec<Flag>,
     /// The entries, in the text's order: `syscalls`.
     pub entries: Vec<Entry>,
+    /// The keys of the object that no profile has, in the order of JSON's values. They say nothing.
+    pub unknown_keys: Vec<String>,
 }
 
 impl Model for Profile {
+    ghost use Rattle.std.specs.Prelude.{map, string_bytes};
     ghost use Rattle.seccomp_profiles.specs.Types.{Profile};
 
     ghost Value = { Profile };
 
-    ghost view = { λ p. record { default = p.default; flags = p.flags.items; entries = p.entries.items } };
+    ghost view = { λ p. record { default = p.default; flags = p.flags.items; entries = p.entries.items; unknown_keys = map string_bytes p.unknown_keys.items } };
 }

@@ -145,7 +145,8 @@ fn profile_made(
     let mut notes = Text::new(alloc);
     if !asked.quiet {
         let (listed, left_out) = (asked.reading.listed, &compiled.left_out);
-        push_profile_notes(&mut notes, arch, path, listed, left_out, &compiled.flags);
+        let flags = &compiled.profile.flags;
+        push_profile_notes(&mut notes, arch, path, listed, left_out, flags);
     }
     let text = program_text(alloc, asked.format, "profile", &compiled.program);
     Made::of(text, Verdict::Same, notes)

@@ -50,10 +50,10 @@ stands : (target : TargetArch) (kind : Subject) (asked : Option (List ℕ)) (giv
     → (ruling : Ruling) × Rules target kind asked given ruling × StandsFor target ruling program
 stands target subject.Policy asked given program (filter, is, by) = (of_filter filter, is, by)
 stands target (subject.Profile container) asked given program (none, compiled, is, same) = (
-  of_profile container.now is.profile,
+  of_profile container.now compiled.profile,
   (none, is.read.profile, refl),
-  subst (StandsFor target (of_profile container.now is.profile)) (sym same)
-      (profile_stands target container.now is.profile compiled.program.items is.program),
+  subst (StandsFor target (of_profile container.now compiled.profile)) (sym same)
+      (profile_stands target container.now compiled.profile compiled.program.items is.program),
 )
 stands target subject.Program asked given program (none, is, checked) =
     (of_program program, (none, is), program_stands target program checked)

@@ -8,7 +8,7 @@ use seccomp_check::{
     Expected, Fault, JsonFault, Problem, Step, fault_text, faults, json_fault, push_problem,
 };
 use seccomp_command_line::readable::TextKind;
-use seccomp_oci::{CompileError, ProfileError, profile_faults};
+use seccomp_oci::{CompileError, ProfileError, ProfileFault, profile_fault_text, profile_faults};
 use seccompiler::{Error, JsonFrontendError, TargetArch};
 use std::alloc::{AllocError, Global};
 use std::collections::BTreeMap;
@@ -23,8 +23,8 @@ pub(crate) fn push_error(lines: &mut Lines<'_>, arch: TargetArch, given: &[u8], 
     let alloc = lines.text.alloc();
     match error {
         ToolError::Placed(_, fault) => push_faults(lines, arch, given, fault),
-        ToolError::Profile(CompileError::Profile(ProfileError::NotAProfile(_))) => {
-            push_profile_faults(lines, given, error)
+        ToolError::Profile(CompileError::Profile(ProfileError::NotAProfile(told))) => {
+            push_profile_faults(lines, given, error, told.as_str())
         }
         ToolError::Library(Error::JsonFrontend(JsonFrontendError::SerdeJson(reader)))
         | ToolError::Profile(CompileError::Profile(ProfileError::Json(reader))) => {
@@ -84,63 +84,123 @@ fn push_faults(lines: &mut Lines<'_>, arch: TargetArch, given: &[u8], first: &Fa
     if all.is_empty() {
         return push_fault(lines, first);
     }
-    let mut outline = Outline::of(alloc, given);
-    let mut ordered = BTreeMap::new(alloc);
-    for (nth, fault) in all.iter().enumerate() {
-        let Position { line, column } = position_of(alloc, &mut outline, fault);
-        if ordered.insert((line, column, nth), nth).is_err() {
-            lines.text.fail();
-        }
+    let mut ordered = Ordered::new(alloc, given);
+    for fault in &all {
+        let strange = match &fault.problem {
+            Problem::Strange(key, _) => Some(key.as_str()),
+            _ => None,
+        };
+        ordered.push(alloc, &fault.path, strange);
     }
-    for nth in ordered.values().take(MOST) {
+    for nth in ordered.places.values().take(MOST) {
         if let Some(fault) = all.get(*nth) {
             push_fault(lines, fault);
         }
     }
-    push_more(lines, all.len().saturating_sub(MOST));
+    push_more(lines, &ordered);
 }
 
-// Adds what is said of the faults of a text that is no profile, of which the error tells the first.
-fn push_profile_faults(lines: &mut Lines<'_>, given: &[u8], error: &ToolError) {
+// Adds what is said of the faults of a text that is no profile, for this error.
+fn push_profile_faults(lines: &mut Lines<'_>, given: &[u8], error: &ToolError, told: &str) {
     let alloc = lines.text.alloc();
     let Ok(all) = profile_faults(alloc, given) else {
         return lines.text.fail();
     };
-    let mut outline = Outline::of(alloc, given);
-    let mut ordered = BTreeMap::new(alloc);
-    for (nth, told) in all.iter().enumerate() {
-        let Position { line, column } = position_told(alloc, &mut outline, told.as_str());
-        if ordered.insert((line, column, nth), nth).is_err() {
-            lines.text.fail();
+    if all.is_empty() {
+        return push_unplaced(lines, error, told);
+    }
+    let mut ordered = Ordered::new(alloc, given);
+    for fault in &all {
+        ordered.push(alloc, &fault.path, None);
+    }
+    for nth in ordered.places.values().take(MOST) {
+        if let Some(fault) = all.get(*nth) {
+            push_profile_fault(lines, fault);
         }
     }
-    for nth in ordered.values().take(MOST) {
-        if let Some(told) = all.get(*nth) {
-            push_told(lines, error, told.as_str());
-        }
-    }
-    push_more(lines, all.len().saturating_sub(MOST));
+    push_more(lines, &ordered);
 }
 
-// Adds an error that has this text.
-fn push_told(lines: &mut Lines<'_>, error: &ToolError, told: &str) {
+// Adds what is said of a fault of a text that is no profile.
+fn push_profile_fault(lines: &mut Lines<'_>, fault: &ProfileFault) {
     let alloc = lines.text.alloc();
-    match lines.format {
-        CheckFormat::Text => {
-            let told = readable(alloc, told.as_bytes(), TextKind::Line);
-            note(&mut lines.notes, lines.file, told);
+    if let CheckFormat::Text = lines.format {
+        let told = match profile_fault_text(alloc, fault) {
+            Ok(told) => readable(alloc, told.as_bytes(), TextKind::Line),
+            Err(error) => Err(error),
+        };
+        return note(&mut lines.notes, lines.file, told);
+    }
+    go_along(lines, &fault.path);
+    lines.push("error", "not-a-profile", fault.words.as_str());
+}
+
+// Faults in the order of their places in a text.
+#[derive(Drop)]
+struct Ordered {
+    // Where the values of the text stand.
+    outline: Outline,
+    // Of each fault its line, its column and how many stand in front of it, and this again.
+    places: BTreeMap<(usize, usize, usize), usize>,
+    // Whether memory ran out.
+    is_missing: bool,
+}
+
+impl Ordered {
+    fn new(alloc: Global, given: &[u8]) -> Ordered {
+        Ordered {
+            outline: Outline::of(alloc, given),
+            places: BTreeMap::new(alloc),
+            is_missing: false,
         }
-        _ => push_unplaced(lines, error, told),
+    }
+
+    // Adds a fault of the value to which this way leads, or of the key of this name there.
+    fn push(&mut self, alloc: Global, path: &[Step], strange: Option<&str>) {
+        let mut value = self.outline.whole;
+        for step in path {
+            value = match step {
+                Step::Key(key) => self.inner(alloc, value, format!(in alloc; ".{key}")),
+                Step::Item(place) => self.inner(alloc, value, format!(in alloc; "[{place}]")),
+            };
+        }
+        let Position { line, column } = match strange {
+            Some(key) => self.inner(alloc, value, format!(in alloc; ".{key}")).key,
+            None => value.begins,
+        };
+        let nth = self.places.len();
+        if self.places.insert((line, column, nth), nth).is_err() {
+            self.is_missing = true;
+        }
+    }
+
+    // The value to which a step leads.
+    fn inner(
+        &mut self,
+        alloc: Global,
+        outer: Located,
+        step: Result<String, AllocError>,
+    ) -> Located {
+        match step {
+            Ok(step) => self.outline.inner(alloc, outer, step.as_str()),
+            Err(_) => {
+                self.is_missing = true;
+                outer
+            }
+        }
     }
 }
 
-// Adds that there are so many more errors, if there are some.
-fn push_more(lines: &mut Lines<'_>, more: usize) {
+// Adds that there are more errors than are told, if there are some.
+fn push_more(lines: &mut Lines<'_>, ordered: &Ordered) {
     let alloc = lines.text.alloc();
-    let said = match more {
+    if ordered.is_missing {
+        lines.text.fail();
+    }
+    let said = match ordered.places.len().saturating_sub(MOST) {
         0 => return,
         1 => String::from_str(alloc, "1 more error"),
-        _ => format!(in alloc; "{more} more errors"),
+        more => format!(in alloc; "{more} more errors"),
     };
     if let CheckFormat::Text = lines.format {
         return note(&mut lines.notes, lines.file, said);
@@ -152,56 +212,8 @@ fn push_more(lines: &mut Lines<'_>, more: usize) {
     }
 }
 
-// Where a fault is in a text.
-fn position_of(alloc: Global, outline: &mut Outline, fault: &Fault) -> Position {
-    let mut value = outline.whole;
-    for step in &fault.path {
-        value = match step {
-            Step::Key(key) => under(alloc, outline, value, key.as_str()),
-            Step::Item(place) => item(alloc, outline, value, *place),
-        };
-    }
-    match &fault.problem {
-        Problem::Strange(key, _) => under(alloc, outline, value, key.as_str()).key,
-        _ => value.begins,
-    }
-}
-
-// Where the fault of a profile is that has this text.
-fn position_told(alloc: Global, outline: &mut Outline, told: &str) -> Position {
-    let mut value = outline.whole;
-    let (front, _) = told.split_once(": ").unwrap_or(("", told));
-    if front != "the profile" {
-        for piece in front.split(['.', '[', ']']) {
-            value = match piece.parse::<usize>() {
-                Ok(place) => item(alloc, outline, value, place),
-                Err(_) if piece.is_empty() => value,
-                Err(_) => under(alloc, outline, value, piece),
-            };
-        }
-    }
-    value.begins
-}
-
-// The item at a place.
-fn item(alloc: Global, outline: &mut Outline, value: Located, place: usize) -> Located {
-    match format!(in alloc; "[{place}]") {
-        Ok(step) => outline.inner(alloc, value, step.as_str()),
-        Err(_) => value,
-    }
-}
-
-// The value under a key.
-fn under(alloc: Global, outline: &mut Outline, value: Located, key: &str) -> Located {
-    match format!(in alloc; ".{key}") {
-        Ok(step) => outline.inner(alloc, value, step.as_str()),
-        Err(_) => value,
-    }
-}
-
 // Adds what is said of an error of this text, which has no place of its own.
 fn push_unplaced(lines: &mut Lines<'_>, error: &ToolError, told: &str) {
-    let mut message = told;
     lines.place = Place::At(None);
     let code = match error {
         ToolError::Library(Error::JsonFrontend(JsonFrontendError::RepeatedKey)) => {
@@ -213,7 +225,6 @@ fn push_unplaced(lines: &mut Lines<'_>, error: &ToolError, told: &str) {
             "repeated-key"
         }
         ToolError::Profile(CompileError::Profile(ProfileError::NotAProfile(_))) => {
-            message = split_path(lines, told);
             lines.place = Place::Value;
             "not-a-profile"
         }
@@ -221,22 +232,17 @@ fn push_unplaced(lines: &mut Lines<'_>, error: &ToolError, told: &str) {
         ToolError::Program(_) => "not-a-program",
         _ => "wrong-value",
     };
-    lines.push("error", code, message);
+    lines.push("error", code, told);
 }
 
-// Goes the way that the text of a profile's fault has in front, of names without colons and of places. Gives what is behind it.
-fn split_path<'a>(lines: &mut Lines<'_>, told: &'a str) -> &'a str {
-    let (front, message) = told.split_once(": ").unwrap_or(("", told));
-    if front != "the profile" {
-        for piece in front.split(['.', '[', ']']) {
-            match piece.parse::<usize>() {
-                Ok(place) => lines.item(place),
-                Err(_) if piece.is_empty() => {}
-                Err(_) => lines.key(piece),
-            }
+// Goes on along this way.
+fn go_along(lines: &mut Lines<'_>, path: &[Step]) {
+    for step in path {
+        match step {
+            Step::Key(key) => lines.key(key.as_str()),
+            Step::Item(place) => lines.item(*place),
         }
     }
-    message
 }
 
 // Adds what is said of a fault of a policy. An unknown key is found where the key is.
@@ -249,12 +255,7 @@ fn push_fault(lines: &mut Lines<'_>, fault: &Fault) {
         };
         return note(&mut lines.notes, lines.file, told);
     }
-    for step in &fault.path {
-        match step {
-            Step::Key(key) => lines.key(key.as_str()),
-            Step::Item(place) => lines.item(*place),
-        }
-    }
+    go_along(lines, &fault.path);
     let code = match &fault.problem {
         Problem::Stands(_, Expected::Call(_), near) => {
             lines.suggestion = *near;

@@ -1,4 +1,4 @@
-use Rattle.std.proofs.Common.{map, rules, string_bytes}
+use Rattle.std.proofs.Common.{map, string_bytes}
 use Rattle.std.proofs.lemmas.Result.{err_from_is_err_and}
 use Rattle.seccomp_oci.proofs.compiled.Programs.{compile_fault}
 use Rattle.seccomp_oci.proofs.compiled.compile_profile.Goals as goal
@@ -16,13 +16,11 @@ returns-in_err-program-clause-fault c =
 
 pub returns-clause-compiled : goal.returns-clause-compiled
 returns-clause-compiled c = record {
-  profile = c.in_ok-profile.profile;
   read = record {
     profile = c.in_ok-profile.ensures.read;
     names = c.in_ok-left_out.ensures.names;
     none = c.in_ok-left_out.ensures.none;
   };
-  flags = search rules;
   program = c.in_ok-program.ensures.program;
   own = c.in_ok-program.ensures.own;
 }

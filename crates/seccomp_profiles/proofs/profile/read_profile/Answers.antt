@@ -3,10 +3,14 @@ use Rattle.seccomp_profiles.specs.Shape.{IsListed, IsFlag}
 use Rattle.seccomp_profiles.specs.ProfileShape.{IsEntry}
 use Rattle.seccomp_profiles.proofs.lists.ReadLists.{unless_some}
 use Rattle.seccomp_profiles.proofs.profile.Arguments.{listed_arguments}
+use Rattle.seccomp_profiles.proofs.profile.Objects.{keys_are, no_object}
 use Rattle.seccomp_profiles.proofs.profile.read_profile.Goals as goal
 
 pub returns-in_default-clause-none : goal.returns-in_default-clause-none
-returns-in_default-clause-none c = λ p h. unless_some _ c.in_default.not-Some c.action_under.ensures.none p.default h.default
+returns-in_default-clause-none c = λ p h. no_object c.args.value.now c.in_default.not-Object p.unknown_keys h.unknown_keys
+
+pub returns-in_default-action_under-clause-none : goal.returns-in_default-action_under-clause-none
+returns-in_default-action_under-clause-none c = λ p h. unless_some _ c.in_default-action_under.not-Some c.action_under.ensures.none p.default h.default
 
 pub returns-in_default-2-clause-none : goal.returns-in_default-2-clause-none
 returns-in_default-2-clause-none c = λ p h. unless_some _ c.in_default-2.not-Some c.in_ok-flags.ensures.none p.flags
@@ -26,4 +30,5 @@ returns-clause-found c = record {
   default = search rules;
   flags = search rules;
   entries = search rules;
+  unknown_keys = keys_are c.args.value.now c.in-Object.members _ c.in-Object.is c.in_ok-unknown_keys.ensures;
 }

@@ -46,7 +46,7 @@ pub(crate) fn push_profile_warnings(
     // Backwards, since the first of those with one place and code counts.
     for nth in (0..checked.warnings.len()).rev() {
         let warning = &checked.warnings[nth];
-        let (entry, rank, _, _) = spot_of(target, warning, nth);
+        let (entry, rank, _, _) = spot_of(target, checked, warning);
         let order = (entry, rank, code_of(warning).name());
         if ordered.insert(order, nth).is_err() {
             lines.text.fail();
@@ -56,7 +56,7 @@ pub(crate) fn push_profile_warnings(
         let Some(warning) = checked.warnings.get(*nth) else {
             continue;
         };
-        let (entry, _, part, call) = spot_of(target, warning, *nth);
+        let (entry, _, part, call) = spot_of(target, checked, warning);
         if let Some(entry) = entry {
             lines.key("syscalls");
             lines.item(entry);
@@ -90,8 +90,12 @@ fn go_to(lines: &mut Lines<'_>, part: Part<'_>, code: Code) {
     }
 }
 
-// What a warning is about, which is the one at this place among all.
-fn spot_of(target: TargetArch, warning: &ProfileWarning, nth: usize) -> Spot<'_> {
+// What a warning is about.
+fn spot_of<'a>(
+    target: TargetArch,
+    checked: &'a CheckedProfile,
+    warning: &ProfileWarning,
+) -> Spot<'a> {
     let (default, action) = (Part::Under("defaultAction"), Part::Under("action"));
     match warning {
         ProfileWarning::Doubtful(doubt) => match *doubt {
@@ -131,7 +135,13 @@ fn spot_of(target: TargetArch, warning: &ProfileWarning, nth: usize) -> Spot<'_>
             )
         }
         ProfileWarning::Flags => (None, (2, 0), Part::Under("flags"), None),
-        ProfileWarning::UnknownKey(name) => (None, (3, nth), Part::Key(name.as_str()), None),
+        ProfileWarning::UnknownKey(place) => {
+            let part = match checked.compiled.profile.unknown_keys.get(*place) {
+                Some(key) => Part::Key(key.as_str()),
+                None => Part::Whole,
+            };
+            (None, (3, *place), part, None)
+        }
         ProfileWarning::OfEntries(warning, origin) => spot_in(target, *origin, warning.subject),
     }
 }

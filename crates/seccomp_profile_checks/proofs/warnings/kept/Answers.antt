@@ -1,0 +1,20 @@
+use Rattle.std.proofs.Common.{Contains, [], List, rules, subst, sym}
+use Rattle.seccomp_profile_checks.specs.Warnings.{AreKept, none}
+use Rattle.seccomp_profile_checks.specs.declared.warnings.ProfileWarning.{ProfileWarning}
+use Rattle.seccomp_profile_checks.proofs.Kept.{one_kept, one_left}
+use Rattle.seccomp_profile_checks.proofs.warnings.kept.Goals.{then-not-is_allowed+in_ok-push, else-not-is_allowed}
+use Rattle.seccomp_profile_checks.proofs.warnings.kept.Goals as goal
+
+pub loop-warning-init : goal.loop-warning-init
+loop-warning-init c = subst (λ (ws : List ProfileWarning). AreKept c.args.allowed.now [] ws) (sym c.new-told.ensures.items) none
+
+pub loop-warning-preserved : goal.loop-warning-preserved
+loop-warning-preserved c =
+    let l = c.loop-warning in
+    elim c.if-not-is_allowed.branch [
+      | then-not-is_allowed+in_ok-push w ↦ rw (w.told-is, w.in_ok-push.ensures.items)
+          (one_kept c.args.allowed.now c.args.all.now l.warning-index _ l.told.items c.loop-warning-test.true (search rules) l.invariant)
+      | else-not-is_allowed w ↦ rw w.told-is
+          (one_left c.args.allowed.now c.args.all.now l.warning-index _ l.told.items c.loop-warning-test.true
+          (subst (Contains c.args.allowed.now) c.code_of.ensures (c.is_allowed.ensures.0 (search rules))) l.invariant)
+    ]

@@ -119,9 +119,10 @@ CRITERIA = [
     ({"includes": {"caps": [], "arches": []}, "excludes": {"caps": [], "arches": []}}, ("", "-a riscv64"), ()),
 ]
 
-# Of each condition with such a mask there is a load, a mask and a test. So many are the most that fit: the program of the first one
+# Of each condition with such a mask, of high halves, there is a load, a mask and a test. So many are the most that fit: the program of
+# the first one
 # has 4095 instructions, 27 of them copies of returns that would be too far away, and that of the second one would have 4098.
-FITTING, LARGE = ([when(0, "MASKED_EQ", 3)] * number for number in (1356, 1357))
+FITTING, LARGE = ([when(0, "MASKED_EQ", 3 << 32)] * number for number in (1356, 1357))
 TOO_LONG = "The profile's program needs more than 4096 instructions.\n"
 
 FILES = {

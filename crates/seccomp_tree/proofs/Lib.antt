@@ -2,6 +2,7 @@
 pub mod Common
 pub mod Runs
 pub mod Meeting
+pub mod Parts
 pub mod Trees
 pub mod Theorem
 pub mod Decided

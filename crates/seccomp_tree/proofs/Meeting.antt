@@ -101,7 +101,7 @@ masked_some {old} {mid} byte m value low small tested is = rw is record {
 }
 
 -- numbers agree under a mask if their halves do
-mask_parts : (x v m : ℕ) → nat_eq (bit_and x m) (bit_and v m)
+pub mask_parts : (x v m : ℕ) → nat_eq (bit_and x m) (bit_and v m)
     ≡ (nat_eq (bit_and (x / 2 ^ 32) (m / 2 ^ 32)) (bit_and (v / 2 ^ 32) (m / 2 ^ 32))
     && nat_eq (bit_and (x % 2 ^ 32) (m % 2 ^ 32)) (bit_and (v % 2 ^ 32) (m % 2 ^ 32)))
 mask_parts x v m =
@@ -188,20 +188,6 @@ entered : {code : List sock_filter} {i n : ℕ} {t : Target} (default : ℕ) (d 
     → Leads 0 code r (if list_all (holds r) d.conditions then Give d.value else t) (first default (d ∷ rest) r) (n + 1)
 entered default d rest r others (stops i e l h) a small = rw ((holds_is d.conditions r).1 h) (to_return d.value a 1 (omega arith))
 entered default d rest r others (passes i e l m not takes) a small = rw (not_held d.conditions r not) (others m takes a small)
-
--- one ruling by its conditions
-pub rules_alone : {old code : List sock_filter} {default : ℕ} {t u : Target} (new : List sock_filter) (d : Ruling) (rest : List Ruling)
-    → only d.conditions ≡ None → AreRules old rest default t code → AreMet d.conditions code (Give d.value) t u new
-    → AreRules old (d ∷ rest) default u new
-rules_alone {default = default} {t} {u} new d rest own x h = record {
-  grows = grows_on (rules_length (d ∷ rest)) x.grows h.grows (omega arith);
-  inside = h.inside;
-  leads = leads;
-}
-  where
-    leads : (r : List ℕ) → IsRecord r → (n : ℕ) → Takes r 0 (d ∷ rest) n → Leads 0 new r u (first default (d ∷ rest) r) (n + 1)
-    leads r rec n (begins e l k m le takes) a small = rw own (starts_more _ (omega arith) (h.leads r rec _ (m + 1)
-        (entered default d rest r (λ j takes'. x.leads r rec j (rw (joined_none d.conditions rest own) at takes')) takes) a small))
 
 -- ---- runs
 

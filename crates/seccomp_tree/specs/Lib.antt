@@ -2,6 +2,7 @@
 
 -- Between layers: what private functions promise each other. No promise rests on how these are worded.
 pub mod Code
+pub mod Parts
 -- Decisions, what they decide, and their program.
 pub mod Decisions
 pub mod Decided

@@ -1,7 +1,7 @@
 use Rattle.seccomp_tree.proofs.Runs.{tail_written, tail_whole, grows_not, grows_one, runs_at, reached}
 use Rattle.seccomp_tree.proofs.Common.{length-reverse, stand_in, arith, IsReached, reverse, subst, ◌≤◌}
 use Rattle.seccomp_tree.proofs.code.Code.reach.Goals.{After-len-len}
-use Rattle.seccomp_tree.proofs.Common.{tail_at, length, rules, refl, sym, ◌+◌, ◌-◌, ◌<◌, ◌∙◌, ◌∷◌, ◌≡◌, At, ap, ℕ}
+use Rattle.seccomp_tree.proofs.Common.{tail_at, length, rules, refl, sym, ◌+◌, ◌<◌, ◌∙◌, ◌∷◌, ◌≡◌, At, ap, ℕ}
 use Rattle.seccomp_tree.proofs.code.Code.reach.Goals as goal
 
 pub returns-then-over-le-REACH : goal.returns-then-over-le-REACH

@@ -1,5 +1,6 @@
 -- For `kept`: a warning more, whose code is allowed or isn't; and for `push_own`: a place more.
-use Rattle.std.proofs.Common.{◌≡◌, ℕ, zero, suc, arith, ◌+◌, ◌<◌, ◌++◌, ◌∙◌, [], ◌∷◌, List, Contains, ap, get_or, length, map, subst, sym, take}
+use Rattle.std.proofs.Common.{◌≡◌, ℕ, zero, suc, arith, ◌+◌, ◌<◌, ◌++◌, ◌∙◌, [], ◌∷◌, List, Contains, ap, get_or, length, map}
+use Rattle.std.proofs.Common.{subst, sym, take}
 use Rattle.std.specs.List.{range_with_len}
 use Rattle.std.proofs.lemmas.List.{map_push, take_more}
 use Rattle.seccomp_warnings.specs.declared.code.Code.{Code}

@@ -10,7 +10,8 @@ pub returns-in_default-clause-none : goal.returns-in_default-clause-none
 returns-in_default-clause-none c = λ p h. no_object c.args.value.now c.in_default.not-Object p.unknown_keys h.unknown_keys
 
 pub returns-in_default-action_under-clause-none : goal.returns-in_default-action_under-clause-none
-returns-in_default-action_under-clause-none c = λ p h. unless_some _ c.in_default-action_under.not-Some c.action_under.ensures.none p.default h.default
+returns-in_default-action_under-clause-none c = λ p h.
+    unless_some _ c.in_default-action_under.not-Some c.action_under.ensures.none p.default h.default
 
 pub returns-in_default-2-clause-none : goal.returns-in_default-2-clause-none
 returns-in_default-2-clause-none c = λ p h. unless_some _ c.in_default-2.not-Some c.in_ok-flags.ensures.none p.flags

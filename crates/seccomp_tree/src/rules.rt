@@ -17,7 +17,7 @@ use seccompiler::{SeccompCmpArgLen, SeccompCmpOp, SeccompCondition};
 use std::alloc::{AllocError, Global};
 
 // How many rulings are parted at once: each is compared with the others.
-const MOST: usize = 32;
+const MOST: usize = 8;
 
 // What the first condition of a ruling compares, and with which value: the low half of an argument, under a mask. The mask is 0
 // if it compares more, or in another way.

@@ -3,5 +3,6 @@ pub mod Types
 pub mod Shape
 pub mod Version
 pub mod Actions
+pub mod Listed
 pub mod ProfileShape
 pub mod ProfileText

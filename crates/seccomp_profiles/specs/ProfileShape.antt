@@ -1,12 +1,13 @@
 -- Which JSON values are profiles and their entries (OCI runtime specification, `linux.seccomp`, and what Docker and Podman
 -- add to it). Nothing but the forms given here is one.
-use Rattle.std.specs.Prelude.{◌≡◌, ℕ, Bool, not, List, [], ◌∷◌, Option, Some, None, codes}
+use Rattle.std.specs.Prelude.{◌≡◌, ◌↔◌, ℕ, Bool, not, IsTrue, List, [], ◌∷◌, Option, Some, None, codes}
 use Rattle.std.specs.List.{filter, list_any}
 use Rattle.std.specs.Str.{bytes_eq}
 use Rattle.serde_json.specs.Data.{Data, null, string, object, Items, no_items, Members, member, no_members}
 use Rattle.serde_json.specs.Find.{get}
 use Rattle.seccompiler.specs.JsonShape.{HasOnly, IsCommented}
 use Rattle.seccomp_profiles.specs.Actions.{IsActionUnder}
+use Rattle.seccomp_profiles.specs.Listed.{ListsX86}
 use Rattle.seccomp_profiles.specs.Shape.{IsArgument, IsFlag, IsListed, IsText, items_of}
 use Rattle.seccomp_profiles.specs.Types.{Criteria, Entry, Profile}
 use Rattle.seccomp_profiles.specs.Version.{IsKernelOr}
@@ -68,12 +69,13 @@ AreUnknownKeys (object members) keys = keys ≡ filter is_unknown (keys_of membe
 AreUnknownKeys d keys = ⊥
 
 -- The value is this profile: an object of `defaultAction` and, if it likes, `defaultErrnoRet`, `defaultErrno`, `flags` and `syscalls`.
--- `architectures` and `archMap`, which concern other architectures, are lists, if they are there. Other keys say nothing; the profile
--- has those that are unknown.
+-- `architectures` and `archMap`, which concern other architectures, are lists, if they are there; that they list x86 counts. Other keys
+-- say nothing; the profile has those that are unknown.
 pub record IsProfile (d : Data) (p : Profile) : Type 0 where
   pub architectures : IsList (get (codes "architectures") d)
   pub arch_map : IsList (get (codes "archMap") d)
   pub default : IsActionUnder d (codes "defaultAction") (codes "defaultErrnoRet") (codes "defaultErrno") p.default
   pub flags : IsListed IsFlag (get (codes "flags") d) p.flags
   pub entries : IsListed IsEntry (get (codes "syscalls") d) p.entries
+  pub lists_x86 : IsTrue p.lists_x86 ↔ ListsX86 d
   pub unknown_keys : AreUnknownKeys d p.unknown_keys

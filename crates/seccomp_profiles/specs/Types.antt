@@ -1,5 +1,5 @@
 -- The parts of a profile that own memory, as contracts see them: records of lists.
-use Rattle.std.specs.Prelude.{ℕ, ◌≤◌, All, List, Option}
+use Rattle.std.specs.Prelude.{ℕ, Bool, ◌≤◌, All, List, Option}
 use Rattle.seccompiler.specs.declared.backend.SeccompAction.{SeccompAction}
 use Rattle.seccomp_profiles.specs.declared.types.Argument.{Argument}
 use Rattle.seccomp_profiles.specs.declared.types.Flag.{Flag}
@@ -26,11 +26,12 @@ pub record Entry : Type 0 where
   pub includes : Criteria
   pub excludes : Criteria
 
--- A profile: its default action, its flags and its entries, both in order, and the keys that no profile has.
+-- A profile: its default action, its flags and its entries, both in order, whether it lists x86, and the keys that no profile has.
 pub record Profile : Type 0 where
   pub default : SeccompAction
   pub flags : List Flag
   pub entries : List Entry
+  pub lists_x86 : Bool
   pub unknown_keys : List (List ℕ)
 
 -- Each condition is on an argument that a call has.

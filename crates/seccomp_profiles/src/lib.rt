@@ -9,6 +9,7 @@ mod entries;
 mod error;
 mod fault;
 mod form;
+mod listed;
 mod lists;
 mod members;
 mod parts;

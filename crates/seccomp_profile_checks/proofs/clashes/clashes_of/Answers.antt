@@ -2,7 +2,6 @@ use Rattle.std.proofs.Common.{◌≡◌, ◌∙◌, ◌+◌, ◌∷◌, ◌++◌
 use Rattle.std.proofs.lemmas.List.{take_all, take_more}
 use Rattle.seccomp_entries.specs.Entries.{Entry}
 use Rattle.seccomp_profile_checks.specs.Clashes.{AreClashes, none, passed, taken}
-use Rattle.seccomp_profile_checks.specs.declared.clashes.Clash.{Clash}
 use Rattle.seccomp_profile_checks.proofs.clashes.clashes_of.Goals as goal
 
 pub loop-entry-init : goal.loop-entry-init

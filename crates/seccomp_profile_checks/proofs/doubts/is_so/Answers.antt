@@ -1,6 +1,4 @@
-use Rattle.std.proofs.Common.{◌∙◌, ap, subst, sym}
-use Rattle.seccomp_entries.specs.Entries.{Lowered}
-use Rattle.seccomp_profiles.specs.Types.{Profile}
+use Rattle.std.proofs.Common.{subst, sym}
 use Rattle.seccomp_profile_checks.specs.Doubts.{IsSoBy}
 use Rattle.seccomp_profile_checks.proofs.doubts.Own.{behind, open_order, same}
 use Rattle.seccomp_profile_checks.proofs.doubts.is_so.Goals as goal

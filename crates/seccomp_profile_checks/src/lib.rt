@@ -1,6 +1,6 @@
 //! What `check` says of a seccomp profile of a container runtime.
 //!
-//! [`profile_warnings_of`] gives its warnings: what [`doubts_of`] finds doubtful about it, and those of its parts, which
+//! [`profile_warnings_of`] gives its warnings: what [`doubts_of`] finds doubtful about it, its evasions, and those of its parts, which
 //! [`parts_of`] gives.
 #![tactic(auto)]
 
@@ -14,6 +14,6 @@ pub mod warnings;
 
 pub use clashes::Clash;
 pub use doubts::{Doubt, doubts_of};
-pub use effective::effective_entries;
+pub use effective::effective_of;
 pub use parts::{Origin, parts_of};
 pub use warnings::{ProfileWarning, code_of, profile_warnings_of};

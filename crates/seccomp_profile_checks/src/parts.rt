@@ -33,7 +33,7 @@ pub(crate) fn origin_of(entry: &Entry) -> Origin
     }
 }
 
-/// The parts of a profile of this default action and these [effective](crate::effective_entries) entries, which `check` warns about. They
+/// The parts of a profile of this default action and these [effective](crate::effective_of) entries, which `check` warns about. They
 /// are no program of the profile: [`decisions_of_profile`](seccomp_oci::decisions_of_profile) gives what it decides.
 ///
 /// Each action but `allow` has a part of the effective entries with it, beside which all else is allowed. If the default action isn't to

@@ -1,7 +1,7 @@
 -- Lemmas: of conditions, for `condition`; of entries, their numbers and judgements, for `judgement` and `sibling`; and of the
 -- warnings of a part, for `walk`.
 pub mod ConstantConditions
-pub mod HighHalves
+pub mod Decided
 pub mod Quantified
 pub mod Judged
 pub mod Numbered

@@ -1,9 +1,15 @@
 -- Conditions that hold whatever their argument is, and conditions that never do.
-use Rattle.std.specs.Prelude.{ℕ, ◌<◌, ◌^◌, ◌⊎◌}
-use Rattle.seccompiler.specs.declared.backend.SeccompAction.{SeccompAction}
+use Rattle.std.specs.Prelude.{ℕ, ◌<◌, ◌^◌}
 use Rattle.seccompiler.specs.Policy.{Condition, Compares, operator_part, part_of}
-use Rattle.seccomp_warnings.specs.declared.warning.Actions.{Actions}
 use Rattle.seccomp_warnings.specs.declared.warning.Comparison.{Comparison}
+
+-- The condition at a place of the entry at a place.
+abbrev pub comparison_at : (entry place : ℕ) → Condition → Comparison
+comparison_at entry place c =
+    record { entry = entry; place = place; arg_index = c.arg_index; arg_len = c.arg_len; operator = c.operator; value = c.value }
+
+abbrev pub condition_of : Comparison → Condition
+condition_of c = record { arg_index = c.arg_index; arg_len = c.arg_len; operator = c.operator; value = c.value }
 
 -- The condition's comparison, on some argument: which one plays no part in whether it holds for all values or for none.
 abbrev pub condition_in : Comparison → Condition
@@ -32,7 +38,3 @@ pub record FailsForSome (c : Condition) : Type 0 where
   pub argument : ℕ
   pub fits : argument < 2 ^ 64
   pub fails : HoldsFor c argument → ⊥
-
--- Whether the condition holds for this value of its argument decides for an action that has P.
-abbrev pub Decides : (SeccompAction → Type 0) → Actions → Comparison → ℕ → Type 0
-Decides P actions c x = (HoldsFor (condition_in c) x × P actions.matching) ⊎ ((HoldsFor (condition_in c) x → ⊥) × P actions.mismatch)

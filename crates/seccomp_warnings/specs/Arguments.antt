@@ -1,5 +1,5 @@
 -- What is so of the arguments of calls, by the manual pages of the calls (section 2), that the author of a filter may not mean.
-use Rattle.std.specs.Prelude.{◌≡◌, ◌≢◌, ◌==◌, if◌then◌else◌, ℕ, ◌+◌, ◌^◌, ◌<◌, pos, List, [], ◌∷◌, Bool, IsTrue, bit_and, codes, ⊤}
+use Rattle.std.specs.Prelude.{◌≢◌, ◌==◌, if◌then◌else◌, ℕ, pos, List, [], ◌∷◌, Bool, IsTrue, codes, ⊤}
 use Rattle.std.specs.List.{list_any}
 use Rattle.seccompiler.specs.Architecture.{table_of}
 use Rattle.seccompiler.specs.JsonPolicyOf.{is_number}
@@ -7,11 +7,8 @@ use Rattle.seccompiler.specs.SyscallTable.{number_of}
 use Rattle.seccompiler.specs.declared.backend.SeccompCmpOp.{SeccompCmpOp}
 use Rattle.seccompiler.specs.declared.backend.SeccompCmpOp.TheVariants.{Ge, Gt, Le, Lt}
 use Rattle.seccompiler.specs.declared.backend.TargetArch.{TargetArch}
-use Rattle.seccomp_warnings.specs.ActionWarnings.{Permits}
-use Rattle.seccomp_warnings.specs.AnyArgument.{Decides}
 use Rattle.seccomp_warnings.specs.declared.code.Code.{Code}
 use Rattle.seccomp_warnings.specs.declared.code.Code.TheVariants as code
-use Rattle.seccomp_warnings.specs.declared.warning.Actions.{Actions}
 use Rattle.seccomp_warnings.specs.declared.warning.Comparison.{Comparison}
 
 -- The calls on files, programs, mounts and sockets whose argument of this index is an address, by the prototypes of Linux 6.12
@@ -96,13 +93,6 @@ is_among arch number names = list_any (λ name. is_number (pos number) (number_o
 abbrev pub IsAmong : TargetArch → ℕ → List (List ℕ) → Type 0
 IsAmong arch number names = IsTrue (is_among arch number names)
 
--- The condition denies its own value, and lets it through with this flag, which the value hasn't.
-pub record IsEvadedBy (actions : Actions) (c : Comparison) (flag : ℕ) : Type 0 where
-  pub unset : bit_and c.value flag ≡ 0
-  pub fits : c.value + flag < 2 ^ 64
-  pub denied : Decides (λ action. Permits action → ⊥) actions c c.value
-  pub let_through : Decides Permits actions c (c.value + flag)
-
 -- A flag that the call of this number takes in the argument of this index, and that changes nothing of what it is denied for; 0 if
 -- none is known.
 abbrev pub flag_of : TargetArch → (number index : ℕ) → ℕ
@@ -113,11 +103,6 @@ flag_of arch number index =
     else if is_among arch number (read_calls index) then 1
     else 0
 
--- A caller gets past the condition by such a flag.
-pub record IsFlagEvaded (actions : Actions) (arch : TargetArch) (number : ℕ) (c : Comparison) : Type 0 where
-  pub known : flag_of arch number c.arg_index ≢ 0
-  pub evaded : IsEvadedBy actions c (flag_of arch number c.arg_index)
-
 -- The operator asks for the order of numbers.
 abbrev pub IsOrder : SeccompCmpOp → Type 0
 IsOrder Ge = ⊤
@@ -126,9 +111,8 @@ IsOrder Le = ⊤
 IsOrder Lt = ⊤
 IsOrder operator = ⊥
 
--- What a code says of a condition on an argument of the call of this number is so, in a part of these actions.
-abbrev pub IsSoOfArgument : Code → Actions → TargetArch → (number : ℕ) → Comparison → Type 0
-IsSoOfArgument code.FlagEvades actions arch number c = IsFlagEvaded actions arch number c
-IsSoOfArgument code.PointerCompared actions arch number c = (c.value ≢ 0) × IsAmong arch number (pointer_calls c.arg_index)
-IsSoOfArgument code.SignedCompared actions arch number c = IsOrder c.operator × IsAmong arch number (signed_calls c.arg_index)
-IsSoOfArgument other actions arch number c = ⊥
+-- What a code says of a condition on an argument of the call of this number is so.
+abbrev pub IsSoOfArgument : Code → TargetArch → (number : ℕ) → Comparison → Type 0
+IsSoOfArgument code.PointerCompared arch number c = (c.value ≢ 0) × IsAmong arch number (pointer_calls c.arg_index)
+IsSoOfArgument code.SignedCompared arch number c = IsOrder c.operator × IsAmong arch number (signed_calls c.arg_index)
+IsSoOfArgument other arch number c = ⊥

@@ -3,9 +3,10 @@ pub mod ActionWarnings
 pub mod AnyArgument
 pub mod Arguments
 pub mod CallWarnings
+pub mod Evasions
 pub mod Judgements
 pub mod Parts
+pub mod Picked
 pub mod Warnings
 -- Between layers.
 pub mod Walks
-pub mod Halves

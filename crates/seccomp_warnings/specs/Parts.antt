@@ -3,7 +3,6 @@ use Rattle.std.specs.Prelude.{◌≡◌, List}
 use Rattle.seccompiler.specs.declared.backend.TargetArch.{TargetArch}
 use Rattle.seccompiler.specs.JsonTypes.{JsonFilter}
 use Rattle.seccomp_entries.specs.Entries.{Entry, Lowered}
-use Rattle.seccomp_entries.specs.Policies.{DecidesAs, IsLoweredPolicy}
 use Rattle.seccomp_warnings.specs.declared.warning.Actions.{Actions}
 
 -- Entries that stand beside each other, with two actions: that of the calls that some entry matches, and that of the rest.
@@ -12,12 +11,9 @@ pub record Part : Type 0 where
   pub actions : Actions
   pub entries : List Entry
 
--- A filter of a policy is one part: all its entries in one form, which decide as its policy, with both its actions.
-pub record IsPartOfPolicy (target : TargetArch) (j : JsonFilter) (p : Part) : Type 0 where
-  pub lowered : Lowered
-  pub is_lowered : IsLoweredPolicy target j lowered
-  pub decides : DecidesAs target j lowered
+-- A filter of a policy is one part: all its entries in one form, which are these, with both its actions.
+pub record IsPartOfPolicy (target : TargetArch) (j : JsonFilter) (l : Lowered) (p : Part) : Type 0 where
   pub target_arch : p.target_arch ≡ target
   pub mismatch : p.actions.mismatch ≡ j.mismatch_action
   pub matching : p.actions.matching ≡ j.match_action
-  pub entries : p.entries ≡ lowered.entries
+  pub entries : p.entries ≡ l.entries

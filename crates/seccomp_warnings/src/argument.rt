@@ -1,16 +1,12 @@
 // What is so of the arguments of calls, by the manual pages of the calls (section 2).
 
-ghost use Rattle.std.specs.Prelude.{◌≡◌, ◌↔◌, IsFalse, IsTrue, map};
-ghost use Rattle.seccomp_warnings.specs.ActionWarnings.{Permits};
-ghost use Rattle.seccomp_warnings.specs.AnyArgument.{Decides, HoldsFor, condition_in};
+ghost use Rattle.std.specs.Prelude.{◌≡◌, ◌↔◌, IsTrue, map};
 ghost use Rattle.seccomp_warnings.specs.Arguments as spec;
 
-use crate::action::permits;
 use crate::call::is_number_of;
 use crate::code::Code;
-use crate::condition::part_of;
 use crate::pointers::pointer_calls;
-use crate::warning::{Actions, Comparison};
+use crate::warning::Comparison;
 use seccompiler::{SeccompCmpOp, TargetArch};
 
 // The calls whose argument of this index is signed.
@@ -98,7 +94,7 @@ fn is_among(arch: TargetArch, number: u32, names: &[&str]) -> bool
 }
 
 // A flag that the call takes in the argument of this index, and that changes nothing of what it is denied for; 0 if none is known.
-fn flag_of(arch: TargetArch, number: u32, index: u8) -> u64
+pub(crate) fn flag_of(arch: TargetArch, number: u32, index: u8) -> u64
     ensures { result ≡ spec.flag_of arch number index }
 {
     if is_among(arch, number, close_on_exec_calls(index)) {
@@ -114,61 +110,6 @@ fn flag_of(arch: TargetArch, number: u32, index: u8) -> u64
     }
 }
 
-// Whether the condition holds for this value of its argument.
-fn holds_for(comparison: Comparison, argument: u64) -> bool
-    ensures { IsTrue result ↔ HoldsFor (condition_in comparison) argument }
-{
-    let argument = part_of(comparison.arg_len, argument);
-    let value = part_of(comparison.arg_len, comparison.value);
-    match comparison.operator {
-        SeccompCmpOp::Eq => argument == value,
-        SeccompCmpOp::Ne => argument != value,
-        SeccompCmpOp::Ge => argument >= value,
-        SeccompCmpOp::Gt => argument > value,
-        SeccompCmpOp::Le => argument <= value,
-        SeccompCmpOp::Lt => argument < value,
-        SeccompCmpOp::MaskedEq(mask) => {
-            let mask = part_of(comparison.arg_len, mask);
-            argument & mask == value & mask
-        }
-    }
-}
-
-// Whether the condition decides for letting a call through if its argument has this value.
-fn is_let_through(actions: Actions, comparison: Comparison, argument: u64) -> bool
-    ensures through { IsTrue result ↔ Decides Permits actions comparison argument }
-    ensures denied { IsFalse result ↔ Decides (λ action. Permits action → ⊥) actions comparison argument }
-{
-    if holds_for(comparison, argument) {
-        permits(actions.matching)
-    } else {
-        permits(actions.mismatch)
-    }
-}
-
-// Whether a caller gets past the condition by this flag.
-fn is_evaded_by(actions: Actions, comparison: Comparison, flag: u64) -> bool
-    ensures { IsTrue result ↔ spec.IsEvadedBy actions comparison flag }
-{
-    let value = comparison.value;
-    match value.checked_add(flag) {
-        Some(more) => {
-            value & flag == 0
-                && !is_let_through(actions, comparison, value)
-                && is_let_through(actions, comparison, more)
-        }
-        None => false,
-    }
-}
-
-// Whether a caller gets past the condition on an argument of this call by a flag.
-fn is_evaded(actions: Actions, arch: TargetArch, number: u32, comparison: Comparison) -> bool
-    ensures { IsTrue result ↔ spec.IsFlagEvaded actions arch number comparison }
-{
-    let flag = flag_of(arch, number, comparison.arg_index);
-    flag != 0 && is_evaded_by(actions, comparison, flag)
-}
-
 // Whether the operator asks for the order of numbers.
 fn is_order(operator: SeccompCmpOp) -> bool
     ensures { IsTrue result ↔ spec.IsOrder operator }
@@ -179,19 +120,17 @@ fn is_order(operator: SeccompCmpOp) -> bool
     )
 }
 
-// Whether what a code says is so of a condition on an argument of the call of this number, in a part of these actions.
+// Whether what a code says is so of a condition on an argument of the call of this number.
 pub(crate) fn is_so_of_call(
     code: Code,
-    actions: Actions,
     arch: TargetArch,
     number: u32,
     comparison: Comparison,
 ) -> bool
-    ensures { IsTrue result ↔ spec.IsSoOfArgument code actions arch number comparison }
+    ensures { IsTrue result ↔ spec.IsSoOfArgument code arch number comparison }
 {
     let index = comparison.arg_index;
     match code {
-        Code::FlagEvades => is_evaded(actions, arch, number, comparison),
         Code::PointerCompared => comparison.value != 0
             && is_among(arch, number, pointer_calls(index)),
         Code::SignedCompared => {

@@ -1,15 +1,12 @@
 // What is so of a condition.
 
-ghost use Rattle.std.specs.Prelude.{◌≡◌, ◌<◌, ◌^◌, ◌↔◌, ℕ, IsTrue, IsFalse};
-ghost use Rattle.seccompiler.specs.declared.backend.SeccompCmpOp.TheVariants.{MaskedEq};
+ghost use Rattle.std.specs.Prelude.{◌≡◌, ◌↔◌, IsTrue, IsFalse};
 ghost use Rattle.seccompiler.specs.Policy.{part_of};
 ghost use Rattle.seccomp_warnings.specs.AnyArgument.{HoldsForAll, HoldsForNone, HoldsForSome, FailsForSome, condition_in};
-ghost use Rattle.seccomp_warnings.specs.Halves.{BeginsAbove, EndsAbove, PassesAbove};
-ghost use Rattle.seccomp_warnings.specs.Warnings.{IsSoOfCondition, HasIgnoredHalf, HasValueOutside, IsEvaded};
+ghost use Rattle.seccomp_warnings.specs.Warnings.{IsSoOfCondition, HasIgnoredHalf, HasValueOutside};
 
-use crate::action::permits;
 use crate::code::Code;
-use crate::warning::{Actions, Comparison};
+use crate::warning::Comparison;
 use seccompiler::{SeccompCmpArgLen, SeccompCmpOp};
 
 // The greatest number of 32 bits.
@@ -88,63 +85,15 @@ fn never_holds(comparison: Comparison) -> bool
     }
 }
 
-// Whether what holds for an argument doesn't for one with a high half.
-fn ends_above(operator: SeccompCmpOp, value: u64) -> bool
-    ensures exactly { IsTrue result ↔ EndsAbove operator value }
-    ensures fits { (mask : ℕ) → operator ≡ MaskedEq mask → mask < 2 ^ 64 }
-{
-    match operator {
-        SeccompCmpOp::Eq | SeccompCmpOp::Le => value <= LOW_HALF,
-        SeccompCmpOp::Lt => value > 0 && value <= LOW_HALF,
-        SeccompCmpOp::MaskedEq(mask) => mask > LOW_HALF && value & mask <= LOW_HALF,
-        SeccompCmpOp::Ne | SeccompCmpOp::Gt | SeccompCmpOp::Ge => false,
-    }
-}
-
-// Whether what fails for an argument holds for one with a high half.
-fn begins_above(operator: SeccompCmpOp, value: u64) -> bool
-    ensures { IsTrue result ↔ BeginsAbove operator value }
-{
-    match operator {
-        SeccompCmpOp::Ne | SeccompCmpOp::Gt => value <= LOW_HALF,
-        SeccompCmpOp::Ge => value > 0 && value <= LOW_HALF,
-        SeccompCmpOp::Eq | SeccompCmpOp::Le | SeccompCmpOp::Lt | SeccompCmpOp::MaskedEq(_) => false,
-    }
-}
-
-// Whether a high half passes a comparison of 64 bits in a filter of these actions.
-fn passes_above(actions: Actions, operator: SeccompCmpOp, value: u64) -> bool
-    ensures exactly { IsTrue result ↔ PassesAbove actions operator value }
-    ensures fits { (mask : ℕ) → operator ≡ MaskedEq mask → mask < 2 ^ 64 }
-{
-    let ends = ends_above(operator, value);
-    match (permits(actions.mismatch), permits(actions.matching)) {
-        (true, false) => ends,
-        (false, true) => begins_above(operator, value),
-        _ => false,
-    }
-}
-
-// Whether the condition denies an argument and lets through what differs from it in its high half alone.
-fn is_evaded(actions: Actions, comparison: Comparison) -> bool
-    ensures { IsTrue result ↔ IsEvaded actions comparison }
-{
-    match comparison.arg_len {
-        SeccompCmpArgLen::Dword => false,
-        SeccompCmpArgLen::Qword => passes_above(actions, comparison.operator, comparison.value),
-    }
-}
-
-// Whether what a code says is so of a condition, in a filter of these actions.
-pub(crate) fn is_so_of_condition(code: Code, actions: Actions, comparison: Comparison) -> bool
-    ensures { IsTrue result ↔ IsSoOfCondition code actions comparison }
+// Whether what a code says is so of a condition.
+pub(crate) fn is_so_of_condition(code: Code, comparison: Comparison) -> bool
+    ensures { IsTrue result ↔ IsSoOfCondition code comparison }
 {
     match code {
         Code::HighHalfIgnored => has_ignored_half(comparison),
         Code::ValueOutsideMask => has_value_outside(comparison),
         Code::AlwaysHolds => always_holds(comparison),
         Code::NeverHolds => never_holds(comparison),
-        Code::HighHalfEvades => is_evaded(actions, comparison),
         _ => false,
     }
 }

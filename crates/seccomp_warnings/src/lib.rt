@@ -1,16 +1,16 @@
 //! Warnings of parts of policies and profiles: places that may not say what their author means.
 //!
 //! A policy or a profile with a warning is valid. A [`Part`] has entries that stand beside each other with two actions; a filter of
-//! a policy is one, by [`policy_part`]. [`warnings_of`] gives the warnings of a part, each with its [`Code`] and what it is about,
-//! and [`said_text`] is what is said of it. `docs/CHECKS.md` has a section for each code.
+//! a policy is one. [`warnings_of`] gives the warnings of a part, each with its [`Code`] and what it is about. [`evasions_of`] gives
+//! those that are shown by two calls, of all entries. [`said_text`] is what is said of a code, and `docs/CHECKS.md` has its section.
 //!
 //! ```
-//! use seccomp_warnings::{Code, Warned, policy_warnings_of};
+//! use seccomp_warnings::{Code, FilterWarned, policy_warnings_of};
 //! use seccompiler::{JsonFilter, JsonFrontendError, TargetArch};
 //! use std::alloc::Global;
 //!
 //! /// The warnings of a filter, all but those of `allows-by-default`.
-//! fn warnings_here(alloc: Global, filter: &JsonFilter) -> Result<Warned, JsonFrontendError> {
+//! fn warnings_here(alloc: Global, filter: &JsonFilter) -> Result<FilterWarned, JsonFrontendError> {
 //!     policy_warnings_of(alloc, TargetArch::x86_64, filter, &[Code::AllowsByDefault])
 //! }
 //! ```
@@ -21,6 +21,7 @@ mod argument;
 mod call;
 pub mod code;
 mod condition;
+pub mod evasion;
 pub mod judgement;
 mod part;
 mod pointers;
@@ -32,9 +33,10 @@ pub mod warning;
 
 pub use crate::call::denies_each;
 pub use crate::code::Code;
+pub use crate::evasion::{Evasion, evasions_of};
 pub use crate::judgement::Judgement;
-pub use crate::part::{Part, policy_part};
+pub use crate::part::Part;
 pub use crate::text::{part_of, said_text};
 pub use crate::unlisted::Unlisted;
 pub use crate::walk::{policy_warnings_of, warnings_of};
-pub use crate::warning::{Actions, Comparison, Subject, Warned, Warning};
+pub use crate::warning::{Actions, Comparison, FilterWarned, Subject, Warned, Warning};

@@ -4,7 +4,8 @@ ghost use Rattle.std.specs.Prelude.{◌≡◌, ◌↔◌, ◌⊎◌, map, IfErr,
 ghost use Rattle.seccompiler.specs.JsonPolicyOf.{IsPolicyOf};
 ghost use Rattle.seccompiler.specs.JsonSteps.{IsPolicyRefusal};
 ghost use Rattle.seccompiler.specs.Policy.{Filter};
-ghost use Rattle.seccomp_warnings.specs.Warnings.{AreTrueWarnings, AreWarned, AreWarnings, IsGiven, IsSo, IsSoOfEntryArgument, about, calls_asked, entries_asked, entry_asked, conditions_asked, condition_asked};
+ghost use Rattle.seccomp_warnings.specs.Warnings.{AreTrueWarnings, AreWarned, AreWarnings, IsGiven, IsSo, IsSoOfEntryArgument, about, calls_asked, condition_asked, entry_asked};
+ghost use Rattle.seccomp_warnings.specs.Picked.{numbered};
 ghost use Rattle.seccomp_warnings.specs.CallWarnings.{IsJudged, IsSoOfEntry, all_unlisted};
 ghost use Rattle.seccomp_warnings.specs.Walks.{AddsPicked};
 
@@ -13,31 +14,35 @@ use crate::argument::is_so_of_call;
 use crate::call::{is_judged, is_so_of_entry, is_so_of_unlisted};
 use crate::code::{Code, is_among};
 use crate::condition::is_so_of_condition;
+use crate::evasion::evasions_of;
 use crate::judgement::{Judgement, judgements_of};
-use crate::part::{Part, policy_part};
+use crate::part::{Part, part_by};
 use crate::unlisted::Unlisted;
-use crate::warning::{Comparison, Subject, Warned, Warning};
-use seccomp_entries::Entry;
+use crate::warning::{Comparison, FilterWarned, Subject, Warned, Warning};
+use seccomp_entries::{Entry, lowered_policy};
 use seccompiler::{JsonFilter, JsonFrontendError, SeccompCondition, TargetArch};
 use std::alloc::{AllocError, Global};
 
-/// The warnings of a filter of a policy: those of its part.
+/// The warnings of a filter of a policy: those of its part, and its evasions.
 ///
 /// # Errors
 ///
-/// Those of [`policy_part`].
+/// Those of [`lowered_policy`].
 pub fn policy_warnings_of(
     alloc: Global,
     target: TargetArch,
     filter: &JsonFilter,
     allowed: &[Code],
-) -> Result<Warned, JsonFrontendError>
+) -> Result<FilterWarned, JsonFrontendError>
     ensures warnings { IfOk result (AreTrueWarnings target allowed.now filter.now) }
     ensures policy { OnOk result ((policy : Filter) × IsPolicyOf target filter.now policy) }
     ensures refusal { IfErr result (IsPolicyRefusal target filter.now) }
 {
-    let part = policy_part(alloc, target, filter)?;
-    Ok(warnings_of(alloc, &part, allowed)?)
+    let lowered = lowered_policy(alloc, target, filter)?;
+    let evasions = evasions_of(alloc, &lowered, allowed)?;
+    let part = part_by(target, filter, lowered);
+    let of_part = warnings_of(alloc, &part, allowed)?;
+    Ok(FilterWarned { of_part, evasions })
 }
 
 /// The warnings of a part: exactly those that are true of it and whose codes aren't allowed, beside what is so of its entries beside
@@ -105,13 +110,7 @@ fn is_so_of_argument(code: Code, part: &Part, comparison: Comparison) -> bool
     ensures { IsTrue result ↔ IsSoOfEntryArgument code part.now comparison }
 {
     match part.entries.get(comparison.entry) {
-        Some(entry) => is_so_of_call(
-            code,
-            part.actions,
-            part.target_arch,
-            entry.number,
-            comparison,
-        ),
+        Some(entry) => is_so_of_call(code, part.target_arch, entry.number, comparison),
         None => false,
     }
 }
@@ -128,7 +127,7 @@ fn is_so(judgements: &[Judgement], part: &Part, warning: Warning) -> bool
         Subject::MismatchCall(call) => is_so_of_unlisted(warning.code, part, call),
         Subject::Entry(place) => is_so_of_place(warning.code, judgements, part, place),
         Subject::Condition(comparison) => {
-            is_so_of_condition(warning.code, part.actions, comparison)
+            is_so_of_condition(warning.code, comparison)
                 || is_so_of_argument(warning.code, part, comparison)
         }
     }
@@ -227,7 +226,7 @@ fn push_conditions(
     entry: usize,
     conditions: &[SeccompCondition],
 ) -> Result<(), AllocError>
-    ensures { OnOk result (AddsPicked allowed.now judgements.now part.now (conditions_asked entry 0 conditions.now) warnings.old.items warnings.new.items) }
+    ensures { OnOk result (AddsPicked allowed.now judgements.now part.now (numbered (condition_asked entry) 0 conditions.now) warnings.old.items warnings.new.items) }
 {
     for (place, condition) in conditions.iter().enumerate() {
         push_condition(warnings, allowed, judgements, part, entry, place, condition)?;
@@ -267,7 +266,7 @@ fn push_entries(
     part: &Part,
     entries: &[Entry],
 ) -> Result<(), AllocError>
-    ensures { OnOk result (AddsPicked allowed.now judgements.now part.now (entries_asked 0 entries.now) warnings.old.items warnings.new.items) }
+    ensures { OnOk result (AddsPicked allowed.now judgements.now part.now (numbered entry_asked 0 entries.now) warnings.old.items warnings.new.items) }
 {
     for (place, entry) in entries.iter().enumerate() {
         push_entry(warnings, allowed, judgements, part, place, entry)?;

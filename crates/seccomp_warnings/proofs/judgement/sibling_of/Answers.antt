@@ -1,4 +1,4 @@
-use Rattle.std.proofs.Common.{◌≡◌, ℕ, List, ap, rules, subst}
+use Rattle.std.proofs.Common.{ℕ, List, ap, rules, subst}
 use Rattle.std.specs.Prelude.{IfNone, IfSome}
 use Rattle.seccompiler.specs.declared.backend.TargetArch.{TargetArch}
 use Rattle.seccomp_entries.specs.Entries.{Entry}

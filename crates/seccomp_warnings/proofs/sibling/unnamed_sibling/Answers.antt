@@ -1,4 +1,4 @@
-use Rattle.std.proofs.Common.{List, ℕ, map, subst}
+use Rattle.std.proofs.Common.{List, ℕ, subst}
 use Rattle.std.specs.Prelude.{All, Any, Contains}
 use Rattle.std.proofs.lemmas.List.Elements.{All-map}
 use Rattle.seccomp_warnings.specs.CallWarnings.{IsNumberOf}

@@ -1,6 +1,6 @@
 use Rattle.std.proofs.Common.{List, refl, subst, ◌∙◌}
 use Rattle.std.proofs.lemmas.List.{take_all}
-use Rattle.seccomp_warnings.specs.Warnings.{calls_asked}
+use Rattle.seccomp_warnings.specs.Warnings.{IsGiven, calls_asked}
 use Rattle.seccomp_warnings.specs.Walks.{AddsPicked}
 use Rattle.seccomp_warnings.specs.declared.warning.Warning.{Warning}
 use Rattle.seccomp_warnings.proofs.Picked.{adds_none, calls_more, of_codes}
@@ -8,7 +8,8 @@ use Rattle.seccomp_warnings.proofs.walk.push_calls.Goals as goal
 
 pub loop-call-init : goal.loop-call-init
 loop-call-init c =
-    record { whole = c.all-call-items.ensures; adds = adds_none c.args.allowed.now c.args.judgements.now c.args.part.now _ _ refl }
+    let given = IsGiven c.args.allowed.now c.args.judgements.now c.args.part.now in
+    record { whole = c.all-call-items.ensures; adds = adds_none given _ _ refl }
 
 pub loop-call-preserved : goal.loop-call-preserved
 loop-call-preserved c =

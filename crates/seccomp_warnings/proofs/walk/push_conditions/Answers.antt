@@ -1,9 +1,11 @@
-use Rattle.seccomp_warnings.proofs.Picked.{conditions_more}
+use Rattle.seccomp_warnings.specs.Warnings.{IsGiven, condition_asked}
+use Rattle.seccomp_warnings.proofs.Picked.{numbered_more}
 use Rattle.seccomp_warnings.proofs.walk.push_conditions.Goals as goal
 
 pub loop-place-preserved : goal.loop-place-preserved
 loop-place-preserved c =
-    conditions_more c.args.allowed.now c.args.judgements.now c.args.part.now c.args.entry c.loop-place.place c.args.conditions.now
+    numbered_more (IsGiven c.args.allowed.now c.args.judgements.now c.args.part.now) (condition_asked c.args.entry) c.loop-place.place
+    c.args.conditions.now
     c.index-conditions-place.result
     c.args.warnings.now.items
     c.loop-place.warnings.items

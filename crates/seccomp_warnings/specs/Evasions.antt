@@ -1,0 +1,134 @@
+-- Calls by which a filter or a profile is evaded: one that it denies, and one that it lets through and that differs from the first in
+-- what changes nothing of what is denied.
+use Rattle.std.specs.Prelude.{◌≡◌, ℕ, ◌+◌, ◌-◌, ◌*◌, ◌%◌, ◌^◌, ◌⊎◌, List, [], ◌∷◌, ◌++◌, length, take, drop, replicate, Contains}
+use Rattle.std.specs.Prelude.{Bool, true, false, if◌then◌else◌, nat_eq, nat_le, bit_and, bit_xor}
+use Rattle.std.specs.List.{fold}
+use Rattle.std.specs.Int.{w32, w64, to_le_bytes}
+use Rattle.seccompiler.specs.declared.backend.SeccompCmpArgLen.{SeccompCmpArgLen}
+use Rattle.seccompiler.specs.declared.backend.SeccompCmpArgLen.TheVariants.{Dword, Qword}
+use Rattle.seccompiler.specs.declared.backend.SeccompCmpOp.{SeccompCmpOp}
+use Rattle.seccompiler.specs.declared.backend.SeccompCmpOp.TheVariants.{Ge, Gt, Lt, MaskedEq, Ne}
+use Rattle.seccompiler.specs.declared.backend.TargetArch.{TargetArch}
+use Rattle.seccompiler.specs.Architecture.{audit_word}
+use Rattle.seccompiler.specs.Policy.{Condition, Holds, part_of}
+use Rattle.seccomp_entries.specs.Entries.{Entry, IsDecided, Lowered}
+use Rattle.seccomp_warnings.specs.AnyArgument.{comparison_at, condition_of}
+use Rattle.seccomp_warnings.specs.Arguments.{flag_of}
+use Rattle.seccomp_warnings.specs.Picked.{ArePicked, numbered}
+use Rattle.seccomp_warnings.specs.declared.code.Code.{Code}
+use Rattle.seccomp_warnings.specs.declared.code.Code.TheVariants as code
+use Rattle.seccomp_warnings.specs.declared.evasion.Evasion.{Evasion}
+
+-- ---- what is decided
+
+-- This return value lets a call through (seccomp(2): SECCOMP_RET_ALLOW and SECCOMP_RET_LOG).
+abbrev pub IsPermitting : ℕ → Type 0
+IsPermitting w = (w ≡ 0x7fff0000) ⊎ (w ≡ 0x7ffc0000)
+
+-- The entries and defaults let the call of this record through.
+abbrev pub LetsThrough : Lowered → List ℕ → Type 0
+LetsThrough l r = (w : ℕ) × IsDecided l r w × IsPermitting w
+
+-- They deny it.
+abbrev pub DeniesCall : Lowered → List ℕ → Type 0
+DeniesCall l r = (w : ℕ) × IsDecided l r w × (IsPermitting w → ⊥)
+
+-- ---- the two calls
+
+-- The bytes from this one on replaced.
+abbrev pub with_bytes : (at : ℕ) (bytes r : List ℕ) → List ℕ
+with_bytes at bytes r = take at r ++ bytes ++ drop (at + length bytes) r
+
+-- The argument of this index replaced (struct seccomp_data of linux/seccomp.h).
+abbrev pub with_argument : (index argument : ℕ) → List ℕ → List ℕ
+with_argument index argument r = with_bytes (16 + 8 * index) (to_le_bytes w64 argument) r
+
+-- The record of the call of a number whose arguments are 0.
+abbrev pub blank_call : TargetArch → (number : ℕ) → List ℕ
+blank_call arch number = with_bytes 4 (to_le_bytes w32 (audit_word arch)) (with_bytes 0 (to_le_bytes w32 number) (replicate 64 0))
+
+-- The number that a condition compares with, as far as it is compared; of an order the greatest below its border.
+abbrev pub edge_by : SeccompCmpOp → ℕ → ℕ
+edge_by Ge v = v - 1
+edge_by Lt v = v - 1
+edge_by (MaskedEq mask) v = bit_and v mask
+edge_by operator v = v
+
+abbrev pub edge_of : Condition → ℕ
+edge_of c = edge_by c.operator (part_of c.arg_len c.value)
+
+-- The condition holds above that number, and not for it.
+abbrev pub is_above : SeccompCmpOp → Bool
+is_above Ge = true
+is_above Gt = true
+is_above Ne = true
+is_above operator = false
+
+-- A number for which the condition holds, if it does for any.
+abbrev pub likely : Condition → ℕ
+likely c = if is_above c.operator then (edge_of c + 1) % 2 ^ 64 else edge_of c
+
+-- The call that likely meets these conditions: each argument is 0, or the number of the last condition on it.
+abbrev pub likely_call : TargetArch → (number : ℕ) → List Condition → List ℕ
+likely_call arch number conditions = fold (λ r c. with_argument c.arg_index (likely c) r) (blank_call arch number) conditions
+
+-- ---- what they differ in
+
+-- High bits of an argument of 64 bits: those of the mask, or the lowest one; 0 if the value has some, or if only the low half counts.
+abbrev pub high_bits : SeccompCmpArgLen → SeccompCmpOp → ℕ → ℕ
+high_bits Dword operator v = 0
+high_bits Qword (MaskedEq mask) v = if nat_le (bit_and v mask) 0xffffffff then bit_and mask 0xffffffff00000000 else 0
+high_bits Qword operator v = if nat_le v 0xffffffff then 0x100000000 else 0
+
+-- The flag, unless the condition is about it alone: it is the mask, or the number and no close-on-exec flag.
+abbrev pub flag_by : SeccompCmpOp → (number flag : ℕ) → ℕ
+flag_by (MaskedEq mask) number flag = if nat_eq mask flag then 0 else flag
+flag_by operator number flag = if nat_eq number flag then (if nat_eq flag 0x80000 then flag else 0) else flag
+
+-- The bits of the condition's argument in which the calls differ, by the code of the warning; 0 if there are none.
+abbrev pub bits_of : Code → TargetArch → (number : ℕ) → Condition → ℕ
+bits_of code.HighHalfEvades arch number c = high_bits c.arg_len c.operator c.value
+bits_of code.FlagEvades arch number c = flag_by c.operator (edge_of c) (flag_of arch number c.arg_index)
+bits_of other arch number c = 0
+
+-- The pair of calls of the condition at a place of the entry at a place. Both are this call of the number, but for the argument that the
+-- condition compares: in the first it is the number of the condition, and in the second some bits of it differ.
+abbrev pub pair_of : Code → (call : List ℕ) → TargetArch → (number entry place : ℕ) → Condition → Evasion
+pair_of kind call arch number entry place c = record {
+  code = kind;
+  comparison = comparison_at entry place c;
+  denied = with_argument c.arg_index (edge_of c) call;
+  passed = with_argument c.arg_index (bit_xor (edge_of c) (bits_of kind arch number c)) call;
+}
+
+-- ---- evasions
+
+-- The condition holds for one of two calls, and not for the other.
+abbrev pub IsApart : Condition → (denied passed : List ℕ) → Type 0
+IsApart c denied passed = (Holds c denied × (Holds c passed → ⊥)) ⊎ ((Holds c denied → ⊥) × Holds c passed)
+
+-- Of these calls the first is denied and the second let through, and the condition decides it: it holds for one of them alone.
+pub record IsEvasion (l : Lowered) (v : Evasion) : Type 0 where
+  pub apart : IsApart (condition_of v.comparison) v.denied v.passed
+  pub is_denied : DeniesCall l v.denied
+  pub is_let_through : LetsThrough l v.passed
+
+-- It is one, and its code isn't allowed.
+abbrev pub IsShown : List Code → Lowered → Evasion → Type 0
+IsShown allowed l v = IsEvasion l v × (Contains allowed v.code → ⊥)
+
+-- The pairs of a condition, of those of an entry, and of those of all entries, in their order.
+abbrev pub condition_pairs : (call : List ℕ) → TargetArch → (number entry place : ℕ) → Condition → List Evasion
+condition_pairs call arch number entry place c =
+    pair_of code.HighHalfEvades call arch number entry place c ∷ pair_of code.FlagEvades call arch number entry place c ∷ []
+
+abbrev pub entry_pairs : TargetArch → (entry : ℕ) → Entry → List Evasion
+entry_pairs arch entry e =
+    numbered (condition_pairs (likely_call arch e.number e.conditions) arch e.number entry) 0 e.conditions
+
+abbrev pub all_pairs : Lowered → List Evasion
+all_pairs l = numbered (entry_pairs l.target_arch) 0 l.entries
+
+-- The evasions of entries and defaults: exactly those of the pairs that are one and whose codes aren't allowed, in the order of entries.
+abbrev pub AreEvasions : List Code → Lowered → List Evasion → Type 0
+AreEvasions allowed l found = ArePicked (IsShown allowed l) (all_pairs l) found

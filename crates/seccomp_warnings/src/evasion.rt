@@ -1,0 +1,311 @@
+// Evasions: two calls that differ in what changes nothing of what is denied, of which one is denied and the other let through.
+
+ghost use Rattle.std.specs.Prelude.{◌≡◌, ◌+◌, ◌≤◌, ◌↔◌, ◌∷◌, [], IfOk, IsFalse, IsTrue, OnOk, length};
+ghost use Rattle.seccomp_warnings.specs.AnyArgument.{condition_of};
+ghost use Rattle.seccomp_warnings.specs.Evasions as spec;
+ghost use Rattle.seccomp_warnings.specs.Evasions.{AreEvasions, DeniesCall, IsApart, IsPermitting, IsShown, LetsThrough, condition_pairs, entry_pairs, with_argument, with_bytes};
+ghost use Rattle.seccomp_warnings.specs.Walks.{Adds};
+
+use crate::argument::flag_of;
+use crate::code::{Code, is_among};
+use crate::condition::part_of;
+use crate::warning::Comparison;
+use seccomp_entries::{Entry, Lowered, explain};
+use seccompiler::{SeccompCmpArgLen, SeccompCmpOp, SeccompCondition, TargetArch};
+use std::alloc::{AllocError, Global};
+
+/// A condition, and two calls of which one is denied and the other let through, although they differ in what changes nothing of
+/// what is denied.
+#[derive(Clone, Copy)]
+pub struct Evasion {
+    /// The code of the warning: in what the calls differ.
+    pub code: Code,
+    /// The condition that they differ by, and where it stands among all entries.
+    pub comparison: Comparison,
+    /// The record of the call that is denied.
+    pub denied: [u8; 64],
+    /// That of the call that is let through.
+    pub passed: [u8; 64],
+}
+
+/// The evasions of entries and defaults, in the order of the entries, but for those of the allowed codes. Each condition has a pair of
+/// calls for the high half of its argument, and one for a flag. It is an evasion if the first call is denied, the second is let through,
+/// and the condition holds for one of them alone.
+///
+/// # Errors
+///
+/// An error is returned if memory runs out.
+pub fn evasions_of(
+    alloc: Global,
+    lowered: &Lowered,
+    allowed: &[Code],
+) -> Result<Vec<Evasion>, AllocError>
+    ensures { IfOk result (λ found. AreEvasions allowed.now lowered.now found.items) }
+{
+    let mut found = Vec::new(alloc);
+    for (place, entry) in lowered.entries.iter().enumerate() {
+        push_entry(&mut found, lowered, allowed, place, entry)?;
+    }
+    Ok(found)
+}
+
+// Adds those of the conditions of the entry at a place.
+fn push_entry(
+    found: &mut Vec<Evasion>,
+    lowered: &Lowered,
+    allowed: &[Code],
+    entry: usize,
+    own: &Entry,
+) -> Result<(), AllocError>
+    ensures { OnOk result (Adds (IsShown allowed.now lowered.now) (entry_pairs lowered.now.target_arch entry own.now) found.old.items found.new.items) }
+{
+    let call = likely_call(lowered.target_arch, own.number, &own.conditions);
+    for (place, condition) in own.conditions.iter().enumerate() {
+        push_condition(
+            found, lowered, allowed, &call, own.number, entry, place, condition,
+        )?;
+    }
+    Ok(())
+}
+
+// Adds those of the condition at a place of the entry at a place.
+fn push_condition(
+    found: &mut Vec<Evasion>,
+    lowered: &Lowered,
+    allowed: &[Code],
+    call: &[u8; 64],
+    number: u32,
+    entry: usize,
+    place: usize,
+    condition: &SeccompCondition,
+) -> Result<(), AllocError>
+    ensures { OnOk result (Adds (IsShown allowed.now lowered.now) (condition_pairs call.now lowered.now.target_arch number entry place condition.now) found.old.items found.new.items) }
+{
+    let arch = lowered.target_arch;
+    let high = pair_of(
+        Code::HighHalfEvades,
+        call,
+        arch,
+        number,
+        entry,
+        place,
+        condition,
+    );
+    push_shown(found, lowered, allowed, condition, &high)?;
+    let flag = pair_of(
+        Code::FlagEvades,
+        call,
+        arch,
+        number,
+        entry,
+        place,
+        condition,
+    );
+    push_shown(found, lowered, allowed, condition, &flag)?;
+    Ok(())
+}
+
+// Adds a pair of calls of the condition, if it is an evasion and its code isn't allowed.
+fn push_shown(
+    found: &mut Vec<Evasion>,
+    lowered: &Lowered,
+    allowed: &[Code],
+    condition: &SeccompCondition,
+    pair: &Evasion,
+) -> Result<(), AllocError>
+    requires { condition_of pair.now.comparison ≡ condition.now }
+    ensures { OnOk result (Adds (IsShown allowed.now lowered.now) (pair.now ∷ []) found.old.items found.new.items) }
+{
+    if is_shown(lowered, allowed, condition, pair) {
+        found.push(*pair)?;
+    }
+    Ok(())
+}
+
+// Whether a pair of calls of the condition is an evasion, and its code isn't allowed.
+fn is_shown(
+    lowered: &Lowered,
+    allowed: &[Code],
+    condition: &SeccompCondition,
+    pair: &Evasion,
+) -> bool
+    requires { condition_of pair.now.comparison ≡ condition.now }
+    ensures { IsTrue result ↔ IsShown allowed.now lowered.now pair.now }
+{
+    if !is_apart(condition, &pair.denied, &pair.passed) {
+        return false;
+    }
+    if is_let_through(lowered, &pair.denied) {
+        return false;
+    }
+    is_let_through(lowered, &pair.passed) && !is_among(allowed, pair.code)
+}
+
+// Whether the condition holds for one of two calls alone.
+fn is_apart(condition: &SeccompCondition, denied: &[u8; 64], passed: &[u8; 64]) -> bool
+    ensures { IsTrue result ↔ IsApart condition.now denied.now passed.now }
+{
+    if condition.holds(denied) {
+        !condition.holds(passed)
+    } else {
+        condition.holds(passed)
+    }
+}
+
+// Whether a return value lets a call through.
+fn is_permitting(word: u32) -> bool
+    ensures { IsTrue result ↔ IsPermitting word }
+{
+    word == 0x7fff_0000 || word == 0x7ffc_0000
+}
+
+// Whether the call is let through.
+fn is_let_through(lowered: &Lowered, call: &[u8; 64]) -> bool
+    ensures through { IsTrue result ↔ LetsThrough lowered.now call.now }
+    ensures denied { IsFalse result ↔ DeniesCall lowered.now call.now }
+{
+    is_permitting(explain(lowered, call).word)
+}
+
+// The pair of calls of the condition at a place of the entry at a place.
+fn pair_of(
+    code: Code,
+    call: &[u8; 64],
+    arch: TargetArch,
+    number: u32,
+    entry: usize,
+    place: usize,
+    condition: &SeccompCondition,
+) -> Evasion
+    ensures { result ≡ spec.pair_of code call.now arch number entry place condition.now }
+{
+    let comparison = Comparison {
+        entry,
+        place,
+        arg_index: condition.arg_index(),
+        arg_len: condition.arg_len(),
+        operator: condition.operator(),
+        value: condition.value(),
+    };
+    let edge = edge_of(condition);
+    let other = edge ^ bits_of(code, arch, number, condition);
+    Evasion {
+        code,
+        comparison,
+        denied: with_argument(call, condition.arg_index(), edge),
+        passed: with_argument(call, condition.arg_index(), other),
+    }
+}
+
+// The bits of the condition's argument in which the calls of a pair differ.
+fn bits_of(code: Code, arch: TargetArch, number: u32, condition: &SeccompCondition) -> u64
+    ensures { result ≡ spec.bits_of code arch number condition.now }
+{
+    match code {
+        Code::HighHalfEvades => {
+            high_bits(condition.arg_len(), condition.operator(), condition.value())
+        }
+        Code::FlagEvades => {
+            let flag = flag_of(arch, number, condition.arg_index());
+            flag_by(condition.operator(), edge_of(condition), flag)
+        }
+        _ => 0,
+    }
+}
+
+// High bits of an argument that a condition of 64 bits may compare.
+fn high_bits(length: SeccompCmpArgLen, operator: SeccompCmpOp, value: u64) -> u64
+    ensures { result ≡ spec.high_bits length operator value }
+{
+    match (length, operator) {
+        (SeccompCmpArgLen::Dword, _) => 0,
+        (SeccompCmpArgLen::Qword, SeccompCmpOp::MaskedEq(mask)) => {
+            if value & mask <= 0xffff_ffff {
+                mask & 0xffff_ffff_0000_0000
+            } else {
+                0
+            }
+        }
+        (SeccompCmpArgLen::Qword, _) => {
+            if value <= 0xffff_ffff {
+                0x1_0000_0000
+            } else {
+                0
+            }
+        }
+    }
+}
+
+// The flag, unless the condition is about it alone: it is the mask, or the number and no close-on-exec flag.
+fn flag_by(operator: SeccompCmpOp, number: u64, flag: u64) -> u64
+    ensures { result ≡ spec.flag_by operator number flag }
+{
+    match operator {
+        SeccompCmpOp::MaskedEq(mask) => { if mask == flag { 0 } else { flag } }
+        _ => {
+            if number == flag && flag != 0x8_0000 {
+                0
+            } else {
+                flag
+            }
+        }
+    }
+}
+
+// The number that the condition compares with; of an order the greatest below its border.
+fn edge_of(condition: &SeccompCondition) -> u64
+    ensures { result ≡ spec.edge_of condition.now }
+{
+    let value = part_of(condition.arg_len(), condition.value());
+    match condition.operator() {
+        SeccompCmpOp::Ge | SeccompCmpOp::Lt => value.saturating_sub(1),
+        SeccompCmpOp::MaskedEq(mask) => value & mask,
+        SeccompCmpOp::Eq | SeccompCmpOp::Ne | SeccompCmpOp::Gt | SeccompCmpOp::Le => value,
+    }
+}
+
+// A number for which the condition holds, if it does for any.
+fn likely(condition: &SeccompCondition) -> u64
+    ensures { result ≡ spec.likely condition.now }
+{
+    let edge = edge_of(condition);
+    match condition.operator() {
+        SeccompCmpOp::Ge | SeccompCmpOp::Gt | SeccompCmpOp::Ne => edge.wrapping_add(1),
+        _ => edge,
+    }
+}
+
+// The call of this number that likely meets the conditions.
+fn likely_call(arch: TargetArch, number: u32, conditions: &[SeccompCondition]) -> [u8; 64]
+    ensures { result ≡ spec.likely_call arch number conditions.now }
+{
+    let mut call = [0; 64];
+    put(&mut call, 0, &number.to_le_bytes());
+    put(&mut call, 4, &arch.get_audit_value().to_le_bytes());
+    for condition in conditions {
+        call = with_argument(&call, condition.arg_index(), likely(condition));
+    }
+    call
+}
+
+// Replaces the bytes from this one on.
+fn put(call: &mut [u8; 64], at: usize, bytes: &[u8])
+    requires { at + length bytes.now ≤ 64 }
+    ensures { call.new ≡ with_bytes at bytes.now call.old }
+{
+    call[at..at + bytes.len()].copy_from_slice(bytes);
+}
+
+// The same call with this argument.
+fn with_argument(call: &[u8; 64], index: u8, argument: u64) -> [u8; 64]
+    requires { index ≤ 5 }
+    ensures { result ≡ with_argument index argument call.now }
+{
+    let mut other = *call;
+    put(
+        &mut other,
+        16 + 8 * usize::from(index),
+        &argument.to_le_bytes(),
+    );
+    other
+}

@@ -2,6 +2,8 @@
 pub mod Clashes
 pub mod Doubts
 pub mod Effective
+pub mod Listed
 pub mod Parts
+pub mod Rejected
 pub mod Told
 pub mod Warnings

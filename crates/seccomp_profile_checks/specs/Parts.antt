@@ -4,10 +4,7 @@ use Rattle.std.specs.List.{AllZip}
 use Rattle.seccompiler.specs.declared.backend.SeccompAction.{SeccompAction}
 use Rattle.seccompiler.specs.declared.backend.SeccompAction.TheVariants.{Allow}
 use Rattle.seccompiler.specs.declared.backend.TargetArch.{TargetArch}
-use Rattle.seccomp_entries.specs.Entries.{Entry, Lowered}
-use Rattle.seccomp_oci.specs.Lowered.{IsLoweredProfile}
-use Rattle.seccomp_oci.specs.Types.{Container, Profile}
-use Rattle.seccomp_profile_checks.specs.Effective.{AreEffective}
+use Rattle.seccomp_entries.specs.Entries.{Entry}
 use Rattle.seccomp_profile_checks.specs.declared.parts.Origin.{Origin}
 use Rattle.seccomp_warnings.specs.Parts.{Part}
 
@@ -46,12 +43,6 @@ pub data AreWithDefault (arch : TargetArch) (effective : List Entry) (default : 
   allows : default ≡ Allow → AreWithDefault arch effective default own own
   denies : default ≢ Allow → (p : Part) → IsPartOfDefault arch effective default p
       → AreWithDefault arch effective default own (own ++ p ∷ [])
-
--- The effective entries of a profile in one form.
-pub record AreEffectiveIn (arch : TargetArch) (container : Container) (profile : Profile) (effective : List Entry) : Type 0 where
-  pub lowered : Lowered
-  pub is_lowered : IsLoweredProfile arch container profile lowered
-  pub are_effective : AreEffective lowered.entries effective
 
 -- The parts of a profile of this default action, of its effective entries: one for each action but allow, and one of the default action.
 pub record AreParts (arch : TargetArch) (default : SeccompAction) (effective : List Entry) (parts : List Part) : Type 0 where

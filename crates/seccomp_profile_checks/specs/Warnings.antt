@@ -1,13 +1,20 @@
 -- The warnings of a profile: those of its own, and those of its parts.
-use Rattle.std.specs.Prelude.{◌≡◌, ◌≢◌, ◌++◌, All, Contains, List, [], map, ⊤}
-use Rattle.seccomp_entries.specs.Entries.{Entry}
+use Rattle.std.specs.Prelude.{◌≡◌, ◌≢◌, ◌↔◌, ◌++◌, ℕ, Bool, All, Contains, IsTrue, List, [], map, ⊤}
+use Rattle.serde_json.specs.Data.{Data}
+use Rattle.seccomp_entries.specs.Entries.{Entry, Lowered}
+use Rattle.seccompiler.specs.JsonAnswers.{IsReadAs}
+use Rattle.seccompiler.specs.declared.backend.TargetArch.TheVariants.{x86_64}
 use Rattle.seccompiler.specs.declared.backend.TargetArch.{TargetArch}
+use Rattle.seccomp_oci.specs.Lowered.{IsLoweredProfile}
 use Rattle.seccomp_oci.specs.Types.{Container, Profile}
 use Rattle.seccomp_profile_checks.specs.Clashes.{AreClashes}
 use Rattle.seccomp_profile_checks.specs.Doubts.{IsDoubt}
-use Rattle.seccomp_profile_checks.specs.Parts.{AreEffectiveIn}
+use Rattle.seccomp_profile_checks.specs.Effective.{AreEffective}
+use Rattle.seccomp_profile_checks.specs.Listed.{ListsX86}
 use Rattle.seccomp_profile_checks.specs.Told.{AreToldOfProfile}
 use Rattle.seccomp_profile_checks.specs.declared.clashes.Clash.{Clash}
+use Rattle.seccomp_profile_checks.specs.declared.clashes.Effect.{Effect}
+use Rattle.seccomp_profile_checks.specs.declared.clashes.Effect.TheVariants.{Miscompiled, Rejected}
 use Rattle.seccomp_profile_checks.specs.declared.doubts.Doubt.{Doubt}
 use Rattle.seccomp_profile_checks.specs.declared.doubts.Doubt.TheVariants as doubt
 use Rattle.seccomp_profile_checks.specs.declared.told.Told.{Told}
@@ -22,14 +29,17 @@ abbrev pub doubt_code : Doubt → Code
 doubt_code (doubt.EqualsDefault place) = code.NoEffect
 doubt_code (doubt.Behind first second number) = code.NoEffect
 doubt_code (doubt.OpenOrder first second call) = code.OpenOrder
-doubt_code (doubt.SameConditions first second number) = code.RefusedByLibseccomp
 doubt_code (doubt.LargeErrno place) = code.RefusedByLibseccomp
 doubt_code doubt.LargeDefaultErrno = code.RefusedByLibseccomp
 doubt_code (doubt.ManyConditions place) = code.RuntimesDiffer
 
+abbrev pub effect_code : Effect → Code
+effect_code Miscompiled = code.LibseccompMiscompiles
+effect_code (Rejected x86) = code.RefusedByLibseccomp
+
 abbrev pub code_of : ProfileWarning → Code
 code_of (Doubtful d) = doubt_code d
-code_of (Clashing c) = code.LibseccompMiscompiles
+code_of (Clashing c) = effect_code c.effect
 code_of Flags = code.RuntimesDiffer
 code_of (UnknownKey key) = code.UnknownKey
 code_of (OfEntries w origin) = w.code
@@ -57,22 +67,34 @@ AreStillTold arch container p allowed old new = All (IsTold arch container p all
 abbrev pub of_told : Told → ProfileWarning
 of_told t = OfEntries t.warning t.origin
 
--- Of these entries exactly those that libseccomp may get wrong, as warnings of the profile, unless their code is allowed.
-pub data AreClashesTold (allowed : List Code) (effective : List Entry) : List ProfileWarning → Type 0 where
-  allowed : Contains allowed code.LibseccompMiscompiles → AreClashesTold allowed effective []
-  told : (Contains allowed code.LibseccompMiscompiles → ⊥) → (clashes : List Clash) → AreClashes effective effective clashes
-      → AreClashesTold allowed effective (map Clashing clashes)
+-- Of these entries exactly those to which libseccomp does this, as warnings of the profile, unless their code is allowed.
+pub data AreClashesTold (allowed : List Code) (effect : Effect) (entries : List Entry) : List ProfileWarning → Type 0 where
+  allowed : Contains allowed (effect_code effect) → AreClashesTold allowed effect entries []
+  told : (Contains allowed (effect_code effect) → ⊥) → (clashes : List Clash) → AreClashes effect entries entries clashes
+      → AreClashesTold allowed effect entries (map Clashing clashes)
 
--- The warnings of a profile: some of its own, each of which is so; then exactly those of entries that libseccomp may get wrong; and then
--- exactly what is told of its parts.
-pub record AreProfileWarnings (arch : TargetArch) (container : Container) (allowed : List Code) (p : Profile) (all : List ProfileWarning)
-    : Type 0 where
+-- Whether the profile of the text lists x86 beside x86_64.
+pub record IsX86Of (arch : TargetArch) (text : List ℕ) (x86 : Bool) : Type 0 where
+  pub value : Data
+  pub is_read : IsReadAs text value
+  pub lists : IsTrue x86 ↔ ((arch ≡ x86_64) × ListsX86 value)
+
+-- The warnings of a profile, which has this text: some of its own, each of which is so; then exactly those of entries that libseccomp
+-- rejects, and of those that it may get wrong; and then exactly what is told of its parts.
+pub record AreProfileWarnings (arch : TargetArch) (container : Container) (allowed : List Code) (p : Profile) (text : List ℕ)
+    (all : List ProfileWarning) : Type 0 where
   pub own : List ProfileWarning
   pub own_are : All (IsTold arch container p allowed) own
+  pub x86 : Bool
+  pub x86_is : IsX86Of arch text x86
+  pub lowered : Lowered
+  pub is_lowered : IsLoweredProfile arch container p lowered
+  pub rejected : List ProfileWarning
+  pub are_rejected : AreClashesTold allowed (Rejected x86) lowered.entries rejected
   pub effective : List Entry
-  pub are_effective : AreEffectiveIn arch container p effective
+  pub are_effective : AreEffective lowered.entries effective
   pub clashes : List ProfileWarning
-  pub are_clashes : AreClashesTold allowed effective clashes
+  pub are_clashes : AreClashesTold allowed Miscompiled effective clashes
   pub told : List Told
   pub are_told : AreToldOfProfile arch allowed p.default effective told
-  pub all_are : all ≡ (own ++ clashes) ++ map of_told told
+  pub all_are : all ≡ ((own ++ rejected) ++ clashes) ++ map of_told told

@@ -1,40 +1,18 @@
 // Which entries decide some call.
 
 ghost use Rattle.std.specs.Prelude.{◌≡◌, ◌↔◌, [], IfOk, IsTrue};
-ghost use Rattle.seccomp_oci.specs.Types.{AllOnArguments};
 ghost use Rattle.seccomp_profile_checks.specs.Effective.{AreEffective};
-ghost use Rattle.seccomp_profile_checks.specs.Parts.{AreEffectiveIn};
 ghost use Rattle.seccomp_entries.specs.Rulings.{AreOfCalls};
 
 use seccomp_entries::Entry;
-use seccomp_oci::{Container, Profile, lowered_profile};
-use seccompiler::TargetArch;
 use std::alloc::{AllocError, Global};
 
 // One more than the greatest number of a call that has a name.
 const NUMBERS: usize = 463;
 
-/// The *effective* entries of a profile in one form: those whose number none in front of them has without conditions.
-///
-/// # Errors
-///
-/// `AllocError` if memory runs out.
-pub fn effective_entries(
-    alloc: Global,
-    target: TargetArch,
-    container: &Container,
-    profile: &Profile,
-) -> Result<Vec<Entry>, AllocError>
-    requires { AllOnArguments profile.now.entries }
-    ensures { IfOk result (λ effective. AreEffectiveIn target container.now profile.now effective.items) }
-{
-    let lowered = lowered_profile(alloc, target, container, profile)?;
-    effective_of(alloc, lowered.entries.as_slice())
-}
-
-// Of the entries those whose calls none in front settles, in their order: none of the same number has no conditions. So each
-// decides some call, unless its conditions never hold.
-fn effective_of(alloc: Global, entries: &[Entry]) -> Result<Vec<Entry>, AllocError>
+/// Of the entries of a profile in one form those whose calls none in front settles, in their order: none of the same number has no
+/// conditions. So each decides some call, unless its conditions never hold.
+pub(crate) fn effective_of(alloc: Global, entries: &[Entry]) -> Result<Vec<Entry>, AllocError>
     requires { AreOfCalls entries.now }
     ensures { IfOk result (λ own. AreEffective entries.now own.items) }
 {

@@ -7,13 +7,14 @@
 pub mod clashes;
 pub mod doubts;
 mod effective;
+mod listed;
 pub mod parts;
+mod rejected;
 mod told;
 mod tries;
 pub mod warnings;
 
-pub use clashes::Clash;
+pub use clashes::{Clash, Effect};
 pub use doubts::{Doubt, doubts_of};
-pub use effective::effective_entries;
 pub use parts::{Origin, parts_of};
 pub use warnings::{ProfileWarning, code_of, profile_warnings_of};

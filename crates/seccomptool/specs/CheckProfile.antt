@@ -16,7 +16,7 @@ pub record IsProfileCheckOf (target : TargetArch) (container : Container) (allow
     (checked : CheckedProfile) : Type 0 where
   pub compiled : IsCompiledProfile target container false text checked.compiled
   pub of_text : IsProfileText text checked.profile
-  pub warnings : AreProfileWarnings target container allowed checked.profile checked.warnings.items
+  pub warnings : AreProfileWarnings target container allowed checked.profile text checked.warnings.items
 
 -- Why a profile is rejected: what its compiler finds, in which is no lack of memory; or lack of memory.
 abbrev pub IsRefusedProfile : TargetArch → Container → (strict : Bool) → (text : List ℕ) → ToolError → Type 0

@@ -4,7 +4,10 @@ use Rattle.seccompiler.specs.declared.backend.SeccompCmpOp.{SeccompCmpOp}
 use Rattle.seccompiler.specs.declared.backend.SeccompCmpOp.TheVariants.{Eq, MaskedEq}
 use Rattle.seccompiler.specs.Policy.{Condition}
 use Rattle.seccomp_entries.specs.Entries.{Entry}
+use Rattle.seccomp_profile_checks.specs.Rejected.{Rejects}
 use Rattle.seccomp_profile_checks.specs.declared.clashes.Clash.{Clash}
+use Rattle.seccomp_profile_checks.specs.declared.clashes.Effect.{Effect}
+use Rattle.seccomp_profile_checks.specs.declared.clashes.Effect.TheVariants.{Miscompiled, Rejected}
 
 -- The operator is none of SCMP_CMP_EQ and SCMP_CMP_MASKED_EQ.
 abbrev pub is_order : SeccompCmpOp → Bool
@@ -62,19 +65,25 @@ pub record Clashes (all : List Entry) (e f : Entry) : Type 0 where
 
 -- ---- what is said
 
+-- libseccomp does this to the first entry, since the second is beside it.
+abbrev pub Affects : Effect → (all : List Entry) → Entry → Entry → Type 0
+Affects Miscompiled all e f = Clashes all e f
+Affects (Rejected x86) all e f = Rejects x86 all e f
+
 -- It says so of the entry, and names one that is beside it.
-pub record IsClashOf (all : List Entry) (e : Entry) (c : Clash) : Type 0 where
+pub record IsClashOf (effect : Effect) (all : List Entry) (e : Entry) (c : Clash) : Type 0 where
+  pub effect_is : c.effect ≡ effect
   pub place : c.place ≡ e.place
   pub number : c.number ≡ e.number
-  pub beside : Any (λ f. Clashes all e f × (f.place ≡ c.beside)) all
+  pub beside : Any (λ f. Affects effect all e f × (f.place ≡ c.beside)) all
 
--- Of these entries exactly those that clash with one of all, in their order.
-pub data AreClashes (all : List Entry) : (entries : List Entry) → List Clash → Type 0 where
-  none : AreClashes all [] []
-  taken : {es : List Entry} {own : List Clash} (e : Entry) (c : Clash) → IsClashOf all e c → AreClashes all es own
-      → AreClashes all (es ++ e ∷ []) (own ++ c ∷ [])
-  passed : {es : List Entry} {own : List Clash} (e : Entry) → (Any (Clashes all e) all → ⊥) → AreClashes all es own
-      → AreClashes all (es ++ e ∷ []) own
+-- Of these entries exactly those to which libseccomp does this, in their order.
+pub data AreClashes (effect : Effect) (all : List Entry) : (entries : List Entry) → List Clash → Type 0 where
+  none : AreClashes effect all [] []
+  taken : {es : List Entry} {own : List Clash} (e : Entry) (c : Clash) → IsClashOf effect all e c → AreClashes effect all es own
+      → AreClashes effect all (es ++ e ∷ []) (own ++ c ∷ [])
+  passed : {es : List Entry} {own : List Clash} (e : Entry) → (Any (Affects effect all e) all → ⊥) → AreClashes effect all es own
+      → AreClashes effect all (es ++ e ∷ []) own
 
 -- ---- between the private functions of `clashes`
 

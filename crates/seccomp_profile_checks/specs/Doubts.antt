@@ -40,19 +40,13 @@ pub record IsBehind (arch : TargetArch) (container : Container) (p : Profile) (f
   pub concerns : AtEntry p.entries second (Concerns arch container p.default number)
   pub apart : first ≢ second
 
--- Both entries have the same conditions for the calls of this number, which none settles, and different actions.
-abbrev pub AreSame : TargetArch → Container → Profile → (first second number : ℕ) → Type 0
-AreSame arch container p first second number = NoneSettles arch container p number × AtEntry p.entries first (λ e.
-    Concerns arch container p.default number e × AtEntry p.entries second (λ f.
-    Concerns arch container p.default number f × ((f.args ≡ e.args) × (f.action ≢ e.action))))
-
 -- What is said of the profile is so.
 abbrev pub IsDoubt : TargetArch → Container → Profile → Doubt → Type 0
 IsDoubt arch container p (doubt.EqualsDefault place) = AtEntry p.entries place (λ e. e.action ≡ p.default)
 IsDoubt arch container p (doubt.Behind first second number) = IsBehind arch container p first second number
 IsDoubt arch container p (doubt.OpenOrder first second call) = IsOpen arch container p first second call
-IsDoubt arch container p (doubt.SameConditions first second number) = AreSame arch container p first second number
-IsDoubt arch container p (doubt.LargeErrno place) = AtEntry p.entries place (λ e. IsLargeErrno e.action)
+IsDoubt arch container p (doubt.LargeErrno place) =
+    AtEntry p.entries place (λ e. IsLargeErrno e.action × ((n : ℕ) × Concerns arch container p.default n e))
 IsDoubt arch container p doubt.LargeDefaultErrno = IsLargeErrno p.default
 IsDoubt arch container p (doubt.ManyConditions place) = AtEntry p.entries place (λ e. 6 < length e.args)
 
@@ -115,9 +109,6 @@ pub record IsOpenIn (all : List entries.Entry) (first second : ℕ) (r : List �
   pub decided : IsDecidedAt all r first action
   pub other : Any (MeetsOtherwise second r action) all
 
--- None settles the number, both are for its calls, and they have the same conditions and different actions.
-pub record AreSameIn (own : List Entry) (all : List entries.Entry) (first second number : ℕ) : Type 0 where
-  pub none : NoneSettlesIn all number
-  pub one : Any (IsOfNumber first number) all
-  pub other : Any (IsOfNumber second number) all
-  pub contradict : AtEntry own first (λ e. AtEntry own second (λ f. (f.args ≡ e.args) × (f.action ≢ e.action)))
+-- The entry at this place has an errno that is too large, and one of the entries is of it.
+abbrev pub HasLargeErrno : List Entry → List entries.Entry → ℕ → Type 0
+HasLargeErrno own all place = AtEntry own place (λ e. IsLargeErrno e.action) × Any (λ (e : entries.Entry). e.place ≡ place) all

@@ -3,5 +3,6 @@ pub mod Clashes
 pub mod Doubts
 pub mod Effective
 pub mod Parts
+pub mod Rejected
 pub mod Told
 pub mod Warnings

@@ -1,21 +1,29 @@
 -- The warnings of a profile: those of its own, and those of its parts.
-use Rattle.std.specs.Prelude.{◌≡◌, ◌++◌, All, Contains, List, [], ◌∷◌, if◌then◌else◌, length, map, nat_eq}
-use Rattle.std.specs.List.{range_with_len}
-use Rattle.seccomp_entries.specs.Entries.{Entry}
+use Rattle.std.specs.Prelude.{◌≡◌, ◌++◌, All, Bool, false, Contains, List, [], ◌∷◌, Option, Some, None, if◌then◌else◌, length, map, nat_eq}
+use Rattle.std.specs.Prelude.{slice_get}
+use Rattle.std.specs.List.{flat_map, range_with_len}
+use Rattle.seccomp_entries.specs.Entries.{Entry, Lowered}
 use Rattle.seccompiler.specs.declared.backend.TargetArch.{TargetArch}
+use Rattle.seccompiler.specs.declared.backend.TargetArch.TheVariants.{x86_64}
+use Rattle.seccomp_oci.specs.Lowered.{DecidesAs, IsLoweredProfile}
 use Rattle.seccomp_oci.specs.Types.{Container, Profile}
 use Rattle.seccomp_profile_checks.specs.Clashes.{AreClashes}
 use Rattle.seccomp_profile_checks.specs.Doubts.{IsDoubt}
-use Rattle.seccomp_profile_checks.specs.Parts.{AreEffectiveIn}
+use Rattle.seccomp_profile_checks.specs.Effective.{AreEffective}
+use Rattle.seccomp_profile_checks.specs.Parts.{origin_of}
 use Rattle.seccomp_profile_checks.specs.Told.{AreToldOfProfile}
 use Rattle.seccomp_profile_checks.specs.declared.clashes.Clash.{Clash}
+use Rattle.seccomp_profile_checks.specs.declared.clashes.Effect.{Effect}
+use Rattle.seccomp_profile_checks.specs.declared.clashes.Effect.TheVariants.{Miscompiled, Rejected}
 use Rattle.seccomp_profile_checks.specs.declared.doubts.Doubt.{Doubt}
 use Rattle.seccomp_profile_checks.specs.declared.doubts.Doubt.TheVariants as doubt
 use Rattle.seccomp_profile_checks.specs.declared.told.Told.{Told}
 use Rattle.seccomp_profile_checks.specs.declared.warnings.ProfileWarning.{ProfileWarning}
-use Rattle.seccomp_profile_checks.specs.declared.warnings.ProfileWarning.TheVariants.{Clashing, Doubtful, Flags, UnknownKey, OfEntries}
+use Rattle.seccomp_profile_checks.specs.declared.warnings.ProfileWarning.TheVariants.{Clashing, Doubtful, Evaded, Flags, UnknownKey, OfEntries}
+use Rattle.seccomp_warnings.specs.Evasions.{AreEvasions}
 use Rattle.seccomp_warnings.specs.declared.code.Code.{Code}
 use Rattle.seccomp_warnings.specs.declared.code.Code.TheVariants as code
+use Rattle.seccomp_warnings.specs.declared.evasion.Evasion.{Evasion}
 
 -- ---- codes
 
@@ -23,17 +31,21 @@ abbrev pub doubt_code : Doubt → Code
 doubt_code (doubt.EqualsDefault place) = code.NoEffect
 doubt_code (doubt.Behind first second number) = code.NoEffect
 doubt_code (doubt.OpenOrder first second call) = code.OpenOrder
-doubt_code (doubt.SameConditions first second number) = code.RefusedByLibseccomp
 doubt_code (doubt.LargeErrno place) = code.RefusedByLibseccomp
 doubt_code doubt.LargeDefaultErrno = code.RefusedByLibseccomp
 doubt_code (doubt.ManyConditions place) = code.RuntimesDiffer
 
+abbrev pub effect_code : Effect → Code
+effect_code Miscompiled = code.LibseccompMiscompiles
+effect_code (Rejected x86) = code.RefusedByLibseccomp
+
 abbrev pub code_of : ProfileWarning → Code
 code_of (Doubtful d) = doubt_code d
-code_of (Clashing c) = code.LibseccompMiscompiles
+code_of (Clashing c) = effect_code c.effect
 code_of Flags = code.RuntimesDiffer
 code_of (UnknownKey key) = code.UnknownKey
 code_of (OfEntries w origin) = w.code
+code_of (Evaded v origin) = v.code
 
 -- ---- warnings
 
@@ -45,9 +57,20 @@ keys_told p = map UnknownKey (range_with_len 0 (length p.unknown_keys))
 abbrev pub flags_told : Profile → List ProfileWarning
 flags_told p = if nat_eq (length p.flags) 0 then [] else Flags ∷ []
 
--- The warnings of a profile of which these are the doubts and the clashes.
-abbrev pub own_warnings : Profile → List Doubt → List Clash → List ProfileWarning
-own_warnings p doubts clashes = ((map Doubtful doubts ++ keys_told p) ++ flags_told p) ++ map Clashing clashes
+-- libseccomp makes a program for x86 too.
+abbrev pub has_x86 : TargetArch → Profile → Bool
+has_x86 x86_64 p = p.lists_x86
+has_x86 arch p = false
+
+-- The warnings of a profile of which these are the doubts, the entries in one form and the effective ones: the doubts, its unknown keys
+-- and flags, exactly the entries that libseccomp rejects, and exactly the effective ones that it may get wrong.
+pub record AreOwn (arch : TargetArch) (p : Profile) (doubts : List Doubt) (entries effective : List Entry) (all : List ProfileWarning)
+    : Type 0 where
+  pub rejected : List Clash
+  pub are_rejected : AreClashes (Rejected (has_x86 arch p)) entries entries rejected
+  pub clashes : List Clash
+  pub are_clashes : AreClashes Miscompiled effective effective clashes
+  pub all_are : all ≡ (((map Doubtful doubts ++ keys_told p) ++ flags_told p) ++ map Clashing rejected) ++ map Clashing clashes
 
 -- Of these warnings exactly those whose codes aren't allowed, in order.
 pub data AreKept (allowed : List Code) : List ProfileWarning → List ProfileWarning → Type 0 where
@@ -61,18 +84,31 @@ pub data AreKept (allowed : List Code) : List ProfileWarning → List ProfileWar
 abbrev pub of_told : Told → ProfileWarning
 of_told t = OfEntries t.warning t.origin
 
--- The warnings of a profile: exactly those of its own whose codes aren't allowed, of some doubts, each of which is so, of its unknown keys
--- and flags, and of exactly the entries that libseccomp may get wrong; and then exactly what is told of its parts.
+-- An evasion of these entries, as a warning of the profile.
+abbrev pub evaded_at : Evasion → Option Entry → List ProfileWarning
+evaded_at v None = []
+evaded_at v (Some e) = Evaded v (origin_of e) ∷ []
+
+abbrev pub evaded_in : List Entry → Evasion → List ProfileWarning
+evaded_in entries v = evaded_at v (slice_get entries v.comparison.entry)
+
+-- The warnings of a profile: exactly those of its own, with some doubts, each of which is so, whose codes aren't allowed; then exactly the
+-- evasions of the profile in one form, which decides as the profile; and then exactly what is told of its parts.
 pub record AreProfileWarnings (arch : TargetArch) (container : Container) (allowed : List Code) (p : Profile) (all : List ProfileWarning)
     : Type 0 where
   pub doubts : List Doubt
   pub are_doubts : All (IsDoubt arch container p) doubts
+  pub lowered : Lowered
+  pub is_lowered : IsLoweredProfile arch container p lowered
+  pub decides : DecidesAs arch container p lowered
   pub effective : List Entry
-  pub are_effective : AreEffectiveIn arch container p effective
-  pub clashes : List Clash
-  pub are_clashes : AreClashes effective effective clashes
+  pub are_effective : AreEffective lowered.entries effective
   pub own : List ProfileWarning
-  pub own_are : AreKept allowed (own_warnings p doubts clashes) own
+  pub own_are : AreOwn arch p doubts lowered.entries effective own
+  pub kept : List ProfileWarning
+  pub are_kept : AreKept allowed own kept
+  pub evasions : List Evasion
+  pub are_evasions : AreEvasions allowed lowered evasions
   pub told : List Told
   pub are_told : AreToldOfProfile arch allowed p.default effective told
-  pub all_are : all ≡ own ++ map of_told told
+  pub all_are : all ≡ (kept ++ flat_map (evaded_in lowered.entries) evasions) ++ map of_told told

@@ -1,17 +1,28 @@
-// Entries that libseccomp may get wrong beside each other.
+// Entries that libseccomp may get wrong beside each other, or rejects.
 
-ghost use Rattle.std.specs.Prelude.{◌≡◌, ◌≢◌, ◌<◌, ◌↔◌, ◌⊎◌, Any, IfNone, IfOk, IfSome, IsTrue, length};
+ghost use Rattle.std.specs.Prelude.{◌≡◌, ◌≢◌, ◌<◌, ◌↔◌, ◌⊎◌, Any, IfNone, IfOk, IfSome, IsFalse, IsTrue, length};
 ghost use Rattle.seccomp_profile_checks.specs.Clashes as spec;
-ghost use Rattle.seccomp_profile_checks.specs.Clashes.{AreClashes, AreOne, Clashes, HasSame, IsAnother, IsClashOf, IsDelicate, IsOrderBeside, IsOrderOn, IsOtherOf, Repeats};
+ghost use Rattle.seccomp_profile_checks.specs.Clashes.{Affects, AreClashes, AreOne, Clashes, HasSame, IsAnother, IsClashOf, IsDelicate, IsOrderBeside, IsOrderOn, IsOtherOf, Repeats};
 
+use crate::rejected::rejects;
 use seccomp_entries::Entry;
 use seccompiler::{SeccompCmpOp, SeccompCondition};
 use std::alloc::{AllocError, Global};
 
-/// An entry that libseccomp may get wrong, since another one is beside it: its program may decide otherwise than the profile, or
-/// libseccomp may come to no end.
+/// What libseccomp does to an entry, since another one is beside it.
+#[derive(Clone, Copy, Debug)]
+pub enum Effect {
+    /// Its program may decide otherwise than the profile, or it may come to no end.
+    Miscompiled,
+    /// It rejects the entry, so that no container starts. That of a profile that lists `SCMP_ARCH_X86` says `true`.
+    Rejected(bool),
+}
+
+/// An entry to which libseccomp does this, since another one is beside it.
 #[derive(Clone, Copy, Debug)]
 pub struct Clash {
+    /// What it does.
+    pub effect: Effect,
     /// The place of the entry, from 0.
     pub place: usize,
     /// The place of the other one.
@@ -20,13 +31,17 @@ pub struct Clash {
     pub number: u32,
 }
 
-/// Of these entries those that libseccomp may get wrong.
-pub(crate) fn clashes_of(alloc: Global, entries: &[Entry]) -> Result<Vec<Clash>, AllocError>
-    ensures { IfOk result (λ all. AreClashes entries.now entries.now all.items) }
+/// Of these entries those to which libseccomp does this.
+pub(crate) fn clashes_of(
+    alloc: Global,
+    effect: Effect,
+    entries: &[Entry],
+) -> Result<Vec<Clash>, AllocError>
+    ensures { IfOk result (λ all. AreClashes effect entries.now entries.now all.items) }
 {
     let mut clashes = Vec::new(alloc);
     for entry in entries {
-        let Some(clash) = clash_of(entries, entry) else {
+        let Some(clash) = clash_of(effect, entries, entry) else {
             continue;
         };
         clashes.push(clash)?;
@@ -35,36 +50,56 @@ pub(crate) fn clashes_of(alloc: Global, entries: &[Entry]) -> Result<Vec<Clash>,
 }
 
 // What is so of an entry beside these.
-fn clash_of(entries: &[Entry], entry: &Entry) -> Option<Clash>
-    ensures some { IfSome result (IsClashOf entries.now entry.now) }
-    ensures none { IfNone result (Any (Clashes entries.now entry.now) entries.now → ⊥) }
+fn clash_of(effect: Effect, entries: &[Entry], entry: &Entry) -> Option<Clash>
+    ensures some { IfSome result (IsClashOf effect entries.now entry.now) }
+    ensures none { IfNone result (Any (Affects effect entries.now entry.now) entries.now → ⊥) }
 {
-    let Some(beside) = beside(entries, entry) else {
+    let Some(beside) = beside(effect, entries, entry) else {
         return None;
     };
     let (place, number) = (entry.place, entry.number);
     Some(Clash {
+        effect,
         place,
         beside,
         number,
     })
 }
 
-// The place of one of the entries beside which libseccomp may get this one wrong.
-fn beside(entries: &[Entry], entry: &Entry) -> Option<usize>
-    ensures some { IfSome result (λ place. Any (λ f. Clashes entries.now entry.now f × (f.place ≡ place)) entries.now) }
-    ensures none { IfNone result (Any (Clashes entries.now entry.now) entries.now → ⊥) }
+// The place of one of the entries beside which libseccomp does it to this one.
+fn beside(effect: Effect, entries: &[Entry], entry: &Entry) -> Option<usize>
+    ensures some { IfSome result (λ place. Any (λ f. Affects effect entries.now entry.now f × (f.place ≡ place)) entries.now) }
+    ensures none { IfNone result (Any (Affects effect entries.now entry.now) entries.now → ⊥) }
 {
-    // Most entries aren't, and need no search.
-    if !has_delicate(entries, entry) {
+    if !may_be_affected(effect, entries, entry) {
         return None;
     }
     for other in entries {
-        if clashes(entries, entry, other) {
+        if affects(effect, entries, entry, other) {
             return Some(other.place);
         }
     }
     None
+}
+
+// Most entries can't be miscompiled, and need no search.
+fn may_be_affected(effect: Effect, entries: &[Entry], entry: &Entry) -> bool
+    ensures { IsFalse result → Any (Affects effect entries.now entry.now) entries.now → ⊥ }
+{
+    match effect {
+        Effect::Miscompiled => has_delicate(entries, entry),
+        Effect::Rejected(_) => true,
+    }
+}
+
+// Whether libseccomp does this to the first, since the second is beside it.
+fn affects(effect: Effect, entries: &[Entry], entry: &Entry, other: &Entry) -> bool
+    ensures { IsTrue result ↔ Affects effect entries.now entry.now other.now }
+{
+    match effect {
+        Effect::Miscompiled => clashes(entries, entry, other),
+        Effect::Rejected(x86) => rejects(x86, entries, entry, other),
+    }
 }
 
 // Whether it may clash by one of its conditions.

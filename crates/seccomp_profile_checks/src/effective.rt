@@ -10,13 +10,9 @@ use std::alloc::{AllocError, Global};
 // One more than the greatest number of a call that has a name.
 const NUMBERS: usize = 463;
 
-/// The *effective* entries of a profile in one form: those whose number none in front of them has without conditions, in their order.
-/// So each decides some call, unless its conditions never hold.
-///
-/// # Errors
-///
-/// `AllocError` if memory runs out.
-pub fn effective_of(alloc: Global, entries: &[Entry]) -> Result<Vec<Entry>, AllocError>
+/// Of the entries of a profile in one form those whose calls none in front settles, in their order: none of the same number has no
+/// conditions. So each decides some call, unless its conditions never hold.
+pub(crate) fn effective_of(alloc: Global, entries: &[Entry]) -> Result<Vec<Entry>, AllocError>
     requires { AreOfCalls entries.now }
     ensures { IfOk result (λ own. AreEffective entries.now own.items) }
 {

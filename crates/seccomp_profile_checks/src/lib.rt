@@ -8,12 +8,12 @@ pub mod clashes;
 pub mod doubts;
 mod effective;
 pub mod parts;
+mod rejected;
 mod told;
 mod tries;
 pub mod warnings;
 
-pub use clashes::Clash;
+pub use clashes::{Clash, Effect};
 pub use doubts::{Doubt, doubts_of};
-pub use effective::effective_of;
 pub use parts::{Origin, parts_of};
 pub use warnings::{ProfileWarning, code_of, profile_warnings_of};

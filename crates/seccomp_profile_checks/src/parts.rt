@@ -33,8 +33,8 @@ pub(crate) fn origin_of(entry: &Entry) -> Origin
     }
 }
 
-/// The parts of a profile of this default action and these [effective](crate::effective_of) entries, which `check` warns about. They
-/// are no program of the profile: [`decisions_of_profile`](seccomp_oci::decisions_of_profile) gives what it decides.
+/// The parts of a profile of this default action and these effective entries, which `check` warns about: those that none in
+/// front settles. They are no program of the profile: [`decisions_of_profile`](seccomp_oci::decisions_of_profile) gives what it decides.
 ///
 /// Each action but `allow` has a part of the effective entries with it, beside which all else is allowed. If the default action isn't to
 /// allow, a last part allows what any effective entry is for, and has the default action for all else.

@@ -1,4 +1,4 @@
--- For `is_behind`, `is_open` and `are_same`: what entries of a list say of the profile that they are of.
+-- For `is_behind`, `is_open` and `has_large_errno`: what entries of a list say of the profile that they are of.
 use Rattle.std.proofs.Common.{◌≡◌, ℕ, zero, suc, List, [], ◌∷◌, Option, Some, None, get_or, take, refl, sym, subst, ap, ◌∙◌, arith, All}
 use Rattle.std.specs.Prelude.{Any, slice_get}
 use Rattle.std.specs.List.{AllPairs}
@@ -14,7 +14,7 @@ use Rattle.seccomp_oci.specs.Conditions.{AreConditionsOf, alone, together}
 use Rattle.seccomp_oci.specs.Decision.{Concerns, IsByEntry}
 use Rattle.seccomp_oci.specs.Lowered.{AtEntry, DecidesAs, IsAskedBefore, IsEntryAt, IsLoweredProfile, IsOwn, rank_in}
 use Rattle.seccomp_oci.specs.Lowered.{by_condition, by_number, by_place, by_rank}
-use Rattle.seccomp_profile_checks.specs.Doubts.{AreSame, AreSameIn, IsBehind, IsBehindIn, IsOfNumber, IsOpen, IsOpenIn, IsOther}
+use Rattle.seccomp_profile_checks.specs.Doubts.{HasLargeErrno, IsBehind, IsBehindIn, IsLargeErrno, IsOfNumber, IsOpen, IsOpenIn, IsOther}
 use Rattle.seccomp_profile_checks.specs.Doubts.{IsSettler, MeetsOtherwise, NoneSettles, Settles}
 use Rattle.seccomp_profiles.specs.declared.types.Argument.{Argument}
 use Rattle.seccomp_profiles.specs.Types.{Container, Entry, Profile}
@@ -118,13 +118,6 @@ module _ (arch : TargetArch) (container : Container) (p : Profile) (l : Lowered)
       subst (λ place. AtEntry p.entries place (IsOther arch container p r action)) is_other.0
       (x.0, x.1, record { matches = x.2; differs = λ is. is_other.2 (own.action ∙ ap (λ (x : Entry). x.action) (sym same) ∙ is) })
 
-  -- The entry at a place concerns the number.
-  pub concerns_is : (place n : ℕ) → Any (IsOfNumber place n) l.entries → (x : Entry) → IsEntryAt p.entries place x
-      → Concerns arch container p.default n x
-  concerns_is place n any x at =
-      let own = concerns_at place n any in
-      subst (Concerns arch container p.default n) (same_at p.entries place own.0 x at.0 own.1.1 at.1) own.2
-
   -- The entries of a list are doubtful, and so is the profile.
   pub behind : DecidesAs arch container p l → (first second n : ℕ) → IsBehindIn l.entries first second n
       → IsBehind arch container p first second n
@@ -149,17 +142,9 @@ module _ (arch : TargetArch) (container : Container) (p : Profile) (l : Lowered)
     other = other_at decides r found.action second found.other;
   }
 
-  pub same : (first second n : ℕ) → AreSameIn p.entries l.entries first second n → AreSame arch container p first second n
-  same first second n found =
-      let one = found.contradict in
-      let other = one.2 in (
-        none_settle n found.none,
-        (
-          one.0,
-          one.1,
-          (
-            concerns_is first n found.one one.0 one.1,
-            (other.0, other.1, (concerns_is second n found.other other.0 other.1, other.2)),
-          ),
-        ),
-      )
+  pub large_errno : (place : ℕ) → HasLargeErrno p.entries l.entries place
+      → AtEntry p.entries place (λ e. IsLargeErrno e.action × ((n : ℕ) × Concerns arch container p.default n e))
+  large_errno place ((x, at, large), (k, e, within, is_e, there)) =
+      let own = concerns_at place e.number (k, e, within, is_e, (there, refl)) in
+      let same : own.0 ≡ x = same_at p.entries place own.0 x at.0 own.1.1 at.1 in
+      (x, at, (large, (e.number, subst (Concerns arch container p.default e.number) same own.2)))

@@ -1,8 +1,8 @@
 use Rattle.std.proofs.Common.{take}
 use Rattle.std.specs.Prelude.{All}
-use Rattle.seccomp_profile_checks.specs.Clashes.{Clashes}
+use Rattle.seccomp_profile_checks.specs.Clashes.{Affects}
 use Rattle.seccomp_profile_checks.proofs.clashes.beside.Given as goal
 
--- none of those so far clashes
+-- none of those so far does
 abbrev pub invariant-loop-other : goal.invariant-loop-other
-invariant-loop-other l = All (λ f. Clashes l.entries l.entry f → ⊥) (take l.other-index l.entries)
+invariant-loop-other l = All (λ f. Affects l.effect l.entries l.entry f → ⊥) (take l.other-index l.entries)

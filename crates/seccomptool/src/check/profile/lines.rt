@@ -6,7 +6,7 @@ use crate::findings::lines::push_example;
 use crate::findings::parts::name_of;
 use crate::record::word_at;
 use crate::text::Text;
-use seccomp_profile_checks::{Doubt, Origin, ProfileWarning, code_of};
+use seccomp_profile_checks::{Clash, Doubt, Effect, Origin, ProfileWarning, code_of};
 use seccomp_warnings::{Code, Comparison, Subject, said_text};
 use seccompiler::TargetArch;
 use std::alloc::{AllocError, Global};
@@ -108,14 +108,6 @@ fn spot_of<'a>(
                 (Some(second), (1, number as usize), Part::Whole, call)
             }
             Doubt::ManyConditions { place } => (Some(place), (2, 0), Part::Under("args"), None),
-            Doubt::SameConditions {
-                first,
-                second,
-                number,
-            } => {
-                let call = name_of(target, number);
-                (Some(second), (3, first), Part::Whole, call)
-            }
             Doubt::OpenOrder {
                 first,
                 second,
@@ -195,17 +187,18 @@ fn said_of(
             );
             said.finish_string()
         }
-        ProfileWarning::Doubtful(Doubt::SameConditions { first, .. }) => {
-            format!(in alloc;
-                "syscalls[{first}] has the same args and another action, so no container starts; leave the call out of one of them"
-            )
-        }
-        ProfileWarning::Clashing(clash) => {
-            format!(in alloc;
-                "syscalls[{}] compares the same argument, and libseccomp may make another program or come to no end; write SCMP_CMP_EQ alone, or run the command by jail --oci",
-                clash.beside
-            )
-        }
+        ProfileWarning::Clashing(Clash { effect, beside, .. }) => match effect {
+            Effect::Rejected(_) => {
+                format!(in alloc;
+                    "syscalls[{beside}] has these args and maybe more, and another action, so no container starts; leave the call out of one of them"
+                )
+            }
+            Effect::Miscompiled => {
+                format!(in alloc;
+                    "syscalls[{beside}] compares the same argument, and libseccomp may make another program or come to no end; write SCMP_CMP_EQ alone, or run the command by jail --oci"
+                )
+            }
+        },
         ProfileWarning::Flags => String::from_str(
             alloc,
             "crun sets them, and runc 1.1 starts no container with them; leave them out for runc",

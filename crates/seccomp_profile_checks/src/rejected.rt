@@ -1,0 +1,280 @@
+// Entries that libseccomp rejects behind others, so that no container starts.
+
+ghost use Rattle.std.specs.Prelude.{◌≡◌, ◌≢◌, ◌<◌, ◌≤◌, ◌↔◌, ◌⊎◌, All, Any, IsTrue, unwrap_or};
+ghost use Rattle.seccomp_profile_checks.specs.Rejected as spec;
+ghost use Rattle.seccompiler.specs.declared.backend.SeccompCmpOp.TheVariants.{MaskedEq};
+ghost use Rattle.seccomp_profile_checks.specs.Rejected.{AreOne, Begins, Counts, IsBefore, IsInFront, IsLaterMultiplexed, IsMultiplexed, IsOfX86, IsOther, IsOwn, IsOwnOrPast, IsPast, IsShorter, Rejects, RejectsAs, RejectsByAny, RejectsOnX86};
+
+use seccomp_entries::Entry;
+use seccompiler::{SeccompAction, SeccompCmpOp, SeccompCondition};
+
+// How libseccomp reads conditions: the bits of numbers that count, and the first argument that does.
+#[derive(Clone, Copy)]
+pub(crate) struct Reading {
+    pub(crate) bits: u64,
+    pub(crate) first: u8,
+}
+
+const WHOLE: Reading = Reading {
+    bits: 0xffff_ffff_ffff_ffff,
+    first: 0,
+};
+
+const LOW: Reading = Reading {
+    bits: 0xffff_ffff,
+    first: 0,
+};
+
+const MULTIPLEXED: Reading = Reading {
+    bits: 0xffff_ffff,
+    first: 1,
+};
+
+/// Whether libseccomp rejects an entry, since the other one is in front of it; in a profile that lists `SCMP_ARCH_X86`, or doesn't.
+pub(crate) fn rejects(x86: bool, entries: &[Entry], entry: &Entry, other: &Entry) -> bool
+    ensures { IsTrue result ↔ Rejects x86 entries.now entry.now other.now }
+{
+    is_other(entry, other) && rejects_by_any(x86, entries, entry, other)
+}
+
+fn is_other(entry: &Entry, other: &Entry) -> bool
+    ensures { IsTrue result ↔ IsOther entry.now other.now }
+{
+    other.number == entry.number && is_other_in_front(entry, other)
+}
+
+fn is_other_in_front(entry: &Entry, other: &Entry) -> bool
+    ensures { IsTrue result ↔ (IsInFront other.now entry.now × (other.now.action ≢ entry.now.action)) }
+{
+    is_in_front(other, entry) && !is_same(other.action, entry.action)
+}
+
+fn is_same(one: SeccompAction, other: SeccompAction) -> bool
+    ensures { IsTrue result ↔ (one ≡ other) }
+{
+    one == other
+}
+
+// Whether runtimes add the first before the second.
+fn is_in_front(one: &Entry, other: &Entry) -> bool
+    ensures { IsTrue result ↔ IsInFront one.now other.now }
+{
+    one.place < other.place
+        || one.place == other.place && alternative_of(one) < alternative_of(other)
+}
+
+fn alternative_of(entry: &Entry) -> usize
+    ensures { result ≡ unwrap_or entry.now.alternative 0 }
+{
+    entry.alternative.unwrap_or(0)
+}
+
+// Whether it is rejected in the program of one of the architectures.
+fn rejects_by_any(x86: bool, entries: &[Entry], entry: &Entry, other: &Entry) -> bool
+    ensures { IsTrue result ↔ RejectsByAny x86 entries.now entry.now other.now }
+{
+    rejects_as(WHOLE, entries, entry, other) || x86 && rejects_on_x86(entries, entry, other)
+}
+
+fn rejects_on_x86(entries: &[Entry], entry: &Entry, other: &Entry) -> bool
+    ensures { IsTrue result ↔ RejectsOnX86 entries.now entry.now other.now }
+{
+    rejects_low(entries, entry, other) || rejects_multiplexed(entries, entry, other)
+}
+
+fn rejects_low(entries: &[Entry], entry: &Entry, other: &Entry) -> bool
+    ensures { IsTrue result ↔ (IsOfX86 entry.now.number × RejectsAs spec.low entries.now entry.now other.now) }
+{
+    is_of_x86(entry.number) && rejects_as(LOW, entries, entry, other)
+}
+
+fn rejects_multiplexed(entries: &[Entry], entry: &Entry, other: &Entry) -> bool
+    ensures { IsTrue result ↔ (IsMultiplexed entry.now.number × RejectsAs spec.multiplexed entries.now entry.now other.now) }
+{
+    is_multiplexed(entry.number) && rejects_as(MULTIPLEXED, entries, entry, other)
+}
+
+// Whether x86 has the calls of this number of x86_64.
+fn is_of_x86(number: u32) -> bool
+    ensures { IsTrue result ↔ IsOfX86 number }
+{
+    !matches!(number, 184 | 185 | 214 | 215 | 262 | 320)
+}
+
+// Whether x86 has them by socketcall(2) or ipc(2).
+fn is_multiplexed(number: u32) -> bool
+    ensures { IsTrue result ↔ IsMultiplexed number }
+{
+    is_in(29, 31, number)
+        || (is_in(41, 55, number) || (is_in(64, 71, number) || is_later_multiplexed(number)))
+}
+
+fn is_in(first: u32, last: u32, number: u32) -> bool
+    ensures { IsTrue result ↔ ((first ≤ number) × (number ≤ last)) }
+{
+    first <= number && number <= last
+}
+
+// semtimedop, accept4, recvmmsg and sendmmsg.
+fn is_later_multiplexed(number: u32) -> bool
+    ensures { IsTrue result ↔ IsLaterMultiplexed number }
+{
+    matches!(number, 220 | 288 | 299 | 307)
+}
+
+fn rejects_as(reading: Reading, entries: &[Entry], entry: &Entry, other: &Entry) -> bool
+    ensures { IsTrue result ↔ RejectsAs reading entries.now entry.now other.now }
+{
+    begins_some(reading, entry, other) && !has_shorter(reading, entries, entry, other)
+}
+
+// Whether the entry has tests, with which those of the other begin.
+fn begins_some(reading: Reading, entry: &Entry, other: &Entry) -> bool
+    ensures { IsTrue result ↔ (((0 < reading.first) ⊎ Any (Counts reading) entry.now.conditions) × Begins reading entry.now.conditions other.now.conditions) }
+{
+    has_tests(reading, entry) && begins(reading, entry, other)
+}
+
+fn has_tests(reading: Reading, entry: &Entry) -> bool
+    ensures { IsTrue result ↔ ((0 < reading.first) ⊎ Any (Counts reading) entry.now.conditions) }
+{
+    0 < reading.first
+        || entry
+            .conditions
+            .iter()
+            .any(|condition| counts(reading, condition))
+}
+
+fn has_shorter(reading: Reading, entries: &[Entry], entry: &Entry, other: &Entry) -> bool
+    ensures { IsTrue result ↔ Any (IsShorter reading entry.now other.now) entries.now }
+{
+    entries
+        .iter()
+        .any(|third| is_shorter(reading, entry, other, third))
+}
+
+fn is_shorter(reading: Reading, entry: &Entry, other: &Entry, third: &Entry) -> bool
+    ensures { IsTrue result ↔ IsShorter reading entry.now other.now third.now }
+{
+    is_of_call_in_front(third, entry) && begins_and_has_less(reading, third, other)
+}
+
+fn is_of_call_in_front(one: &Entry, other: &Entry) -> bool
+    ensures { IsTrue result ↔ ((one.now.number ≡ other.now.number) × IsInFront one.now other.now) }
+{
+    one.number == other.number && is_in_front(one, other)
+}
+
+fn begins_and_has_less(reading: Reading, one: &Entry, other: &Entry) -> bool
+    ensures { IsTrue result ↔ (Begins reading one.now.conditions other.now.conditions × (Begins reading other.now.conditions one.now.conditions → ⊥)) }
+{
+    begins(reading, one, other) && !begins(reading, other, one)
+}
+
+// Whether the tests of the other begin with those of the first.
+fn begins(reading: Reading, one: &Entry, other: &Entry) -> bool
+    ensures { IsTrue result ↔ Begins reading one.now.conditions other.now.conditions }
+{
+    are_there(reading, one, other) && are_behind(reading, one, other)
+}
+
+// Whether each test of the first is one of the other.
+fn are_there(reading: Reading, one: &Entry, other: &Entry) -> bool
+    ensures { IsTrue result ↔ All (IsOwn reading other.now.conditions) one.now.conditions }
+{
+    one.conditions
+        .iter()
+        .all(|condition| is_own(reading, other, condition))
+}
+
+#[tactic(auto, unfolding(crate::specs::Rejected::IsOwn))]
+fn is_own(reading: Reading, entry: &Entry, condition: &SeccompCondition) -> bool
+    ensures { IsTrue result ↔ IsOwn reading entry.now.conditions condition.now }
+{
+    !counts(reading, condition) || has_same(reading, entry, condition)
+}
+
+// Whether each other test of the other is behind all of the first.
+fn are_behind(reading: Reading, one: &Entry, other: &Entry) -> bool
+    ensures { IsTrue result ↔ All (IsOwnOrPast reading one.now.conditions) other.now.conditions }
+{
+    other
+        .conditions
+        .iter()
+        .all(|condition| is_own_or_past(reading, one, condition))
+}
+
+#[tactic(auto, unfolding(crate::specs::Rejected::IsOwnOrPast))]
+fn is_own_or_past(reading: Reading, entry: &Entry, condition: &SeccompCondition) -> bool
+    ensures { IsTrue result ↔ IsOwnOrPast reading entry.now.conditions condition.now }
+{
+    is_own(reading, entry, condition) || is_past(reading, entry, condition)
+}
+
+fn is_past(reading: Reading, entry: &Entry, condition: &SeccompCondition) -> bool
+    ensures { IsTrue result ↔ IsPast reading entry.now.conditions condition.now }
+{
+    entry
+        .conditions
+        .iter()
+        .all(|own| is_before(reading, own, condition))
+}
+
+fn is_before(reading: Reading, one: &SeccompCondition, other: &SeccompCondition) -> bool
+    ensures { IsTrue result ↔ IsBefore reading other.now one.now }
+{
+    !counts(reading, one) || one.arg_index() < other.arg_index()
+}
+
+fn has_same(reading: Reading, entry: &Entry, condition: &SeccompCondition) -> bool
+    ensures { IsTrue result ↔ Any (AreOne reading condition.now) entry.now.conditions }
+{
+    entry
+        .conditions
+        .iter()
+        .any(|own| are_one(reading, condition, own))
+}
+
+fn are_one(reading: Reading, one: &SeccompCondition, other: &SeccompCondition) -> bool
+    ensures { IsTrue result ↔ AreOne reading one.now other.now }
+{
+    other.arg_index() == one.arg_index() && compare_alike(reading.bits, one, other)
+}
+
+fn compare_alike(bits: u64, one: &SeccompCondition, other: &SeccompCondition) -> bool
+    ensures { IsTrue result ↔ ((spec.seen_operator bits other.now.operator ≡ spec.seen_operator bits one.now.operator) × (spec.seen_value bits other.now.operator other.now.value ≡ spec.seen_value bits one.now.operator one.now.value)) }
+{
+    seen_operator(bits, other) == seen_operator(bits, one)
+        && seen_value(bits, other) == seen_value(bits, one)
+}
+
+// Whether a condition is tested: its argument counts, and it has no mask of 0.
+fn counts(reading: Reading, condition: &SeccompCondition) -> bool
+    ensures { IsTrue result ↔ Counts reading condition.now }
+{
+    reading.first <= condition.arg_index() && has_mask(reading.bits, condition)
+}
+
+fn has_mask(bits: u64, condition: &SeccompCondition) -> bool
+    ensures { IsTrue result ↔ (spec.seen_operator bits condition.now.operator ≢ MaskedEq 0) }
+{
+    seen_operator(bits, condition) != SeccompCmpOp::MaskedEq(0)
+}
+
+fn seen_operator(bits: u64, condition: &SeccompCondition) -> SeccompCmpOp
+    ensures { result ≡ spec.seen_operator bits condition.now.operator }
+{
+    match condition.operator() {
+        SeccompCmpOp::MaskedEq(mask) => SeccompCmpOp::MaskedEq(mask & bits),
+        operator => operator,
+    }
+}
+
+fn seen_value(bits: u64, condition: &SeccompCondition) -> u64
+    ensures { result ≡ spec.seen_value bits condition.now.operator condition.now.value }
+{
+    match condition.operator() {
+        SeccompCmpOp::MaskedEq(mask) => condition.value() & (mask & bits),
+        _ => condition.value() & bits,
+    }
+}

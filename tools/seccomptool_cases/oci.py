@@ -73,10 +73,15 @@ def concerning(given, words, name):
     """Returns the entries of a profile that concern a call: the action, the place and the conditions of each."""
     default = action_of(given["defaultAction"], given.get("defaultErrnoRet"))
     return [
-        (action, place, one.get("args") or [])
+        (action, place, tested(one.get("args") or []))
         for place, one in enumerate(given.get("syscalls") or []) for action in [action_of(one["action"], one.get("errnoRet"))]
         if action != default and applies(one, *container_of(words)) and name in (one.get("names") or [one.get("name")])
     ]
+
+
+def tested(conditions):
+    """Returns the conditions of an entry: none if each has a mask of 0."""
+    return conditions if any(it["op"] != "SCMP_CMP_MASKED_EQ" or it["value"] for it in conditions) else []
 
 
 def strictness(action):
@@ -272,6 +277,9 @@ KNOWN = [
          "syscalls[1].args[1] of read (0) does not hold, the nearest of 2 entries"),
         ("5", [entry("read", args=EITHER), entry("read", "SCMP_ACT_LOG", args=TWO), entry("write", args=TWO)],
          "syscalls[1].args[0] of read (0) does not hold, the nearest of 2 entries"))],
+    # Masks of 0 make no test, so that the first of these settles the call.
+    *[writes(f"explain --oci - openat {it}", json.dumps(profile(entry("openat", "SCMP_ACT_TRAP", args=[when(0, "MASKED_EQ", 0, 5)]),
+                                                                entry("openat"))), "trap: syscalls[0] of openat (257)\n") for it in range(2)],
     # Names that the architecture doesn't have are no reason, and aren't listed.
     writes("explain --oci unknown-profile.json read", "", "allow: syscalls[0] of read (0)\n"),
     writes("explain --oci - open", json.dumps(profile(entry("read"), entry("no_such_call open"))), "allow: syscalls[1] of open (2)\n"),

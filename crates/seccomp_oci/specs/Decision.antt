@@ -1,6 +1,6 @@
 -- When an entry of a profile applies, and what a profile decides.
 use Rattle.std.specs.Prelude.{◌≡◌, ◌≢◌, ◌<◌, ◌≤◌, ℕ, pos, ◌⊎◌, List, [], ◌∷◌, Option, Some, None, All, Any, Contains, IfSome}
-use Rattle.std.specs.Prelude.{bit_and, codes, ⊤, ◌↔◌, Bool, true, false, IsTrue, length, nat_le, slice_index_or, suc, if◌then◌else◌}
+use Rattle.std.specs.Prelude.{bit_and, codes, ⊤, ◌↔◌, Bool, true, false, IsTrue, length, nat_eq, nat_le, slice_index_or, suc, if◌then◌else◌}
 use Rattle.seccompiler.specs.declared.backend.SeccompAction.{SeccompAction}
 use Rattle.seccompiler.specs.declared.backend.SeccompAction.TheVariants.{Allow, Errno, KillThread, KillProcess, Log, Trace, Trap}
 use Rattle.seccompiler.specs.declared.backend.TargetArch.{TargetArch}
@@ -68,6 +68,24 @@ pub data AreMet (r : List ℕ) (args : List Argument) : Type 0 where
   all_met : (ShareArgument args → ⊥) → All (IsMet r) args → AreMet r args
   one_met : ShareArgument args → Any (IsMet r) args → AreMet r args
 
+abbrev pub is_idle_by : Operator → ℕ → Bool
+is_idle_by MaskedEq mask = nat_eq mask 0
+is_idle_by operator value = false
+
+-- The condition holds whatever the argument is: no bit is compared.
+abbrev pub is_idle : Argument → Bool
+is_idle a = is_idle_by a.operator a.value
+
+-- All of them do.
+abbrev pub are_idle : List Argument → Bool
+are_idle [] = true
+are_idle (a ∷ args) = if is_idle a then are_idle args else false
+
+-- The conditions that are tested: none if each has a mask of 0, so that the entry counts as one without conditions (libseccomp makes no
+-- test of a mask of 0).
+unfoldable pub tested : List Argument → List Argument
+tested args = if are_idle args then [] else args
+
 -- ---- what a profile decides
 
 -- The text is the name of the call of this number on the architecture.
@@ -97,11 +115,11 @@ rank_by [] action = 0
 rank_by (a ∷ args) action = suc (strictness action)
 
 abbrev pub rank : Entry → ℕ
-rank e = rank_by e.args e.action
+rank e = rank_by (tested e.args) e.action
 
 -- The entry concerns the record's call, and the record meets its conditions.
 abbrev pub Matches : TargetArch → Container → SeccompAction → List ℕ → Entry → Type 0
-Matches arch container default r e = Concerns arch container default (word_at r 0) e × AreMet r e.args
+Matches arch container default r e = Concerns arch container default (word_at r 0) e × AreMet r (tested e.args)
 
 -- Of the first n that have a property, the one at this place has the least rank, and is the first that has this rank.
 pub record IsFirstLeast {X : Type 0} (rank_of : X → ℕ) (P : X → Type 0) (xs : List X) (n place : ℕ) (x : X) : Type 0 where

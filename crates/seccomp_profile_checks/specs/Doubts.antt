@@ -8,7 +8,7 @@ use Rattle.seccomp_entries.specs.Entries.{IsDecider, Lowered, Meets}
 use Rattle.seccomp_entries.specs.Entries as entries
 use Rattle.seccomp_profile_checks.specs.declared.doubts.Doubt.{Doubt}
 use Rattle.seccomp_profile_checks.specs.declared.doubts.Doubt.TheVariants as doubt
-use Rattle.seccomp_oci.specs.Decision.{Concerns, IsByEntry, Matches, NoneOf}
+use Rattle.seccomp_oci.specs.Decision.{Concerns, IsByEntry, Matches, NoneOf, tested}
 use Rattle.seccomp_oci.specs.Lowered.{AtEntry, DecidesAs, IsLoweredProfile}
 use Rattle.seccomp_profiles.specs.Types.{Container, Entry, Profile}
 
@@ -19,7 +19,7 @@ IsLargeErrno action = ⊥
 
 -- No entry without conditions concerns the calls of this number.
 abbrev pub NoneSettles : TargetArch → Container → Profile → ℕ → Type 0
-NoneSettles arch container p n = NoneOf (λ e. Concerns arch container p.default n e × (e.args ≡ [])) p.entries (length p.entries)
+NoneSettles arch container p n = NoneOf (λ e. Concerns arch container p.default n e × (tested e.args ≡ [])) p.entries (length p.entries)
 
 -- The entry matches the record, with another action than this one.
 pub record IsOther (arch : TargetArch) (container : Container) (p : Profile) (r : List ℕ) (action : SeccompAction) (e : Entry)

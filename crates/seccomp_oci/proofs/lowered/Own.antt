@@ -14,7 +14,7 @@ use Rattle.seccomp_entries.specs.Entries as entries
 use Rattle.seccomp_oci.specs.Concerns.{AreListsOf, Concern, IsConcernOf, apart, entries_for, entries_from, entries_of_lists, entry_for}
 use Rattle.seccomp_oci.specs.Concerns as said
 use Rattle.seccomp_oci.specs.Conditions.{AreConditionsOf, alone, condition_of, together}
-use Rattle.seccomp_oci.specs.Decision.{Concerns, ShareArgument, rank, rank_by}
+use Rattle.seccomp_oci.specs.Decision.{Concerns, ShareArgument, rank, rank_by, tested}
 use Rattle.seccomp_oci.specs.Lowered.{IsAskedBefore, IsOwn, by_condition, by_number, rank_in}
 use Rattle.seccomp_profiles.specs.declared.types.Argument.{Argument}
 use Rattle.seccomp_profiles.specs.Types.{Container, Entry}
@@ -192,15 +192,15 @@ ranked (b ∷ args) action o cs (alone share k a within there) = refl
 module _ (arch : TargetArch) (container : Container) (default : SeccompAction) (own : List Entry) where
   pub own_rank : (e : entries.Entry) → (is : IsOwn arch container default own e) → rank_in e.conditions e.action ≡ rank is.entry
   own_rank e is =
-      ranked is.entry.args e.action e.alternative e.conditions is.conditions ∙ ap (rank_by is.entry.args) is.action
+      ranked (tested is.entry.args) e.action e.alternative e.conditions is.conditions ∙ ap (rank_by (tested is.entry.args)) is.action
 
   module _ (i : ℕ) (x : Entry) (c : Concern) (within : i < length own) (read : x ≡ get_or own i x)
       (says : IsConcernOf arch container default x c) where
     abbrev each_number : ℕ → List entries.Entry
     each_number n = entries_of_lists i c.action c.alternatives n
 
-    of_number : (n : ℕ) → AreOf i c.action n x.args (each_number n)
-    of_number n = are_of i c.action n x.args c.alternatives says.alternatives
+    of_number : (n : ℕ) → AreOf i c.action n (tested x.args) (each_number n)
+    of_number n = are_of i c.action n (tested x.args) c.alternatives says.alternatives
 
     pub said_only : (e : entries.Entry) → Contains (entries_for i c) e → IsOwn arch container default own e × (e.place ≡ i)
     said_only e has =
@@ -221,7 +221,7 @@ module _ (arch : TargetArch) (container : Container) (default : SeccompAction) (
     said_has e is at =
         let same : is.entry ≡ x = same_at own i is.entry x within (subst (λ k. is.entry ≡ get_or own k is.entry) at is.there) read in
         let concerns = subst (Concerns arch container default e.number) same is.concerns in
-        let conditions = subst (λ (y : Entry). AreConditionsOf y.args e.alternative e.conditions) same is.conditions in
+        let conditions = subst (λ (y : Entry). AreConditionsOf (tested y.args) e.alternative e.conditions) same is.conditions in
         let action : e.action ≡ c.action = is.action ∙ ap (λ (y : Entry). y.action) same ∙ sym says.action in
         to_mapped each_number c.numbers e.number e ((says.numbers.exactly e.number).1 concerns)
         (subst (Contains (each_number e.number))

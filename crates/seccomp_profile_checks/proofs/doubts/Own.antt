@@ -11,7 +11,7 @@ use Rattle.seccompiler.specs.Policy.{Condition, Holds, RuleHolds}
 use Rattle.seccomp_entries.specs.Entries.{Lowered}
 use Rattle.seccomp_entries.specs.Entries as entries
 use Rattle.seccomp_oci.specs.Conditions.{AreConditionsOf, alone, together}
-use Rattle.seccomp_oci.specs.Decision.{Concerns, IsByEntry}
+use Rattle.seccomp_oci.specs.Decision.{Concerns, IsByEntry, tested}
 use Rattle.seccomp_oci.specs.Lowered.{AtEntry, DecidesAs, IsAskedBefore, IsEntryAt, IsLoweredProfile, IsOwn, rank_in}
 use Rattle.seccomp_oci.specs.Lowered.{by_condition, by_number, by_place, by_rank}
 use Rattle.seccomp_profile_checks.specs.Doubts.{HasLargeErrno, IsBehind, IsBehindIn, IsLargeErrno, IsOfNumber, IsOpen, IsOpenIn, IsOther}
@@ -65,7 +65,7 @@ module _ (arch : TargetArch) (container : Container) (p : Profile) (l : Lowered)
         within = within;
         there = there;
         concerns = settles.0;
-        conditions = no_args x.args settles.1;
+        conditions = no_args (tested x.args) settles.1;
         action = refl;
       }) in
       none has.0 e has.1 (subst (Settles n) (sym has.2) (refl, refl))
@@ -79,7 +79,7 @@ module _ (arch : TargetArch) (container : Container) (p : Profile) (l : Lowered)
   none_before e f own (by_place same less) number none = none_ranked e.conditions e.action (same ∙ rank_none f none)
   none_before e f own (by_number at apart) number none = absurd (apart number)
   none_before e f own (by_condition at j k one two less) number none =
-      absurd (not_alternative own.entry.args f.alternative f.conditions own.conditions none k two)
+      absurd (not_alternative (tested own.entry.args) f.alternative f.conditions own.conditions none k two)
 
   module _ (n index : ℕ) (settler : IsSettler l.entries n index) where
     settler_own : Own settler.entry

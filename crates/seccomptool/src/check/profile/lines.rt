@@ -175,7 +175,7 @@ fn said_of(
     match warning {
         ProfileWarning::Doubtful(Doubt::Behind { first, .. }) => {
             format!(in alloc;
-                "syscalls[{first}] decides each of these calls, since it has no args; leave the call out here, or correct that entry"
+                "syscalls[{first}] decides each of these calls, since it tests no argument; leave the call out here, or correct that entry"
             )
         }
         ProfileWarning::Doubtful(Doubt::OpenOrder { first, call, .. }) => {

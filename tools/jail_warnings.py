@@ -40,6 +40,9 @@ CHANCE = random.Random(1)
 BITS = [[1 << bit for bit in CHANCE.sample(range(48), 3)] for _ in range(200)]
 THREES = [(sum(it), PASSES & sum(it) ^ sum(CHANCE.sample(it, CHANCE.randint(1, 3)))) for it in BITS]
 
+# How many of them a high half passes by that none of the others denies.
+EVADED = sum(value <= LOW < mask and not any((value ^ mask & ~LOW) & it == other for it, other in THREES) for mask, value in THREES)
+
 YIELD_OF_X32 = str(X32_BIT + X32_CALLS["sched_yield"])
 
 
@@ -124,6 +127,8 @@ WARNED = {
     "at most 16 as a qword": on_yield(["high-half-evades"], "qword", "le", 16, [0, 16], [17, LOW + 1, LOW + 17]),
     "at most 16 as a dword": on_yield([], "dword", "le", 16, [0, 16, LOW + 1, LOW + 17], [17]),
     "TIOCSTI as a dword": on_terminal([], "dword", "eq", DENIED),
+    "TIOCSTI and all high halves": Shown([], denying(when("ioctl", (1, "qword", "eq", TIOCSTI)), when("ioctl", (1, "qword", "gt", LOW))), [
+        ("ioctl 0 0x5412", DENIED), ("ioctl 0 0x100005412", DENIED), ("ioctl 0 0x5413", NO_TERMINAL)]),
     "kills at the end": Shown(["kills-exit"] * 2, filter_of("kill_process", "allow", "exit", "exit_group"), [
         ("exit 0", KILLED), ("exit_group 0", KILLED)]),
     "kills at a return": Shown(["kills-exit"], filter_of("kill_process", "allow", "rt_sigreturn"), ENDED),
@@ -139,6 +144,10 @@ WARNED = {
     "denies all": Shown(["denies-everything", "kills-exit"], filter_of("trap", {"errno": 1}), []),
     "opens to write": Shown(["flag-evades"], denying(when("openat", (2, "dword", "eq", 1))), [
         ("openat 0 0 1", DENIED), ("openat 0 0 0x80001", NO_ADDRESS)]),
+    "opens to write in either way": Shown([], denying(*(when("openat", (2, "dword", "eq", it)) for it in (1, 0x80001))), [
+        ("openat 0 0 1", DENIED), ("openat 0 0 0x80001", DENIED), ("openat 0 0 2", NO_ADDRESS)]),
+    "opens to write as it ends": Shown(["flag-evades"], denying(when("openat", (2, "dword", "eq", 0x80001))), [
+        ("openat 0 0 0x80001", DENIED), ("openat 0 0 1", NO_ADDRESS)]),
     "a pipe": Shown(["flag-evades"], denying(when("pipe2", (1, "dword", "eq", 0))), [("pipe2 0 0", DENIED), ("pipe2 0 0x80000", NO_ADDRESS)]),
     "memory with a name": Shown(["flag-evades"], denying(when("memfd_create", (1, "dword", "eq", 0))), [
         ("memfd_create 0 0", DENIED), ("memfd_create 0 1", NO_ADDRESS)]),
@@ -168,7 +177,7 @@ WARNED = {
         [("sched_yield 5", DENIED), ("sched_yield 4", DENIED)]),
     "with args": on_yield([], "dword", "eq", 5, [5], [4]),
     "more than 9 and less than 10": Shown(
-        ["unreachable-entry", "high-half-evades"],
+        ["unreachable-entry"],
         denying(when("sched_yield", (0, "qword", "gt", 9), (0, "qword", "lt", 10))),
         [("sched_yield 9", MADE), ("sched_yield 10", MADE)]),
     "more than 9 and less than 11": Shown(
@@ -182,7 +191,7 @@ WARNED = {
         [("sched_yield 3", DENIED), ("sched_yield 5 5", MADE), ("sched_yield 5 12", DENIED)]),
     # Sets of calls are split bit by bit.
     "masks that overlap": Shown(
-        ["undecided-entry"] * len(THREES) + ["high-half-evades"] * sum(value <= LOW < mask for mask, value in THREES),
+        ["undecided-entry"] * len(THREES) + ["high-half-evades"] * EVADED,
         denying(*(when("sched_yield", (0, "qword", {"masked_eq": mask}, value)) for mask, value in THREES)),
         [(f"sched_yield {PASSES}", MADE), (f"sched_yield {THREES[0][1]}", DENIED)]),
 }

@@ -11,6 +11,7 @@ import pathlib
 import random
 import re
 
+from .evasions import EVASIONS, LOW, PERMITS, WHOLE, actions_of, evasions_of, holds, mask_of
 from .forms import OUTPUT, FULL, Case, grouped, rejects, writes
 
 # What is so, and what to write instead.
@@ -30,10 +31,8 @@ SAID = {
     "always-holds": "the condition holds for every argument; leave it out, or correct it",
     "never-holds": "the condition holds for no argument, so the entry matches no call; leave the entry out, or correct "
     "the condition",
-    "high-half-evades": "a caller evades it by setting a high bit, which the kernel ignores for arguments of 32 bits; "
-    'write "dword" for these',
-    "flag-evades": 'a caller evades it by one flag more, such as a close-on-exec flag; write "masked_eq" with a mask of the flags '
-    "that count",
+    "high-half-evades": 'the same call if the argument has 32 bits; then write "dword"',
+    "flag-evades": 'the same but for a flag that changes nothing of it; write "masked_eq" with a mask of the flags that count',
     "pointer-compared": "the argument is an address, which says nothing of what stands there; leave the condition out",
     "signed-compared": 'the argument is signed, and a filter takes negative numbers for large ones; write "eq" or "ne", or a '
     "second condition that bounds it",
@@ -80,16 +79,18 @@ MEANINGS = [(code, first.replace("`", "")) for code, first in SECTIONS]
 # `check --list` prints of each what stands up to the first point or colon.
 CODES_LISTED = "".join(f"{code:22} {re.split('[.:] ', said)[0].rstrip('.')}\n" for code, said in MEANINGS)
 
-LOW = 2**32 - 1
-WHOLE = 2**64 - 1
-
 # An action that has no code, wherever it stands.
 OTHER = {"errno": 2}
 
 
-def line(place, code, file="standard input"):
+# Stands for the two calls of an evasion, where `warned` finds them.
+CALLS = "CALLS"
+
+
+def line(place, code, file="standard input", calls=CALLS):
     """Returns the line of a warning about a file, if this is the place of an action, an entry or a condition."""
-    return f"{file}: {place}{KEYS.get(code, '')}: warning [{code}]: {SAID[code]}\n"
+    shown = f"{calls}, " if code in EVASIONS else ""
+    return f"{file}: {place}{KEYS.get(code, '')}: warning [{code}]: {shown}{SAID[code]}\n"
 
 
 def condition(length, operator, value, index=0):
@@ -105,9 +106,21 @@ def filter_of(conditions, mismatch="trap", match="allow"):
 
 def warned(filters, *lines, allowed=f"{OF_PARTS} {NOT_ALL}"):
     """Returns the cases of a policy that has exactly these warnings, if they are denied and if they aren't."""
-    text, output = json.dumps(filters), grouped("".join(lines))
+    text, output = json.dumps(filters), grouped("".join(with_calls(filters, it) for it in lines))
     denied = Case(f"check {allowed} --deny-warnings", 1 if lines else 0, output, "", text)
     return [writes(f"check {allowed}", text, output), denied]
+
+
+def with_calls(filters, it):
+    """Returns the line with the two calls, if it is that of an evasion of these filters."""
+    if CALLS not in it:
+        return it
+    for name, own in filters.items():
+        escaped = "".join(char if char.isprintable() else "".join(f"\\x{byte:02x}" for byte in char.encode()) for char in name)
+        for (entry, place, code), calls in evasions_of(own).items():
+            if f" {escaped}.filter[{entry}].args[{place}]: warning [{code}]: " in it:
+                return it.replace(CALLS, calls)
+    return it
 
 
 def of_action(action, codes):
@@ -184,7 +197,7 @@ O_CLOEXEC, SOCK_RAW, SIGCHLD, CLONE_NEWUSER, CLONE_FILES, PROT_EXEC, MS_BIND = 0
 ALLOWING = ("trap", "allow")
 ARGUMENTS = [
     ("socket", 1, "dword", "eq", SOCK_RAW, ["flag-evades"]),
-    ("socket", 1, "dword", "eq", SOCK_RAW | O_CLOEXEC, []),
+    ("socket", 1, "dword", "eq", SOCK_RAW | O_CLOEXEC, ["flag-evades"]),
     ("socket", 1, "dword", masked(15), SOCK_RAW, []),
     ("socket", 1, "dword", masked(LOW), SOCK_RAW, ["flag-evades"]),
     ("socket", 1, "qword", "le", SOCK_RAW, ["flag-evades"]),
@@ -193,7 +206,7 @@ ARGUMENTS = [
     ("socket", 1, "dword", "eq", SOCK_RAW, [], *ALLOWING),
     ("socket", 1, "dword", "ne", SOCK_RAW, ["flag-evades"], *ALLOWING),
     ("socket", 1, "dword", "eq", SOCK_RAW, [], "allow", "log"),
-    ("socket", 1, "qword", "eq", WHOLE, []),
+    ("socket", 1, "qword", "eq", WHOLE, ["flag-evades"]),
     ("open", 1, "dword", "eq", 2, ["flag-evades"]),
     ("openat", 2, "dword", "eq", 2, ["flag-evades"]),
     ("openat", 3, "dword", "eq", 2, []),
@@ -208,14 +221,23 @@ ARGUMENTS = [
     ("inotify_init1", 0, "dword", "eq", 0, ["flag-evades"]),
     ("userfaultfd", 0, "dword", "eq", 0, ["flag-evades"]),
     ("memfd_create", 1, "dword", "eq", 2, ["flag-evades"]),
-    ("memfd_create", 1, "dword", "eq", 3, []),
+    ("memfd_create", 1, "dword", "eq", 3, ["flag-evades"]),
+    ("memfd_create", 1, "dword", "eq", 1, []),
     ("memfd_create", 2, "dword", "eq", 2, []),
     ("clone", 0, "dword", "eq", CLONE_NEWUSER | SIGCHLD, ["flag-evades"]),
     ("clone", 0, "dword", masked(CLONE_NEWUSER), CLONE_NEWUSER, []),
     ("unshare", 0, "dword", "eq", CLONE_FILES, []),
     ("mount", 3, "dword", "eq", MS_BIND, ["flag-evades"]),
     ("mmap", 2, "dword", "eq", PROT_EXEC, ["flag-evades"]),
-    ("mprotect", 2, "dword", "eq", PROT_EXEC | 1, []),
+    ("mprotect", 2, "dword", "eq", PROT_EXEC | 1, ["flag-evades"]),
+    ("mprotect", 2, "dword", "lt", 3, ["flag-evades"]),
+    ("mprotect", 2, "dword", "le", 2, ["flag-evades"]),
+    ("open", 1, "dword", "eq", O_CLOEXEC, ["flag-evades"]),
+    ("open", 1, "dword", masked(O_CLOEXEC), 0, []),
+    ("open", 1, "dword", masked(O_CLOEXEC | 3), 1, ["flag-evades"]),
+    ("open", 1, "dword", "ge", 3, ["flag-evades"], *ALLOWING),
+    ("open", 1, "dword", "gt", 2, ["flag-evades"], *ALLOWING),
+    ("open", 1, "dword", "le", 2, [], *ALLOWING),
     ("pkey_mprotect", 2, "dword", "eq", PROT_EXEC, ["flag-evades"]),
     ("mmap", 3, "dword", "eq", PROT_EXEC, []),
     ("open", 0, "qword", "eq", 0x1000, ["pointer-compared"]),
@@ -324,8 +346,32 @@ EVADED_LIST = [
     ("qword", masked(WHOLE), 0x5412, []),
 ]
 
-# The actions that let a call through, and some that don't.
-PERMITS = ("allow", "log")
+# Entries of a call, each with its conditions, and the codes of evasions that they have: the whole filter decides both calls.
+TIOCSTI, AT_WRITE = 0x5412, (1, "dword", "eq", 1)
+BESIDE_OTHERS = [
+    ("ioctl", [[(1, "qword", "eq", TIOCSTI)], [(1, "qword", "gt", LOW)]], []),
+    ("ioctl", [[(1, "qword", "eq", TIOCSTI)], [(1, "qword", "gt", LOW + 2**32)]], ["filter[0].args[0] high-half-evades"]),
+    ("ioctl", [[(1, "qword", "eq", TIOCSTI)], [(1, "dword", "eq", TIOCSTI)]], []),
+    ("ioctl", [[(0, "dword", "eq", 1), (1, "qword", "eq", TIOCSTI)]], ["filter[0].args[1] high-half-evades"]),
+    ("ioctl", [[(1, "qword", "gt", 4), (1, "qword", "lt", 9)]], ["filter[0].args[1] high-half-evades"]),
+    ("ioctl", [[(1, "qword", "gt", 9), (1, "qword", "lt", 10)]], []),
+    ("open", [[(1, "dword", "eq", 0)], [(1, "dword", "eq", O_CLOEXEC)]], []),
+    ("open", [[AT_WRITE], [(1, "dword", "eq", O_CLOEXEC)]], ["filter[0].args[0] flag-evades", "filter[1].args[0] flag-evades"]),
+    ("open", [[AT_WRITE, (2, "dword", "eq", 5)], [(1, "dword", "eq", O_CLOEXEC | 1), (2, "dword", "le", 4)]], [
+        "filter[0].args[0] flag-evades", "filter[1].args[0] flag-evades"]),
+    ("open", [[AT_WRITE, (2, "dword", "eq", 5)], [(1, "dword", "eq", O_CLOEXEC | 1), (2, "dword", "le", 5)]], []),
+]
+
+
+def of_entries(name, entries, codes):
+    """Returns the cases of a filter that denies calls by entries, with the places and codes of its evasions."""
+    made = [{"syscall": name, "args": [condition(*rest, index) for index, *rest in it]} for it in entries]
+    filters = {"a": {"mismatch_action": "allow", "match_action": "trap", "filter": made}}
+    lines = (line(f"a.{place}", code) for place, code in (it.split() for it in codes))
+    return warned(filters, *lines, allowed=f"{OF_PARTS} --allow allows-by-default --allow pointer-compared")
+
+
+# Actions that deny a call.
 DENIES = ("kill_process", "kill_thread", "trap", {"errno": 1})
 
 DEFAULTS = [
@@ -370,21 +416,6 @@ CHANCE = random.Random(1)
 SOME = {CHANCE.getrandbits(bits) for bits in (32, 64) for _ in range(8)}
 
 
-def mask_of(operator):
-    """Returns the mask of an operator, or none."""
-    return operator["masked_eq"] if isinstance(operator, dict) else None
-
-
-def holds(it, argument):
-    """Returns whether a condition holds for an argument, as docs/JSON.md says of its operator."""
-    cut = LOW if it["type"] == "dword" else WHOLE
-    left, right, operator = argument & cut, it["val"] & cut, it["op"]
-    if isinstance(operator, dict):
-        return left & (mask_of(operator) & cut) == right & (mask_of(operator) & cut)
-    return {"eq": left == right, "ne": left != right, "ge": left >= right, "gt": left > right, "le": left <= right,
-            "lt": left < right}[operator]
-
-
 def tries(it):
     """Returns arguments that show whether a condition holds for all or for none: borders, and single bits."""
     near = {it["val"], it["val"] & LOW, *((it["val"] ^ 2**bit) for bit in range(64))}
@@ -392,23 +423,7 @@ def tries(it):
     return borders | SOME | {2**bit for bit in range(64)}
 
 
-def is_evaded(it, mismatch, match):
-    """Returns whether a condition with a number of 32 bits denies some argument of 32 bits, and not with a high half."""
-    if it["val"] & (WHOLE if mask_of(it["op"]) is None else mask_of(it["op"])) > LOW:
-        return False
-    low = [argument for argument in tries(it) | {it["val"] & (mask_of(it["op"]) or 0)} if argument <= LOW]
-    denies = {True: match not in PERMITS, False: mismatch not in PERMITS}
-    passed = [2**bit for bit in range(32, 64)] + [it["val"] & ~LOW]
-    return any(denies[holds(it, x)] and not denies[holds(it, x | high)] for x in low for high in passed)
-
-
-# The calls that take a flag, at the index of an argument, by the flag; and whose argument of an index is an address, or is signed.
-FLAGS = {
-    0x80000: {0: ("epoll_create1", "inotify_init1", "userfaultfd"), 3: ("accept4", "signalfd4"),
-              1: ("open", "socket", "socketpair", "pipe2", "eventfd2", "timerfd_create"), 2: ("openat", "dup3", "open_by_handle_at")},
-    0x400: {0: ("clone", "unshare"), 3: ("mount",)},
-    1: {1: ("memfd_create",), 2: ("mmap", "mprotect", "pkey_mprotect")},
-}
+# The calls whose argument of an index is an address, or is signed.
 POINTERS = {
     0: ("access acct chdir chmod chown chroot creat execve fsopen getcwd getxattr lchown lgetxattr link listmount listxattr llistxattr "
         "lremovexattr lsetxattr lstat memfd_create mkdir mknod mount open pipe pipe2 pivot_root readlink removexattr rename rmdir "
@@ -435,15 +450,8 @@ SIGNED = {
 }
 
 
-def is_passed_by_a_flag(name, it, mismatch, match):
-    """Returns whether a condition denies its value, and lets it through with a flag that the call takes and the value hasn't."""
-    denies = {True: match not in PERMITS, False: mismatch not in PERMITS}
-    flags = [flag for flag, calls in FLAGS.items() if name in calls.get(it["index"], ()) and not it["val"] & flag]
-    return any(denies[holds(it, it["val"])] and not denies[holds(it, it["val"] | flag)] for flag in flags)
-
-
-def codes_of(name, it, mismatch, match):
-    """Returns the codes that a condition on an argument of a call has in a filter of these actions, in their order."""
+def codes_of(name, it, evaded):
+    """Returns the codes that a condition on an argument of a call has, with these codes of evasions, in their order."""
     mask = mask_of(it["op"])
     cut = LOW if it["type"] == "dword" else WHOLE
     found = {
@@ -451,8 +459,7 @@ def codes_of(name, it, mismatch, match):
         "value-outside-mask": mask is not None and it["val"] & ~(mask & cut) != 0,
         "always-holds": all(holds(it, argument) for argument in tries(it)),
         "never-holds": not any(holds(it, argument) for argument in tries(it)),
-        "high-half-evades": is_evaded(it, mismatch, match),
-        "flag-evades": is_passed_by_a_flag(name, it, mismatch, match),
+        **{code: code in evaded for code in EVASIONS},
         "pointer-compared": it["val"] != 0 and name in POINTERS.get(it["index"], ()),
         "signed-compared": it["op"] in ("ge", "gt", "le", "lt") and name in SIGNED.get(it["index"], ()),
     }
@@ -553,8 +560,8 @@ def codes_of_entry(entry, entries, mismatch, match):
 
 def lines_of_filter(name, it):
     """Returns the lines of the warnings of a filter of this name, as a list of single lines."""
-    mismatch = it.get("mismatch_action", it.get("default_action"))
-    match = it.get("match_action", it.get("filter_action"))
+    mismatch, match = actions_of(it)
+    evasions = evasions_of(it)
     lines = [line(f"{name}.mismatch_action", code) for code in codes_of_action(mismatch)]
     if mismatch in PERMITS:
         lines.append(line(f"{name}.mismatch_action", "allows-by-default"))
@@ -566,8 +573,9 @@ def lines_of_filter(name, it):
         codes = codes_of_entry(rule, it["filter"], mismatch, match)
         lines += [line(f"{name}.filter[{entry}]{call}", code) for call, code in codes]
         for place, compared in enumerate(rule.get("args") or []):
-            codes = codes_of(rule["syscall"], compared, mismatch, match)
-            lines += [line(f"{name}.filter[{entry}].args[{place}]", code) for code in codes]
+            calls = {code: evasions[entry, place, code] for code in EVASIONS if (entry, place, code) in evasions}
+            codes = codes_of(rule["syscall"], compared, calls)
+            lines += [line(f"{name}.filter[{entry}].args[{place}]", code, calls=calls.get(code)) for code in codes]
     return lines
 
 
@@ -588,6 +596,7 @@ CASES = [
     *(it for row in EVADED for it in of_condition(*row, "allow", {"errno": 1})),
     *(it for row in EVADED_LIST for it in of_condition(*row, {"errno": 1}, "allow")),
     *DEFAULTS,
+    *(it for row in BESIDE_OTHERS for it in of_entries(*row)),
     *warned(SEVERAL, *IN_ORDER),
     *warned({}),
     # A policy with a fault has no warnings.

@@ -1,5 +1,5 @@
 -- What `check` gives: why a policy is rejected, or else its warnings.
-use Rattle.std.specs.Prelude.{◌≡◌, ◌==◌, if◌then◌else◌, ℕ, Bool, true, false, List, String, length, string_bytes, ⊤}
+use Rattle.std.specs.Prelude.{◌≡◌, ◌==◌, if◌then◌else◌, ℕ, ◌+◌, Bool, true, false, List, String, length, string_bytes, ⊤}
 use Rattle.std.specs.List.{AllZip, sum_by}
 use Rattle.std.specs.declared.alloc.Global.{Global}
 use Rattle.seccompiler.specs.declared.backend.TargetArch.{TargetArch}
@@ -26,7 +26,8 @@ pub record AreWarningsOf (target : TargetArch) (allowed : List Code) (named : St
 
 -- How many warnings the filters have.
 abbrev pub count_of : List FilterWarnings → ℕ
-count_of all = sum_by (λ (own : FilterWarnings). length own.warned.warnings.items) all
+count_of all =
+    sum_by (λ (own : FilterWarnings). length own.warned.of_part.warnings.items + length own.warned.evasions.items) all
 
 -- They are those of these filters, in their order, and there are so many.
 pub record AreWarningsIn (target : TargetArch) (allowed : List Code) (filters : List (String Global × JsonFilter)) (checked : CheckedPolicy)

@@ -7,14 +7,14 @@ pub(crate) mod outline;
 pub(crate) mod policy;
 pub mod profile;
 
-ghost use Rattle.std.specs.Prelude.{◌≡◌, IfErr, IfOk};
+ghost use Rattle.std.specs.Prelude.{◌≡◌, ◌+◌, IfErr, IfOk, IfSome};
 ghost use Rattle.seccomptool.specs.Check as spec;
 ghost use Rattle.seccomptool.specs.Check.{AreWarningsIn, IsCheckOf, IsRefusal};
 
 use crate::error::ToolError;
 use crate::findings::Verdict;
 use seccomp_check::{Rejection, check};
-use seccomp_warnings::{Code, Warned, policy_warnings_of};
+use seccomp_warnings::{Code, FilterWarned, policy_warnings_of};
 use seccompiler::{JsonFilterMap, JsonFrontendError, TargetArch};
 use std::alloc::Global;
 
@@ -24,7 +24,7 @@ pub struct FilterWarnings {
     /// The name.
     pub name: String,
     /// The warnings, and what is so of its entries beside each other.
-    pub warned: Warned,
+    pub warned: FilterWarned,
 }
 
 /// The warnings of all filters of a policy.
@@ -89,7 +89,7 @@ pub(crate) fn warnings_in(
     let mut count: usize = 0;
     for (name, filter) in &filters.0 {
         let warned = policy_warnings_of(alloc, target, filter, allowed)?;
-        let Some(sum) = count.checked_add(warned.warnings.len()) else {
+        let Some(sum) = sum_of(count, warned.of_part.warnings.len(), warned.evasions.len()) else {
             return Err(JsonFrontendError::OutOfMemory);
         };
         count = sum;
@@ -100,6 +100,13 @@ pub(crate) fn warnings_in(
         filters: all,
         count,
     })
+}
+
+// The sum of three numbers, if it is one.
+fn sum_of(first: usize, second: usize, third: usize) -> Option<usize>
+    ensures { IfSome result (λ sum. sum ≡ first + (second + third)) }
+{
+    first.checked_add(second)?.checked_add(third)
 }
 
 // The verdict where warnings are denied or not, and there are so many.

@@ -1,10 +1,13 @@
 // The forms of what `check` says.
 
 use crate::check::outline::{Located, Outline, Position};
+use crate::findings::lines::push_example;
 use crate::json::{Object, OrNull};
 use crate::notes::push_front;
 use crate::text::Text;
 use seccomp_command_line::readable::TextKind;
+use seccomp_warnings::Evasion;
+use seccompiler::TargetArch;
 use std::alloc::{AllocError, Global};
 use std::mem;
 
@@ -70,6 +73,22 @@ pub(crate) struct Lines<'a> {
     pub suggestion: Option<&'static str>,
     // The lines about the last place, which aren't written yet.
     pending: Vec<Pending>,
+}
+
+/// The two calls of an evasion, and behind them what is said of them.
+pub(crate) fn said_of_calls(
+    alloc: Global,
+    target: TargetArch,
+    evasion: &Evasion,
+    said: &str,
+) -> Result<String, AllocError> {
+    let mut text = Text::new(alloc);
+    push_example(&mut text, target, false, &evasion.denied);
+    text.push_str(" is denied, and let through is ");
+    push_example(&mut text, target, false, &evasion.passed);
+    text.push_str(", ");
+    text.push_str(said);
+    text.finish_string()
 }
 
 impl Lines<'_> {

@@ -61,7 +61,7 @@ fn accepted(
     match subject {
         Subject::Policy => {
             let checked = checked(alloc, arch, &asked.allowed, given)?;
-            push_warnings(lines, &checked.filters);
+            push_warnings(lines, arch, &checked.filters);
             Ok(verdict_where(denied, checked.count))
         }
         Subject::Profile(container) => {

@@ -1,4 +1,4 @@
-use Rattle.std.proofs.Common.{◌+◌, List, [], ◌∷◌, ◌++◌, String, Global, sym, ap, ◌∙◌, subst, append_assoc, length}
+use Rattle.std.proofs.Common.{◌≡◌, ◌+◌, List, [], ◌∷◌, ◌++◌, String, Global, sym, ap, ◌∙◌, subst, append_assoc, length}
 use Rattle.std.specs.List.{AllZip}
 use Rattle.std.proofs.lemmas.List.Sums.{sum_by_push}
 use Rattle.std.proofs.lemmas.Slice.Zip.{all_zipped_more}
@@ -19,14 +19,17 @@ loop-name-preserved c =
       name = c.in_ok-name.ensures.cases;
       warnings = c.in_ok-warned.ensures.warnings;
     } in
-    let counted = λ (o : FilterWarnings). length o.warned.warnings.items in
+    let counted = λ (o : FilterWarnings). length o.warned.of_part.warnings.items + length o.warned.evasions.items in
+    let lengths : c.len.result + c.len-in-loop-name.result ≡ counted own =
+    ap (λ n. n + c.len-in-loop-name.result) (c.len.ensures ∙ warned.of_part.warnings.ok.0)
+    ∙ ap (λ n. length warned.of_part.warnings.items + n) (c.len-in-loop-name.ensures ∙ warned.evasions.ok.0) in
     record {
       done = done ++ e ∷ [];
       whole = l.invariant.whole ∙ ap (λ (es : List (String Global × JsonFilter)). done ++ es) c.in-Some.ensures.steps
           ∙ sym (append_assoc done (e ∷ []) c.next.new.self);
       each = subst (AllZip (AreWarningsOf c.args.target c.args.allowed.now) (done ++ e ∷ [])) (sym c.in_ok-push.ensures.items)
           (all_zipped_more (AreWarningsOf c.args.target c.args.allowed.now) done l.all.items e own l.invariant.each are);
-      count_is = c.in-Some-checked_add.ensures.1 ∙ ap (λ n. n + c.len.result) l.invariant.count_is
-          ∙ ap (λ n. count_of l.all.items + n) (c.len.ensures ∙ warned.warnings.ok.0) ∙ sym (sum_by_push counted l.all.items own)
+      count_is = c.in-Some-sum_of.ensures ∙ ap (λ n. n + (c.len.result + c.len-in-loop-name.result)) l.invariant.count_is
+          ∙ ap (λ n. count_of l.all.items + n) lengths ∙ sym (sum_by_push counted l.all.items own)
           ∙ ap count_of (sym c.in_ok-push.ensures.items);
     }

@@ -1,6 +1,6 @@
 // What is said of the warnings of a profile.
 
-use crate::check::format::{Lines, Place};
+use crate::check::format::{Lines, Place, said_of_calls};
 use crate::check::profile::CheckedProfile;
 use crate::findings::lines::push_example;
 use crate::findings::parts::name_of;
@@ -135,6 +135,10 @@ fn spot_of<'a>(
             (None, (3, *place), part, None)
         }
         ProfileWarning::OfEntries(warning, origin) => spot_in(target, *origin, warning.subject),
+        ProfileWarning::Evaded(evasion, origin) => {
+            let subject = Subject::Condition(evasion.comparison);
+            spot_in(target, Some(*origin), subject)
+        }
     }
 }
 
@@ -199,6 +203,9 @@ fn said_of(
                 )
             }
         },
+        ProfileWarning::Evaded(evasion, _) => {
+            said_of_calls(alloc, target, evasion, said_of_code(evasion.code))
+        }
         ProfileWarning::Flags => String::from_str(
             alloc,
             "crun sets them, and runc 1.1 starts no container with them; leave them out for runc",
@@ -232,10 +239,10 @@ fn said_of_code(code: Code) -> &'static str {
             "it has bits outside the mask \"value\", which aren't compared; write it without them, or a mask that has them"
         }
         Code::HighHalfEvades => {
-            "a caller evades it by setting a high bit, which the kernel ignores for arguments of 32 bits; write SCMP_CMP_MASKED_EQ with the mask 4294967295 for these"
+            "the same call if the argument has 32 bits; then write SCMP_CMP_MASKED_EQ with the mask 4294967295"
         }
         Code::FlagEvades => {
-            "a caller evades it by one flag more, such as a close-on-exec flag; write SCMP_CMP_MASKED_EQ with a mask of the flags that count"
+            "the same but for a flag that changes nothing of it; write SCMP_CMP_MASKED_EQ with a mask of the flags that count"
         }
         Code::SignedCompared => {
             "the argument is signed, and a filter takes negative numbers for large ones; write SCMP_CMP_EQ or SCMP_CMP_NE, or a second condition that bounds it"

@@ -21,6 +21,12 @@ returns c =
     let own : List ProfileWarning = c.in_ok-all.all.items in
     let evasions : List Evasion = c.in_ok-evasions.evasions.items in
     let evaded : List ProfileWarning = c.in_ok-evaded.evaded.items in
+    let first : c.as_slice.result.now ≡ lowered.entries = search rules in
+    let second : c.as_slice-entries.result.now ≡ lowered.entries = search rules in
+    let third : c.as_slice-2.result.now ≡ lowered.entries = search rules in
+    let are_evaded : evaded ≡ flat_map (evaded_in lowered.entries) evasions = c.in_ok-evaded.ensures
+    ∙ ap (λ (es : List Entry). flat_map (evaded_in es) c.deref-3.result.now) third
+    ∙ ap (λ (vs : List Evasion). flat_map (evaded_in lowered.entries) vs) c.deref-3.ensures.value in
     record {
       doubts = c.in_ok-doubts.doubts.items;
       are_doubts = c.in_ok-doubts.ensures;
@@ -28,15 +34,20 @@ returns c =
       is_lowered = c.in_ok-lowered.ensures.lowered;
       decides = c.in_ok-lowered.ensures.decides;
       effective = effective;
-      are_effective = ?;
+      are_effective = subst (λ (es : List Entry). AreEffective es effective) first c.in_ok-effective.ensures;
       own = own;
-      own_are = ?;
+      own_are = subst (λ (ds : List Doubt). AreOwn c.args.target p ds lowered.entries effective own) c.deref.ensures.value
+          (subst (λ (es : List Entry). AreOwn c.args.target p c.deref.result.now es effective own) second
+          (subst (λ (es : List Entry). AreOwn c.args.target p c.deref.result.now c.as_slice-entries.result.now es own)
+          c.as_slice-effective_entries.ensures.value c.in_ok-all.ensures));
       kept = kept;
-      are_kept = ?;
+      are_kept = subst (λ (ws : List ProfileWarning). AreKept c.args.allowed.now ws kept) c.deref-2.ensures.value c.in_ok-own.ensures;
       evasions = evasions;
-      are_evasions = ?;
+      are_evasions = c.in_ok-evasions.ensures;
       told = told;
       are_told = subst (λ default. AreToldOfProfile c.args.target c.args.allowed.now default effective told)
           (ap (λ (p : Profile). p.default) c.profile.view_is) c.in_ok-told.ensures;
-      all_are = ?;
+      all_are = c.in_ok-all-2.ensures
+          ∙ ap (λ (ws : List ProfileWarning). (kept ++ ws) ++ map of_told c.deref-4.result.now) are_evaded
+          ∙ ap (λ (ts : List Told). (kept ++ flat_map (evaded_in lowered.entries) evasions) ++ map of_told ts) c.deref-4.ensures.value;
     }

@@ -7,7 +7,7 @@ use Rattle.seccompiler.specs.declared.backend.TargetArch.TheVariants.{x86_64}
 use Rattle.seccompiler.specs.declared.backend.TargetArch.{TargetArch}
 use Rattle.seccomp_oci.specs.Lowered.{IsLoweredProfile}
 use Rattle.seccomp_oci.specs.Types.{Container, Profile}
-use Rattle.seccomp_profile_checks.specs.Clashes.{AreClashes}
+use Rattle.seccomp_profile_checks.specs.Clashes.{AreAffected}
 use Rattle.seccomp_profile_checks.specs.Doubts.{IsDoubt}
 use Rattle.seccomp_profile_checks.specs.Effective.{AreEffective}
 use Rattle.seccomp_profile_checks.specs.Listed.{ListsX86}
@@ -70,7 +70,7 @@ of_told t = OfEntries t.warning t.origin
 -- Of these entries exactly those to which libseccomp does this, as warnings of the profile, unless their code is allowed.
 pub data AreClashesTold (allowed : List Code) (effect : Effect) (entries : List Entry) : List ProfileWarning → Type 0 where
   allowed : Contains allowed (effect_code effect) → AreClashesTold allowed effect entries []
-  told : (Contains allowed (effect_code effect) → ⊥) → (clashes : List Clash) → AreClashes effect entries entries clashes
+  told : (Contains allowed (effect_code effect) → ⊥) → (clashes : List Clash) → AreAffected effect entries clashes
       → AreClashesTold allowed effect entries (map Clashing clashes)
 
 -- Whether the profile of the text lists x86 beside x86_64.

@@ -1,5 +1,5 @@
 -- Entries beside which libseccomp may make another program than the profile says, or none (found by trying; docs/OCI.md has examples).
-use Rattle.std.specs.Prelude.{◌≡◌, ◌≢◌, ◌<◌, ◌⊎◌, ℕ, Bool, true, false, IsTrue, List, [], ◌∷◌, ◌++◌, Any, bit_and, length}
+use Rattle.std.specs.Prelude.{◌≡◌, ◌≢◌, ◌<◌, ◌+◌, ◌⊎◌, ℕ, Bool, true, false, IsTrue, List, [], ◌∷◌, ◌++◌, Any, bit_and, length}
 use Rattle.seccompiler.specs.declared.backend.SeccompCmpOp.{SeccompCmpOp}
 use Rattle.seccompiler.specs.declared.backend.SeccompCmpOp.TheVariants.{Eq, MaskedEq}
 use Rattle.seccompiler.specs.Policy.{Condition}
@@ -84,6 +84,30 @@ pub data AreClashes (effect : Effect) (all : List Entry) : (entries : List Entry
       → AreClashes effect all (es ++ e ∷ []) (own ++ c ∷ [])
   passed : {es : List Entry} {own : List Clash} (e : Entry) → (Any (Affects effect all e) all → ⊥) → AreClashes effect all es own
       → AreClashes effect all (es ++ e ∷ []) own
+
+-- Of these entries exactly those for the calls of this number, in their order.
+pub data AreOfNumber (number : ℕ) : (entries own : List Entry) → Type 0 where
+  none : AreOfNumber number [] []
+  taken : {es own : List Entry} (e : Entry) → e.number ≡ number → AreOfNumber number es own
+      → AreOfNumber number (es ++ e ∷ []) (own ++ e ∷ [])
+  passed : {es own : List Entry} (e : Entry) → e.number ≢ number → AreOfNumber number es own → AreOfNumber number (es ++ e ∷ []) own
+
+-- Of the entries for the calls of this number exactly those that libseccomp rejects behind others of these.
+pub record AreRejectedIn (x86 : Bool) (all : List Entry) (number : ℕ) (clashes : List Clash) : Type 0 where
+  pub own : List Entry
+  pub are_own : AreOfNumber number all own
+  pub are : AreClashes (Rejected x86) own own clashes
+
+-- Those for the calls of the numbers below this one.
+pub data AreRejected (x86 : Bool) (all : List Entry) : ℕ → List Clash → Type 0 where
+  none : AreRejected x86 all 0 []
+  more : {own : List Clash} (number : ℕ) (next : List Clash) → AreRejected x86 all number own → AreRejectedIn x86 all number next
+      → AreRejected x86 all (number + 1) (own ++ next)
+
+-- Of these entries exactly those to which libseccomp does this. No call has a number of 463 or more.
+abbrev pub AreAffected : Effect → List Entry → List Clash → Type 0
+AreAffected Miscompiled all clashes = AreClashes Miscompiled all all clashes
+AreAffected (Rejected x86) all clashes = AreRejected x86 all 463 clashes
 
 -- ---- between the private functions of `clashes`
 

@@ -7,7 +7,7 @@ use Rattle.seccompiler.specs.declared.backend.TargetArch.{TargetArch}
 use Rattle.seccompiler.specs.declared.backend.TargetArch.TheVariants.{x86_64}
 use Rattle.seccomp_oci.specs.Lowered.{DecidesAs, IsLoweredProfile}
 use Rattle.seccomp_oci.specs.Types.{Container, Profile}
-use Rattle.seccomp_profile_checks.specs.Clashes.{AreClashes}
+use Rattle.seccomp_profile_checks.specs.Clashes.{AreAffected}
 use Rattle.seccomp_profile_checks.specs.Doubts.{IsDoubt}
 use Rattle.seccomp_profile_checks.specs.Effective.{AreEffective}
 use Rattle.seccomp_profile_checks.specs.Parts.{origin_of}
@@ -67,9 +67,9 @@ has_x86 arch p = false
 pub record AreOwn (arch : TargetArch) (p : Profile) (doubts : List Doubt) (entries effective : List Entry) (all : List ProfileWarning)
     : Type 0 where
   pub rejected : List Clash
-  pub are_rejected : AreClashes (Rejected (has_x86 arch p)) entries entries rejected
+  pub are_rejected : AreAffected (Rejected (has_x86 arch p)) entries rejected
   pub clashes : List Clash
-  pub are_clashes : AreClashes Miscompiled effective effective clashes
+  pub are_clashes : AreAffected Miscompiled effective clashes
   pub all_are : all ≡ (((map Doubtful doubts ++ keys_told p) ++ flags_told p) ++ map Clashing rejected) ++ map Clashing clashes
 
 -- Of these warnings exactly those whose codes aren't allowed, in order.

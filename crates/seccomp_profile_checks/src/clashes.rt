@@ -2,8 +2,9 @@
 
 ghost use Rattle.std.specs.Prelude.{◌≡◌, ◌≢◌, ◌<◌, ◌↔◌, ◌⊎◌, Any, IfNone, IfOk, IfSome, IsFalse, IsTrue, length};
 ghost use Rattle.seccomp_profile_checks.specs.Clashes as spec;
-ghost use Rattle.seccomp_profile_checks.specs.Clashes.{Affects, AreClashes, AreOne, Clashes, HasSame, IsAnother, IsClashOf, IsDelicate, IsOrderBeside, IsOrderOn, IsOtherOf, Repeats};
+ghost use Rattle.seccomp_profile_checks.specs.Clashes.{Affects, AreAffected, AreClashes, AreOfNumber, AreOne, AreRejected, AreRejectedIn, Clashes, HasSame, IsAnother, IsClashOf, IsDelicate, IsOrderBeside, IsOrderOn, IsOtherOf, Repeats};
 
+use crate::effective::copy_of;
 use crate::rejected::rejects;
 use seccomp_entries::Entry;
 use seccompiler::{SeccompCmpOp, SeccompCondition};
@@ -32,11 +33,70 @@ pub struct Clash {
 }
 
 /// Of these entries those to which libseccomp does this.
-pub(crate) fn clashes_of(
+pub(crate) fn affected_of(
     alloc: Global,
     effect: Effect,
     entries: &[Entry],
 ) -> Result<Vec<Clash>, AllocError>
+    ensures { IfOk result (λ all. AreAffected effect entries.now all.items) }
+{
+    match effect {
+        Effect::Miscompiled => clashes_of(alloc, Effect::Miscompiled, entries),
+        Effect::Rejected(x86) => rejected_of(alloc, x86, entries),
+    }
+}
+
+// Those that it rejects: only entries of one call are held against each other.
+fn rejected_of(alloc: Global, x86: bool, entries: &[Entry]) -> Result<Vec<Clash>, AllocError>
+    ensures { IfOk result (λ all. AreRejected x86 entries.now 463 all.items) }
+{
+    let mut all = Vec::new(alloc);
+    for number in 0..463u32 {
+        let mut next = rejected_in(alloc, x86, number, entries)?;
+        all.append(&mut next)?;
+    }
+    Ok(all)
+}
+
+// Those of the calls of a number.
+fn rejected_in(
+    alloc: Global,
+    x86: bool,
+    number: u32,
+    entries: &[Entry],
+) -> Result<Vec<Clash>, AllocError>
+    ensures { IfOk result (λ all. AreRejectedIn x86 entries.now number all.items) }
+{
+    let own = entries_of_number(alloc, number, entries)?;
+    clashes_of(alloc, Effect::Rejected(x86), own.as_slice())
+}
+
+// Of the entries those for the calls of a number.
+fn entries_of_number(
+    alloc: Global,
+    number: u32,
+    entries: &[Entry],
+) -> Result<Vec<Entry>, AllocError>
+    ensures { IfOk result (λ own. AreOfNumber number entries.now own.items) }
+{
+    let mut own = Vec::new(alloc);
+    for entry in entries {
+        if is_of_other(entry, number) {
+            continue;
+        }
+        own.push(copy_of(alloc, entry)?)?;
+    }
+    Ok(own)
+}
+
+fn is_of_other(entry: &Entry, number: u32) -> bool
+    ensures { IsFalse result ↔ (entry.now.number ≡ number) }
+{
+    entry.number != number
+}
+
+// Of these entries those to which libseccomp does this beside each other.
+fn clashes_of(alloc: Global, effect: Effect, entries: &[Entry]) -> Result<Vec<Clash>, AllocError>
     ensures { IfOk result (λ all. AreClashes effect entries.now entries.now all.items) }
 {
     let mut clashes = Vec::new(alloc);

@@ -12,7 +12,7 @@ use Rattle.seccomp_entries.specs.Entries.{Lowered}
 use Rattle.seccomp_entries.specs.Entries as entries
 use Rattle.seccomp_oci.specs.Conditions.{AreConditionsOf, alone, together}
 use Rattle.seccomp_oci.specs.Decision.{Concerns, IsByEntry, tested}
-use Rattle.seccomp_oci.specs.Lowered.{AtEntry, DecidesAs, IsAskedBefore, IsEntryAt, IsLoweredProfile, IsOwn, rank_in}
+use Rattle.seccomp_oci.specs.Lowered.{AtEntry, DecidesAs, IsAskedBefore, IsLoweredProfile, IsOwn, rank_in}
 use Rattle.seccomp_oci.specs.Lowered.{by_condition, by_number, by_place, by_rank}
 use Rattle.seccomp_profile_checks.specs.Doubts.{HasLargeErrno, IsBehind, IsBehindIn, IsLargeErrno, IsOfNumber, IsOpen, IsOpenIn, IsOther}
 use Rattle.seccomp_profile_checks.specs.Doubts.{IsSettler, MeetsOtherwise, NoneSettles, Settles}

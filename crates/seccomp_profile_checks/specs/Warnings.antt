@@ -19,7 +19,8 @@ use Rattle.seccomp_profile_checks.specs.declared.doubts.Doubt.{Doubt}
 use Rattle.seccomp_profile_checks.specs.declared.doubts.Doubt.TheVariants as doubt
 use Rattle.seccomp_profile_checks.specs.declared.told.Told.{Told}
 use Rattle.seccomp_profile_checks.specs.declared.warnings.ProfileWarning.{ProfileWarning}
-use Rattle.seccomp_profile_checks.specs.declared.warnings.ProfileWarning.TheVariants.{Clashing, Doubtful, Evaded, Flags, UnknownKey, OfEntries}
+use Rattle.seccomp_profile_checks.specs.declared.warnings.ProfileWarning.TheVariants.{Clashing, Doubtful, Evaded, Flags, UnknownKey}
+use Rattle.seccomp_profile_checks.specs.declared.warnings.ProfileWarning.TheVariants.{OfEntries}
 use Rattle.seccomp_warnings.specs.Evasions.{AreEvasions}
 use Rattle.seccomp_warnings.specs.declared.code.Code.{Code}
 use Rattle.seccomp_warnings.specs.declared.code.Code.TheVariants as code

@@ -450,7 +450,12 @@ static void check_refusals(void)
               "a text of no JSON");
         check(strlen(message) > strlen(NO_JSON_SAID), "words after the beginning of a text of no JSON");
         check(memcmp(message, NO_JSON_SAID, strlen(NO_JSON_SAID)) == 0, "the text of no JSON");
+        check(strstr(message, "byte 0") == NULL, "no byte 0 behind a text of no JSON");
     }
+    /* The size of an array counts the byte 0 behind its text. */
+    equal(compile("{}", sizeof "{}", AUDIT_ARCH_X86_64, "b", 1, 0, 0), SECCOMPILER_REJECTED, "a byte 0 behind a text");
+    check(strstr(message, "; the text ends with a byte 0, which its length must not count") != NULL,
+          "the text of a byte 0 behind a text");
 }
 
 static void check_cuts(void)

@@ -9,7 +9,7 @@ use crate::arguments::architecture_of;
 use crate::fault::Fault;
 use seccomp_check::{Cause, cause_of_frontend, place};
 use seccomp_command_line::readable::{TextKind, readable};
-use seccompiler::TargetArch;
+use seccompiler::{JsonFrontendError, TargetArch};
 use std::alloc::Global;
 use std::fmt;
 use std::fmt::Display;
@@ -45,6 +45,21 @@ fn text_of(alloc: Global, fault: &Fault) -> Result<String, fmt::Error>
     Ok(f.into_inner())
 }
 
+// The text of a fault of this policy that has no place. If the policy is no JSON and ends with a byte 0, as C's strings do, that
+// is said too.
+fn own_text(alloc: Global, policy: &[u8], fault: &Fault) -> Option<String>
+    ensures { IfSome result (λ text. IsFaultText fault.now (string_bytes text)) }
+{
+    let mut text = text_of(alloc, fault).ok()?;
+    if let Fault::Text(JsonFrontendError::SerdeJson(_)) = fault
+        && policy.last() == Some(&0)
+    {
+        text.push_str("; the text ends with a byte 0, which its length must not count")
+            .ok()?;
+    }
+    Some(text)
+}
+
 // The kind of a fault, where it has a place in the policy.
 fn cause_of(target: TargetArch, fault: &Fault) -> Option<Cause>
     ensures { result ≡ fault_cause target fault.now }
@@ -61,7 +76,7 @@ fn told(alloc: Global, policy: &[u8], target: TargetArch, fault: &Fault) -> Opti
     ensures { IfSome result (λ text. IsTextOf (λ t. t ≡ target) policy.now fault.now (string_bytes text)) }
 {
     match cause_of(target, fault) {
-        None => text_of(alloc, fault).ok(),
+        None => own_text(alloc, policy, fault),
         Some(cause) => match place(alloc, cause, policy) {
             Ok(found) => found,
             Err(_) => None,

@@ -1,11 +1,12 @@
 -- For `told`, `tell_policy` and `seccompiler_filter_names`: texts that tell the fault of a policy's text.
 use Rattle.std.proofs.Common.{◌≡◌, ℕ, List, Option, Some, None, IfSome, Result, Ok, Err, IfOk, String, Global, string_bytes}
-use Rattle.std.proofs.Common.{refl, sym, subst, inl, inr}
+use Rattle.std.proofs.Common.{◌++◌, ◌∙◌, ap, append_assoc, codes, refl, sym, subst, inl, inr}
+use Rattle.serde_json.specs.declared.error.Error.{Error}
 use Rattle.std.specs.Result.{result_ok}
 use Rattle.serde_json.specs.Data.{Data}
 use Rattle.seccompiler.specs.JsonAnswers.{IsReadAs}
 use Rattle.seccompiler.specs.declared.backend.TargetArch.{TargetArch}
-use Rattle.seccompiler.specs.declared.json.error.JsonFrontendError.TheVariants.{SyscallName}
+use Rattle.seccompiler.specs.declared.json.error.JsonFrontendError.TheVariants.{SerdeJson, SyscallName}
 use Rattle.seccomp_check.specs.Checks.{TellsFaultOf}
 use Rattle.seccomp_check.specs.declared.fault.Cause.{Cause}
 use Rattle.seccompiler_c.specs.Messages.{IsFaultText, TellsPolicyFault, fault_cause, IsTextOf, by_place, without_place, IsToldOf}
@@ -38,8 +39,21 @@ placed_at target text fault cause kind None told = tt
 placed_at target text fault cause kind (Some said) told = by_place target refl (record { cause = cause; kind = kind; placed = told })
 
 -- The text of a fault that has no place is its own.
-pub own_text : {E : Type 0} (target : TargetArch) (text : List ℕ) (fault : Fault) → fault_cause target fault ≡ None
-    → (read : Result (String Global) E) → IfOk read (λ own. IsFaultText fault (string_bytes own))
-    → IfSome (result_ok read) (λ told. IsTextOf (λ t. t ≡ target) text fault (string_bytes told))
-own_text target text fault none (Ok own) is = without_place (λ t same. subst (λ t. fault_cause t fault ≡ None) (sym same) none) is
-own_text target text fault none (Err e) is = tt
+pub own_text : (target : TargetArch) (text : List ℕ) (fault : Fault) → fault_cause target fault ≡ None → (found : Option (String Global))
+    → IfSome found (λ own. IsFaultText fault (string_bytes own))
+    → IfSome found (λ told. IsTextOf (λ t. t ≡ target) text fault (string_bytes told))
+own_text target text fault none (Some own) is = without_place (λ t same. subst (λ t. fault_cause t fault ≡ None) (sym same) none) is
+own_text target text fault none None is = tt
+
+-- What holds of a text that is read.
+pub of_ok : {E : Type 0} (P : String Global → Type 0) (read : Result (String Global) E) → IfOk read P → (text : String Global)
+    → result_ok read ≡ Some text → P text
+of_ok P (Ok own) is text same = let e : own ≡ text = cc in subst P e is
+of_ok P (Err e) is text same = absurd cc
+
+-- Further words may follow the text of JSON that can't be read.
+pub more_words : (e : Error) (said more : List ℕ) → IsFaultText (Text (SerdeJson e)) said → IsFaultText (Text (SerdeJson e)) (said ++ more)
+more_words e said more (words, is) = (
+  words ++ more,
+  ap (λ s. s ++ more) is ∙ append_assoc (codes "Error parsing Json: ") words more,
+)

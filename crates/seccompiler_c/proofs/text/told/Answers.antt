@@ -1,5 +1,4 @@
-use Rattle.std.proofs.Common.{◌≡◌, IfSome, string_bytes, sym, ◌∙◌, subst}
-use Rattle.seccompiler_c.specs.Messages.{IsTextOf}
+use Rattle.std.proofs.Common.{sym, ◌∙◌}
 use Rattle.seccompiler_c.proofs.text.Places.{own_text, placed_at}
 use Rattle.seccompiler_c.proofs.text.told.Goals as goal
 
@@ -8,8 +7,7 @@ returns-in-None c =
     let text = c.args.policy.now in
     let fault = c.args.fault.now in
     let none = sym c.cause_of.ensures ∙ c.in-None.is in
-    subst (λ o. IfSome o (λ told. IsTextOf (λ t. t ≡ c.args.target) text fault (string_bytes told))) (sym c.ok.ensures.value)
-    (own_text c.args.target text fault none c.text_of.result c.text_of.ensures.text)
+    own_text c.args.target text fault none c.own_text.result c.own_text.ensures
 
 pub returns-in-Ok : goal.returns-in-Ok
 returns-in-Ok c =

@@ -145,8 +145,14 @@ fn profile_made(
     let mut notes = Text::new(alloc);
     if !asked.quiet {
         let (listed, left_out) = (asked.reading.listed, &compiled.left_out);
-        let flags = &compiled.profile.flags;
-        push_profile_notes(&mut notes, arch, path, listed, left_out, flags);
+        push_profile_notes(
+            &mut notes,
+            arch,
+            path,
+            listed,
+            left_out,
+            &compiled.profile.flags,
+        );
     }
     let text = program_text(alloc, asked.format, "profile", &compiled.program);
     Made::of(text, Verdict::Same, notes)

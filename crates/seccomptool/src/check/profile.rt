@@ -7,16 +7,18 @@ ghost use Rattle.seccomptool.specs.CheckProfile.{IsProfileCheckOf, IsRefusedProf
 
 use crate::error::ToolError;
 use crate::profile::compiled_of;
-use seccomp_oci::{CompiledProfile, Container};
+use seccomp_oci::{CompiledProfile, Container, Profile, profile_of};
 use seccomp_profile_checks::{ProfileWarning, profile_warnings_of};
 use seccomp_warnings::Code;
 use seccompiler::TargetArch;
 use std::alloc::Global;
 
-/// A profile with its program, and its warnings.
+/// A profile, its program, and its warnings.
 #[derive(Drop)]
 pub struct CheckedProfile {
-    /// The profile and its program.
+    /// The profile.
+    pub profile: Profile,
+    /// The program.
     pub compiled: CompiledProfile,
     /// The warnings.
     pub warnings: Vec<ProfileWarning>,
@@ -38,9 +40,15 @@ pub fn profile_checked(
     ensures refused { IfErr result (IsRefusedProfile target container.now false text.now) }
 {
     let compiled = compiled_of(alloc, target, container, false, text)?;
-    let profile = &compiled.profile;
-    let Ok(warnings) = profile_warnings_of(alloc, target, container, allowed, profile) else {
+    let Ok(profile) = profile_of(alloc, text) else {
         return Err(ToolError::OutOfMemory);
     };
-    Ok(CheckedProfile { compiled, warnings })
+    let Ok(warnings) = profile_warnings_of(alloc, target, container, allowed, &profile) else {
+        return Err(ToolError::OutOfMemory);
+    };
+    Ok(CheckedProfile {
+        profile,
+        compiled,
+        warnings,
+    })
 }

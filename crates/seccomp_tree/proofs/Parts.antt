@@ -13,10 +13,10 @@ use Rattle.seccomp_tree.proofs.Meeting.{AreRules, first, holds_is, not_held, joi
 use Rattle.seccomp_tree.proofs.Trees.{load_run, low_word}
 use Rattle.seccomp_tree.specs.Decisions.{conditions_length, conditions_steps}
 use Rattle.seccomp_tree.specs.Parts.{AreAlone, AreInTurn, AreParted, IsParted, compared, left_at, low_mask, met, met_steps, number, occurs}
-use Rattle.seccomp_tree.specs.declared.rules.Part.{Part}
+use Rattle.seccomp_tree.specs.declared.parting.Part.{Part}
 use Rattle.seccompiler.specs.declared.backend.SeccompCmpOp.TheVariants.{Eq}
 use Rattle.std.proofs.lemmas.Nat.{and_mask}
-use Rattle.std.proofs.lemmas.List.{take_more, take-append-drop}
+use Rattle.std.proofs.lemmas.List.{take_more, take-append-drop, drop-take, length-take-le}
 use Rattle.std.specs.Prelude.{min}
 
 -- ---- one after the other
@@ -41,6 +41,30 @@ in_turn_more q v rest x h = record {
     | inr not ↦ rw not (starts_more _ (omega arith)
         (h.leads r rec w (n + met_steps rest r) (rw not (x.leads r rec w n (rw not at lead))) a small))
   ];
+}
+
+-- rulings in front of others: in so few steps they lead to the first that holds, or to those behind them
+front_leads : {old mid : List sock_filter} {after t : Target} (front back : List Ruling) → AreInTurn back old after t mid → (r : List ℕ)
+    → IsRecord r → (w n : ℕ) → Leads 0 old r (met (front ++ back) after r) w n
+    → (m : ℕ) × (m + met_steps front r ≤ n + met_steps (front ++ back) r) × Leads 0 mid r (met front t r) w m
+front_leads [] back x r rec w n lead = (n + met_steps back r, omega arith, x.leads r rec w n lead)
+front_leads (d ∷ front) back x r rec w n lead = elim (cases_Bool (list_all (holds r) d.conditions)) [
+  | inl is ↦ rw is (n, omega arith, λ a small. leads_grown x.grows (rw is at lead a small))
+  | inr not ↦ let y = front_leads front back x r rec w n (rw not at lead) in rw not (y.0, omega (arith, y.1), y.2)
+]
+
+rules_append : (front back : List Ruling) → rules_length (front ++ back) ≡ rules_length front + rules_length back
+rules_append [] back = omega arith
+rules_append (d ∷ front) back = omega (arith, rules_append front back)
+
+-- rulings that are written as one in front of others
+pub in_turn_before : {old mid new : List sock_filter} {after t u : Target} (front back : List Ruling) → AreInTurn back old after t mid
+    → AreInTurn front mid t u new → AreInTurn (front ++ back) old after u new
+in_turn_before front back x h = record {
+  grows = grows_on _ x.grows h.grows (omega (arith, rules_append front back));
+  inside = h.inside;
+  leads = λ r rec w n lead a small.
+      let y = front_leads front back x r rec w n lead in starts_more _ (omega (arith, y.1)) (h.leads r rec w y.0 y.2 a small);
 }
 
 -- ---- parts
@@ -296,10 +320,6 @@ rules_in_turn {default = default} {t} {u} new front back alone x h = record {
       let y = turn_takes default front back r alone (x.leads r rec) takes in
       starts_more _ (omega (arith, y.1)) (h.leads r rec _ (y.0 + 1) y.2 a small);
 }
-  where
-    rules_append : (front back : List Ruling) → rules_length (front ++ back) ≡ rules_length front + rules_length back
-    rules_append [] back = omega arith
-    rules_append (d ∷ front) back = omega (arith, rules_append front back)
 
 -- they are of no run with what is in front of them
 alike_none : (o : Option Condition) → alike o None ≡ false
@@ -310,9 +330,14 @@ pub alone_joined : (q : List Condition) (front back : List Ruling) → AreAlone 
 alone_joined q [] back alone some = absurd (omega arith)
 alone_joined q (d ∷ front) back alone some = rw (alone.0, alike_none (only q)) refl
 
-pub parted_alone : (p : Part) (g : List Ruling) → AreParted p g → AreAlone g
-parted_alone p [] h = tt
-parted_alone p (d ∷ g) h = (h.0.alone, parted_alone p g h.1)
+-- the last of those in front is of no run
+pub alone_last : (l : List Ruling) (n : ℕ) (d : Ruling) (rest : List Ruling) → 0 < n → n ≤ length l → drop (n - 1) l ≡ d ∷ rest
+    → only d.conditions ≡ None → AreAlone (drop (length (take n l) - 1) (take n l))
+alone_last l n d rest some le is none =
+    let at : n ≡ n - 1 + 1 = omega (arith, some) in
+    let last : drop (n - 1) (take n l) ≡ d ∷ [] =
+    ap (λ k. drop (n - 1) (take k l)) at ∙ drop-take (n - 1) 1 l ∙ ap (λ k. take 1 k) is in
+    rw (length-take-le n l le, last) (none, tt)
 
 pub parted_drop : (p : Part) (n : ℕ) (g : List Ruling) → AreParted p g → AreParted p (drop n g)
 parted_drop p (suc n) (d ∷ g) h = parted_drop p n g h.1

@@ -9,7 +9,7 @@ use Rattle.seccompiler.specs.declared.backend.SeccompCmpArgLen.{SeccompCmpArgLen
 use Rattle.seccompiler.specs.declared.backend.SeccompCmpArgLen.TheVariants.{Dword, Qword}
 use Rattle.seccompiler.specs.declared.backend.SeccompCmpOp.{SeccompCmpOp}
 use Rattle.seccompiler.specs.declared.backend.SeccompCmpOp.TheVariants.{Eq, MaskedEq}
-use Rattle.seccomp_tree.specs.declared.rules.Part.{Part}
+use Rattle.seccomp_tree.specs.declared.parting.Part.{Part}
 use Rattle.seccomp_tree.specs.declared.steps.Target.{Target}
 use Rattle.seccomp_tree.specs.declared.steps.Target.TheVariants.{Give}
 use Rattle.seccomp_tree.specs.Decisions.{Ruling, conditions_steps, only, rules_length}
@@ -53,12 +53,11 @@ compared (c ∷ rest) = record {
 abbrev pub number : Part → List ℕ → ℕ
 number p r = bit_and (word_at r (16 + 8 * p.index)) p.mask
 
--- A ruling compares this part first, and is of no run.
+-- A ruling compares this part first.
 pub record IsParted (p : Part) (d : Ruling) : Type 0 where
   pub some : p.mask ≢ 0
   pub index : (compared d.conditions).index ≡ p.index
   pub mask : (compared d.conditions).mask ≡ p.mask
-  pub alone : only d.conditions ≡ None
 
 abbrev pub AreParted : Part → List Ruling → Type 0
 AreParted p [] = ⊤
@@ -81,8 +80,8 @@ abbrev pub AreAlone : List Ruling → Type 0
 AreAlone [] = ⊤
 AreAlone (d ∷ rest) = (only d.conditions ≡ None) × AreAlone rest
 
--- The target goes on as the rulings from a place on, which are of no run, and else as what comes after them.
+-- The target goes on as the rulings from a place on, and else as what comes after them. They are of no run if the last is of none.
 pub record IsGroup (rulings : List Ruling) (start : ℕ) (old : List sock_filter) (after t : Target) (new : List sock_filter) : Type 0 where
   pub below : start < length rulings
-  pub alone : AreAlone (drop start rulings)
+  pub alone : AreAlone (drop (length rulings - 1) rulings) → AreAlone (drop start rulings)
   pub turn : AreInTurn (drop start rulings) old after t new

@@ -25,6 +25,7 @@ mod code;
 mod decisions;
 mod error;
 mod layout;
+mod parting;
 mod program;
 mod rules;
 mod steps;

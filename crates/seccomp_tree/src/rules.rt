@@ -1,32 +1,20 @@
 // Conditions and rulings as targets: what a condition chooses, and what the first ruling that holds says.
 
-ghost use Rattle.std.specs.Prelude.{◌≡◌, ◌<◌, ◌≤◌, ◌-◌, ◌%◌, ◌∷◌, [], Some, IfOk, IfErr, IfSome, bit_and, drop, length, nat_eq, true};
+ghost use Rattle.std.specs.Prelude.{◌≡◌, ◌<◌, ◌≤◌, ◌-◌, ◌%◌, ◌∷◌, [], Some, IfOk, IfErr, IfSome, bit_and, length, nat_eq};
 ghost use Rattle.seccompiler.specs.Machine.{greatest_length, word_at};
 ghost use Rattle.seccomp_tree.specs.declared.error.TreeError.TheVariants as tree;
 ghost use Rattle.seccomp_tree.specs.declared.steps.Target.TheVariants.{Give};
 ghost use Rattle.seccomp_tree.specs.Code.{AreAlike, AreMet, AreRunSteps, Grows, IsAnswer, IsAsked, IsIn, IsMet, IsRun};
-ghost use Rattle.seccomp_tree.specs.Parts.{AreAlone, AreInTurn, AreParted, IsGroup, IsParted, compared, left_at, occurs};
 ghost use Rattle.seccomp_tree.specs.Decisions.{alike, only, rules_length};
 
 use crate::code::{Code, Test};
 use crate::decisions::Decision;
 use crate::error::TreeError;
+use crate::parting::AGAIN;
 use crate::steps::{OPEN, Step, Target, WORDS, filled, laid, numbers_of, one, open_to, push_step};
 use seccompiler::bpf::{BPF_MAX_LEN, LOAD, MASK, bpf_stmt};
 use seccompiler::{SeccompCmpArgLen, SeccompCmpOp, SeccompCondition};
 use std::alloc::{AllocError, Global};
-
-// How many rulings are parted at once: each is compared with the others.
-const MOST: usize = 8;
-
-// What the first condition of a ruling compares, and with which value: the low half of an argument, under a mask. The mask is 0
-// if it compares more, or in another way.
-#[derive(Clone, Copy)]
-pub(crate) struct Part {
-    pub(crate) index: u8,
-    pub(crate) mask: u32,
-    pub(crate) value: u32,
-}
 
 impl Code {
     /// Goes on as the first of the rulings that holds says, or returns the default; whatever the accumulator holds. If one
@@ -52,7 +40,7 @@ impl Code {
         let mut left = rulings.len();
         while left > 0 {
             match only(&rulings[left - 1]) {
-                None => (left, after) = self.group(alloc, &rulings[..left], after)?,
+                None => (left, after) = self.group(alloc, &rulings[..left], after, AGAIN)?,
                 Some(condition) => {
                     left -= 1;
                     if left > 0 && joins(&rulings[left - 1], &condition) {
@@ -64,84 +52,6 @@ impl Code {
             end = left;
         }
         Ok(after)
-    }
-
-    // Goes on as the last of the rulings says, and those in front of it that are parted with it, or else as what comes after them;
-    // and gives the place of the first of these.
-    fn group(
-        &mut self,
-        alloc: Global,
-        rulings: &[Decision],
-        after: Target,
-    ) -> Result<(usize, Target), AllocError>
-        requires some { 1 ≤ length rulings.now }
-        requires last { AreAlone (drop (length rulings.now - 1) rulings.now) }
-        requires after { IsIn self.old after }
-        ensures { IfOk result (λ x. IsGroup rulings.now x.0 self.old after x.1 self.new) }
-    {
-        let last = rulings.len() - 1;
-        let ruling = &rulings[last];
-        let shared = compared(ruling);
-        let start = group_start(rulings, shared, after);
-        if start < last {
-            let target = self.parted(alloc, &rulings[start..], shared, after)?;
-            return Ok((start, target));
-        }
-        let target = self.conditions(alloc, &ruling.conditions, ruling.value, after)?;
-        Ok((last, target))
-    }
-
-    // Goes on as the first of the rulings that holds says, and else as what comes after them. They compare one part, which is
-    // loaded once. Each of its values has the rulings that compare for it, and no other ruling holds there.
-    fn parted(
-        &mut self,
-        alloc: Global,
-        rulings: &[Decision],
-        shared: Part,
-        after: Target,
-    ) -> Result<Target, AllocError>
-        requires some { 1 ≤ length rulings.now }
-        requires parted { AreParted shared rulings.now }
-        requires index { shared.index ≤ 5 }
-        requires after { IsIn self.old after }
-        ensures { IfOk result (λ t. AreInTurn rulings.now self.old after t self.new) }
-    {
-        let mut target = after;
-        for left in (0..rulings.len()).rev() {
-            let value = compared(&rulings[left]).value;
-            if !occurs(&rulings[..left], value) {
-                let yes = self.left_at(alloc, &rulings[left..], value, after)?;
-                target = self.test(Test::Equal, value, yes, target)?;
-            }
-        }
-        if shared.mask != 0xffff_ffff {
-            self.push(bpf_stmt(MASK, shared.mask))?;
-        }
-        self.push(bpf_stmt(LOAD, u32::from(16 + 8 * shared.index)))?;
-        Ok(Target::At(self.len() - 1))
-    }
-
-    // Goes on as the first says that holds of the rulings that compare for a value, by their other conditions, and else as
-    // what comes after them.
-    fn left_at(
-        &mut self,
-        alloc: Global,
-        rulings: &[Decision],
-        value: u32,
-        after: Target,
-    ) -> Result<Target, AllocError>
-        requires after { IsIn self.old after }
-        ensures { IfOk result (λ t. AreInTurn (left_at rulings.now value) self.old after t self.new) }
-    {
-        let mut target = after;
-        for place in (0..rulings.len()).rev() {
-            let ruling = &rulings[place];
-            if compared(ruling).value == value {
-                let others = &ruling.conditions[ruling.conditions.len().min(1)..];
-                target = self.conditions(alloc, others, ruling.value, target)?;
-            }
-        }
-        Ok(target)
     }
 
     // Goes on as the first ruling of a run says that holds, and else as what comes after it, whatever the accumulator holds.
@@ -172,9 +82,9 @@ impl Code {
         Ok(self.argument(alloc, size, index, &steps)?)
     }
 
-    // Returns the value if all conditions hold, and else goes on: the last of them first, since code is written from its
-    // end.
-    fn conditions(
+    /// Returns the value if all conditions hold, and else goes on: the last of them first, since code is written from its
+    /// end.
+    pub(crate) fn conditions(
         &mut self,
         alloc: Global,
         conditions: &[SeccompCondition],
@@ -323,8 +233,8 @@ fn joins(ruling: &Decision, other: &SeccompCondition) -> bool
     }
 }
 
-// A ruling's condition, if it has one alone, without a mask.
-fn only(ruling: &Decision) -> Option<SeccompCondition>
+/// A ruling's condition, if it has one alone, without a mask.
+pub(crate) fn only(ruling: &Decision) -> Option<SeccompCondition>
     ensures { result ≡ only ruling.now.conditions }
 {
     let [condition] = ruling.conditions.as_slice() else {
@@ -334,66 +244,4 @@ fn only(ruling: &Decision) -> Option<SeccompCondition>
         SeccompCmpOp::MaskedEq(_) => None,
         _ => Some(*condition),
     }
-}
-
-// What a ruling's first condition compares.
-fn compared(ruling: &Decision) -> Part
-    ensures is { result ≡ compared ruling.now.conditions }
-    ensures index { result.index ≤ 5 }
-{
-    let Some(condition) = ruling.conditions.first() else {
-        return Part {
-            index: 0,
-            mask: 0,
-            value: 0,
-        };
-    };
-    let mask = match (condition.arg_len(), condition.operator()) {
-        (SeccompCmpArgLen::Dword, SeccompCmpOp::Eq) => 0xffff_ffff,
-        (SeccompCmpArgLen::Dword, SeccompCmpOp::MaskedEq(mask)) => (mask % WORDS) as u32,
-        (SeccompCmpArgLen::Qword, SeccompCmpOp::MaskedEq(mask)) if mask < WORDS => mask as u32,
-        _ => 0,
-    };
-    Part {
-        index: condition.arg_index(),
-        mask,
-        value: (condition.value() % WORDS) as u32 & mask,
-    }
-}
-
-// Where those of the rulings begin, up to the last, that are parted by what they share; behind the last if none is.
-fn group_start(rulings: &[Decision], shared: Part, after: Target) -> usize
-    ensures within { result ≤ length rulings.now }
-    ensures parted { AreParted shared (drop result rulings.now) }
-{
-    let len = rulings.len();
-    let mut start = len;
-    while start > 0 && len - start < MOST && is_parted(&rulings[start - 1], shared, after) {
-        start -= 1;
-    }
-    start
-}
-
-// Whether a ruling, which is of no run, compares this part of an argument. One that returns what comes after it needs no test.
-fn is_parted(ruling: &Decision, shared: Part, after: Target) -> bool
-    ensures { result ≡ true → IsParted shared ruling.now }
-{
-    let own = compared(ruling);
-    own.mask != 0
-        && own.mask == shared.mask
-        && own.index == shared.index
-        && only(ruling).is_none()
-        && after != Target::Give(ruling.value)
-}
-
-// Whether one of the rulings compares for this value.
-fn occurs(rulings: &[Decision], value: u32) -> bool
-    ensures { result ≡ occurs rulings.now value }
-{
-    for ruling in rulings {
-        if compared(ruling).value == value {
-            return true;
-        }
-    }
-    false
 }

@@ -1,6 +1,6 @@
 use Rattle.seccomp_tree.proofs.Meeting.{rules_settled, answered_one, first_alone, joined_alike, alike_self, joined_few, joined_none}
 use Rattle.seccomp_tree.proofs.Meeting.{rules_parts, AreRules, front_is, in_front}
-use Rattle.seccomp_tree.proofs.Parts.{alone_joined, drop_parts, rules_in_turn}
+use Rattle.seccomp_tree.proofs.Parts.{alone_joined, alone_last, drop_parts, rules_in_turn}
 use Rattle.seccomp_tree.proofs.Common.{Condition, one_value, to_return, drop-drop, drop_all, Option, Ruling, joined, [], length}
 use Rattle.seccomp_tree.proofs.Common.{length-drop, length-take-le, rules_length, take, arith, rules, List, None, drop, only, refl, suc}
 use Rattle.seccomp_tree.proofs.Common.{sym, ◌+◌, ◌-◌, ◌<◌, ◌∙◌, ◌∷◌, ◌≡◌, ◌≤◌, ap}
@@ -95,11 +95,13 @@ loop-left-preserved-in_ok-left-in-None-only c =
     let long = length-take-le c.loop-left.left c.args.rulings.now c.loop-left.invariant.within in
     let less : start < c.loop-left.left = omega (arith, group.below, long) in
     let some : 1 ≤ length (drop start front) = omega (arith, group.below, length-drop start front) in
-    let none = alone_joined (in_front c.args.rulings.now start) (drop start front) (rest b) group.alone some in
+    let alone = group.alone (alone_last c.args.rulings.now c.loop-left.left (ruling b) (rest b) c.loop-left-test.true
+    c.loop-left.invariant.within (from_here b) (own b _ c.in-None-only.is)) in
+    let none = alone_joined (in_front c.args.rulings.now start) (drop start front) (rest b) alone some in
     rw (← drop_parts start c.loop-left.left c.args.rulings.now (omega (arith, less))) record {
       within = omega (arith, less, c.loop-left.invariant.within);
       ends = rw none (omega arith);
-      rules = rules_in_turn _ (drop start front) (rest b) group.alone (after_alone b c.in-None-only.is) group.turn;
+      rules = rules_in_turn _ (drop start front) (rest b) alone (after_alone b c.in-None-only.is) group.turn;
     }
 
 pub loop-left-preserved : goal.loop-left-preserved

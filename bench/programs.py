@@ -48,15 +48,14 @@ def exported(library, level, default, rules):
 
 
 def comparison_of(condition):
-    """Returns what libseccomp is asked for a policy's condition: of 32 bits it compares equality alone, by a mask."""
+    """Returns what libseccomp is asked for a policy's condition. By a mask it compares the low half for equality; other operators
+    compare 64 bits."""
     index, operator, value = condition["index"], condition["op"], condition["val"]
     low = 0xFFFFFFFF if condition["type"] == "dword" else 0xFFFFFFFFFFFFFFFF
     if isinstance(operator, dict):
         mask = operator["masked_eq"] & low
         return index, OPERATORS["masked_eq"], mask, value & mask
-    if condition["type"] == "dword":
-        if operator != "eq":
-            raise ValueError(operator)
+    if condition["type"] == "dword" and operator == "eq":
         return index, OPERATORS["masked_eq"], low, value & low
     return index, OPERATORS[operator], value, 0
 

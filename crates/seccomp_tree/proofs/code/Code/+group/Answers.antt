@@ -1,7 +1,7 @@
-use Rattle.seccomp_tree.proofs.Common.{drop, take, drop_all, take_rest, length-take-le, length, arith, get_or, load, sym, ap, Ruling, List, []}
-use Rattle.seccomp_tree.proofs.Common.{◌+◌, ◌-◌, ◌*◌, ◌++◌, ◌∷◌, ◌∙◌, ◌≡◌, ◌<◌, ◌≤◌, ℕ}
-use Rattle.seccomp_tree.proofs.Parts.{Chain, IsLoaded, chain_none, chain_skip, chain_test, chain_done, parted_drop, take_back, whole, masked}
-use Rattle.seccomp_tree.proofs.Parts.{in_turn_none, in_turn_more, in_turn_before, drop_parts}
+use Rattle.seccomp_tree.proofs.Common.{drop, take, drop_all, take_rest, length-take-le, length, arith, get_or, load, sym, ap, Ruling}
+use Rattle.seccomp_tree.proofs.Common.{List, [], ◌+◌, ◌-◌, ◌*◌, ◌++◌, ◌∷◌, ◌∙◌, ◌≡◌, ◌<◌, ◌≤◌, ℕ}
+use Rattle.seccomp_tree.proofs.Parts.{Chain, IsLoaded, chain_none, chain_skip, chain_test, chain_done, parted_drop, take_back, whole}
+use Rattle.seccomp_tree.proofs.Parts.{in_turn_none, in_turn_more, in_turn_before, drop_parts, masked}
 use Rattle.seccomp_tree.proofs.Decided.{drop_at, drop_back}
 use Rattle.seccomp_tree.specs.Parts.{AreParted, compared}
 use Rattle.seccomp_tree.specs.declared.parting.Part.{Part}

@@ -5,19 +5,19 @@ use Rattle.seccomp_tree.proofs.Common.{AreMet, Ruling, Target, and_lt, and_zero_
 use Rattle.seccomp_tree.proofs.Common.{Equal, Grows, Leads, Qword, Starts, Returns, Takes, arith, false, holds, masks, stops, Give}
 use Rattle.seccomp_tree.proofs.Common.{IsIn, List, None, Some, drop, load, mask, only, refl, true, zero, ◌&&◌, suc, sym, inl, inr, ap, ℕ}
 use Rattle.seccomp_tree.proofs.Common.{At, ◌%◌, ◌*◌, ◌+◌, ◌-◌, ◌/◌, ◌<◌, ◌^◌, ◌∙◌, ◌∷◌, ◌≡◌, ◌≢◌, ◌≤◌, ◌++◌, [], word_fits, if◌then◌else◌}
-use Rattle.seccomp_tree.proofs.Common.{take, get_or, alike, Option, SeccompCmpArgLen, SeccompCmpOp, compares, condition_length}
+use Rattle.seccomp_tree.proofs.Common.{take, get_or, alike, Bool, Option, SeccompCmpArgLen, SeccompCmpOp, compares, condition_length}
 use Rattle.seccomp_tree.proofs.Common.{condition_steps, argument_at, run_steps}
 use Rattle.seccomp_tree.proofs.Runs.{leads_grown, starts_last, starts_more, returns_more, grows_not, grows_one, grows_on, leads_by}
 use Rattle.seccomp_tree.proofs.Runs.{tail_whole}
 use Rattle.seccomp_tree.proofs.Meeting.{AreRules, first, holds_is, not_held, joined_none, mask_parts}
-use Rattle.seccomp_tree.proofs.Trees.{load_run, low_word}
+use Rattle.seccomp_tree.proofs.Trees.{load_run, low_word, high_word}
 use Rattle.seccomp_tree.specs.Decisions.{conditions_length, conditions_steps}
-use Rattle.seccomp_tree.specs.Parts.{AreAlone, AreInTurn, AreParted, IsParted, compared, left_at, low_mask, met, met_steps, number, occurs}
+use Rattle.seccomp_tree.specs.Parts.{AreAlone, AreInTurn, AreParted, IsParted, compared, left_at, met, met_steps, number, occurs}
+use Rattle.seccomp_tree.specs.Parts.{half_of, in_front_of, low_half_by, part_byte, part_mask, part_value, rest_of}
 use Rattle.seccomp_tree.specs.declared.parting.Part.{Part}
 use Rattle.seccompiler.specs.declared.backend.SeccompCmpOp.TheVariants.{Eq}
 use Rattle.std.proofs.lemmas.Nat.{and_mask}
 use Rattle.std.proofs.lemmas.List.{take_more, take-append-drop, drop-take, length-take-le}
-use Rattle.std.specs.Prelude.{min}
 
 -- ---- one after the other
 
@@ -69,39 +69,63 @@ in_turn_before front back x h = record {
 
 -- ---- parts
 
-one_by : (l : SeccompCmpArgLen) (o : SeccompCmpOp) (x v w : ℕ) → x % 2 ^ 32 ≡ w → low_mask l o ≢ 0
-    → compares (operator_part l o) (part_of l x) (part_of l v) ≡ nat_eq (bit_and w (low_mask l o)) (bit_and (v % 2 ^ 32) (low_mask l o))
-one_by Dword Eq x v w is some = rw (← is, and_mask (x % 2 ^ 32) 32, and_mask (v % 2 ^ 32) 32) (grind arith)
-one_by Dword (MaskedEq m) x v w is some = rw (← is) refl
-one_by Qword (MaskedEq m) x v w is some = elim (cases_Bool (nat_lt m (2 ^ 32))) [
+half_word : (l : SeccompCmpArgLen) (o : SeccompCmpOp) (r : List ℕ) (i : ℕ) → IsRecord r
+    → half_of l o (argument_at r i) ≡ word_at r (part_byte l o + 8 * i)
+half_word l o r i rec = grind (arith, low_word r i rec, high_word r i rec)
+
+-- numbers are equal if both their halves are
+same_halves : (x v : ℕ) → nat_eq x v ≡ (nat_eq (x / 2 ^ 32) (v / 2 ^ 32) && nat_eq (x % 2 ^ 32) (v % 2 ^ 32))
+same_halves x v = grind (arith, nat_tests)
+
+and_assoc : (a b c : Bool) → (a && b && c) ≡ (a && (b && c))
+and_assoc a b c = elim (cases_Bool a) [ inl is ↦ rw is refl | inr not ↦ rw not refl ]
+
+part_by : (l : SeccompCmpArgLen) (o : SeccompCmpOp) (i v w : ℕ) (r : List ℕ) (rest : List Condition) → half_of l o (argument_at r i) ≡ w
+    → w < 2 ^ 32 → part_mask l o ≢ 0
+    → (compares (operator_part l o) (part_of l (argument_at r i)) (part_of l v) && list_all (holds r) rest)
+    ≡ (nat_eq (bit_and w (part_mask l o)) (part_value l o v) && list_all (holds r) (in_front_of (low_half_by l o i v) rest))
+part_by Dword Eq i v w r rest is fits some =
+    let same : bit_and w (2 ^ 32 - 1) ≡ argument_at r i % 2 ^ 32 = and_mask w 32 ∙ omega (arith, is, fits) in rw same refl
+part_by Qword Eq i v w r rest is fits some =
+    let x = argument_at r i in
+    let same : bit_and w (2 ^ 32 - 1) ≡ x / 2 ^ 32 = and_mask w 32 ∙ omega (arith, is, fits) in
+    let low : v % 2 ^ 32 % 2 ^ 32 ≡ v % 2 ^ 32 = omega arith in
+    rw (same, low, same_halves x v)
+    (and_assoc (nat_eq (x / 2 ^ 32) (v / 2 ^ 32)) (nat_eq (x % 2 ^ 32) (v % 2 ^ 32)) (list_all (holds r) rest))
+part_by Dword (MaskedEq m) i v w r rest is fits some = rw (← is) refl
+part_by Qword (MaskedEq m) i v w r rest is fits some = elim (cases_Bool (nat_lt m (2 ^ 32))) [
   | inl less ↦
+      let x = argument_at r i in
       let high : m / 2 ^ 32 ≡ 0 = grind (arith, nat_tests, less) in
       let low : m % 2 ^ 32 ≡ m = grind (arith, nat_tests, less) in
-      rw less (mask_parts x v m ∙ rw (high, low, and_zero_r (x / 2 ^ 32), and_zero_r (v / 2 ^ 32), is) refl)
+      rw less (ap (λ b. b && list_all (holds r) rest)
+      (mask_parts x v m ∙ rw (high, low, and_zero_r (x / 2 ^ 32), and_zero_r (v / 2 ^ 32), is) refl))
   | inr not ↦ absurd (some (rw not refl))
 ]
-one_by l o x v w is some = grind (arith, some)
+part_by l o i v w r rest is fits some = grind (arith, some)
 
--- rulings hold if the part has their value, and their other conditions hold
+-- rulings hold if the part has their value, and the rest of their conditions holds
 part_is : (q : List Condition) (r : List ℕ) → IsRecord r → (compared q).mask ≢ 0
-    → list_all (holds r) q ≡ (nat_eq (number (compared q) r) (compared q).value && list_all (holds r) (drop 1 q))
+    → list_all (holds r) q ≡ (nat_eq (number (compared q) r) (compared q).value && list_all (holds r) (rest_of q))
 part_is [] r rec some = absurd (some refl)
-part_is (c ∷ rest) r rec some = ap (λ b. b && list_all (holds r) rest)
-    (one_by c.arg_len c.operator (argument_at r c.arg_index) c.value _ (low_word r c.arg_index rec) some)
+part_is (c ∷ rest) r rec some =
+    part_by c.arg_len c.operator c.arg_index c.value _ r rest (half_word c.arg_len c.operator r c.arg_index rec) (word_fits r _ rec) some
 
-cost_by : (l : SeccompCmpArgLen) (o : SeccompCmpOp) → (5 ≤ condition_length l o) × (3 ≤ condition_steps l o)
-cost_by l o = grind arith
+cost_by : (l : SeccompCmpArgLen) (o : SeccompCmpOp) (i v : ℕ) (rest : List Condition)
+    → (conditions_length (in_front_of (low_half_by l o i v) rest) + 5 ≤ condition_length l o + conditions_length rest)
+    × (conditions_steps (in_front_of (low_half_by l o i v) rest) + 4 ≤ condition_steps l o + 1 + conditions_steps rest)
+cost_by l o i v rest = grind arith
 
 part_costs : (q : List Condition) → (compared q).mask ≢ 0
-    → (conditions_length (drop 1 q) + 5 ≤ conditions_length q) × (conditions_steps (drop 1 q) + 4 ≤ conditions_steps q)
+    → (conditions_length (rest_of q) + 5 ≤ conditions_length q) × (conditions_steps (rest_of q) + 4 ≤ conditions_steps q)
 part_costs [] some = absurd (some refl)
-part_costs (c ∷ rest) some = let h = cost_by c.arg_len c.operator in (omega (arith, h.0), omega (arith, h.1))
+part_costs (c ∷ rest) some = cost_by c.arg_len c.operator c.arg_index c.value rest
 
 small_mask : (q : List Condition) → (compared q).mask < 2 ^ 32
 small_mask [] = omega arith
 small_mask (c ∷ rest) = by_mask c.arg_len c.operator
   where
-    by_mask : (l : SeccompCmpArgLen) (o : SeccompCmpOp) → low_mask l o < 2 ^ 32
+    by_mask : (l : SeccompCmpArgLen) (o : SeccompCmpOp) → part_mask l o < 2 ^ 32
     by_mask l o = grind (arith, nat_tests)
 
 pub some_mask : {p : Part} {d : Ruling} → IsParted p d → (compared d.conditions).mask ≢ 0
@@ -109,15 +133,15 @@ some_mask h z = h.some (sym h.mask ∙ z)
 
 module _ (p : Part) {r : List ℕ} (rec : IsRecord r) where
   held : (d : Ruling) → IsParted p d
-      → list_all (holds r) d.conditions ≡ (nat_eq (number p r) (compared d.conditions).value && list_all (holds r) (drop 1 d.conditions))
-  held d h = rw (← h.index, ← h.mask) (part_is d.conditions r rec (some_mask h))
+      → list_all (holds r) d.conditions ≡ (nat_eq (number p r) (compared d.conditions).value && list_all (holds r) (rest_of d.conditions))
+  held d h = rw (← h.byte, ← h.mask) (part_is d.conditions r rec (some_mask h))
 
   -- those that are left where the part has a value decide as all do
   met_at : (g : List Ruling) (after : Target) → AreParted p g → met g after r ≡ met (left_at g (number p r)) after r
   met_at [] after h = refl
   met_at (d ∷ g) after h = elim (cases_Bool (nat_eq (number p r) (compared d.conditions).value)) [
     | inl is ↦ rw (held d h.0, is)
-        (ap (λ t. if list_all (holds r) (drop 1 d.conditions) then Give d.value else t) (met_at g after h.1))
+        (ap (λ t. if list_all (holds r) (rest_of d.conditions) then Give d.value else t) (met_at g after h.1))
     | inr not ↦ rw (held d h.0, not) (met_at g after h.1)
   ]
 
@@ -142,7 +166,7 @@ module _ (p : Part) {r : List ℕ} (rec : IsRecord r) where
 abbrev open_length : List Ruling → List Ruling → ℕ
 open_length front [] = 0
 open_length front (d ∷ back) =
-    (if occurs front (compared d.conditions).value then 0 else 3 + conditions_length (drop 1 d.conditions)) + open_length front back
+    (if occurs front (compared d.conditions).value then 0 else 3 + conditions_length (rest_of d.conditions)) + open_length front back
 
 occurs_more : (front : List Ruling) (d : Ruling) (v : ℕ)
     → occurs (front ++ d ∷ []) v ≡ (if occurs front v then true else nat_eq v (compared d.conditions).value)
@@ -246,31 +270,31 @@ starts_at {code} is some (to_place m w a k n inside h few) =
 
 -- The number of a part is loaded, under its mask.
 pub data IsLoaded (p : Part) (old new : List sock_filter) : Type 0 where
-  whole : p.mask ≡ 0xffffffff → new ≡ load (16 + 8 * p.index) ∷ old → IsLoaded p old new
-  masked : new ≡ load (16 + 8 * p.index) ∷ mask p.mask ∷ old → IsLoaded p old new
+  whole : p.mask ≡ 0xffffffff → new ≡ load p.byte ∷ old → IsLoaded p old new
+  masked : new ≡ load p.byte ∷ mask p.mask ∷ old → IsLoaded p old new
 
-loaded_runs : {p : Part} {r : List ℕ} {old new : List sock_filter} {w n : ℕ} → IsRecord r → p.index ≤ 5 → p.mask < 2 ^ 32
+loaded_runs : {p : Part} {r : List ℕ} {old new : List sock_filter} {w n : ℕ} → IsRecord r → p.byte ≤ 60 → p.mask < 2 ^ 32
     → IsLoaded p old new → (number p r < 2 ^ 32 → Returns r old (number p r) w n) → (a : ℕ) → Returns r new a w (n + 2)
 loaded_runs {p} {r} {old} {w = w} {n} rec index small (whole all is) run a =
-    let word = word_at r (16 + 8 * p.index) in
-    let fits = word_fits r (16 + 8 * p.index) rec in
+    let word = word_at r p.byte in
+    let fits = word_fits r p.byte rec in
     let same : number p r ≡ word = rw all (and_mask word 32 ∙ omega (arith, fits)) in
-    rw is (returns_more (n + 2) (omega arith) (load_run r old (16 + 8 * p.index) a w n rec (omega (arith, index))
+    rw is (returns_more (n + 2) (omega arith) (load_run r old p.byte a w n rec index
     (rw same at (run (omega (arith, fits, same))))))
 loaded_runs {p} {r} {old} {w = w} {n} rec index small (masked is) run a =
-    let word = word_at r (16 + 8 * p.index) in
-    let fits : number p r < 2 ^ 32 = and_lt 32 word p.mask (word_fits r (16 + 8 * p.index) rec) small in
-    rw is (returns_more (n + 2) (omega arith) (load_run r (mask p.mask ∷ old) (16 + 8 * p.index) a w (suc n) rec (omega (arith, index))
+    let word = word_at r p.byte in
+    let fits : number p r < 2 ^ 32 = and_lt 32 word p.mask (word_fits r p.byte rec) small in
+    rw is (returns_more (n + 2) (omega arith) (load_run r (mask p.mask ∷ old) p.byte a w (suc n) rec index
     (goes_on (mask p.mask) old word (number p r) w n 0 (λ i. masks refl (omega arith) refl) fits (run fits))))
 
 loaded_long : {p : Part} {old new : List sock_filter} → IsLoaded p old new → Grows old 2 new × (1 ≤ length new)
 loaded_long {p} {old} (whole all is) =
-    rw is (grows_on 2 (grows_one old (load (16 + 8 * p.index))) (grows_not _ 0) (omega arith), omega arith)
+    rw is (grows_on 2 (grows_one old (load p.byte)) (grows_not _ 0) (omega arith), omega arith)
 loaded_long {p} {old} (masked is) =
-    rw is (grows_on 2 (grows_one old (mask p.mask)) (grows_one (mask p.mask ∷ old) (load (16 + 8 * p.index))) (omega arith), omega arith)
+    rw is (grows_on 2 (grows_one old (mask p.mask)) (grows_one (mask p.mask ∷ old) (load p.byte)) (omega arith), omega arith)
 
 pub chain_done : {p : Part} {back : List Ruling} {old mid new : List sock_filter} {after t : Target} → Chain p [] back old after t mid
-    → AreParted p back → 1 ≤ length back → p.index ≤ 5 → IsLoaded p mid new
+    → AreParted p back → 1 ≤ length back → p.byte ≤ 60 → IsLoaded p mid new
     → AreInTurn back old after (At (length new - 1)) new
 chain_done {back = []} h parted some index loaded = absurd (omega arith)
 chain_done {p} {back = d ∷ back} {mid = mid} {new} h parted some index loaded = record {
@@ -282,7 +306,7 @@ chain_done {p} {back = d ∷ back} {mid = mid} {new} h parted some index loaded 
       let cost = (part_costs d.conditions (some_mask parted.0)).1 in
       let from = λ (few : number p r < 2 ^ 32). starts_at last.0 last.1 (h.leads r rec refl w n lead few) in
       let run = loaded_runs {n = n + (met_steps (d ∷ back) r - 2) - 1} rec index small loaded (λ few. (from few).1) a in
-      let few : number p r < 2 ^ 32 = and_lt 32 _ p.mask (word_fits r (16 + 8 * p.index) rec) small in
+      let few : number p r < 2 ^ 32 = and_lt 32 _ p.mask (word_fits r p.byte rec) small in
       starts_more _ (omega (arith, cost, (from few).0)) (leads_by (starts_last refl (loaded_long loaded).1 run));
 }
 
@@ -351,10 +375,6 @@ pub take_back : {A : Type 0} (l : List A) (n : ℕ) (x : A) → 0 < n → n ≤ 
     → take n l ≡ take (n - 1) l ++ x ∷ []
 take_back l n x some le is = let at : n ≡ n - 1 + 1 = omega arith in
     ap (λ k. take k l) at ∙ take_more l (n - 1) x (omega arith) ∙ ap (λ y. take (n - 1) l ++ y ∷ []) (sym is)
-
-pub drop_one : {A : Type 0} (l : List A) (k : ℕ) → k ≡ min (length l) 1 → drop k l ≡ drop 1 l
-drop_one [] k is = rw is refl
-drop_one (x ∷ l) k is = let one : k ≡ 1 = omega (arith, is) in rw one refl
 
 pub drop_parts : {A : Type 0} (s n : ℕ) (l : List A) → s ≤ n → drop s (take n l) ++ drop n l ≡ drop s l
 drop_parts zero n l le = take-append-drop n l

@@ -1,16 +1,17 @@
-// Rulings that compare one part of an argument for single values, which are parted by it.
+// Rulings that compare one part of a record for single values, which are parted by it.
 
-ghost use Rattle.std.specs.Prelude.{◌≡◌, ◌≤◌, ◌↔◌, IfOk, None, drop, length, true};
+ghost use Rattle.std.specs.Prelude.{◌≡◌, ◌≤◌, ◌%◌, ◌↔◌, IfOk, None, drop, length, true};
 ghost use Rattle.seccomp_tree.specs.Code.{IsIn};
 ghost use Rattle.seccomp_tree.specs.Decisions.{only};
-ghost use Rattle.seccomp_tree.specs.Parts.{AreAlone, AreInTurn, AreParted, IsGroup, IsParted, compared, left_at, occurs};
+ghost use Rattle.seccomp_tree.specs.Parts.{AreAlone, AreInTurn, AreParted, IsGroup, IsParted, compared, left_at, low_half, occurs, part_mask, rest_of};
+ghost use Rattle.seccompiler.specs.declared.backend.SeccompCmpOp.TheVariants.{MaskedEq};
 
 use crate::code::{Code, Test};
 use crate::decisions::Decision;
 use crate::rules::only;
 use crate::steps::{Target, WORDS};
 use seccompiler::bpf::{LOAD, MASK, bpf_stmt};
-use seccompiler::{SeccompCmpArgLen, SeccompCmpOp};
+use seccompiler::{SeccompCmpArgLen, SeccompCmpOp, SeccompCondition};
 use std::alloc::{AllocError, Global};
 
 // How many rulings are parted at once: each is compared with the others.
@@ -19,11 +20,11 @@ const MOST: usize = 8;
 /// How often rulings that are left at a value are parted again at most, since each time takes more of the stack.
 pub(crate) const AGAIN: usize = 8;
 
-// What the first condition of a ruling compares, and with which value: the low half of an argument, under a mask. The mask is 0
-// if it compares more, or in another way.
+// A word of the record under a mask, which the first condition of a ruling compares, and with which value. The mask is 0 if it
+// compares in another way. Of 64 bits the high half is compared first.
 #[derive(Clone, Copy)]
 pub(crate) struct Part {
-    pub(crate) index: u8,
+    pub(crate) byte: u8,
     pub(crate) mask: u32,
     pub(crate) value: u32,
 }
@@ -68,7 +69,8 @@ impl Code {
     ) -> Result<Target, AllocError>
         requires some { 1 ≤ length rulings.now }
         requires parted { AreParted shared rulings.now }
-        requires index { shared.index ≤ 5 }
+        requires aligned { shared.byte % 4 ≡ 0 }
+        requires inside_record { shared.byte ≤ 60 }
         requires after { IsIn self.old after }
         ensures { IfOk result (λ t. AreInTurn rulings.now self.old after t self.new) }
     {
@@ -84,7 +86,7 @@ impl Code {
         if shared.mask != 0xffff_ffff {
             self.push(bpf_stmt(MASK, shared.mask))?;
         }
-        self.push(bpf_stmt(LOAD, u32::from(16 + 8 * shared.index)))?;
+        self.push(bpf_stmt(LOAD, u32::from(shared.byte)))?;
         Ok(Target::At(self.len() - 1))
     }
 
@@ -108,15 +110,14 @@ impl Code {
     }
 }
 
-// The rulings that compare for a value, without their first condition.
+// The rulings that compare for a value, with what is left of their conditions.
 fn left_at(alloc: Global, rulings: &[Decision], value: u32) -> Result<Vec<Decision>, AllocError>
     ensures { IfOk result (λ left. left.items ≡ left_at rulings.now value) }
 {
     let mut left = Vec::new(alloc);
     for ruling in rulings {
         if compared(ruling).value == value {
-            let others = &ruling.conditions[ruling.conditions.len().min(1)..];
-            let conditions = others.to_vec(alloc)?;
+            let conditions = rest_of(alloc, &ruling.conditions)?;
             left.push(Decision {
                 conditions,
                 value: ruling.value,
@@ -126,28 +127,79 @@ fn left_at(alloc: Global, rulings: &[Decision], value: u32) -> Result<Vec<Decisi
     Ok(left)
 }
 
+// The conditions without what the first compares.
+fn rest_of(
+    alloc: Global,
+    conditions: &[SeccompCondition],
+) -> Result<Vec<SeccompCondition>, AllocError>
+    ensures { IfOk result (λ rest. rest.items ≡ rest_of conditions.now) }
+{
+    let mut rest = Vec::new(alloc);
+    let Some(first) = conditions.first() else {
+        return Ok(rest);
+    };
+    if let Some(low) = low_half(first) {
+        rest.push(low)?;
+    }
+    rest.extend_from_slice(&conditions[1..])?;
+    Ok(rest)
+}
+
+// The condition on the low half that is left of one for a value of 64 bits.
+fn low_half(condition: &SeccompCondition) -> Option<SeccompCondition>
+    ensures { result ≡ low_half condition.now }
+{
+    let (SeccompCmpArgLen::Qword, SeccompCmpOp::Eq) = (condition.arg_len(), condition.operator())
+    else {
+        return None;
+    };
+    let low = condition.value() % WORDS;
+    SeccompCondition::new(
+        condition.arg_index(),
+        SeccompCmpArgLen::Dword,
+        SeccompCmpOp::Eq,
+        low,
+    )
+    .ok()
+}
+
 // What a ruling's first condition compares.
 fn compared(ruling: &Decision) -> Part
     ensures is { result ≡ compared ruling.now.conditions }
-    ensures index { result.index ≤ 5 }
+    ensures aligned { result.byte % 4 ≡ 0 }
+    ensures inside_record { result.byte ≤ 60 }
 {
     let Some(condition) = ruling.conditions.first() else {
         return Part {
-            index: 0,
+            byte: 0,
             mask: 0,
             value: 0,
         };
     };
-    let mask = match (condition.arg_len(), condition.operator()) {
-        (SeccompCmpArgLen::Dword, SeccompCmpOp::Eq) => 0xffff_ffff,
-        (SeccompCmpArgLen::Dword, SeccompCmpOp::MaskedEq(mask)) => (mask % WORDS) as u32,
-        (SeccompCmpArgLen::Qword, SeccompCmpOp::MaskedEq(mask)) if mask < WORDS => mask as u32,
-        _ => 0,
+    let (high, low) = condition.split_value();
+    let byte = 16 + 8 * condition.arg_index();
+    let size = condition.arg_len();
+    let (byte, mask, value) = match condition.operator() {
+        SeccompCmpOp::Eq => match size {
+            SeccompCmpArgLen::Qword => (byte + 4, 0xffff_ffff, high),
+            SeccompCmpArgLen::Dword => (byte, 0xffff_ffff, low),
+        },
+        SeccompCmpOp::MaskedEq(mask) => {
+            let mask = low_mask(size, mask);
+            (byte, mask, low & mask)
+        }
+        _ => (byte, 0, 0),
     };
-    Part {
-        index: condition.arg_index(),
-        mask,
-        value: (condition.value() % WORDS) as u32 & mask,
+    Part { byte, mask, value }
+}
+
+// The mask of the low half, if it is compared alone, or else 0.
+fn low_mask(size: SeccompCmpArgLen, mask: u64) -> u32
+    ensures { result ≡ part_mask size (MaskedEq mask) }
+{
+    match size {
+        SeccompCmpArgLen::Qword if mask >= WORDS => 0,
+        _ => (mask % WORDS) as u32,
     }
 }
 
@@ -177,14 +229,14 @@ fn is_alone(ruling: &Decision) -> bool
     only(ruling).is_none()
 }
 
-// Whether a ruling compares this part of an argument. One that returns what comes after it needs no test.
+// Whether a ruling compares this part. One that returns what comes after it needs no test.
 fn is_parted(ruling: &Decision, shared: Part, after: Target) -> bool
     ensures { result ≡ true → IsParted shared ruling.now }
 {
     let own = compared(ruling);
     own.mask != 0
         && own.mask == shared.mask
-        && own.index == shared.index
+        && own.byte == shared.byte
         && after != Target::Give(ruling.value)
 }
 

@@ -1,5 +1,5 @@
 use Rattle.seccomp_tree.proofs.Common.{drop, take, drop_all, take_rest, length-take-le, length, arith, get_or, load, sym, ap, Ruling}
-use Rattle.seccomp_tree.proofs.Common.{List, [], ◌+◌, ◌-◌, ◌*◌, ◌++◌, ◌∷◌, ◌∙◌, ◌≡◌, ◌<◌, ◌≤◌, ℕ}
+use Rattle.seccomp_tree.proofs.Common.{List, [], ◌+◌, ◌-◌, ◌++◌, ◌∷◌, ◌∙◌, ◌≡◌, ◌<◌, ◌≤◌, ℕ}
 use Rattle.seccomp_tree.proofs.Parts.{Chain, IsLoaded, chain_none, chain_skip, chain_test, chain_done, parted_drop, take_back, whole}
 use Rattle.seccomp_tree.proofs.Parts.{in_turn_none, in_turn_more, in_turn_before, drop_parts, masked}
 use Rattle.seccomp_tree.proofs.Decided.{drop_at, drop_back}
@@ -47,13 +47,13 @@ pub parted-returns : goal.parted-returns
 parted-returns t c =
     let none : c.loop-left.left ≡ 0 = omega arith in
     let chain = rw none at c.loop-left.invariant in
-    let loads : c.push-2.new.self ≡ load (16 + 8 * c.args.shared.index) ∷ c.if-shared-ne4294967295.self =
+    let loads : c.push-2.new.self ≡ load c.args.shared.byte ∷ c.if-shared-ne4294967295.self =
     cc (c.in_ok-push-2.ensures, c.bpf_stmt-2.ensures, c.from.ensures) in
     let loaded : IsLoaded c.args.shared c.loop-left.self c.push-2.new.self = elim c.if-shared-ne4294967295.branch [
       | parted-then-shared-ne4294967295+in_ok-push w ↦ masked (cc (loads, w.self-is, w.in_ok-push.ensures, w.bpf_stmt.ensures))
       | parted-else-shared-ne4294967295 w ↦ whole (omega (arith, w.if-shared-ne4294967295.false)) (cc (loads, w.self-is))
     ] in
-    rw c.len.ensures (chain_done chain c.requires.parted c.requires.some c.requires.index loaded)
+    rw c.len.ensures (chain_done chain c.requires.parted c.requires.some c.requires.inside_record loaded)
 
 -- the last of the rulings
 last_is : (rulings : List Ruling) (d : Ruling) → 1 ≤ length rulings → d ≡ get_or rulings (length rulings - 1) d

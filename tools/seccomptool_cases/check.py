@@ -223,7 +223,7 @@ FAULTS_TOGETHER = [
              ("b", TWO_EQUAL), ("b.filter[0].syscall", OPNE), ("a", TWO_EQUAL)),
     # The lengths of programs, only if nothing else is wrong.
     all_told("{" + of_rules("b", 816) + "," + of_rules("a", 816) + "}",
-             *((it, "needs 4101 instructions in the linear layout; 4096 fit; 15 in the tree layout") for it in "ba")),
+             *((it, "needs 4101 instructions in the linear layout; 4096 fit; 13 in the tree layout") for it in "ba")),
     all_told("{" + of_rules("b", 816) + ',"a":1}', ("a", f"expected {FILTER}, found 1")),
     # A hundred, and how many more.
     *[all_told(entries(",".join('{"syscall":"no_%d"}' % it for it in range(count))),
@@ -374,8 +374,8 @@ CASES = [
     told(entries(TOO_LONG), "a", "needs 10130 instructions in the linear layout; 4096 fit"),
     # If its tree fits, `check` tells how long that is.
     told("{" + of_rules("a", 813, ("write", "open", "close", "stat")) + "}", "a",
-         "needs 4106 instructions in the linear layout; 4096 fit; 16 in the tree layout"),
-    told("{" + of_rules("a", 816) + "}", "a", "needs 4101 instructions in the linear layout; 4096 fit; 15 in the tree layout"),
+         "needs 4106 instructions in the linear layout; 4096 fit; 14 in the tree layout"),
+    told("{" + of_rules("a", 816) + "}", "a", "needs 4101 instructions in the linear layout; 4096 fit; 13 in the tree layout"),
     told("{" + of_masks("a", 1400) + "}", "a", "needs 8407 instructions in the linear layout; 4096 fit"),
     # `check` answers faults of its reader.
     rejects("check", Failing(FINE), RESET),

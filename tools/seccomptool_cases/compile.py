@@ -138,9 +138,9 @@ CASES = [
     rejects("compile -f b too-large.json", "", NO_FILTER, TOOL + "too-large.json: "),
     # Of a program that is too large the length in the other layout is told if it fits there.
     rejects("compile --layout linear too-large.json", "", f"a: needs 10130 {IN_LINEAR}\n", TOOL + "too-large.json: "),
-    rejects("compile -f a --layout linear", WIDE, f"a: needs 4106 {IN_LINEAR}; 16 in the tree layout\n"),
+    rejects("compile -f a --layout linear", WIDE, f"a: needs 4106 {IN_LINEAR}; 14 in the tree layout\n"),
     rejects("compile --format c --layout linear", WIDE.replace('"a"', r'"a\u009b"'),
-            f"a\\xc2\\x9b: needs 4106 {IN_LINEAR}; 16 in the tree layout\n"),
+            f"a\\xc2\\x9b: needs 4106 {IN_LINEAR}; 14 in the tree layout\n"),
     rejects("compile", NOWHERE, f"a: {IN_TREE}\n"),
     rejects("compile --layout linear", NOWHERE, f"a: needs 8407 {IN_LINEAR}\n"),
     # `compile` answers faults of files, of its reader and its writer.

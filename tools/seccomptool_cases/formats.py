@@ -169,7 +169,7 @@ OF_ERRORS = [
               (None, wrong("more-errors", "50 more errors"))),
     # A program that is too large, and bytes that are none.
     *cases_of("{" + of_rules("a", 816).replace("{", MARK + "{", 1) + "}", (0, wrong(
-        "program-too-large", "needs 4101 instructions in the linear layout; 4096 fit; 15 in the tree layout", "a"))),
+        "program-too-large", "needs 4101 instructions in the linear layout; 4096 fit; 13 in the tree layout", "a"))),
     *cases_of("{ 6, 0, 0, 0 }," * 4097, (None, wrong("not-a-program", "expected 1 to 4096 instructions, found 4097"))),
 ]
 

@@ -6,7 +6,7 @@ EQUALS_5 = '{"index":0,"type":"dword","op":"eq","val":5}'
 def of_rules(name, rules, always=()):
     """Returns a filter of this name whose call 0 has 2 rules of 6 instructions and so many of 4, each with a
     return. The chains take 7 instructions more than these rules, and 5 more of each call that always matches. The tree has
-    one test of what the rules of two conditions compare first, one more of each, and one of all others together."""
+    one test of what the rules of two conditions compare first, one of what is left of both, and one of all others together."""
     entries = [f'{{"syscall":"read","args":[{EQUALS_5},{EQUALS_5}]}}'] * 2
     entries += [f'{{"syscall":"read","args":[{EQUALS_5}]}}'] * rules
     entries += [f'{{"syscall":"{call}"}}' for call in always]

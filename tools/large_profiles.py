@@ -1,6 +1,6 @@
 """What tools/check-program runs on large profiles: their answers, and how the work grows with them.
 
-Work is counted in instructions by valgrind's callgrind: twice the profile may take at most MOST times as many, or MOST_OF_EVASIONS. Where
+Work is counted in instructions by valgrind's callgrind: twice the profile may take at most MOST times as many. Where
 valgrind isn't there, it is the least processor time of some runs, which other processes disturb, so the limit is higher.
 """
 
@@ -13,9 +13,6 @@ import subprocess
 from row_cases import names_of
 
 MOST = 2.2
-# What `check` of conditioned profiles may take: each of their conditions of 64 bits is tried by two calls, which are decided by walks over
-# all entries.
-MOST_OF_EVASIONS = 2.4
 MOST_TIME = 3.5
 RUNS = 3
 SECONDS = 600
@@ -142,8 +139,7 @@ def check_growth(results, tool, folder, make, number):
         file.write_text(make(size))
     for words in COMMANDS:
         once, twice = (work_of(words_of(tool, words, file), room) for file in files)
-        counted = MOST_OF_EVASIONS if make is conditioned and words.startswith("check") else MOST
-        most = counted if shutil.which("valgrind") else MOST_TIME
+        most = MOST if shutil.which("valgrind") else MOST_TIME
         results.tell(f"{words} of {make.__name__} twice {number}", twice <= most * once, (f"{once} and {twice}",))
 
 

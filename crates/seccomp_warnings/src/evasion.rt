@@ -1,16 +1,19 @@
 // Evasions: two calls that differ in what changes nothing of what is denied, of which one is denied and the other let through.
 
 ghost use Rattle.std.specs.Prelude.{◌≡◌, ◌+◌, ◌≤◌, ◌↔◌, ◌∷◌, [], IfOk, IsFalse, IsTrue, OnOk, length};
+ghost use Rattle.seccomp_entries.specs.Rulings.{AreOfCalls};
+ghost use Rattle.seccomp_tree.specs.Decided.{AscendFromZero};
 ghost use Rattle.seccomp_warnings.specs.AnyArgument.{condition_of};
 ghost use Rattle.seccomp_warnings.specs.Evasions as spec;
 ghost use Rattle.seccomp_warnings.specs.Evasions.{AreEvasions, DeniesCall, IsApart, IsPermitting, IsShown, LetsThrough, condition_pairs, entry_pairs, with_argument, with_bytes};
-ghost use Rattle.seccomp_warnings.specs.Walks.{Adds};
+ghost use Rattle.seccomp_warnings.specs.Walks.{Adds, AreDecisionsOf};
 
 use crate::argument::flag_of;
 use crate::code::{Code, is_among};
 use crate::condition::part_of;
 use crate::warning::Comparison;
-use seccomp_entries::{Entry, Lowered, explain};
+use seccomp_entries::{Entry, Lowered, decisions_of};
+use seccomp_tree::Decisions;
 use seccompiler::{SeccompCmpArgLen, SeccompCmpOp, SeccompCondition, TargetArch};
 use std::alloc::{AllocError, Global};
 
@@ -32,6 +35,8 @@ pub struct Evasion {
 /// calls for the high half of its argument, and one for a flag. It is an evasion if the first call is denied, the second is let through,
 /// and the condition holds for one of them alone.
 ///
+/// The defaults start at 0, each above the one before it, and each entry is for a number up to 462.
+///
 /// # Errors
 ///
 /// An error is returned if memory runs out.
@@ -40,11 +45,14 @@ pub fn evasions_of(
     lowered: &Lowered,
     allowed: &[Code],
 ) -> Result<Vec<Evasion>, AllocError>
+    requires ascend { AscendFromZero lowered.now.defaults }
+    requires of_calls { AreOfCalls lowered.now.entries }
     ensures { IfOk result (λ found. AreEvasions allowed.now lowered.now found.items) }
 {
+    let decisions = decisions_of(alloc, lowered)?;
     let mut found = Vec::new(alloc);
     for (place, entry) in lowered.entries.iter().enumerate() {
-        push_entry(&mut found, lowered, allowed, place, entry)?;
+        push_entry(&mut found, lowered, &decisions, allowed, place, entry)?;
     }
     Ok(found)
 }
@@ -53,16 +61,18 @@ pub fn evasions_of(
 fn push_entry(
     found: &mut Vec<Evasion>,
     lowered: &Lowered,
+    decisions: &Decisions,
     allowed: &[Code],
     entry: usize,
     own: &Entry,
 ) -> Result<(), AllocError>
+    requires { AreDecisionsOf lowered.now decisions.now }
     ensures { OnOk result (Adds (IsShown allowed.now lowered.now) (entry_pairs lowered.now.target_arch entry own.now) found.old.items found.new.items) }
 {
     let call = likely_call(lowered.target_arch, own.number, &own.conditions);
     for (place, condition) in own.conditions.iter().enumerate() {
         push_condition(
-            found, lowered, allowed, &call, own.number, entry, place, condition,
+            found, lowered, decisions, allowed, &call, own.number, entry, place, condition,
         )?;
     }
     Ok(())
@@ -72,6 +82,7 @@ fn push_entry(
 fn push_condition(
     found: &mut Vec<Evasion>,
     lowered: &Lowered,
+    decisions: &Decisions,
     allowed: &[Code],
     call: &[u8; 64],
     number: u32,
@@ -79,6 +90,7 @@ fn push_condition(
     place: usize,
     condition: &SeccompCondition,
 ) -> Result<(), AllocError>
+    requires { AreDecisionsOf lowered.now decisions.now }
     ensures { OnOk result (Adds (IsShown allowed.now lowered.now) (condition_pairs call.now lowered.now.target_arch number entry place condition.now) found.old.items found.new.items) }
 {
     let arch = lowered.target_arch;
@@ -91,7 +103,7 @@ fn push_condition(
         place,
         condition,
     );
-    push_shown(found, lowered, allowed, condition, &high)?;
+    push_shown(found, lowered, decisions, allowed, condition, &high)?;
     let flag = pair_of(
         Code::FlagEvades,
         call,
@@ -101,7 +113,7 @@ fn push_condition(
         place,
         condition,
     );
-    push_shown(found, lowered, allowed, condition, &flag)?;
+    push_shown(found, lowered, decisions, allowed, condition, &flag)?;
     Ok(())
 }
 
@@ -109,14 +121,16 @@ fn push_condition(
 fn push_shown(
     found: &mut Vec<Evasion>,
     lowered: &Lowered,
+    decisions: &Decisions,
     allowed: &[Code],
     condition: &SeccompCondition,
     pair: &Evasion,
 ) -> Result<(), AllocError>
-    requires { condition_of pair.now.comparison ≡ condition.now }
+    requires decide { AreDecisionsOf lowered.now decisions.now }
+    requires condition { condition_of pair.now.comparison ≡ condition.now }
     ensures { OnOk result (Adds (IsShown allowed.now lowered.now) (pair.now ∷ []) found.old.items found.new.items) }
 {
-    if is_shown(lowered, allowed, condition, pair) {
+    if is_shown(lowered, decisions, allowed, condition, pair) {
         found.push(*pair)?;
     }
     Ok(())
@@ -125,20 +139,22 @@ fn push_shown(
 // Whether a pair of calls of the condition is an evasion, and its code isn't allowed.
 fn is_shown(
     lowered: &Lowered,
+    decisions: &Decisions,
     allowed: &[Code],
     condition: &SeccompCondition,
     pair: &Evasion,
 ) -> bool
-    requires { condition_of pair.now.comparison ≡ condition.now }
+    requires decide { AreDecisionsOf lowered.now decisions.now }
+    requires condition { condition_of pair.now.comparison ≡ condition.now }
     ensures { IsTrue result ↔ IsShown allowed.now lowered.now pair.now }
 {
     if !is_apart(condition, &pair.denied, &pair.passed) {
         return false;
     }
-    if is_let_through(lowered, &pair.denied) {
+    if is_let_through(lowered, decisions, &pair.denied) {
         return false;
     }
-    is_let_through(lowered, &pair.passed) && !is_among(allowed, pair.code)
+    is_let_through(lowered, decisions, &pair.passed) && !is_among(allowed, pair.code)
 }
 
 // Whether the condition holds for one of two calls alone.
@@ -160,11 +176,12 @@ fn is_permitting(word: u32) -> bool
 }
 
 // Whether the call is let through.
-fn is_let_through(lowered: &Lowered, call: &[u8; 64]) -> bool
+fn is_let_through(lowered: &Lowered, decisions: &Decisions, call: &[u8; 64]) -> bool
+    requires { AreDecisionsOf lowered.now decisions.now }
     ensures through { IsTrue result ↔ LetsThrough lowered.now call.now }
     ensures denied { IsFalse result ↔ DeniesCall lowered.now call.now }
 {
-    is_permitting(explain(lowered, call).word)
+    is_permitting(decisions.decide(call))
 }
 
 // The pair of calls of the condition at a place of the entry at a place.

@@ -198,6 +198,9 @@ WARNED = {
 
 POLICY = {name: it.filter for name, it in WARNED.items()}
 
+# The filter that allows clone3, and the one that makes the pair of it.
+PAIR = {"main": WARNED["allows clone3"].filter, "main_clone3": filter_of({"errno": 38}, "allow", "clone3")}
+
 # Sets the user, and prints who it is then.
 SET_USER = "import os; os.setuid(os.getuid() + 1); print(os.getuid())"
 
@@ -253,6 +256,12 @@ def try_stopped(results, jailer, folder):
         results.compare(f"{jailer} {name}: a command that is stopped", (f"{status}\n", "", 0), found)
 
 
+def try_pair(results, jailer, folder):
+    """Makes clone3 under both filters of the pair: it fails as on a kernel that hasn't the call."""
+    found = run([*jailer.words, "pair.json", "main_clone3,main", folder / "bin/call", *CLONE3.split()], folder)
+    results.compare(f"{jailer} pair.json: {CLONE3}", (answer_of(38), "", 0), found)
+
+
 def try_codes(results, folder):
     """Compares what `check` warns of in the filters with their codes, and all of these with the codes of docs/CHECKS.md."""
     page = (TOP / "docs/CHECKS.md").read_text(encoding="utf-8")
@@ -269,3 +278,4 @@ def try_codes(results, folder):
         for name, stated in codes.items():
             results.compare(f"check of {name}", stated, sorted(code for it, code in found if it == name))
         results.compare("check of warned.json", (len(found), "", 0), (out.count("\n"), err, status))
+        results.compare("check of pair.json", ("", "", 0), run([TOOL, "check", "pair.json"], folder))

@@ -14,7 +14,7 @@ from .warnings import ALLOWED, EXITS, NOT_ALL, PERMITS, condition, line, lines_o
 ASKED = [condition("dword", "eq", 7)]
 
 # How many filters come by chance, how many a policy has of them, and the most entries of one.
-BY_CHANCE, FILTERS, ENTRIES = 960, 48, 6
+BY_CHANCE, FILTERS, ENTRIES = 960, 6, 6
 NAMES = (*EXITS, "clone", "clone3", "execve", "set_tid_address", "futex", "unshare")
 ACTIONS = ("allow", "log", "kill_process", "kill_thread", "trap", {"errno": 38})
 
@@ -36,6 +36,14 @@ def of_calls(mismatch, match, entries, warnings):
     filters = {"a": {"mismatch_action": mismatch, "match_action": match, "filter": entries}}
     default = [("mismatch_action", "allows-by-default")] if mismatch in PERMITS else []
     return warned(filters, *(line(f"a.{place}", code) for place, code in [*default, *warnings]), allowed=f"{ALLOWED} {NOT_ALL}")
+
+
+def of_pair(first, second, warnings):
+    """Returns the cases of a policy of two filters, each two actions and entries, that has these warnings, each a filter with a place
+    and a code."""
+    filters = {name: {"mismatch_action": mismatch, "match_action": match, "filter": [entry(it) if isinstance(it, str) else it for it in entries]}
+               for name, (mismatch, match, entries) in zip("ab", (first, second))}
+    return warned(filters, *(line(place, code) for place, code in warnings), allowed=f"{ALLOWED} {NOT_ALL}")
 
 
 def killed(*calls):
@@ -129,6 +137,31 @@ CLONE_BY_CLONE3 = [
     ("trap", "kill_process", ["clone3"], killed(*EXITS)),
 ]
 
+# The filter that is usually put beside another one, and one that lets clone3 through.
+HIDES = ("allow", {"errno": 38}, ["clone3"])
+LETS = ({"errno": 1}, "allow", [asking("clone"), "clone3", *EXITS])
+OPEN = [("b.mismatch_action", "allows-by-default")]
+
+PAIRS = [
+    # Neither has a warning.
+    (LETS, HIDES, []),
+    (("trap", "allow", ["clone3", *EXITS]), HIDES, []),
+    (LETS, ("log", {"errno": 38}, ["clone3", asking("clone3")]), [("b.filter[0]", "crate-differs")]),
+    # The other one does more, so that it may be meant to be alone.
+    (LETS, ("allow", {"errno": 38}, ["clone3", "read"]), OPEN),
+    (("allow", {"errno": 1}, ["read", asking("clone")]), HIDES, [
+        ("a.mismatch_action", "allows-by-default"), ("a.filter[1].args[0]", "flag-evades")]),
+    (HIDES, HIDES, [("a.mismatch_action", "allows-by-default"), *OPEN]),
+    (LETS, ({"errno": 38}, "allow", EXITS), []),
+    # It lets some clone3 through, or denies it by another errno.
+    (LETS, ("allow", {"errno": 38}, [asking("clone3")]), [("a.filter[1]", "clone-by-clone3"), *OPEN]),
+    (LETS, ("allow", {"errno": 1}, ["clone3"]), [("a.filter[1]", "clone-by-clone3"), *OPEN]),
+    (LETS, ({"errno": 38}, "allow", [asking("clone3"), *EXITS]), [("a.filter[1]", "clone-by-clone3")]),
+    (LETS, ({"errno": 38}, {"errno": 1}, ["clone3", *EXITS]), [
+        ("a.filter[1]", "clone-by-clone3"), *((f"b.filter[{it}]", "kills-exit") for it in (1, 2, 3))]),
+    (LETS, ("kill_process", {"errno": 38}, ["clone3", *EXITS]), [(f"b.filter[{it}]", "kills-exit") for it in (1, 2, 3)]),
+]
+
 SIBLING_ALLOWED = [
     ("allow", {"errno": 1}, ["open"], [let_through(0, "openat")]),
     ("log", "kill_process", ["read", "open", "openat"], [let_through(1, "openat2"), let_through(2, "openat2")]),
@@ -199,5 +232,6 @@ def policies_by_chance():
 
 CASES = [
     *(it for row in (*KILLS_EXIT, *NO_EXECVE, *NO_RESTART, *CLONE_BY_CLONE3, *SIBLING_ALLOWED, *CRATE_DIFFERS) for it in of_calls(*row)),
+    *(it for row in PAIRS for it in of_pair(*row)),
     *(writes(f"check {ALLOWED}", it, lines_of(it)) for it in policies_by_chance()),
 ]

@@ -454,7 +454,7 @@ CASES = [
     writes("learn --old-clone --into paired.json --name a short.trace", "", paired("clone", "clone3", "close", "getpid", "getuid", name="a")),
     Case("learn --old-clone short.trace | ./seccomptool explain -f main_clone3 - clone3", 0, "errno 38 (ENOSYS): main_clone3.filter[0] of clone3 (435)\n", ""),
     Case("learn --old-clone short.trace | ./seccomptool explain -f main - clone3", 0, "allow: main.filter[1] of clone3 (435)\n", ""),
-    Case("learn --runnable --old-clone short.trace | ./seccomptool check --deny-warnings --allow allows-by-default", 0, "", ""),
+    Case("learn --runnable --old-clone short.trace | ./seccomptool check --deny-warnings", 0, "", ""),
     # As a drop-in of systemd, which holds names alone.
     writes("learn --unit short.trace", "", UNIT + "SystemCallFilter=close getpid\n"),
     writes("learn --unit", "", UNIT),

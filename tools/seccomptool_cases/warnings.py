@@ -558,8 +558,28 @@ def codes_of_entry(entry, entries, mismatch, match):
     return [(f" ({left[0]})" if code == "sibling-allowed" else "", code) for code, so in found.items() if so]
 
 
-def lines_of_filter(name, it):
-    """Returns the lines of the warnings of a filter of this name, as a list of single lines."""
+def hides_clone3(it):
+    """Returns whether a filter answers each clone3 by errno 38, as a kernel that hasn't the call."""
+    mismatch, match = (action.get("errno") if isinstance(action, dict) else None for action in actions_of(it))
+    asked = asked_of(it["filter"], "clone3")
+    return any(not args for args in asked) if match == 38 else mismatch == 38 and not asked
+
+
+def hides_alone(it):
+    """Returns whether a filter does this, and lets all other calls through."""
+    return actions_of(it)[0] in PERMITS and hides_clone3(it) and all(entry["syscall"] == "clone3" for entry in it["filter"])
+
+
+def settled_in(filters, it):
+    """Returns the codes of which a filter of a text has no warning, since other filters of the text have to do with it."""
+    if not any(hides_clone3(other) for other in filters):
+        return []
+    paired = hides_alone(it) and not all(hides_alone(other) for other in filters)
+    return ["clone-by-clone3"] + ["allows-by-default"] * paired
+
+
+def lines_of_filter(name, it, settled=()):
+    """Returns the lines of the warnings of a filter of this name, but for those of the settled codes, as a list of single lines."""
     mismatch, match = actions_of(it)
     evasions = evasions_of(it)
     lines = [line(f"{name}.mismatch_action", code) for code in codes_of_action(mismatch)]
@@ -576,14 +596,15 @@ def lines_of_filter(name, it):
             calls = {code: evasions[entry, place, code] for code in EVASIONS if (entry, place, code) in evasions}
             codes = codes_of(rule["syscall"], compared, calls)
             lines += [line(f"{name}.filter[{entry}].args[{place}]", code, calls=calls.get(code)) for code in codes]
-    return lines
+    return [it for it in lines if not any(f" [{code}]: " in it for code in settled)]
 
 
 def lines_of(policy):
     """Returns the lines of the warnings of a policy, whose filters have names without control characters."""
     filters = json.loads(policy)
     names = sorted(filters, key=lambda name: name.encode())
-    return grouped("".join(it for name in names for it in lines_of_filter(name, filters[name])))
+    all_filters = list(filters.values())
+    return grouped("".join(it for name in names for it in lines_of_filter(name, filters[name], settled_in(all_filters, filters[name]))))
 
 
 FAULTY = json.dumps({"a": filter_of([condition("dword", "lt", 0)], {"errno": 0}, {"errno": 0})})

@@ -2,6 +2,7 @@
 pub mod ActionWarnings
 pub mod AnyArgument
 pub mod Arguments
+pub mod Beside
 pub mod CallWarnings
 pub mod Evasions
 pub mod Judgements

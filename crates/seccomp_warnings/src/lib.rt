@@ -18,6 +18,7 @@
 
 mod action;
 mod argument;
+pub mod beside;
 mod call;
 pub mod code;
 mod condition;
@@ -31,6 +32,7 @@ pub mod unlisted;
 mod walk;
 pub mod warning;
 
+pub use crate::beside::{Beside, beside_of, codes_beside, hides_clone3};
 pub use crate::call::denies_each;
 pub use crate::code::Code;
 pub use crate::evasion::{Evasion, evasions_of};

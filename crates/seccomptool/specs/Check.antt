@@ -9,7 +9,9 @@ use Rattle.seccompiler.specs.JsonSteps.{AreFilters}
 use Rattle.seccompiler.specs.JsonTypes.{JsonFilter}
 use Rattle.seccomp_check.specs.Checks.{AreAllCompiled, IsPlaced, IsRefusedFor}
 use Rattle.seccomp_check.specs.Texts.{fault_text}
+use Rattle.seccomp_warnings.specs.Beside.{AreCodesBeside, IsBeside}
 use Rattle.seccomp_warnings.specs.Warnings.{AreTrueWarnings}
+use Rattle.seccomp_warnings.specs.declared.beside.Beside.{Beside}
 use Rattle.seccomp_warnings.specs.declared.code.Code.{Code}
 use Rattle.seccomptool.specs.declared.error.ToolError.{ToolError}
 use Rattle.seccomptool.specs.declared.check.CheckedPolicy.{CheckedPolicy}
@@ -18,11 +20,13 @@ use Rattle.seccomptool.specs.declared.error.ToolError.TheVariants.{Library, Plac
 use Rattle.seccomptool.specs.declared.findings.Verdict.{Verdict}
 use Rattle.seccomptool.specs.declared.findings.Verdict.TheVariants.{Same, Different}
 
--- These are the warnings of the filter of this name, but for those of the allowed codes.
-pub record AreWarningsOf (target : TargetArch) (allowed : List Code) (named : String Global × JsonFilter) (own : FilterWarnings)
-    : Type 0 where
+-- These are the warnings of the filter of this name, but for those of the codes that are allowed, or settled by what is beside it.
+pub record AreWarningsOf (target : TargetArch) (allowed : List Code) (beside : Beside) (named : String Global × JsonFilter)
+    (own : FilterWarnings) : Type 0 where
   pub name : string_bytes own.name ≡ string_bytes named.0
-  pub warnings : AreTrueWarnings target allowed named.1 own.warned
+  pub codes : List Code
+  pub are_codes : AreCodesBeside allowed beside named.1 codes
+  pub warnings : AreTrueWarnings target codes named.1 own.warned
 
 -- How many warnings the filters have.
 abbrev pub count_of : List FilterWarnings → ℕ
@@ -32,7 +36,9 @@ count_of all =
 -- They are those of these filters, in their order, and there are so many.
 pub record AreWarningsIn (target : TargetArch) (allowed : List Code) (filters : List (String Global × JsonFilter)) (checked : CheckedPolicy)
     : Type 0 where
-  pub each : AllZip (AreWarningsOf target allowed) filters checked.filters.items
+  pub beside : Beside
+  pub is_beside : IsBeside filters beside
+  pub each : AllZip (AreWarningsOf target allowed beside) filters checked.filters.items
   pub count_is : checked.count ≡ count_of checked.filters.items
 
 -- All filters of the text have programs, and these are their warnings, but for those of the allowed codes.

@@ -14,7 +14,7 @@ ghost use Rattle.seccomptool.specs.Check.{AreWarningsIn, IsCheckOf, IsRefusal};
 use crate::error::ToolError;
 use crate::findings::Verdict;
 use seccomp_check::{Rejection, check};
-use seccomp_warnings::{Code, FilterWarned, policy_warnings_of};
+use seccomp_warnings::{Code, FilterWarned, beside_of, codes_beside, policy_warnings_of};
 use seccompiler::{JsonFilterMap, JsonFrontendError, TargetArch};
 use std::alloc::Global;
 
@@ -36,7 +36,7 @@ pub struct CheckedPolicy {
     pub count: usize,
 }
 
-/// The warnings of a policy's text, except those of the allowed codes.
+/// The warnings of a policy's text, except those of the allowed codes, and of those that another filter of the text settles.
 ///
 /// The filters come in byte order of names. Of each filter come first the warnings of its two actions, then those of its
 /// entries, condition by condition.
@@ -85,10 +85,12 @@ pub(crate) fn warnings_in(
 ) -> Result<CheckedPolicy, JsonFrontendError>
     ensures { IfOk result (λ checked. AreWarningsIn target allowed.now filters.now.0.entries checked) }
 {
+    let beside = beside_of(filters);
     let mut all = Vec::new(alloc);
     let mut count: usize = 0;
     for (name, filter) in &filters.0 {
-        let warned = policy_warnings_of(alloc, target, filter, allowed)?;
+        let codes = codes_beside(alloc, allowed, beside, filter)?;
+        let warned = policy_warnings_of(alloc, target, filter, &codes)?;
         let Some(sum) = sum_of(count, warned.of_part.warnings.len(), warned.evasions.len()) else {
             return Err(JsonFrontendError::OutOfMemory);
         };

@@ -9,6 +9,6 @@ abbrev pub invariant-loop-name : goal.invariant-loop-name
 invariant-loop-name l = record {
   done : List (String Global × JsonFilter);
   whole : l.fn.filters.0.entries ≡ done ++ l.name-iterator;
-  each : AllZip (AreWarningsOf l.target l.allowed) done l.all.items;
+  each : AllZip (AreWarningsOf l.target l.allowed l.beside) done l.all.items;
   count_is : l.count ≡ count_of l.all.items;
 }

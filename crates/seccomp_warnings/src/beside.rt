@@ -1,0 +1,150 @@
+// What the filters of one text mean for the warnings of each other.
+
+ghost use Rattle.std.specs.Prelude.{◌≡◌, ◌↔◌, ◌⊎◌, Any, Contains, IfOk, IsTrue, OnOk};
+ghost use Rattle.seccomp_warnings.specs.Beside.{AreCodesBeside, DoesMore, HasArgs, HidesAlone, HidesByEntry, HidesClone3, HidesUnlisted, IsBeside, NamesClone3};
+ghost use Rattle.seccomp_warnings.specs.declared.code.Code.{Code as CodeValue};
+
+use crate::action::permits;
+use crate::code::Code;
+use seccompiler::{JsonFilter, JsonFilterMap, JsonRule};
+use std::alloc::{AllocError, Global};
+
+// The return value that fails a call with errno 38, ENOSYS.
+const ERRNO_ENOSYS: u32 = 0x0005_0026;
+
+/// What is so of some filter of a text.
+#[derive(Clone, Copy, Debug)]
+pub struct Beside {
+    /// It answers each `clone3` by errno 38, `ENOSYS`.
+    pub hides_clone3: bool,
+    /// It does more than this, or doesn't do it.
+    pub does_more: bool,
+}
+
+// Whether an entry is for clone3.
+fn names_clone3(rule: &JsonRule) -> bool
+    ensures { IsTrue result ↔ NamesClone3 rule.now }
+{
+    rule.syscall.as_str() == "clone3"
+}
+
+// Whether an entry has conditions.
+fn has_args(rule: &JsonRule) -> bool
+    ensures { IsTrue result ↔ HasArgs rule.now }
+{
+    match &rule.conditions {
+        Some(conditions) => !conditions.is_empty(),
+        None => false,
+    }
+}
+
+// Whether some entry is for clone3.
+fn any_names_clone3(rules: &[JsonRule]) -> bool
+    ensures { IsTrue result ↔ Any NamesClone3 rules.now }
+{
+    rules.iter().any(names_clone3)
+}
+
+// Whether some entry matches each clone3.
+fn any_matches_clone3(rules: &[JsonRule]) -> bool
+    ensures { IsTrue result ↔ Any (λ rule. NamesClone3 rule × (HasArgs rule → ⊥)) rules.now }
+{
+    rules
+        .iter()
+        .any(|rule| names_clone3(rule) && !has_args(rule))
+}
+
+// Whether the entries of a filter match each clone3, and it answers what they match by errno 38.
+fn hides_by_entry(filter: &JsonFilter) -> bool
+    ensures { IsTrue result ↔ HidesByEntry filter.now }
+{
+    u32::from(filter.match_action) == ERRNO_ENOSYS && any_matches_clone3(&filter.rules)
+}
+
+// Whether no entry of a filter is for clone3, and it answers what it doesn't list by errno 38.
+fn hides_unlisted(filter: &JsonFilter) -> bool
+    ensures { IsTrue result ↔ HidesUnlisted filter.now }
+{
+    u32::from(filter.mismatch_action) == ERRNO_ENOSYS && !any_names_clone3(&filter.rules)
+}
+
+/// Whether a filter answers each `clone3` by errno 38, `ENOSYS`, as a kernel that hasn't the call: by an entry without
+/// conditions, or since no entry is for it.
+pub fn hides_clone3(filter: &JsonFilter) -> bool
+    ensures { IsTrue result ↔ HidesClone3 filter.now }
+{
+    hides_by_entry(filter) || hides_unlisted(filter)
+}
+
+// Whether a filter answers each clone3 by errno 38, and lets all other calls through.
+fn hides_alone(filter: &JsonFilter) -> bool
+    ensures { IsTrue result ↔ HidesAlone filter.now }
+{
+    hides_by_entry(filter)
+        && permits(filter.mismatch_action)
+        && filter.rules.iter().all(names_clone3)
+}
+
+// What is so of some of the filters so far, and this one.
+fn with_filter(beside: Beside, filter: &JsonFilter) -> Beside
+    ensures hides_clone3 { IsTrue result.hides_clone3 ↔ (IsTrue beside.hides_clone3 ⊎ HidesClone3 filter.now) }
+    ensures does_more { IsTrue result.does_more ↔ (IsTrue beside.does_more ⊎ DoesMore filter.now) }
+{
+    Beside {
+        hides_clone3: beside.hides_clone3 || hides_clone3(filter),
+        does_more: beside.does_more || !hides_alone(filter),
+    }
+}
+
+/// What is so of some filter of a text.
+pub fn beside_of(filters: &JsonFilterMap) -> Beside
+    ensures { IsBeside filters.now.0.entries result }
+{
+    let mut beside = Beside {
+        hides_clone3: false,
+        does_more: false,
+    };
+    for (_name, filter) in &filters.0 {
+        beside = with_filter(beside, filter);
+    }
+    beside
+}
+
+// Whether a filter answers each clone3 by errno 38 and does nothing else, beside one that does more.
+fn is_of_pair(beside: Beside, filter: &JsonFilter) -> bool
+    ensures { IsTrue result ↔ (IsTrue beside.does_more × HidesAlone filter.now) }
+{
+    beside.does_more && hides_alone(filter)
+}
+
+// Adds a code if something is so.
+fn push_if(codes: &mut Vec<Code>, is_so: bool, code: Code) -> Result<(), AllocError>
+    ensures { OnOk result ((kind : CodeValue) → Contains codes.new.items kind ↔ (Contains codes.old.items kind ⊎ ((kind ≡ code) × IsTrue is_so))) }
+{
+    if is_so {
+        codes.push(code)?;
+    }
+    Ok(())
+}
+
+/// The codes of which a filter has no warning, in a text of which this is so: the allowed ones;
+/// [`CloneByClone3`](Code::CloneByClone3), if a filter of the text answers each `clone3` by errno 38; and
+/// [`AllowsByDefault`](Code::AllowsByDefault) of a filter that does this and nothing else, if another one of the text doesn't.
+///
+/// # Errors
+///
+/// An error is returned if memory runs out.
+pub fn codes_beside(
+    alloc: Global,
+    allowed: &[Code],
+    beside: Beside,
+    filter: &JsonFilter,
+) -> Result<Vec<Code>, AllocError>
+    ensures { IfOk result (λ codes. AreCodesBeside allowed.now beside filter.now codes.items) }
+{
+    let mut codes = allowed.to_vec(alloc)?;
+    push_if(&mut codes, beside.hides_clone3, Code::CloneByClone3)?;
+    let of_pair = is_of_pair(beside, filter);
+    push_if(&mut codes, of_pair, Code::AllowsByDefault)?;
+    Ok(codes)
+}

@@ -1,5 +1,5 @@
 -- What the filters of one text mean for the warnings of each other: one may answer each clone3 as a kernel that hasn't the call.
-use Rattle.std.specs.Prelude.{◌≡◌, ◌≢◌, ◌⊎◌, ◌↔◌, ℕ, List, [], String, All, Any, Contains, IsTrue, IsSomeAnd, codes}
+use Rattle.std.specs.Prelude.{◌≡◌, ◌≢◌, ◌⊎◌, ◌↔◌, List, [], String, All, Any, Contains, IsTrue, IsSomeAnd, codes}
 use Rattle.std.specs.declared.alloc.Global.{Global}
 use Rattle.seccompiler.specs.JsonTypes.{JsonFilter, JsonRule}
 use Rattle.seccompiler.specs.Policy.{word_of}

@@ -1,4 +1,4 @@
-use Rattle.std.proofs.Common.{◌≡◌, ◌++◌, ◌∙◌, List, [], ◌∷◌, String, Global, ap, append_assoc, refl, rules, sym}
+use Rattle.std.proofs.Common.{◌++◌, ◌∙◌, List, [], ◌∷◌, String, Global, ap, append_assoc, refl, rules, sym}
 use Rattle.seccompiler.specs.JsonTypes.{JsonFilter}
 use Rattle.seccomp_warnings.specs.Beside.{DoesMore, HidesClone3}
 use Rattle.seccomp_warnings.proofs.Quantified.{any_more, any_of_none}

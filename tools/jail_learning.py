@@ -100,7 +100,7 @@ def learned(results, name, files, folder, *more):
     out, notes, status = run(words, folder)
     others = [it for it in notes.splitlines() if "different values were seen" not in it]
     results.compare(f"learn {name} {more}", ("", [], 0), (out, others, status))
-    alone = [] if "--old-clone" in more else ["--allow", "clone-by-clone3"]
+    alone = [] if "--old-clone" in more else ["--allow", "clone-by-clone3", "--allow", "allows-by-default"]
     words = [TOOL, "check", "-a", MACHINE, "--deny-warnings", *alone, policy]
     results.compare(f"check {policy} {more}", ("", "", 0), run(words, folder))
     return policy

@@ -66,6 +66,7 @@ pub fn compile_profile(
 ) -> Result<CompiledProfile, CompileError>
     ensures compiled { IfOk result (IsCompiledProfile arch container.now strict text.now) }
     ensures fault { IfErr result (IsCompileFault arch container.now strict text.now) }
+    ensures arguments { IfOk result (λ compiled. AllOnArguments compiled.profile.entries) }
 {
     let profile = profile_of(alloc, text)?;
     let left_out = names_left_out(alloc, arch, container, strict, &profile)?;

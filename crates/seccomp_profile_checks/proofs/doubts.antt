@@ -1,2 +1,3 @@
 -- Lemmas for the functions of `doubts`.
 pub mod Own
+pub mod Found

@@ -1,5 +1,7 @@
 -- What is doubtful about a profile.
-use Rattle.std.specs.Prelude.{◌≡◌, ◌≢◌, ◌<◌, ◌≤◌, ℕ, List, [], All, Any, MatchOption, Option, Some, length, slice_get, take}
+use Rattle.std.specs.Prelude.{◌≡◌, ◌≢◌, ◌<◌, ◌≤◌, ◌+◌, ◌++◌, ℕ, List, [], ◌∷◌, All, Any, MatchOption, Option, None, Some, length, slice_get}
+use Rattle.std.specs.Prelude.{Bool, true, false, if◌then◌else◌, nat_eq, take}
+use Rattle.std.specs.List.{flat_map}
 use Rattle.seccompiler.specs.declared.backend.SeccompAction.{SeccompAction}
 use Rattle.seccompiler.specs.declared.backend.SeccompAction.TheVariants.{Errno}
 use Rattle.seccompiler.specs.declared.backend.TargetArch.{TargetArch}
@@ -11,6 +13,7 @@ use Rattle.seccomp_profile_checks.specs.declared.doubts.Doubt.TheVariants as dou
 use Rattle.seccomp_oci.specs.Decision.{Concerns, IsByEntry, Matches, NoneOf, tested}
 use Rattle.seccomp_oci.specs.Lowered.{AtEntry, DecidesAs, IsLoweredProfile}
 use Rattle.seccomp_profiles.specs.Types.{Container, Entry, Profile}
+use Rattle.seccomp_warnings.specs.Picked.{ArePicked, numbered}
 
 -- The action is to return an errno of 4095 or more, which libseccomp refuses.
 abbrev pub IsLargeErrno : SeccompAction → Type 0
@@ -50,12 +53,7 @@ IsDoubt arch container p (doubt.LargeErrno place) =
 IsDoubt arch container p doubt.LargeDefaultErrno = IsLargeErrno p.default
 IsDoubt arch container p (doubt.ManyConditions place) = AtEntry p.entries place (λ e. 6 < length e.args)
 
--- ---- between the private functions of `doubts`
-
--- It is so of the profile, if these are its entries.
-abbrev pub IsSoBy : Profile → Lowered → Doubt → Type 0
-IsSoBy p l d = (arch : TargetArch) (container : Container) → IsLoweredProfile arch container p l → DecidesAs arch container p l
-    → IsDoubt arch container p d
+-- ---- what is found in the profile in one form
 
 -- The entry is of the profile's at this place, and for the calls of the number.
 abbrev pub IsOfNumber : (place number : ℕ) → entries.Entry → Type 0
@@ -78,6 +76,11 @@ pub record IsSettler (all : List entries.Entry) (number index : ℕ) : Type 0 wh
 -- It is there, or none does.
 abbrev pub IsSettlerOr : List entries.Entry → ℕ → Option ℕ → Type 0
 IsSettlerOr all number found = MatchOption found (NoneSettlesIn all number) (IsSettler all number)
+
+-- An entry is the first of its alternatives, or has none.
+abbrev pub is_first : Option ℕ → Bool
+is_first None = true
+is_first (Some k) = nat_eq k 0
 
 -- That one is of the profile's at this place.
 pub record IsSettledFrom (all : List entries.Entry) (number place : ℕ) : Type 0 where
@@ -112,3 +115,61 @@ pub record IsOpenIn (all : List entries.Entry) (first second : ℕ) (r : List �
 -- The entry at this place has an errno that is too large, and one of the entries is of it.
 abbrev pub HasLargeErrno : List Entry → List entries.Entry → ℕ → Type 0
 HasLargeErrno own all place = AtEntry own place (λ e. IsLargeErrno e.action) × Any (λ (e : entries.Entry). e.place ≡ place) all
+
+-- It is so of an entry of the profile, or of the default action, without a look at others.
+abbrev pub IsSoAlone : Profile → List entries.Entry → Doubt → Type 0
+IsSoAlone p all (doubt.EqualsDefault place) = AtEntry p.entries place (λ e. e.action ≡ p.default)
+IsSoAlone p all (doubt.LargeErrno place) = HasLargeErrno p.entries all place
+IsSoAlone p all doubt.LargeDefaultErrno = IsLargeErrno p.default
+IsSoAlone p all (doubt.ManyConditions place) = AtEntry p.entries place (λ e. 6 < length e.args)
+IsSoAlone p all (doubt.Behind first second number) = ⊥
+IsSoAlone p all (doubt.OpenOrder first second call) = ⊥
+
+-- What may be so of the entry at a place.
+abbrev pub asked_at : ℕ → List Doubt
+asked_at place = doubt.EqualsDefault place ∷ doubt.LargeErrno place ∷ doubt.ManyConditions place ∷ []
+
+-- What may be so of the entries, one by one.
+abbrev pub asked_alone : Profile → List Doubt
+asked_alone p = numbered (λ place e. asked_at place) 0 p.entries
+
+-- The entry is for the calls of the number, of another entry of the profile than the one at the place, and the first of its alternatives.
+abbrev pub is_of_other : ℕ → entries.Entry → Bool
+is_of_other first e = if nat_eq e.place first then false else is_first e.alternative
+
+abbrev pub is_behind : (first number : ℕ) → entries.Entry → Bool
+is_behind first number e = if nat_eq e.number number then is_of_other first e else false
+
+-- The doubt about such an entry.
+abbrev pub behind_at : (first number : ℕ) → entries.Entry → List Doubt
+behind_at first number e = if is_behind first number e then doubt.Behind first e.place number ∷ [] else []
+
+-- Of the calls of a number: the one that settles them, and exactly the others, in their order; none if none settles them.
+pub data AreBehind (all : List entries.Entry) (number : ℕ) (found : List Doubt) : Type 0 where
+  unsettled : NoneSettlesIn all number → found ≡ [] → AreBehind all number found
+  settled : (first : ℕ) → IsSettledFrom all number first → found ≡ flat_map (behind_at first number) all → AreBehind all number found
+
+-- Of the calls of the numbers below this one.
+pub data AreAllBehind (all : List entries.Entry) : ℕ → List Doubt → Type 0 where
+  none : AreAllBehind all 0 []
+  more : {found : List Doubt} (number : ℕ) (next : List Doubt) → AreAllBehind all number found → AreBehind all number next
+      → AreAllBehind all (number + 1) (found ++ next)
+
+-- The profile leaves the answer to a call open.
+abbrev pub IsLeftOpen : List entries.Entry → Doubt → Type 0
+IsLeftOpen all (doubt.OpenOrder first second call) = IsOpenIn all first second call
+IsLeftOpen all d = ⊥
+
+-- The doubts about a profile that has these entries: exactly those of the default action and of entries, one by one; exactly those about
+-- entries that decide no call of a number, since another one without conditions does (no call has a number of 463 or more); and some
+-- of those about calls whose answer is left open, each of which is so.
+pub record AreDoubts (p : Profile) (all : List entries.Entry) (doubts : List Doubt) : Type 0 where
+  pub default : List Doubt
+  pub are_of_default : ArePicked (IsSoAlone p all) (doubt.LargeDefaultErrno ∷ []) default
+  pub alone : List Doubt
+  pub are_alone : ArePicked (IsSoAlone p all) (asked_alone p) alone
+  pub behind : List Doubt
+  pub are_behind : AreAllBehind all 463 behind
+  pub left_open : List Doubt
+  pub are_left_open : All (IsLeftOpen all) left_open
+  pub all_are : doubts ≡ ((default ++ alone) ++ behind) ++ left_open

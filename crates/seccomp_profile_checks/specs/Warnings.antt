@@ -8,7 +8,7 @@ use Rattle.seccompiler.specs.declared.backend.TargetArch.TheVariants.{x86_64}
 use Rattle.seccomp_oci.specs.Lowered.{DecidesAs, IsLoweredProfile}
 use Rattle.seccomp_oci.specs.Types.{Container, Profile}
 use Rattle.seccomp_profile_checks.specs.Clashes.{AreAffected}
-use Rattle.seccomp_profile_checks.specs.Doubts.{IsDoubt}
+use Rattle.seccomp_profile_checks.specs.Doubts.{AreDoubts, IsDoubt}
 use Rattle.seccomp_profile_checks.specs.Effective.{AreEffective}
 use Rattle.seccomp_profile_checks.specs.Parts.{origin_of}
 use Rattle.seccomp_profile_checks.specs.Told.{AreToldOfProfile}
@@ -93,15 +93,16 @@ evaded_at v (Some e) = Evaded v (origin_of e) ∷ []
 abbrev pub evaded_in : List Entry → Evasion → List ProfileWarning
 evaded_in entries v = evaded_at v (slice_get entries v.comparison.entry)
 
--- The warnings of a profile: exactly those of its own, with some doubts, each of which is so, whose codes aren't allowed; then exactly the
--- evasions of the profile in one form, which decides as the profile; and then exactly what is told of its parts.
+-- The warnings of a profile, in one form that decides as it does: exactly those of its own whose codes aren't allowed, with exactly the
+-- doubts, but for calls left open, and each doubt is so; then exactly its evasions; and then exactly what is told of its parts.
 pub record AreProfileWarnings (arch : TargetArch) (container : Container) (allowed : List Code) (p : Profile) (all : List ProfileWarning)
     : Type 0 where
-  pub doubts : List Doubt
-  pub are_doubts : All (IsDoubt arch container p) doubts
   pub lowered : Lowered
   pub is_lowered : IsLoweredProfile arch container p lowered
   pub decides : DecidesAs arch container p lowered
+  pub doubts : List Doubt
+  pub are_doubts : AreDoubts p lowered.entries doubts
+  pub are_so : All (IsDoubt arch container p) doubts
   pub effective : List Entry
   pub are_effective : AreEffective lowered.entries effective
   pub own : List ProfileWarning

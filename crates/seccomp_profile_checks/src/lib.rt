@@ -1,7 +1,6 @@
 //! What `check` says of a seccomp profile of a container runtime.
 //!
-//! [`profile_warnings_of`] gives its warnings: what [`doubts_of`] finds doubtful about it, its evasions, and those of its parts, which
-//! [`parts_of`] gives.
+//! [`profile_warnings_of`] gives its warnings: what is doubtful about it, its evasions, and those of its parts, which [`parts_of`] gives.
 #![tactic(auto)]
 
 pub mod clashes;
@@ -14,6 +13,6 @@ mod tries;
 pub mod warnings;
 
 pub use clashes::{Clash, Effect};
-pub use doubts::{Doubt, doubts_of};
+pub use doubts::Doubt;
 pub use parts::{Origin, parts_of};
 pub use warnings::{ProfileWarning, code_of, profile_warnings_of};

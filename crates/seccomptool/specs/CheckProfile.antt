@@ -2,7 +2,6 @@
 use Rattle.std.specs.Prelude.{◌≢◌, ℕ, Bool, false, List, ⊤}
 use Rattle.seccompiler.specs.declared.backend.TargetArch.{TargetArch}
 use Rattle.seccomp_oci.specs.CompiledProfile.{IsCompileFault, IsCompiledProfile}
-use Rattle.seccomp_oci.specs.ProfileText.{IsProfileText}
 use Rattle.seccomp_oci.specs.Types.{Container}
 use Rattle.seccomp_oci.specs.declared.compiled.CompileError.TheVariants as fault
 use Rattle.seccomp_profile_checks.specs.Warnings.{AreProfileWarnings}
@@ -15,8 +14,7 @@ use Rattle.seccomptool.specs.declared.error.ToolError.TheVariants.{Profile as Of
 pub record IsProfileCheckOf (target : TargetArch) (container : Container) (allowed : List Code) (text : List ℕ)
     (checked : CheckedProfile) : Type 0 where
   pub compiled : IsCompiledProfile target container false text checked.compiled
-  pub of_text : IsProfileText text checked.profile
-  pub warnings : AreProfileWarnings target container allowed checked.profile checked.warnings.items
+  pub warnings : AreProfileWarnings target container allowed checked.compiled.profile checked.warnings.items
 
 -- Why a profile is rejected: what its compiler finds, in which is no lack of memory; or lack of memory.
 abbrev pub IsRefusedProfile : TargetArch → Container → (strict : Bool) → (text : List ℕ) → ToolError → Type 0

@@ -2,6 +2,7 @@
 
 ghost use Rattle.std.specs.Prelude.{IfErr, IfOk};
 ghost use Rattle.seccomp_oci.specs.CompiledProfile.{IsCompiledProfile};
+ghost use Rattle.seccomp_oci.specs.Types.{AllOnArguments};
 ghost use Rattle.seccomptool.specs.CheckProfile.{IsRefusedProfile};
 
 use crate::error::ToolError;
@@ -23,6 +24,7 @@ pub(crate) fn compiled_of(
 ) -> Result<CompiledProfile, ToolError>
     ensures compiled { IfOk result (IsCompiledProfile target container.now strict text.now) }
     ensures refused { IfErr result (IsRefusedProfile target container.now strict text.now) }
+    ensures arguments { IfOk result (λ compiled. AllOnArguments compiled.profile.entries) }
 {
     match compile_profile(alloc, target, container, strict, text) {
         Ok(compiled) => Ok(compiled),

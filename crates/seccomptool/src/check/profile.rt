@@ -7,18 +7,16 @@ ghost use Rattle.seccomptool.specs.CheckProfile.{IsProfileCheckOf, IsRefusedProf
 
 use crate::error::ToolError;
 use crate::profile::compiled_of;
-use seccomp_oci::{CompiledProfile, Container, Profile, profile_of};
+use seccomp_oci::{CompiledProfile, Container};
 use seccomp_profile_checks::{ProfileWarning, profile_warnings_of};
 use seccomp_warnings::Code;
 use seccompiler::TargetArch;
 use std::alloc::Global;
 
-/// A profile, its program, and its warnings.
+/// A profile that was read, with its program and its warnings.
 #[derive(Drop)]
 pub struct CheckedProfile {
-    /// The profile.
-    pub profile: Profile,
-    /// The program.
+    /// The profile, and its program.
     pub compiled: CompiledProfile,
     /// The warnings.
     pub warnings: Vec<ProfileWarning>,
@@ -40,15 +38,9 @@ pub fn profile_checked(
     ensures refused { IfErr result (IsRefusedProfile target container.now false text.now) }
 {
     let compiled = compiled_of(alloc, target, container, false, text)?;
-    let Ok(profile) = profile_of(alloc, text) else {
+    let profile = &compiled.profile;
+    let Ok(warnings) = profile_warnings_of(alloc, target, container, allowed, profile) else {
         return Err(ToolError::OutOfMemory);
     };
-    let Ok(warnings) = profile_warnings_of(alloc, target, container, allowed, &profile) else {
-        return Err(ToolError::OutOfMemory);
-    };
-    Ok(CheckedProfile {
-        profile,
-        compiled,
-        warnings,
-    })
+    Ok(CheckedProfile { compiled, warnings })
 }

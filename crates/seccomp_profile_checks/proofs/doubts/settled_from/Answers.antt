@@ -3,8 +3,8 @@ use Rattle.std.proofs.lemmas.Option.{get_or_from_slice_get}
 use Rattle.seccomp_entries.specs.Entries.{Entry}
 use Rattle.seccomp_profile_checks.proofs.doubts.settled_from.Goals as goal
 
-pub returns-in-Some : goal.returns-in-Some
-returns-in-Some c =
+pub returns-in-Some-clause-some : goal.returns-in-Some-clause-some
+returns-in-Some-clause-some c =
     let entries = c.args.entries.now in
     let index = c.in-Some.index in
     let is = c.in-Some.ensures in

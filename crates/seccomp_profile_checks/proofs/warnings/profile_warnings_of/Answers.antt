@@ -9,6 +9,7 @@ use Rattle.seccomp_profile_checks.specs.declared.doubts.Doubt.{Doubt}
 use Rattle.seccomp_profile_checks.specs.declared.told.Told.{Told}
 use Rattle.seccomp_profile_checks.specs.declared.warnings.ProfileWarning.{ProfileWarning}
 use Rattle.seccomp_warnings.specs.declared.evasion.Evasion.{Evasion}
+use Rattle.seccomp_profile_checks.proofs.doubts.Found.{are_so}
 use Rattle.seccomp_profile_checks.proofs.warnings.profile_warnings_of.Goals as goal
 
 pub returns : goal.returns
@@ -28,11 +29,13 @@ returns c =
     ∙ ap (λ (es : List Entry). flat_map (evaded_in es) c.deref-3.result.now) third
     ∙ ap (λ (vs : List Evasion). flat_map (evaded_in lowered.entries) vs) c.deref-3.ensures.value in
     record {
-      doubts = c.in_ok-doubts.doubts.items;
-      are_doubts = c.in_ok-doubts.ensures;
       lowered = lowered;
       is_lowered = c.in_ok-lowered.ensures.lowered;
       decides = c.in_ok-lowered.ensures.decides;
+      doubts = c.in_ok-doubts.doubts.items;
+      are_doubts = c.in_ok-doubts.ensures;
+      are_so = are_so c.args.target c.args.container.now p lowered c.in_ok-lowered.ensures.lowered c.in_ok-lowered.ensures.decides
+          c.in_ok-doubts.doubts.items c.in_ok-doubts.ensures;
       effective = effective;
       are_effective = subst (λ (es : List Entry). AreEffective es effective) first c.in_ok-effective.ensures;
       own = own;

@@ -128,7 +128,7 @@ fn spot_of<'a>(
         }
         ProfileWarning::Flags => (None, (2, 0), Part::Under("flags"), None),
         ProfileWarning::UnknownKey(place) => {
-            let part = match checked.profile.unknown_keys.get(*place) {
+            let part = match checked.compiled.profile.unknown_keys.get(*place) {
                 Some(key) => Part::Key(key.as_str()),
                 None => Part::Whole,
             };

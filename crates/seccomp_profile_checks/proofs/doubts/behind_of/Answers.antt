@@ -1,0 +1,17 @@
+use Rattle.std.proofs.Common.{◌≡◌, ◌+◌, arith, subst, sym}
+use Rattle.seccomp_profile_checks.specs.Doubts.{AreAllBehind, more, none}
+use Rattle.seccomp_profile_checks.proofs.doubts.behind_of.Goals as goal
+
+pub loop-number-init : goal.loop-number-init
+loop-number-init c = subst (AreAllBehind c.args.entries.now 0) (sym c.new-all.ensures.items) none
+
+pub loop-number-preserved : goal.loop-number-preserved
+loop-number-preserved c =
+    let l = c.loop-number in
+    subst (AreAllBehind c.args.entries.now (l.number + 1)) (sym c.in_ok-append.ensures.items)
+    (more l.number c.in_ok-next.next.items l.invariant c.in_ok-next.ensures)
+
+pub returns : goal.returns
+returns c =
+    let end : c.loop-number.number ≡ 463 = omega arith in
+    subst (λ n. AreAllBehind c.args.entries.now n c.loop-number.all.items) end c.loop-number.invariant

@@ -11,7 +11,7 @@ use Rattle.seccomp_entries.specs.Entries as entries
 use Rattle.seccomp_profile_checks.specs.declared.doubts.Doubt.{Doubt}
 use Rattle.seccomp_profile_checks.specs.declared.doubts.Doubt.TheVariants as doubt
 use Rattle.seccomp_oci.specs.Decision.{Concerns, IsByEntry, Matches, NoneOf, tested}
-use Rattle.seccomp_oci.specs.Lowered.{AtEntry, DecidesAs, IsLoweredProfile}
+use Rattle.seccomp_oci.specs.Lowered.{AtEntry}
 use Rattle.seccomp_profiles.specs.Types.{Container, Entry, Profile}
 use Rattle.seccomp_warnings.specs.Picked.{ArePicked, numbered}
 

@@ -1,5 +1,5 @@
 -- The warnings of a profile: those of its own, and those of its parts.
-use Rattle.std.specs.Prelude.{◌≡◌, ◌++◌, All, Bool, false, Contains, List, [], ◌∷◌, Option, Some, None, if◌then◌else◌, length, map, nat_eq}
+use Rattle.std.specs.Prelude.{◌≡◌, ◌++◌, ℕ, All, Bool, false, Contains, List, [], ◌∷◌, Option, Some, None, if◌then◌else◌, length, map, nat_eq}
 use Rattle.std.specs.Prelude.{slice_get}
 use Rattle.std.specs.List.{flat_map, range_with_len}
 use Rattle.seccomp_entries.specs.Entries.{Entry, Lowered}
@@ -19,7 +19,8 @@ use Rattle.seccomp_profile_checks.specs.declared.doubts.Doubt.{Doubt}
 use Rattle.seccomp_profile_checks.specs.declared.doubts.Doubt.TheVariants as doubt
 use Rattle.seccomp_profile_checks.specs.declared.told.Told.{Told}
 use Rattle.seccomp_profile_checks.specs.declared.warnings.ProfileWarning.{ProfileWarning}
-use Rattle.seccomp_profile_checks.specs.declared.warnings.ProfileWarning.TheVariants.{Clashing, Doubtful, Evaded, Flags, UnknownKey}
+use Rattle.seccomp_profile_checks.specs.declared.warnings.ProfileWarning.TheVariants.{Clashing, Doubtful, Evaded, Flags}
+use Rattle.seccomp_profile_checks.specs.declared.warnings.ProfileWarning.TheVariants.{UnknownArchitecture, UnknownKey}
 use Rattle.seccomp_profile_checks.specs.declared.warnings.ProfileWarning.TheVariants.{OfEntries}
 use Rattle.seccomp_warnings.specs.Evasions.{AreEvasions}
 use Rattle.seccomp_warnings.specs.declared.code.Code.{Code}
@@ -45,6 +46,7 @@ code_of (Doubtful d) = doubt_code d
 code_of (Clashing c) = effect_code c.effect
 code_of Flags = code.RuntimesDiffer
 code_of (UnknownKey key) = code.UnknownKey
+code_of (UnknownArchitecture place) = code.RefusedByLibseccomp
 code_of (OfEntries w origin) = w.code
 code_of (Evaded v origin) = v.code
 
@@ -53,6 +55,11 @@ code_of (Evaded v origin) = v.code
 -- A profile's unknown keys, each by its place.
 abbrev pub keys_told : Profile → List ProfileWarning
 keys_told p = map UnknownKey (range_with_len 0 (length p.unknown_keys))
+
+-- The first architecture that no runtime knows, by its place.
+abbrev pub architecture_told : Option ℕ → List ProfileWarning
+architecture_told None = []
+architecture_told (Some place) = UnknownArchitecture place ∷ []
 
 -- That a profile has flags.
 abbrev pub flags_told : Profile → List ProfileWarning
@@ -63,15 +70,16 @@ abbrev pub has_x86 : TargetArch → Profile → Bool
 has_x86 x86_64 p = p.lists_x86
 has_x86 arch p = false
 
--- The warnings of a profile of which these are the doubts, the entries in one form and the effective ones: the doubts, its unknown keys
--- and flags, exactly the entries that libseccomp rejects, and exactly the effective ones that it may get wrong.
+-- The warnings of a profile of which these are the doubts, the entries in one form and the effective ones: the doubts, its unknown keys,
+-- architecture and flags, exactly the entries that libseccomp rejects, and exactly the effective ones that it may get wrong.
 pub record AreOwn (arch : TargetArch) (p : Profile) (doubts : List Doubt) (entries effective : List Entry) (all : List ProfileWarning)
     : Type 0 where
   pub rejected : List Clash
   pub are_rejected : AreAffected (Rejected (has_x86 arch p)) entries rejected
   pub clashes : List Clash
   pub are_clashes : AreAffected Miscompiled effective clashes
-  pub all_are : all ≡ (((map Doubtful doubts ++ keys_told p) ++ flags_told p) ++ map Clashing rejected) ++ map Clashing clashes
+  pub all_are : all ≡ ((((map Doubtful doubts ++ keys_told p) ++ architecture_told p.unknown_architecture) ++ flags_told p)
+      ++ map Clashing rejected) ++ map Clashing clashes
 
 -- Of these warnings exactly those whose codes aren't allowed, in order.
 pub data AreKept (allowed : List Code) : List ProfileWarning → List ProfileWarning → Type 0 where

@@ -7,7 +7,7 @@ use Rattle.serde_json.specs.Data.{Data, null, string, object, Items, no_items, M
 use Rattle.serde_json.specs.Find.{get}
 use Rattle.seccompiler.specs.JsonShape.{HasOnly, IsCommented}
 use Rattle.seccomp_profiles.specs.Actions.{IsActionUnder}
-use Rattle.seccomp_profiles.specs.Listed.{ListsX86}
+use Rattle.seccomp_profiles.specs.Listed.{ListsX86, unknown_architecture}
 use Rattle.seccomp_profiles.specs.Shape.{IsArgument, IsFlag, IsListed, IsText, items_of}
 use Rattle.seccomp_profiles.specs.Types.{Criteria, Entry, Profile}
 use Rattle.seccomp_profiles.specs.Version.{IsKernelOr}
@@ -69,8 +69,8 @@ AreUnknownKeys (object members) keys = keys ≡ filter is_unknown (keys_of membe
 AreUnknownKeys d keys = ⊥
 
 -- The value is this profile: an object of `defaultAction` and, if it likes, `defaultErrnoRet`, `defaultErrno`, `flags` and `syscalls`.
--- `architectures` and `archMap`, which concern other architectures, are lists, if they are there; that they list x86 counts. Other keys
--- say nothing; the profile has those that are unknown.
+-- `architectures` and `archMap`, which concern other architectures, are lists, if they are there; that they list x86, or what no runtime
+-- knows, counts. Other keys say nothing; the profile has those that are unknown.
 pub record IsProfile (d : Data) (p : Profile) : Type 0 where
   pub architectures : IsList (get (codes "architectures") d)
   pub arch_map : IsList (get (codes "archMap") d)
@@ -78,4 +78,5 @@ pub record IsProfile (d : Data) (p : Profile) : Type 0 where
   pub flags : IsListed IsFlag (get (codes "flags") d) p.flags
   pub entries : IsListed IsEntry (get (codes "syscalls") d) p.entries
   pub lists_x86 : IsTrue p.lists_x86 ↔ ListsX86 d
+  pub unknown_architecture : p.unknown_architecture ≡ unknown_architecture d
   pub unknown_keys : AreUnknownKeys d p.unknown_keys

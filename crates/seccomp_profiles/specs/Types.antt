@@ -26,12 +26,14 @@ pub record Entry : Type 0 where
   pub includes : Criteria
   pub excludes : Criteria
 
--- A profile: its default action, its flags and its entries, both in order, whether it lists x86, and the keys that no profile has.
+-- A profile: its default action, its flags and its entries, both in order, whether it lists x86, the place of
+-- the first architecture that no runtime knows, and the keys that no profile has.
 pub record Profile : Type 0 where
   pub default : SeccompAction
   pub flags : List Flag
   pub entries : List Entry
   pub lists_x86 : Bool
+  pub unknown_architecture : Option ℕ
   pub unknown_keys : List (List ℕ)
 
 -- Each condition is on an argument that a call has.

@@ -1,11 +1,13 @@
-// Whether a profile lists x86.
+// What a profile lists as architectures: whether x86 is among them, and the first that no runtime knows.
 
 ghost use Rattle.std.specs.Prelude.{◌≡◌, ◌↔◌, IsTrue, Some, codes, option_map};
 ghost use Rattle.serde_json.specs.Data.{string};
 ghost use Rattle.serde_json.specs.Find.{get};
 ghost use Rattle.serde_json.specs.View.{items_view, view};
-ghost use Rattle.seccomp_profiles.specs.Listed.{HasItem, IsX86, IsX86Map, ListsX86, items_there};
+ghost use Rattle.seccomp_profiles.specs.Listed as spec;
+ghost use Rattle.seccomp_profiles.specs.Listed.{HasItem, IsX86, IsX86Map, ListsX86, first_unknown, items_there};
 
+use crate::members::is_among;
 use serde_json::Value;
 
 /// Whether the profile that a value is lists `SCMP_ARCH_X86` beside x86_64, so that libseccomp makes a program for x86 too: among its
@@ -78,4 +80,70 @@ fn is_text(value: &Value, text: &str) -> bool
         Value::String(own) => own.as_str() == text,
         _ => false,
     }
+}
+
+// The architectures of the OCI runtime specification.
+const ARCHITECTURES: [&str; 23] = [
+    "SCMP_ARCH_X86",
+    "SCMP_ARCH_X86_64",
+    "SCMP_ARCH_X32",
+    "SCMP_ARCH_ARM",
+    "SCMP_ARCH_AARCH64",
+    "SCMP_ARCH_MIPS",
+    "SCMP_ARCH_MIPS64",
+    "SCMP_ARCH_MIPS64N32",
+    "SCMP_ARCH_MIPSEL",
+    "SCMP_ARCH_MIPSEL64",
+    "SCMP_ARCH_MIPSEL64N32",
+    "SCMP_ARCH_PPC",
+    "SCMP_ARCH_PPC64",
+    "SCMP_ARCH_PPC64LE",
+    "SCMP_ARCH_S390",
+    "SCMP_ARCH_S390X",
+    "SCMP_ARCH_PARISC",
+    "SCMP_ARCH_PARISC64",
+    "SCMP_ARCH_RISCV64",
+    "SCMP_ARCH_LOONGARCH64",
+    "SCMP_ARCH_M68K",
+    "SCMP_ARCH_SH",
+    "SCMP_ARCH_SHEB",
+];
+
+/// The place, from 0, of the first of the profile's `architectures` that the OCI runtime specification doesn't have.
+pub(crate) fn unknown_architecture(profile: &Value) -> Option<usize>
+    ensures { result ≡ spec.unknown_architecture (view profile.now) }
+{
+    first_unknown(items_there(profile.get("architectures")))
+}
+
+// The place of the first of the items that is no name of an architecture.
+fn first_unknown(items: &[Value]) -> Option<usize>
+    ensures { result ≡ first_unknown 0 (items_view items.now) }
+{
+    let (mut rest, mut place) = (items, 0usize);
+    while let [first, others @ ..] = rest {
+        if !is_architecture(first) {
+            return Some(place);
+        }
+        rest = others;
+        place += 1;
+    }
+    None
+}
+
+// Whether it is the name of an architecture.
+fn is_architecture(value: &Value) -> bool
+    ensures { result ≡ spec.is_architecture (view value.now) }
+{
+    match value {
+        Value::String(name) => is_known(name.as_str()),
+        _ => false,
+    }
+}
+
+// Whether the specification has this architecture.
+fn is_known(name: &str) -> bool
+    ensures { result ≡ spec.is_known name.now }
+{
+    is_among(name, &ARCHITECTURES)
 }

@@ -12,7 +12,7 @@ ghost use Rattle.seccomp_profiles.specs.Types.{Profile};
 use crate::actions::action_under;
 use crate::error::ProfileError;
 use crate::fault::{ProfileFault, fault_of, faults_of};
-use crate::listed::lists_x86;
+use crate::listed::{lists_x86, unknown_architecture};
 use crate::lists::parts_under;
 use crate::members::{is_among, items_of};
 use crate::types::Profile;
@@ -89,6 +89,7 @@ fn read_profile(alloc: Global, value: &Value) -> Result<Option<Profile>, AllocEr
         flags,
         entries,
         lists_x86: lists_x86(value),
+        unknown_architecture: unknown_architecture(value),
         unknown_keys: unknown_keys(alloc, members)?,
     }))
 }

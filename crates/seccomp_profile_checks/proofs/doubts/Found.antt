@@ -1,5 +1,5 @@
 -- For `profile_warnings_of`: each doubt that is found is so.
-use Rattle.std.proofs.Common.{◌≡◌, ◌≢◌, ◌∙◌, ◌++◌, ℕ, Bool, true, false, List, [], ◌∷◌, Contains, All, refl, sym, subst, arith, nat_eq}
+use Rattle.std.proofs.Common.{◌≡◌, ◌++◌, ℕ, Bool, true, false, List, [], ◌∷◌, Contains, All, refl, sym, subst, arith, nat_eq}
 use Rattle.std.proofs.Common.{⊎_elim, if◌then◌else◌}
 use Rattle.std.specs.List.{flat_map}
 use Rattle.std.proofs.lemmas.Bool.{cond_both, false≢true}

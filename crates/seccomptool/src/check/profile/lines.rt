@@ -32,6 +32,8 @@ enum Part<'a> {
     Key(&'a str),
     // The condition at this place.
     Condition(usize),
+    // The architecture at this place.
+    Architecture(usize),
 }
 
 /// Adds what is said of the warnings of a profile, in the order of their places: once for each code of a place, and for each pair of
@@ -87,6 +89,10 @@ fn go_to(lines: &mut Lines<'_>, part: Part<'_>, code: Code) {
                 lines.key("valueTwo");
             }
         }
+        Part::Architecture(place) => {
+            lines.key("architectures");
+            lines.item(place);
+        }
     }
 }
 
@@ -133,6 +139,9 @@ fn spot_of<'a>(
                 None => Part::Whole,
             };
             (None, (3, *place), part, None)
+        }
+        ProfileWarning::UnknownArchitecture(place) => {
+            (None, (4, 0), Part::Architecture(*place), None)
         }
         ProfileWarning::OfEntries(warning, origin) => spot_in(target, *origin, warning.subject),
         ProfileWarning::Evaded(evasion, origin) => {
@@ -209,6 +218,10 @@ fn said_of(
         ProfileWarning::Flags => String::from_str(
             alloc,
             "crun sets them, and runc 1.1 starts no container with them; leave them out for runc",
+        ),
+        ProfileWarning::UnknownArchitecture(_) => String::from_str(
+            alloc,
+            "no runtime knows this architecture, so no container starts; correct it, also its letter case, or leave it out",
         ),
         other => String::from_str(alloc, said_of_code(code_of(other))),
     }

@@ -1,6 +1,6 @@
 -- The warnings of a profile: those of its own, and those of its parts.
-use Rattle.std.specs.Prelude.{◌≡◌, ◌++◌, ℕ, All, Bool, false, Contains, List, [], ◌∷◌, Option, Some, None, if◌then◌else◌, length, map, nat_eq}
-use Rattle.std.specs.Prelude.{slice_get}
+use Rattle.std.specs.Prelude.{◌≡◌, ◌++◌, ℕ, All, Bool, false, Contains, List, [], ◌∷◌, Option, Some, None, if◌then◌else◌}
+use Rattle.std.specs.Prelude.{length, map, nat_eq, slice_get}
 use Rattle.std.specs.List.{flat_map, range_with_len}
 use Rattle.seccomp_entries.specs.Entries.{Entry, Lowered}
 use Rattle.seccompiler.specs.declared.backend.TargetArch.{TargetArch}

@@ -80,7 +80,8 @@ def decision(line, name="a", steps=None):
     path = None if entry is None else f"syscalls[{entry}]" if "syscalls" in why else f"{name}.filter[{entry}]"
     number = re.search(r"\((\d+)\)|call (\d+)", why)
     call = re.search(r"(\w+) \(\d+\)", why)
-    kinds = {"another": "another-architecture", "no match": "no-match", "no entry": "no-entry", "default": "no-entry"}
+    kinds = {"another": "another-architecture", "no match": "no-match", "no entry": "no-entry", "default": "no-entry",
+             "libseccomp": "no-entry", "runc": "no-entry"}
     kind = "entry" if steps is None else "program"
     return {
         "action": action(done), "call": call and call[1], "number": number and int(number[1] or number[2]), "entry": entry,

@@ -139,6 +139,9 @@ def line_of(given, words, call, arguments):
     if place is None and nearest:
         begin = "no match: syscalls[{}].args[{}]".format(*nearest)
         end = " does not hold" + f", the nearest of {count} entries" * (count > 1)
+    elif place is None and action != action_of(given["defaultAction"], given.get("defaultErrnoRet")):
+        who = "libseccomp, for x32" if action == "kill_thread" else "runc, above all calls that are named"
+        return f"{named(action)}: {who}: {called(call, arch_of(words))}\n"
     return f"{named(action)}: {begin} of {called(call, arch_of(words))}{end}\n"
 
 

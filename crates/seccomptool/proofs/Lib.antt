@@ -3,4 +3,5 @@
 pub mod Pairs
 pub mod Readings
 pub mod Named
+pub mod Causes
 pub mod Traces

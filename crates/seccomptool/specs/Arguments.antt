@@ -13,6 +13,8 @@ use Rattle.seccomp_tree.specs.declared.layout.Layout.TheVariants.{Linear, Tree}
 use Rattle.seccomptool.specs.declared.diff.Scope.{Scope}
 use Rattle.seccomptool.specs.declared.diff.Scope.TheVariants as scope
 use Rattle.seccomptool.specs.declared.words.Asked.{Asked}
+use Rattle.seccomptool.specs.declared.words.Verb.{Verb}
+use Rattle.seccomptool.specs.declared.words.Verb.TheVariants.{Call, Check, Codes, Compile, Diff, Explain, Learn, Show}
 use Rattle.seccomptool.specs.Chosen.{text_of}
 
 -- ---- values
@@ -43,6 +45,16 @@ abbrev pub is_of_all : Scope → Bool
 is_of_all scope.Named = false
 is_of_all scope.All = true
 
+-- What the subcommand of a name is to do; of `check` whether the codes are listed is asked.
+abbrev pub verb_named : (is_list : Bool) → List ℕ → Verb
+verb_named is_list name =
+    if bytes_eq name (codes "check") then (if is_list then Codes else Check)
+    else if bytes_eq name (codes "compile") then Compile
+    else if bytes_eq name (codes "show") then Show
+    else if bytes_eq name (codes "explain") then Explain
+    else if bytes_eq name (codes "diff") then Diff
+    else if bytes_eq name (codes "learn") then Learn else Call
+
 -- A path of standard input if none is given.
 abbrev pub path_given : Found → List ℕ → List ℕ
 path_given found name = unwrap_or (first_value found name) (codes "-")
@@ -52,6 +64,12 @@ abbrev pub EndsWithName : List ℕ → Option (List ℕ) → Type 0
 EndsWithName text name = IfSome name (λ n. (place : ℕ) × (n ≡ drop place text))
 
 -- ---- what is asked for
+
+-- The subcommand is to do this.
+pub record IsVerbFor (found : Found) (name : List ℕ) (verb : Verb) : Type 0 where
+  pub is_list : Bool
+  pub listed : IsFlag found (codes "list") is_list
+  pub is : verb ≡ verb_named is_list name
 
 -- The command is asked for this. What else is asked for is tested.
 pub record IsAskedFor (found : Found) (asked : Asked) : Type 0 where
@@ -66,6 +84,9 @@ pub record IsAskedFor (found : Found) (asked : Asked) : Type 0 where
   pub denied : IsFlag found (codes "deny-warnings") asked.denied
   pub strict : IsFlag found (codes "strict") asked.strict
   pub recorded : IsFlag found (codes "record") asked.recorded
+  pub measured : IsFlag found (codes "stats") asked.measured
+  pub runnable : IsFlag found (codes "runnable") asked.runnable
+  pub old_clone : IsFlag found (codes "old-clone") asked.old_clone
   pub call : asked.call.name.now ≡ path_given found (codes "CALL")
   pub old : EndsWithName (path_given found (codes "OLD")) (text_of asked.old)
   pub new : EndsWithName (path_given found (codes "NEW")) (text_of asked.new)

@@ -1,10 +1,27 @@
--- How a refusal of the library becomes an error.
+-- How an error of a layer below becomes one of the tool's.
+use Rattle.std.specs.Prelude.{◌≡◌, ◌≢◌, ◌⊎◌, String}
+use Rattle.std.specs.declared.alloc.Global.{Global}
+use Rattle.seccompiler.specs.declared.backend.BackendError.TheVariants as backend
 use Rattle.seccompiler.specs.declared.error.Error.{Error as LibraryError}
 use Rattle.seccompiler.specs.declared.error.Error.TheVariants as library
+use Rattle.seccomp_tree.specs.declared.error.FilterError.{FilterError}
+use Rattle.seccomp_tree.specs.declared.error.FilterError.TheVariants as filter
 use Rattle.seccomptool.specs.declared.error.ToolError.{ToolError}
-use Rattle.seccomptool.specs.declared.error.ToolError.TheVariants.{Library, OutOfMemory}
+use Rattle.seccomptool.specs.declared.error.ToolError.TheVariants.{Library, OutOfMemory, Second}
+use Rattle.seccomptool.specs.declared.error.ToolError.TheVariants as tool
 
 -- A refusal of the library; want of memory stays want of memory.
 abbrev pub from_library : LibraryError → ToolError
 from_library library.OutOfMemory = OutOfMemory
 from_library refusal = Library refusal
+
+-- Why a filter has no program: the library's refusal, or that its tree is too large.
+abbrev pub from_filter : FilterError → ToolError
+from_filter (filter.InvalidSyscallNumber n) = Library (library.Backend (backend.InvalidSyscallNumber n))
+from_filter (filter.FilterTooLarge n) = Library (library.Backend (backend.FilterTooLarge n))
+from_filter filter.TreeTooLarge = tool.TreeTooLarge
+from_filter filter.OutOfMemory = OutOfMemory
+
+-- An error is told as one of the second of what is read, and is no lack of memory; or memory ran out.
+abbrev pub IsOfSecond : (own error : ToolError) → Type 0
+IsOfSecond own error = (error ≡ OutOfMemory) ⊎ ((own ≢ OutOfMemory) × (told : String Global) × (error ≡ Second told))

@@ -7,6 +7,7 @@ use Rattle.seccomptool.specs.declared.words.Asked.{Asked}
 use Rattle.seccomptool.specs.declared.words.Call.{Call}
 use Rattle.seccomptool.specs.declared.words.Verb.{Verb}
 use Rattle.seccomptool.specs.declared.words.Verb.TheVariants as verb
+use Rattle.seccomptool.specs.Causes.{IsUncompared, IsUncompiled, IsUnexplained, IsUnshown}
 use Rattle.seccomptool.specs.Commands.{IsAskedAbout}
 use Rattle.seccomptool.specs.Record.{IsUncalled, IsUnknownCall}
 
@@ -16,11 +17,15 @@ IsUncalledOn true each arch call e = IsUncalled arch call.name.now e
 IsUncalledOn false each arch call e = IsUnknownCall (IsAskedAbout each arch) call.name.now e
 
 -- A command fails on these bytes for this. `check` and the list of codes fail only if memory runs out, since a fault of what is given
--- is what `check` finds. Why the other ones fail isn't said.
+-- is what `check` finds. Why `learn` fails isn't said.
 abbrev pub IsFailureOf : Verb → Asked → (first second : List ℕ) → ToolError → Type 0
 IsFailureOf verb.Check asked given none e = e ≡ OutOfMemory
 IsFailureOf verb.Codes asked none other e = e ≡ OutOfMemory
 IsFailureOf verb.Call asked none other e = IsUncalledOn asked.recorded asked.each_arch asked.arch asked.call e
+IsFailureOf verb.Compile asked given none e = IsUncompiled asked given e
+IsFailureOf verb.Show asked given none e = IsUnshown asked given e
+IsFailureOf verb.Explain asked given none e = IsUnexplained asked given e
+IsFailureOf verb.Diff asked old new e = IsUncompared asked old new e
 IsFailureOf other asked first second e = ⊤
 
 abbrev pub IsFailure : Asked → (first second : List ℕ) → ToolError → Type 0

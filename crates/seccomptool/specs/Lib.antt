@@ -23,6 +23,7 @@ pub mod Diff
 pub mod CheckProfile
 pub mod Kinds
 pub mod Commands
+pub mod Causes
 pub mod Failures
 pub mod Outside
 -- Between layers: what the private steps of the engines promise each other.

@@ -1,6 +1,7 @@
 // A program, in the form that is asked for.
 
 ghost use Rattle.std.specs.Prelude.{◌≡◌, IfOk};
+ghost use Rattle.seccomptool.specs.Causes.{IsSizeTold};
 ghost use Rattle.seccomptool.specs.Compile.{IsWrittenAs, instruction_bytes, program_bytes};
 
 use crate::error::ToolError;
@@ -26,7 +27,9 @@ pub(crate) fn too_large(
     filter: &SeccompFilter,
     name: &str,
     cause: FilterError,
-) -> ToolError {
+) -> ToolError
+    ensures { IsSizeTold cause result }
+{
     let mut told = Text::new(alloc);
     told.push_readable(name, TextKind::Name);
     let (other, other_name) = match cause {

@@ -2,8 +2,9 @@
 
 pub(crate) mod text;
 
-ghost use Rattle.std.specs.Prelude.{◌≡◌, IfOk, Some, option_map};
+ghost use Rattle.std.specs.Prelude.{◌≡◌, IfErr, IfOk, Some, option_map};
 ghost use Rattle.std.specs.BTreeMap.{get_by_text};
+ghost use Rattle.seccomptool.specs.Causes.{AreUnfitting, IsOfEither, IsUndiffed, IsUnfittingFilter, IsUnfittingIn, IsUnfittingUnder, IsUnruled};
 ghost use Rattle.seccomptool.specs.Diff as spec;
 ghost use Rattle.seccomptool.specs.Diff.{IsByName, IsDiff, IsFoundOf, IsOfPair};
 ghost use Rattle.seccomptool.specs.DiffParts.{IsFoundByName};
@@ -89,7 +90,8 @@ pub fn diff_of(
     new: Side<'_>,
     progress: &mut Watch<'_>,
 ) -> Result<Diff, ToolError>
-    ensures { IfOk result (IsDiff terms.target terms.relation old.entry new.entry) }
+    ensures diff { IfOk result (IsDiff terms.target terms.relation old.entry new.entry) }
+    ensures cause { IfErr result (IsUndiffed terms.target old.entry new.entry) }
 {
     match (old.kind, old.filter, new.kind, new.filter) {
         (Subject::Policy, None, Subject::Policy, None) => {
@@ -133,7 +135,8 @@ fn diff_pair(
     new: Side<'_>,
     progress: &mut Watch<'_>,
 ) -> Result<Diff, ToolError>
-    ensures { IfOk result (IsOfPair terms.target terms.relation old.entry new.entry) }
+    ensures pair { IfOk result (IsOfPair terms.target terms.relation old.entry new.entry) }
+    ensures cause { IfErr result (IsOfEither (IsUnruled terms.target old.entry) (IsUnruled terms.target new.entry)) }
 {
     let like_old = program_in(alloc, old);
     let like_new = program_in(alloc, new);
@@ -195,7 +198,8 @@ fn diff_policies(
     new: &[u8],
     progress: &mut Watch<'_>,
 ) -> Result<Diff, ToolError>
-    ensures { IfOk result (IsByName terms.target terms.relation old.now new.now) }
+    ensures by_name { IfOk result (IsByName terms.target terms.relation old.now new.now) }
+    ensures cause { IfErr result (IsOfEither (AreUnfitting terms.target old.now) (AreUnfitting terms.target new.now)) }
 {
     let compiler = JsonCompiler::new(terms.target);
     let old = compiler.policies_of(alloc, old)?;
@@ -214,7 +218,8 @@ fn found_by_name(
     new: &BTreeMap<String, SeccompFilter>,
     progress: &mut Watch<'_>,
 ) -> Result<Diff, ToolError>
-    ensures { IfOk result (IsFoundByName terms.target terms.relation (get_by_text old.now) (get_by_text new.now)) }
+    ensures found { IfOk result (IsFoundByName terms.target terms.relation (get_by_text old.now) (get_by_text new.now)) }
+    ensures cause { IfErr result (IsOfEither (IsUnfittingIn (get_by_text old.now)) (IsUnfittingIn (get_by_text new.now))) }
 {
     let mut all = Vec::new(alloc);
     for (name, filter) in old {
@@ -242,7 +247,8 @@ fn found_of(
     new: Option<&SeccompFilter>,
     progress: &mut Watch<'_>,
 ) -> Result<Found, ToolError>
-    ensures { IfOk result (IsFoundOf terms.target terms.relation (Some old.now) (option_map (λ f. f.now) new.entry)) }
+    ensures found { IfOk result (IsFoundOf terms.target terms.relation (Some old.now) (option_map (λ f. f.now) new.entry)) }
+    ensures cause { IfErr result (IsOfEither (IsUnfittingFilter old.now) (IsUnfittingUnder (option_map (λ f. f.now) new.entry))) }
 {
     let Some(new) = new else {
         return Ok(Found::OnlyOld);

@@ -1,5 +1,6 @@
 // Why the program fails.
 
+ghost use Rattle.seccomptool.specs.Errors.{IsOfSecond};
 ghost use Rattle.seccomptool.specs.Outside.{IsOfFile};
 
 use crate::notes::push_front;
@@ -64,11 +65,13 @@ impl Drop for ToolError {
 
 impl ToolError {
     // An error of the second one of what is read.
-    pub(crate) fn in_second(alloc: Global, error: ToolError) -> ToolError {
-        let told = match &error {
-            ToolError::OutOfMemory => Err(AllocError),
-            error => error.told(alloc),
-        };
+    pub(crate) fn in_second(alloc: Global, error: ToolError) -> ToolError
+        ensures { IsOfSecond error result }
+    {
+        if let ToolError::OutOfMemory = error {
+            return ToolError::OutOfMemory;
+        }
+        let told = error.told(alloc);
         drop(error);
         match told {
             Ok(told) => ToolError::Second(told),
@@ -156,6 +159,11 @@ impl From<BackendError> for ToolError {
 
 /// As the library's root answers it, but for a tree.
 impl From<FilterError> for ToolError {
+    ghost use Rattle.std.specs.Prelude.{◌≡◌};
+    ghost use Rattle.seccomptool.specs.Errors.{from_filter};
+
+    ghost from_gives = { λ refusal error. error ≡ from_filter refusal };
+
     fn from(refusal: FilterError) -> ToolError {
         match refusal {
             FilterError::InvalidSyscallNumber(number) => {

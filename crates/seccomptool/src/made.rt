@@ -1,6 +1,7 @@
 // What each command makes of the bytes that it is given: an answer, and a view of it.
 
 ghost use Rattle.std.specs.Prelude.{◌≡◌, IfErr, IfOk, Ok, OnOk, false};
+ghost use Rattle.seccomptool.specs.Causes.{IsUncompared, IsUncompiled, IsUncompiledAs, IsUncompiledProfile, IsUnshown, IsUnshownAs};
 ghost use Rattle.seccomptool.specs.Commands.{IsAskedAbout, IsCalled, IsCompared, IsCompiled, IsPlain, IsShown, IsShownOrMeasured, IsWrittenOf};
 ghost use Rattle.seccomptool.specs.Failures.{IsUncalledOn};
 ghost use Rattle.seccomptool.specs.Record.{AreKnownCalls, IsUnknownCall};
@@ -86,16 +87,17 @@ pub(crate) fn compile_made(
     path: &str,
     given: &[u8],
 ) -> Result<Made, ToolError>
-    ensures { IfOk result (λ made. IsCompiled asked.now given.now made.text.items × IsPlain made) }
+    ensures made { IfOk result (λ made. IsCompiled asked.now given.now made.text.items × IsPlain made) }
+    ensures cause { IfErr result (IsUncompiled asked.now given.now) }
 {
-    let subject = subject_of(alloc, &asked.reading, given)?;
-    if !matches!(subject, Subject::Policy) {
-        refuse_name(alloc, asked.filter)?;
-    }
-    match subject {
+    match subject_of(alloc, &asked.reading, given)? {
         Subject::Policy => policy_made(alloc, asked, path, given),
-        Subject::Profile(container) => profile_made(alloc, asked, container, path, given),
+        Subject::Profile(container) => {
+            refuse_name(alloc, asked.filter)?;
+            profile_made(alloc, asked, container, path, given)
+        }
         Subject::Program => {
+            refuse_name(alloc, asked.filter)?;
             let program = program_of(alloc, given)?;
             Made::plain(
                 alloc,
@@ -113,7 +115,8 @@ fn policy_made(
     path: &str,
     policy: &[u8],
 ) -> Result<Made, ToolError>
-    ensures { IfOk result (λ made. IsWrittenOf asked.now Policy policy.now made.text.items × IsPlain made) }
+    ensures made { IfOk result (λ made. IsWrittenOf asked.now Policy policy.now made.text.items × IsPlain made) }
+    ensures cause { IfErr result (IsUncompiledAs asked.now Policy policy.now) }
 {
     let arch = asked.arch;
     let policies = JsonCompiler::new(arch).policies_of(alloc, policy)?;
@@ -135,7 +138,8 @@ fn profile_made(
     path: &str,
     profile: &[u8],
 ) -> Result<Made, ToolError>
-    ensures { IfOk result (λ made. IsWrittenOf asked.now (Profile container.entry) profile.now made.text.items × IsPlain made) }
+    ensures made { IfOk result (λ made. IsWrittenOf asked.now (Profile container.entry) profile.now made.text.items × IsPlain made) }
+    ensures cause { IfErr result (IsUncompiledProfile asked.now.arch container.now asked.now.strict profile.now) }
 {
     let arch = asked.arch;
     let compiled = match compiled_of(alloc, arch, container, asked.strict, profile) {
@@ -159,14 +163,12 @@ fn profile_made(
 }
 
 pub(crate) fn show_made(alloc: Global, asked: &Asked<'_>, given: &[u8]) -> Result<Made, ToolError>
-    ensures { IfOk result (λ made. IsShown asked.now given.now × IsPlain made) }
+    ensures made { IfOk result (λ made. IsShown asked.now given.now × IsPlain made) }
+    ensures cause { IfErr result (IsUnshown asked.now given.now) }
 {
     let subject = subject_of(alloc, &asked.reading, given)?;
     let mut text = Text::new(alloc);
     push_shown(&mut text, asked, subject, given)?;
-    if text.is_blank() {
-        refuse_name(alloc, asked.filter)?;
-    }
     let name = if asked.measured {
         "measures"
     } else {
@@ -176,22 +178,23 @@ pub(crate) fn show_made(alloc: Global, asked: &Asked<'_>, given: &[u8]) -> Resul
 }
 
 // Adds the programs of what is given, or how long they are and how many steps they take: of a policy those of all filters, or of the
-// one that is asked for, and nothing if there is none.
+// one that is asked for.
 fn push_shown(
     text: &mut Text,
     asked: &Asked<'_>,
     subject: Subject<'_>,
     given: &[u8],
 ) -> Result<(), ToolError>
-    ensures { OnOk result (IsShownOrMeasured asked.now.measured asked.now.arch subject.entry asked.now.layout given.now) }
+    ensures shown { OnOk result (IsShownOrMeasured asked.now.measured asked.now.arch subject.entry asked.now.layout given.now) }
+    ensures cause { IfErr result (IsUnshownAs asked.now subject.entry given.now) }
 {
     let (alloc, arch, filter, json) = (text.alloc(), asked.arch, asked.filter, asked.json);
     if let Subject::Policy = subject {
         if asked.measured {
-            push_stats(text, json, filter, &stats_of(alloc, arch, given)?);
+            push_stats(text, json, filter, &stats_of(alloc, arch, filter, given)?);
             return Ok(());
         }
-        let programs = programs_in(alloc, arch, asked.layout, given)?;
+        let programs = programs_in(alloc, arch, asked.layout, filter, given)?;
         push_programs(text, arch, json, filter, &programs);
         return Ok(());
     }
@@ -285,7 +288,8 @@ pub(crate) fn diff_made(
     new: &[u8],
     progress: &mut Watch<'_>,
 ) -> Result<Made, ToolError>
-    ensures { IfOk result (λ made. IsCompared asked.now old.now new.now made.verdict × (made.is_cut ≡ false)) }
+    ensures made { IfOk result (λ made. IsCompared asked.now old.now new.now made.verdict × (made.is_cut ≡ false)) }
+    ensures cause { IfErr result (IsUncompared asked.now old.now new.now) }
 {
     let terms = asked.terms;
     let old = Side {

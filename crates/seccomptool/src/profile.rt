@@ -3,6 +3,7 @@
 ghost use Rattle.std.specs.Prelude.{IfErr, IfOk};
 ghost use Rattle.seccomp_oci.specs.CompiledProfile.{IsCompiledProfile};
 ghost use Rattle.seccomp_oci.specs.Types.{AllOnArguments};
+ghost use Rattle.seccomptool.specs.Causes.{AreNamesTold};
 ghost use Rattle.seccomptool.specs.CheckProfile.{IsRefusedProfile};
 
 use crate::error::ToolError;
@@ -75,8 +76,13 @@ pub(crate) fn push_profile_notes(
 }
 
 /// Why a profile isn't compiled: the error, or the names that no call of the architecture has.
-pub(crate) fn uncompiled(alloc: Global, arch: TargetArch, error: ToolError) -> ToolError {
-    let ToolError::Profile(CompileError::UnknownNames(names)) = &error else {
+pub(crate) fn uncompiled(alloc: Global, arch: TargetArch, error: ToolError) -> ToolError
+    ensures { AreNamesTold error result }
+{
+    let ToolError::Profile(cause) = &error else {
+        return error;
+    };
+    let CompileError::UnknownNames(names) = cause else {
         return error;
     };
     let told = match each_once(alloc, names) {

@@ -2,10 +2,13 @@
 
 mod notes;
 
-ghost use Rattle.std.specs.Prelude.{IfOk};
+ghost use Rattle.std.specs.Prelude.{IfErr, IfOk};
 ghost use Rattle.seccompiler.specs.JsonAnswers.{OfValue};
+ghost use Rattle.seccomptool.specs.Causes.{AreUncompiledIn};
+ghost use Rattle.seccomptool.specs.Chosen.{text_of};
 ghost use Rattle.seccomptool.specs.Compile.{ArePrograms};
 
+use crate::chosen::refuse_missing;
 use crate::compile::{NamedProgram, program_value};
 use crate::error::ToolError;
 use crate::text::Text;
@@ -17,15 +20,23 @@ use seccompiler::{BpfProgramRef, JsonCompiler, TargetArch, sock_filter};
 use std::alloc::{AllocError, Global};
 
 /// The programs of all filters of a policy's text, in byte order of the filters' names.
+///
+/// # Errors
+///
+/// `Library` with what is at fault in the text; `NoFilter` with the name if a filter is asked for and none has it; `Library` with
+/// `FilterTooLarge`, or `TreeTooLarge`, of the first filter that is too large in the layout. `OutOfMemory` if memory runs out.
 pub fn programs_in(
     alloc: Global,
     target: TargetArch,
     layout: Layout,
+    asked: Option<&str>,
     text: &[u8],
 ) -> Result<Vec<NamedProgram>, ToolError>
-    ensures { IfOk result (λ programs. OfValue text.now (λ d. ArePrograms layout target d programs.items)) }
+    ensures programs { IfOk result (λ programs. OfValue text.now (λ d. ArePrograms layout target d programs.items)) }
+    ensures cause { IfErr result (AreUncompiledIn target layout (text_of asked.entry) text.now) }
 {
     let filters = JsonCompiler::new(target).policies_of(alloc, text)?;
+    refuse_missing(alloc, asked, &filters)?;
     let mut programs = Vec::new(alloc);
     for (name, filter) in filters {
         let program = to_bpf_in(alloc, &filter, layout)?;

@@ -1,7 +1,9 @@
 // A side of a comparison: what it rules, and a program that stands for it.
 
-ghost use Rattle.std.specs.Prelude.{IfOk, IfSome};
+ghost use Rattle.std.specs.Prelude.{IfErr, IfOk, IfSome};
 ghost use Rattle.seccomp_compare.specs.Machine.{IsChecked};
+ghost use Rattle.seccomp_tree.specs.Layouts.{IsFittingRefusal};
+ghost use Rattle.seccomptool.specs.Causes.{IsUnruled};
 ghost use Rattle.seccomptool.specs.Chosen.{text_of};
 ghost use Rattle.seccomptool.specs.Sides.{IsFilterFor, IsProgramFor};
 ghost use Rattle.seccomptool.specs.Rulings.{StandsFor, of_filter};
@@ -56,6 +58,7 @@ pub(crate) fn ruled_by(
 ) -> Result<Ruled, ToolError>
     ensures ruled { IfOk result (λ ruled. IsProgramFor target side.entry.kind (text_of side.entry.filter) side.entry.given.now ruled.program.items) }
     ensures checked { IfOk result (λ ruled. IsChecked ruled.program.items) }
+    ensures cause { IfErr result (IsUnruled target side.entry) }
 {
     ruled_like(alloc, target, side, &[])
 }
@@ -70,6 +73,7 @@ pub(crate) fn ruled_like(
     ensures ruled { IfOk result (λ ruled. IsProgramFor target side.entry.kind (text_of side.entry.filter) side.entry.given.now ruled.program.items) }
     ensures checked { IfOk result (λ ruled. IsChecked ruled.program.items) }
     ensures filter { IfOk result (λ ruled. IfSome ruled.filter (IsFilterFor target side.entry.kind (text_of side.entry.filter) side.entry.given.now ruled.program.items)) }
+    ensures cause { IfErr result (IsUnruled target side.entry) }
 {
     match side.kind {
         Subject::Policy => {
@@ -110,7 +114,8 @@ fn program_like(
     filter: &SeccompFilter,
     like: BpfProgramRef<'_>,
 ) -> Result<BpfProgram, BackendError>
-    ensures { IfOk result (λ program. (target : TargetArch) → StandsFor target (of_filter filter.now) program.items) }
+    ensures stands { IfOk result (λ program. (target : TargetArch) → StandsFor target (of_filter filter.now) program.items) }
+    ensures refused { IfErr result (IsFittingRefusal filter.now) }
 {
     if !like.is_empty()
         && let Ok(linear) = filter.to_bpf(alloc)

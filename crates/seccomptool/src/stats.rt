@@ -1,11 +1,14 @@
 // How long programs are, and how many steps they take.
 
-ghost use Rattle.std.specs.Prelude.{◌≡◌, ◌≢◌, ◌+◌, ◌<◌, length, IfOk};
+ghost use Rattle.std.specs.Prelude.{◌≡◌, ◌≢◌, ◌+◌, ◌<◌, length, IfErr, IfOk};
 ghost use Rattle.seccompiler.specs.JsonAnswers.{OfValue};
 ghost use Rattle.seccomp_compare.specs.Machine.{IsChecked, IsFine};
+ghost use Rattle.seccomptool.specs.Causes.{AreUncompiledInSome, IsUnfitIn};
+ghost use Rattle.seccomptool.specs.Chosen.{text_of};
 ghost use Rattle.seccomptool.specs.Stats.{AreStats, IsMeasureIn, IsMeasureOf, passing_record};
 ghost use Rattle.seccomptool.specs.Ways.{IsGreatestNext};
 
+use crate::chosen::refuse_missing;
 use crate::error::ToolError;
 use crate::findings::lines::push_filter;
 use crate::json::{Object, OrNull};
@@ -41,16 +44,23 @@ pub struct FilterStats {
 
 /// Measures the programs of all filters of a policy's text, in byte order of the filters' names. That a program in the linear layout
 /// is too large is reported before that a tree is.
+///
+/// # Errors
+///
+/// Those of [`programs_in`](crate::show::programs_in), in the linear layout and then as trees.
 pub fn stats_of(
     alloc: Global,
     target: TargetArch,
+    asked: Option<&str>,
     text: &[u8],
 ) -> Result<Vec<FilterStats>, ToolError>
-    ensures { IfOk result (λ all. OfValue text.now (λ d. AreStats target d all.items)) }
+    ensures stats { IfOk result (λ all. OfValue text.now (λ d. AreStats target d all.items)) }
+    ensures cause { IfErr result (AreUncompiledInSome target (text_of asked.entry) text.now) }
 {
     // Its table has no number as great as that of the passing record.
     let _table = SyscallTable::new(target);
     let filters = JsonCompiler::new(target).policies_of(alloc, text)?;
+    refuse_missing(alloc, asked, &filters)?;
     for (_, filter) in &filters {
         filter.compiled_len()?;
     }
@@ -70,7 +80,8 @@ fn measure_in(
     filter: &SeccompFilter,
     layout: Layout,
 ) -> Result<Measure, FilterError>
-    ensures { IfOk result (IsMeasureIn layout target filter.now) }
+    ensures measured { IfOk result (IsMeasureIn layout target filter.now) }
+    ensures refused { IfErr result (IsUnfitIn layout filter.now) }
 {
     let program = to_bpf_in(alloc, filter, layout)?;
     Ok(measure_of(alloc, target, &program)?)

@@ -27,11 +27,6 @@ impl Text {
         *self.bytes.allocator()
     }
 
-    /// Whether nothing was added.
-    pub(crate) fn is_blank(&self) -> bool {
-        self.bytes.is_empty() && !self.is_missing
-    }
-
     /// Notes that memory ran out.
     pub(crate) fn fail(&mut self) {
         self.is_missing = true;

@@ -4,7 +4,7 @@ mod program;
 mod values;
 
 ghost use Rattle.clap.specs.Words.{found_of};
-ghost use Rattle.seccomptool.specs.Arguments.{IsAskedFor};
+ghost use Rattle.seccomptool.specs.Arguments.{IsAskedFor, IsVerbFor};
 
 use crate::check::format::CheckFormat;
 use crate::compile::ProgramFormat;
@@ -17,7 +17,7 @@ use crate::words::program::program;
 use crate::words::values::{
     allowed_in, arch_in, arguments_in, calls_in, check_format_in, format_in, further_in, kept_in,
     layout_in, named_in, number_in, output_in, path_in, program_format_in, push, reading_in,
-    records_in, relation_in, scope_in, start_in,
+    records_in, relation_in, scope_in, start_in, verb_in,
 };
 use clap::ArgMatches;
 use clap::error::ErrorKind;
@@ -302,18 +302,10 @@ fn asked_in<'a>(matches: &ArgMatches<'a>, wrong: &mut Text) -> Asked<'a> {
 
 // What the matches of the subcommand of this name ask for.
 fn asked_for<'a>(name: &str, found: &ArgMatches<'a>, wrong: &mut Text) -> Asked<'a>
-    ensures { IsAskedFor (found_of found.now) result }
+    ensures asked { IsAskedFor (found_of found.now) result }
+    ensures verb { IsVerbFor (found_of found.now) name.now result.verb }
 {
-    let verb = match name {
-        "check" if found.get_flag("list") => Verb::Codes,
-        "check" => Verb::Check,
-        "compile" => Verb::Compile,
-        "show" => Verb::Show,
-        "explain" => Verb::Explain,
-        "diff" => Verb::Diff,
-        "learn" => Verb::Learn,
-        _ => Verb::Call,
-    };
+    let verb = verb_in(name, found.get_flag("list"));
     // What drops comes last, so that no branch before it has to.
     Asked {
         verb,

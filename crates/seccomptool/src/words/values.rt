@@ -3,10 +3,10 @@
 
 ghost use Rattle.std.specs.Prelude.{◌≡◌, codes};
 ghost use Rattle.clap.specs.Words.{first_value, found_of};
-ghost use Rattle.seccomptool.specs.Arguments.{EndsWithName, IsFlag, arch_named, is_of_all, is_only_more, layout_named, path_given};
+ghost use Rattle.seccomptool.specs.Arguments.{EndsWithName, IsFlag, arch_named, is_of_all, is_only_more, layout_named, path_given, verb_named};
 ghost use Rattle.seccomptool.specs.Chosen.{text_of};
 
-use super::Calls;
+use super::{Calls, Verb};
 use crate::check::format::CheckFormat;
 use crate::compile::ProgramFormat;
 use crate::diff::Scope;
@@ -26,6 +26,22 @@ use seccompiler::{SeccompAction, TargetArch};
 pub(super) fn push<T: Drop>(wrong: &mut Text, list: &mut Vec<T>, item: T) {
     if list.push(item).is_err() {
         wrong.fail();
+    }
+}
+
+// What a subcommand is to do. `--list` is an option of `check`.
+pub(super) fn verb_in(name: &str, is_list: bool) -> Verb
+    ensures { result ≡ verb_named is_list name.now }
+{
+    match name {
+        "check" if is_list => Verb::Codes,
+        "check" => Verb::Check,
+        "compile" => Verb::Compile,
+        "show" => Verb::Show,
+        "explain" => Verb::Explain,
+        "diff" => Verb::Diff,
+        "learn" => Verb::Learn,
+        _ => Verb::Call,
     }
 }
 

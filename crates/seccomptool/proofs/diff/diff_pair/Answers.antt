@@ -17,6 +17,8 @@ use Rattle.seccomptool.proofs.findings.Decided.{decided_on}
 use Rattle.seccomptool.proofs.diff.Others.{found_elsewhere, others_covered}
 use Rattle.seccomptool.proofs.findings.Settled.{settled}
 use Rattle.seccomptool.proofs.sides.Profiles.{side_stands}
+use Rattle.seccomptool.specs.Causes.{of_new, of_old}
+use Rattle.std.proofs.lemmas.Result.{err_from_is_err_and}
 use Rattle.seccomptool.proofs.diff.diff_pair.Goals as goal
 
 -- the program stands for the filter, if there is one
@@ -44,8 +46,8 @@ findings_of-requires-clause-settled c =
     (subst (λ o. AreSettledOf relation (option_copied c.as_ref.result) o c.in_ok-settled.settled.items) c.as_ref-2.ensures.value
     c.in_ok-settled.ensures)))
 
-pub returns : goal.returns
-returns c =
+pub returns-clause-pair : goal.returns-clause-pair
+returns-clause-pair c =
     let target = c.args.terms.target in
     let relation = c.args.terms.relation in
     let old = side_stands target c.args.old c.in_ok-by_old.by_old.program.items c.in_ok-by_old.ensures.ruled in
@@ -70,3 +72,11 @@ returns c =
       own = c.in_ok-own.ensures new.0 old.0 of_new of_old;
       others = record { are = on; holds = others_covered target relation (AreDecided target new.0 old.0) others on };
     }
+
+pub returns-in_err-by_old-clause-cause : goal.returns-in_err-by_old-clause-cause
+returns-in_err-by_old-clause-cause c =
+    let error = err_from_is_err_and c.from_residual.result c.from_residual.ensures.1 in
+    rw (error.1, error.2) (of_old c.in_err-by_old.ensures.cause)
+
+pub returns-in-Err-clause-cause : goal.returns-in-Err-clause-cause
+returns-in-Err-clause-cause c = of_new c.in-Err.error c.in-Err.ensures.cause c.in_second.ensures

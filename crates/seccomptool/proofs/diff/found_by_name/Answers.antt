@@ -11,6 +11,9 @@ use Rattle.seccomptool.specs.DiffParts.{IsFoundUnder}
 use Rattle.seccomptool.specs.declared.diff.Found.TheVariants.{OnlyNew}
 use Rattle.seccomptool.specs.declared.diff.NamedFound.{NamedFound}
 use Rattle.seccomptool.proofs.diff.Names.{IsAmong, all_among, among_more, found_among, found_more, next_found, passed, under_name}
+use Rattle.seccomptool.specs.Causes.{IsUnfittingFilter, IsUnfittingIn, IsUnfittingUnder}
+use Rattle.seccomptool.proofs.diff.Causes.{either_more, of_filter, of_found}
+use Rattle.std.proofs.lemmas.Result.{err_from_is_err_and}
 use Rattle.seccomptool.proofs.diff.found_by_name.Goals as goal
 
 pub loop-name-init : goal.loop-name-init
@@ -35,7 +38,7 @@ loop-name-preserved c =
     let order : IsStrictlySortedBy string_cmp (keys_of entries) = search rules in
     let there = next_found entries l.invariant.done l.name-iterator c.next.new.self e order l.invariant.whole c.in-Some.ensures.steps in
     let found = under_name c.args.terms.target c.args.terms.relation old new one _ _ (sym there ∙ ap old (sym named))
-    (c.get.ensures.value ∙ ap new (c.as_str.ensures.value ∙ sym named)) c.in_ok-found.ensures in
+    (c.get.ensures.value ∙ ap new (c.as_str.ensures.value ∙ sym named)) c.in_ok-found.ensures.found in
     found_more c.args.terms.target c.args.terms.relation old new l.all.items c.push.new.self.items entries l.name-iterator
     c.next.new.self one e l.invariant c.in-Some.ensures.steps found named c.in_ok-push.ensures.items
 
@@ -87,8 +90,8 @@ loop-name-2-preserved c =
           l.name-iterator c.next-in-loop-name-2.new.self one e l.invariant.so_far steps found named added;
     }
 
-pub returns : goal.returns
-returns c =
+pub returns-clause-found : goal.returns-clause-found
+returns-clause-found c =
     let l = c.loop-name-2 in
     let all = l.all.items in
     let among = all_among c.args.terms.target c.args.terms.relation (get_by_text c.args.old.now) (get_by_text c.args.new.now) all
@@ -100,3 +103,19 @@ returns c =
         | inr there ↦ found_among all c.args.new.now.entries among name f there
       ];
     }
+
+pub returns-in_err-found-clause-cause : goal.returns-in_err-found-clause-cause
+returns-in_err-found-clause-cause c =
+    let l = c.loop-name in
+    let old = get_by_text c.args.old.now in
+    let new = get_by_text c.args.new.now in
+    let entries = c.args.old.now.entries in
+    let f = c.in-Some.filter.now in
+    let e : String Global × Filter = (c.in-Some.name.now, f) in
+    let order : IsStrictlySortedBy string_cmp (keys_of entries) = search rules in
+    let there = next_found entries l.invariant.done l.name-iterator c.next.new.self e order l.invariant.whole c.in-Some.ensures.steps in
+    let found = option_map (λ (g : Bor Filter). g.now) c.get.result in
+    let error = err_from_is_err_and c.from_residual-in_err-found.result c.from_residual-in_err-found.ensures.1 in
+    rw (error.1, error.2) (either_more (IsUnfittingFilter f) (IsUnfittingUnder found) (IsUnfittingIn old)
+    (IsUnfittingIn new) (of_filter old (string_bytes e.0) f there) (of_found new c.as_str.result.now found c.get.ensures.value)
+    c.in_err-found.field-0.0 c.in_err-found.ensures.cause)

@@ -1,9 +1,13 @@
-use Rattle.std.proofs.Common.{Some, sym, subst}
+use Rattle.std.proofs.Common.{Bor, Option, Some, ap, refl, sym, subst}
 use Rattle.seccomp_compare.specs.Machine.{IsChecked}
 use Rattle.seccomptool.specs.Rulings.{StandsFor, of_filter}
 use Rattle.seccomptool.specs.Settled.{AreSettledOf}
 use Rattle.seccomptool.proofs.findings.Settled.{settled}
 use Rattle.seccomptool.proofs.sides.Filters.{fitting_stands}
+use Rattle.std.proofs.lemmas.Result.{err_from_is_err_and}
+use Rattle.std.specs.Prelude.{option_map}
+use Rattle.seccompiler.specs.Policy.{Filter}
+use Rattle.seccomptool.specs.Causes.{of_new, of_old}
 use Rattle.seccomptool.proofs.diff.found_of.Goals as goal
 
 pub findings_of-requires-clause-new_checked : goal.findings_of-requires-clause-new_checked
@@ -16,8 +20,8 @@ findings_of-requires-clause-old_checked c =
     subst IsChecked (sym c.deref-2.ensures.value)
     (fitting_stands c.args.terms.target c.args.old.now c.in_ok-by_old.by_old.items c.in_ok-by_old.ensures.fitting).checked
 
-pub returns : goal.returns
-returns c =
+pub returns-clause-found : goal.returns-clause-found
+returns-clause-found c =
     let target = c.args.terms.target in
     let new = of_filter c.in-Some.new.now in
     let old = of_filter c.args.old.now in
@@ -38,3 +42,17 @@ findings_of-requires-clause-settled c =
     (fitting_stands target old c.in_ok-by_old.by_old.items c.in_ok-by_old.ensures.fitting) in
     settled target relation c.deref.result.now c.deref-2.result.now (Some new) (Some old) c.deref-3.result.now of_new of_old
     (subst (AreSettledOf relation (Some new) (Some old)) (sym c.deref-3.ensures.value) c.in_ok-settled.ensures)
+
+pub returns-in_err-by_old-clause-cause : goal.returns-in_err-by_old-clause-cause
+returns-in_err-by_old-clause-cause c =
+    let error = err_from_is_err_and c.from_residual.result c.from_residual.ensures.1 in
+    rw (error.1, error.2) (of_old (c.in_err-by_old.field-0.0, c.in_err-by_old.ensures.refused, refl))
+
+pub returns-in-Err-clause-cause : goal.returns-in-Err-clause-cause
+returns-in-Err-clause-cause c =
+    let f = c.in-Some.new.now in
+    of_new c.into.result (
+      f,
+      ap (λ (o : Option (Bor Filter)). option_map (λ g. g.now) o) c.in-Some.is,
+      (c.in-Err.error, c.in-Err.ensures.refused, c.into.ensures),
+    ) c.in_second.ensures

@@ -14,7 +14,7 @@ returns-in-Allow c =
     let found : find name ≡ Some c.in-Some.filter = ap find (sym c.as_str.ensures.value) ∙ sym c.in-Some.ensures.value in
     rw c.in-Into.is (
       name,
-      chosen_in c.args.policy.now find read (text_of c.args.asked) name c.in_ok-name.ensures,
+      chosen_in c.args.policy.now find read (text_of c.args.asked) name c.in_ok-name.ensures.named,
       (read.0, read.1, there IsFilter find read.0 read.2 name c.in-Some.filter found),
       search rules,
     )

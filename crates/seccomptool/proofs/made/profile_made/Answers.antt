@@ -1,11 +1,14 @@
-use Rattle.std.proofs.Common.{◌≡◌, IfOk, refl, rules, subst}
-use Rattle.std.proofs.lemmas.Result.{IfOk-at_ok, IfOk-weaker}
+use Rattle.std.proofs.Common.{◌≡◌, IfOk, refl, rules, subst, sym}
+use Rattle.std.proofs.lemmas.Result.{IfErr-weaker, IfOk-at_ok, IfOk-weaker}
 use Rattle.seccomptool.specs.Compile.{IsWrittenAs}
 use Rattle.seccomptool.specs.declared.made.Made.{Made}
+use Rattle.seccomptool.specs.Causes.{IsUncompiledProfile, uncompiled}
+use Rattle.seccomptool.specs.CheckProfile.{IsRefusedProfile}
+use Rattle.seccomptool.proofs.Causes.{names_told}
 use Rattle.seccomptool.proofs.made.profile_made.Goals as goal
 
-pub returns : goal.returns
-returns c =
+pub returns-clause-made : goal.returns-clause-made
+returns-clause-made c =
     let program = c.in-Ok.compiled.program.items in
     let format = c.args.asked.now.format in
     let same : c.deref-2.result.now ≡ program = search rules in
@@ -18,3 +21,16 @@ returns c =
       ),
       (is.1, is.2),
     )) c.of.ensures.made
+
+pub returns-in-Err-clause-cause : goal.returns-in-Err-clause-cause
+returns-in-Err-clause-cause c =
+    let asked = c.args.asked.now in
+    names_told asked.arch c.args.container.now asked.strict c.args.profile.now c.in-Err.error c.uncompiled.result c.in-Err.ensures.refused
+    c.uncompiled.ensures
+
+pub returns-clause-cause : goal.returns-clause-cause
+returns-clause-cause c =
+    let asked = c.args.asked.now in
+    let refused = IsRefusedProfile asked.arch c.args.container.now asked.strict c.args.profile.now in
+    IfErr-weaker c.of.result _ (IsUncompiledProfile asked.arch c.args.container.now asked.strict c.args.profile.now)
+    (λ e lacks. uncompiled (subst refused (sym lacks) tt)) c.of.ensures.failed

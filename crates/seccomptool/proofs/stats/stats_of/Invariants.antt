@@ -1,11 +1,15 @@
 use Rattle.std.proofs.Common.{◌≡◌, ◌++◌}
 use Rattle.std.specs.List.{AllZip}
-use Rattle.std.specs.Prelude.{⊤}
+use Rattle.seccomptool.proofs.diff.Names.{Entries}
 use Rattle.seccomptool.proofs.stats.FilterNumbers.{IsMeasured}
 use Rattle.seccomptool.proofs.stats.stats_of.Given as goal
 
+-- the filters so far are not too large
 abbrev pub invariant-loop-filter : goal.invariant-loop-filter
-invariant-loop-filter l = ⊤
+invariant-loop-filter l = record {
+  done : Entries;
+  whole : l.initial.filter-iterator ≡ done ++ l.filter-iterator;
+}
 
 -- the filters so far are measured
 abbrev pub invariant-loop-name : goal.invariant-loop-name

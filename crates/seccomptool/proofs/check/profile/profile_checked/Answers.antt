@@ -3,5 +3,5 @@ use Rattle.seccomptool.proofs.check.profile.profile_checked.Goals as goal
 pub returns-clause-checked : goal.returns-clause-checked
 returns-clause-checked c = record {
   compiled = c.in_ok-compiled.ensures.compiled;
-  warnings = c.in-Ok-profile_warnings_of.ensures;
+  warnings = c.in-Ok.ensures;
 }

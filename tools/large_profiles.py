@@ -69,7 +69,7 @@ FIRST = CALLS[0]
 ANSWERS = [
     (alternating, 4000, "compile -o program.bpf FILE", 0, "", 0, ""),
     (alternating, 4000, "explain program.bpf " + CALLS[1], 0, f"log: {CALLS[1]} (..", 1, ""),
-    (alternating, 4000, "check FILE", 0, "..", 64, ""),
+    (alternating, 4000, "check FILE", 0, "..", 4000 - len(CALLS), ""),
     (alternating, 4000, "explain FILE " + CALLS[1], 0, f"log: syscalls[2] of {CALLS[1]} (..", 1, ""),
     (conditioned, 2000, "compile -o program.bpf FILE", 0, "", 0, ""),
     (conditioned, 2000, f"explain program.bpf {FIRST} 250", 0, f"log: {FIRST} (..", 1, ""),

@@ -1,7 +1,8 @@
 -- For the functions of `walk` and `evasion`: what is picked, one by one.
 use Rattle.std.proofs.Common.{◌≡◌, ℕ, suc, ◌+◌, ◌<◌, List, [], ◌∷◌, ◌++◌, length, take, get_or, map, refl, sym, ap, ◌∙◌, subst, arith, inl}
 use Rattle.std.proofs.Common.{inr, ⊎_elim, length-take, append_assoc, append-nil}
-use Rattle.std.proofs.lemmas.List.{take_more, map-append}
+use Rattle.std.proofs.lemmas.List.{flat_map_more, take_more, map-append}
+use Rattle.std.specs.List.{flat_map}
 use Rattle.seccomp_warnings.specs.Warnings.{IsGiven, about, calls_asked, unlisted_codes}
 use Rattle.seccomp_warnings.specs.Parts.{Part}
 use Rattle.seccomp_warnings.specs.Picked.{ArePicked, numbered}
@@ -75,6 +76,16 @@ pub numbered_more : {X Y : Type 0} (P : Y → Type 0) (f : ℕ → X → List Y)
 numbered_more {Y = Y} P f at xs x begun old new room is so_far own =
     subst (λ (l : List Y). Adds P l begun new) (sym (numbered_taken f at xs x room is))
     (adds_more P (numbered f 0 (take at xs)) (f at x) begun old new so_far own)
+
+-- The same of what is asked of each alike. The default is any.
+pub flat_more : {X Y : Type 0} (P : Y → Type 0) (f : X → List Y) (at : ℕ) (xs : List X) (d : X) (begun old new : List Y)
+    → at < length xs → Adds P (flat_map f (take at xs)) begun old → Adds P (f (get_or xs at d)) old new
+    → Adds P (flat_map f (take (at + 1) xs)) begun new
+flat_more {X} {Y} P f at xs d begun old new room so_far own =
+    let x = get_or xs at d in
+    let all : flat_map f (take (at + 1) xs) ≡ flat_map f (take at xs) ++ f x =
+    ap (flat_map f) (take_more xs at d room) ∙ sym (flat_map_more f [] (take at xs) x) in
+    subst (λ (l : List Y). Adds P l begun new) (sym all) (adds_more P (flat_map f (take at xs)) (f x) begun old new so_far own)
 
 module _ (allowed : List Code) (judgements : List Judgement) (p : Part) where
   -- ---- the codes of a subject

@@ -1,8 +1,9 @@
 -- Calls by which a filter or a profile is evaded: one that it denies, and one that it lets through and that differs from the first in
--- what changes nothing of what is denied.
+-- what changes nothing of what is denied, or is another call by which the same can be done.
 use Rattle.std.specs.Prelude.{◌≡◌, ℕ, ◌+◌, ◌-◌, ◌*◌, ◌%◌, ◌^◌, ◌⊎◌, List, [], ◌∷◌, ◌++◌, length, take, drop, replicate, Contains}
-use Rattle.std.specs.Prelude.{Bool, true, false, if◌then◌else◌, nat_eq, nat_le, bit_and, bit_xor}
-use Rattle.std.specs.List.{fold}
+use Rattle.std.specs.Prelude.{Bool, true, false, if◌then◌else◌, nat_eq, nat_le, bit_and, bit_or, bit_xor}
+use Rattle.std.specs.Prelude.{Option, Some, None}
+use Rattle.std.specs.List.{flat_map, fold}
 use Rattle.std.specs.Int.{w32, w64, to_le_bytes}
 use Rattle.seccompiler.specs.declared.backend.SeccompCmpArgLen.{SeccompCmpArgLen}
 use Rattle.seccompiler.specs.declared.backend.SeccompCmpArgLen.TheVariants.{Dword, Qword}
@@ -14,6 +15,7 @@ use Rattle.seccompiler.specs.Policy.{Condition, Holds, part_of}
 use Rattle.seccomp_entries.specs.Entries.{Entry, IsDecided, Lowered}
 use Rattle.seccomp_warnings.specs.AnyArgument.{comparison_at, condition_of}
 use Rattle.seccomp_warnings.specs.Arguments.{flag_of}
+use Rattle.seccomp_warnings.specs.Detours.{Detour, call_number, detours, is_asked}
 use Rattle.seccomp_warnings.specs.Picked.{ArePicked, numbered}
 use Rattle.seccomp_warnings.specs.declared.code.Code.{Code}
 use Rattle.seccomp_warnings.specs.declared.code.Code.TheVariants as code
@@ -101,15 +103,56 @@ pair_of kind call arch number entry place c = record {
   passed = with_argument c.arg_index (bit_xor (edge_of c) (bits_of kind arch number c)) call;
 }
 
+-- ---- another call
+
+-- What is asked of a call that a condition denies: its number if it holds above that alone, else that with the bits that ask for more.
+abbrev pub asked_of : (bits : ℕ) → Condition → ℕ
+asked_of bits c = if is_above c.operator then edge_of c else bit_or (edge_of c) bits
+
+-- The pair of calls of the condition at a place of the entry at a place, by a detour whose other call has this number: this call of the
+-- entry's number with what is asked, and the other one with what it takes of that.
+abbrev pub pair_by : (call : List ℕ) → TargetArch → (entry place : ℕ) → Condition → Detour → (number : ℕ) → Evasion
+pair_by call arch entry place c d number = record {
+  code = code.ConditionEvaded;
+  comparison = comparison_at entry place c;
+  denied = with_argument c.arg_index (asked_of d.bits c) call;
+  passed = with_argument d.other_index (bit_and (asked_of d.bits c) d.kept) (blank_call arch number);
+}
+
+-- The same if the architecture has the other call.
+abbrev pub pair_to : (call : List ℕ) → TargetArch → (entry place : ℕ) → Condition → Detour → Option ℕ → Option Evasion
+pair_to call arch entry place c d None = None
+pair_to call arch entry place c d (Some number) = Some (pair_by call arch entry place c d number)
+
+-- That of a detour, if the entry lets calls through and is for the detour's call, and the condition is on the argument that it asks by.
+abbrev pub detour_pair : (call : List ℕ) → TargetArch → Entry → (entry place : ℕ) → Condition → Detour → Option Evasion
+detour_pair call arch e entry place c d =
+    if is_asked d arch e c then pair_to call arch entry place c d (call_number arch d.other) else None
+
+-- None or one, as a list.
+abbrev pub listed : Option Evasion → List Evasion
+listed None = []
+listed (Some v) = v ∷ []
+
+-- Those of all detours, in their order.
+abbrev pub detour_pairs : (call : List ℕ) → TargetArch → Entry → (entry place : ℕ) → Condition → List Evasion
+detour_pairs call arch e entry place c = flat_map (λ d. listed (detour_pair call arch e entry place c d)) detours
+
 -- ---- evasions
 
 -- The condition holds for one of two calls, and not for the other.
 abbrev pub IsApart : Condition → (denied passed : List ℕ) → Type 0
 IsApart c denied passed = (Holds c denied × (Holds c passed → ⊥)) ⊎ ((Holds c denied → ⊥) × Holds c passed)
 
--- Of these calls the first is denied and the second let through, and the condition decides it: it holds for one of them alone.
+-- The condition decides between two calls: if one of them is another call, it doesn't hold for the denied one.
+abbrev pub IsApartBy : Code → Condition → (denied passed : List ℕ) → Type 0
+IsApartBy code.ConditionEvaded c denied passed = Holds c denied → ⊥
+IsApartBy other c denied passed = IsApart c denied passed
+
+-- Of these calls the first is denied and the second let through, and the condition decides it: it holds for one of them alone, or, if
+-- the second is another call, not for the first.
 pub record IsEvasion (l : Lowered) (v : Evasion) : Type 0 where
-  pub apart : IsApart (condition_of v.comparison) v.denied v.passed
+  pub apart : IsApartBy v.code (condition_of v.comparison) v.denied v.passed
   pub is_denied : DeniesCall l v.denied
   pub is_let_through : LetsThrough l v.passed
 
@@ -117,14 +160,18 @@ pub record IsEvasion (l : Lowered) (v : Evasion) : Type 0 where
 abbrev pub IsShown : List Code → Lowered → Evasion → Type 0
 IsShown allowed l v = IsEvasion l v × (Contains allowed v.code → ⊥)
 
--- The pairs of a condition, of those of an entry, and of those of all entries, in their order.
-abbrev pub condition_pairs : (call : List ℕ) → TargetArch → (number entry place : ℕ) → Condition → List Evasion
-condition_pairs call arch number entry place c =
+-- The pairs of a condition that are calls of one number.
+abbrev pub own_pairs : (call : List ℕ) → TargetArch → (number entry place : ℕ) → Condition → List Evasion
+own_pairs call arch number entry place c =
     pair_of code.HighHalfEvades call arch number entry place c ∷ pair_of code.FlagEvades call arch number entry place c ∷ []
 
+-- The pairs of a condition, of those of an entry, and of those of all entries, in their order.
+abbrev pub condition_pairs : (call : List ℕ) → TargetArch → Entry → (entry place : ℕ) → Condition → List Evasion
+condition_pairs call arch e entry place c =
+    own_pairs call arch e.number entry place c ++ detour_pairs call arch e entry place c
+
 abbrev pub entry_pairs : TargetArch → (entry : ℕ) → Entry → List Evasion
-entry_pairs arch entry e =
-    numbered (condition_pairs (likely_call arch e.number e.conditions) arch e.number entry) 0 e.conditions
+entry_pairs arch entry e = numbered (condition_pairs (likely_call arch e.number e.conditions) arch e entry) 0 e.conditions
 
 abbrev pub all_pairs : Lowered → List Evasion
 all_pairs l = numbered (entry_pairs l.target_arch) 0 l.entries

@@ -4,6 +4,7 @@ pub mod AnyArgument
 pub mod Arguments
 pub mod Beside
 pub mod CallWarnings
+pub mod Detours
 pub mod Evasions
 pub mod Judgements
 pub mod Parts

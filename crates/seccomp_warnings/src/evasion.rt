@@ -1,16 +1,19 @@
-// Evasions: two calls that differ in what changes nothing of what is denied, of which one is denied and the other let through.
+// Evasions: two calls that differ in what changes nothing of what is denied, or do the same, of which one is denied and the other let
+// through.
 
 ghost use Rattle.std.specs.Prelude.{◌≡◌, ◌+◌, ◌≤◌, ◌↔◌, ◌∷◌, [], IfOk, IsFalse, IsTrue, OnOk, length};
 ghost use Rattle.seccomp_entries.specs.Rulings.{AreOfCalls};
 ghost use Rattle.seccomp_tree.specs.Decided.{AscendFromZero};
-ghost use Rattle.seccomp_warnings.specs.AnyArgument.{condition_of};
+ghost use Rattle.seccomp_warnings.specs.AnyArgument.{comparison_at, condition_of};
+ghost use Rattle.seccomp_warnings.specs.Detours as detours;
 ghost use Rattle.seccomp_warnings.specs.Evasions as spec;
-ghost use Rattle.seccomp_warnings.specs.Evasions.{AreEvasions, DeniesCall, IsApart, IsPermitting, IsShown, LetsThrough, condition_pairs, entry_pairs, with_argument, with_bytes};
+ghost use Rattle.seccomp_warnings.specs.Evasions.{AreEvasions, DeniesCall, IsApart, IsApartBy, IsPermitting, IsShown, LetsThrough, blank_call, condition_pairs, entry_pairs, own_pairs, with_argument, with_bytes};
 ghost use Rattle.seccomp_warnings.specs.Walks.{Adds, AreDecisionsOf};
 
 use crate::argument::flag_of;
 use crate::code::{Code, is_among};
 use crate::condition::part_of;
+use crate::detour::push_detours;
 use crate::warning::Comparison;
 use seccomp_entries::{Entry, Lowered, decisions_of};
 use seccomp_tree::Decisions;
@@ -18,7 +21,7 @@ use seccompiler::{SeccompCmpArgLen, SeccompCmpOp, SeccompCondition, TargetArch};
 use std::alloc::{AllocError, Global};
 
 /// A condition, and two calls of which one is denied and the other let through, although they differ in what changes nothing of
-/// what is denied.
+/// what is denied, or the same can be done by the other.
 #[derive(Clone, Copy)]
 pub struct Evasion {
     /// The code of the warning: in what the calls differ.
@@ -32,8 +35,8 @@ pub struct Evasion {
 }
 
 /// The evasions of entries and defaults, in the order of the entries, but for those of the allowed codes. Each condition has a pair of
-/// calls for the high half of its argument, and one for a flag. It is an evasion if the first call is denied, the second is let through,
-/// and the condition holds for one of them alone.
+/// calls for the high half of its argument, one for a flag, and some with another call. A pair is an evasion if the first call is denied,
+/// the second is let through, and the condition holds for one of them alone, or, if the second is another call, not for the first.
 ///
 /// The defaults start at 0, each above the one before it, and each entry is for a number up to 462.
 ///
@@ -72,7 +75,7 @@ fn push_entry(
     let call = likely_call(lowered.target_arch, own.number, &own.conditions);
     for (place, condition) in own.conditions.iter().enumerate() {
         push_condition(
-            found, lowered, decisions, allowed, &call, own.number, entry, place, condition,
+            found, lowered, decisions, allowed, &call, own, entry, place, condition,
         )?;
     }
     Ok(())
@@ -85,13 +88,37 @@ fn push_condition(
     decisions: &Decisions,
     allowed: &[Code],
     call: &[u8; 64],
+    own: &Entry,
+    entry: usize,
+    place: usize,
+    condition: &SeccompCondition,
+) -> Result<(), AllocError>
+    requires { AreDecisionsOf lowered.now decisions.now }
+    ensures { OnOk result (Adds (IsShown allowed.now lowered.now) (condition_pairs call.now lowered.now.target_arch own.now entry place condition.now) found.old.items found.new.items) }
+{
+    push_own(
+        found, lowered, decisions, allowed, call, own.number, entry, place, condition,
+    )?;
+    push_detours(
+        found, lowered, decisions, allowed, call, own, entry, place, condition,
+    )?;
+    Ok(())
+}
+
+// Adds those of two calls of the entry's number.
+fn push_own(
+    found: &mut Vec<Evasion>,
+    lowered: &Lowered,
+    decisions: &Decisions,
+    allowed: &[Code],
+    call: &[u8; 64],
     number: u32,
     entry: usize,
     place: usize,
     condition: &SeccompCondition,
 ) -> Result<(), AllocError>
     requires { AreDecisionsOf lowered.now decisions.now }
-    ensures { OnOk result (Adds (IsShown allowed.now lowered.now) (condition_pairs call.now lowered.now.target_arch number entry place condition.now) found.old.items found.new.items) }
+    ensures { OnOk result (Adds (IsShown allowed.now lowered.now) (own_pairs call.now lowered.now.target_arch number entry place condition.now) found.old.items found.new.items) }
 {
     let arch = lowered.target_arch;
     let high = pair_of(
@@ -118,7 +145,7 @@ fn push_condition(
 }
 
 // Adds a pair of calls of the condition, if it is an evasion and its code isn't allowed.
-fn push_shown(
+pub(crate) fn push_shown(
     found: &mut Vec<Evasion>,
     lowered: &Lowered,
     decisions: &Decisions,
@@ -148,13 +175,28 @@ fn is_shown(
     requires condition { condition_of pair.now.comparison ≡ condition.now }
     ensures { IsTrue result ↔ IsShown allowed.now lowered.now pair.now }
 {
-    if !is_apart(condition, &pair.denied, &pair.passed) {
+    if !is_apart_by(pair.code, condition, &pair.denied, &pair.passed) {
         return false;
     }
     if is_let_through(lowered, decisions, &pair.denied) {
         return false;
     }
     is_let_through(lowered, decisions, &pair.passed) && !is_among(allowed, pair.code)
+}
+
+// Whether the condition decides between two calls.
+fn is_apart_by(
+    code: Code,
+    condition: &SeccompCondition,
+    denied: &[u8; 64],
+    passed: &[u8; 64],
+) -> bool
+    ensures { IsTrue result ↔ IsApartBy code condition.now denied.now passed.now }
+{
+    match code {
+        Code::ConditionEvaded => !condition.holds(denied),
+        _ => is_apart(condition, denied, passed),
+    }
 }
 
 // Whether the condition holds for one of two calls alone.
@@ -169,8 +211,9 @@ fn is_apart(condition: &SeccompCondition, denied: &[u8; 64], passed: &[u8; 64]) 
 }
 
 // Whether a return value lets a call through.
-fn is_permitting(word: u32) -> bool
-    ensures { IsTrue result ↔ IsPermitting word }
+pub(crate) fn is_permitting(word: u32) -> bool
+    ensures is { IsTrue result ↔ IsPermitting word }
+    ensures test { result ≡ detours.is_permitting word }
 {
     word == 0x7fff_0000 || word == 0x7ffc_0000
 }
@@ -182,6 +225,20 @@ fn is_let_through(lowered: &Lowered, decisions: &Decisions, call: &[u8; 64]) -> 
     ensures denied { IsFalse result ↔ DeniesCall lowered.now call.now }
 {
     is_permitting(decisions.decide(call))
+}
+
+// The condition at a place of the entry at a place.
+pub(crate) fn comparison_at(entry: usize, place: usize, condition: &SeccompCondition) -> Comparison
+    ensures { result ≡ comparison_at entry place condition.now }
+{
+    Comparison {
+        entry,
+        place,
+        arg_index: condition.arg_index(),
+        arg_len: condition.arg_len(),
+        operator: condition.operator(),
+        value: condition.value(),
+    }
 }
 
 // The pair of calls of the condition at a place of the entry at a place.
@@ -196,14 +253,7 @@ fn pair_of(
 ) -> Evasion
     ensures { result ≡ spec.pair_of code call.now arch number entry place condition.now }
 {
-    let comparison = Comparison {
-        entry,
-        place,
-        arg_index: condition.arg_index(),
-        arg_len: condition.arg_len(),
-        operator: condition.operator(),
-        value: condition.value(),
-    };
+    let comparison = comparison_at(entry, place, condition);
     let edge = edge_of(condition);
     let other = edge ^ bits_of(code, arch, number, condition);
     Evasion {
@@ -270,7 +320,7 @@ fn flag_by(operator: SeccompCmpOp, number: u64, flag: u64) -> u64
 }
 
 // The number that the condition compares with; of an order the greatest below its border.
-fn edge_of(condition: &SeccompCondition) -> u64
+pub(crate) fn edge_of(condition: &SeccompCondition) -> u64
     ensures { result ≡ spec.edge_of condition.now }
 {
     let value = part_of(condition.arg_len(), condition.value());
@@ -296,12 +346,20 @@ fn likely(condition: &SeccompCondition) -> u64
 fn likely_call(arch: TargetArch, number: u32, conditions: &[SeccompCondition]) -> [u8; 64]
     ensures { result ≡ spec.likely_call arch number conditions.now }
 {
-    let mut call = [0; 64];
-    put(&mut call, 0, &number.to_le_bytes());
-    put(&mut call, 4, &arch.get_audit_value().to_le_bytes());
+    let mut call = blank_call(arch, number);
     for condition in conditions {
         call = with_argument(&call, condition.arg_index(), likely(condition));
     }
+    call
+}
+
+// The call of this number whose arguments are 0.
+pub(crate) fn blank_call(arch: TargetArch, number: u32) -> [u8; 64]
+    ensures { result ≡ blank_call arch number }
+{
+    let mut call = [0; 64];
+    put(&mut call, 0, &number.to_le_bytes());
+    put(&mut call, 4, &arch.get_audit_value().to_le_bytes());
     call
 }
 
@@ -314,7 +372,7 @@ fn put(call: &mut [u8; 64], at: usize, bytes: &[u8])
 }
 
 // The same call with this argument.
-fn with_argument(call: &[u8; 64], index: u8, argument: u64) -> [u8; 64]
+pub(crate) fn with_argument(call: &[u8; 64], index: u8, argument: u64) -> [u8; 64]
     requires { index ≤ 5 }
     ensures { result ≡ with_argument index argument call.now }
 {

@@ -22,6 +22,7 @@ pub mod beside;
 mod call;
 pub mod code;
 mod condition;
+mod detour;
 pub mod evasion;
 pub mod judgement;
 mod part;

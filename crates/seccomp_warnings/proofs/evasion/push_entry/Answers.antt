@@ -1,7 +1,5 @@
-use Rattle.std.proofs.Common.{ℕ, List, ap, subst}
-use Rattle.seccomp_entries.specs.Entries.{Entry}
+use Rattle.std.proofs.Common.{List}
 use Rattle.seccomp_warnings.specs.Evasions.{IsShown, condition_pairs}
-use Rattle.seccomp_warnings.specs.Walks.{Adds}
 use Rattle.seccomp_warnings.specs.declared.evasion.Evasion.{Evasion}
 use Rattle.seccomp_warnings.proofs.Picked.{numbered_more}
 use Rattle.seccomp_warnings.proofs.evasion.push_entry.Goals as goal
@@ -9,11 +7,9 @@ use Rattle.seccomp_warnings.proofs.evasion.push_entry.Goals as goal
 pub loop-place-preserved : goal.loop-place-preserved
 loop-place-preserved c =
     let shown = IsShown c.args.allowed.now c.args.lowered.now in
-    let pairs = λ (number : ℕ).
-    condition_pairs c.likely_call-call.result c.args.lowered.now.target_arch number c.args.entry in
+    let pairs = condition_pairs c.likely_call-call.result c.args.lowered.now.target_arch c.args.own.now c.args.entry in
     let old : List Evasion = c.loop-place.found.items in
     let new : List Evasion = c.push_condition.new.found.items in
-    numbered_more shown (pairs c.args.own.now.number) c.loop-place.place c.deref-condition-items.result.now c.condition-item.result
+    numbered_more shown pairs c.loop-place.place c.deref-condition-items.result.now c.condition-item.result
     c.args.found.now.items old new c.loop-place-test.true c.condition-item.is c.loop-place.invariant
-    (subst (λ (n : ℕ). Adds shown (pairs n c.loop-place.place c.condition-item.result) old new)
-    (ap (λ (e : Entry). e.number) c.own.view_is) c.in_ok-push_condition.ensures)
+    c.in_ok-push_condition.ensures

@@ -8,5 +8,5 @@ use Rattle.seccomp_warnings.proofs.evasion.push_entry.Given as goal
 abbrev pub invariant-loop-place : goal.invariant-loop-place
 invariant-loop-place l =
     Adds (IsShown l.allowed l.lowered)
-    (numbered (condition_pairs l.call l.lowered.target_arch l.own.number l.entry) 0 (take l.place l.condition-items)) l.fn.found.items
+    (numbered (condition_pairs l.call l.lowered.target_arch l.own l.entry) 0 (take l.place l.condition-items)) l.fn.found.items
     l.found.items

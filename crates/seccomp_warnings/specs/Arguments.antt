@@ -80,7 +80,7 @@ memory_calls index =
     if index == 1 then codes "memfd_create" ∷ []
     else []
 
--- The calls that take PROT_READ in the argument of this index.
+-- The calls that take PROT_READ, and PROT_SEM, in the argument of this index.
 abbrev pub read_calls : ℕ → List (List ℕ)
 read_calls index =
     if index == 2 then codes "mmap" ∷ codes "mprotect" ∷ codes "pkey_mprotect" ∷ []
@@ -102,6 +102,10 @@ flag_of arch number index =
     else if is_among arch number (memory_calls index) then 1
     else if is_among arch number (read_calls index) then 1
     else 0
+
+-- A further one of those calls: PROT_SEM of the calls on pages.
+abbrev pub further_flag_of : TargetArch → (number index : ℕ) → ℕ
+further_flag_of arch number index = if is_among arch number (read_calls index) then 8 else 0
 
 -- The operator asks for the order of numbers.
 abbrev pub IsOrder : SeccompCmpOp → Type 0

@@ -14,7 +14,7 @@ use Rattle.seccompiler.specs.Architecture.{audit_word}
 use Rattle.seccompiler.specs.Policy.{Condition, Holds, part_of}
 use Rattle.seccomp_entries.specs.Entries.{Entry, IsDecided, Lowered}
 use Rattle.seccomp_warnings.specs.AnyArgument.{comparison_at, condition_of}
-use Rattle.seccomp_warnings.specs.Arguments.{flag_of}
+use Rattle.seccomp_warnings.specs.Arguments.{flag_of, further_flag_of}
 use Rattle.seccomp_warnings.specs.Detours.{Detour, call_number, detours, is_asked}
 use Rattle.seccomp_warnings.specs.Picked.{ArePicked, numbered}
 use Rattle.seccomp_warnings.specs.declared.code.Code.{Code}
@@ -87,20 +87,17 @@ abbrev pub flag_by : SeccompCmpOp → (number flag : ℕ) → ℕ
 flag_by (MaskedEq mask) number flag = if nat_eq mask flag then 0 else flag
 flag_by operator number flag = if nat_eq number flag then (if nat_eq flag 0x80000 then flag else 0) else flag
 
--- The bits of the condition's argument in which the calls differ, by the code of the warning; 0 if there are none.
-abbrev pub bits_of : Code → TargetArch → (number : ℕ) → Condition → ℕ
-bits_of code.HighHalfEvades arch number c = high_bits c.arg_len c.operator c.value
-bits_of code.FlagEvades arch number c = flag_by c.operator (edge_of c) (flag_of arch number c.arg_index)
-bits_of other arch number c = 0
+abbrev pub flag_bits : Condition → (flag : ℕ) → ℕ
+flag_bits c flag = flag_by c.operator (edge_of c) flag
 
--- The pair of calls of the condition at a place of the entry at a place. Both are this call of the number, but for the argument that the
--- condition compares: in the first it is the number of the condition, and in the second some bits of it differ.
-abbrev pub pair_of : Code → (call : List ℕ) → TargetArch → (number entry place : ℕ) → Condition → Evasion
-pair_of kind call arch number entry place c = record {
+-- The pair of calls of the condition at a place of the entry at a place. Both are this call, but for the argument that the condition
+-- compares: in the first it is the number of the condition, and in the second these bits of it differ.
+abbrev pub pair_of : Code → (bits : ℕ) → (call : List ℕ) → (entry place : ℕ) → Condition → Evasion
+pair_of kind bits call entry place c = record {
   code = kind;
   comparison = comparison_at entry place c;
   denied = with_argument c.arg_index (edge_of c) call;
-  passed = with_argument c.arg_index (bit_xor (edge_of c) (bits_of kind arch number c)) call;
+  passed = with_argument c.arg_index (bit_xor (edge_of c) bits) call;
 }
 
 -- ---- another call
@@ -160,10 +157,12 @@ pub record IsEvasion (l : Lowered) (v : Evasion) : Type 0 where
 abbrev pub IsShown : List Code → Lowered → Evasion → Type 0
 IsShown allowed l v = IsEvasion l v × (Contains allowed v.code → ⊥)
 
--- The pairs of a condition that are calls of one number.
+-- The pairs of a condition that are calls of one number: by the high half of its argument, by a flag, and by a further one.
 abbrev pub own_pairs : (call : List ℕ) → TargetArch → (number entry place : ℕ) → Condition → List Evasion
 own_pairs call arch number entry place c =
-    pair_of code.HighHalfEvades call arch number entry place c ∷ pair_of code.FlagEvades call arch number entry place c ∷ []
+    pair_of code.HighHalfEvades (high_bits c.arg_len c.operator c.value) call entry place c
+    ∷ pair_of code.FlagEvades (flag_bits c (flag_of arch number c.arg_index)) call entry place c
+    ∷ pair_of code.FlagEvades (flag_bits c (further_flag_of arch number c.arg_index)) call entry place c ∷ []
 
 -- The pairs of a condition, of those of an entry, and of those of all entries, in their order.
 abbrev pub condition_pairs : (call : List ℕ) → TargetArch → Entry → (entry place : ℕ) → Condition → List Evasion

@@ -70,7 +70,7 @@ fn memory_calls(index: u8) -> &'static [&'static str]
     if index == 1 { &["memfd_create"] } else { &[] }
 }
 
-// The calls that take PROT_READ in the argument of this index.
+// The calls that take PROT_READ, and PROT_SEM, in the argument of this index.
 fn read_calls(index: u8) -> &'static [&'static str]
     ensures { map (λ n. n.now) result.now ≡ spec.read_calls index }
 {
@@ -105,6 +105,17 @@ pub(crate) fn flag_of(arch: TargetArch, number: u32, index: u8) -> u64
         0x1
     } else if is_among(arch, number, read_calls(index)) {
         1
+    } else {
+        0
+    }
+}
+
+// A further flag of that kind; 0 if none is known.
+pub(crate) fn further_flag_of(arch: TargetArch, number: u32, index: u8) -> u64
+    ensures { result ≡ spec.further_flag_of arch number index }
+{
+    if is_among(arch, number, read_calls(index)) {
+        8
     } else {
         0
     }

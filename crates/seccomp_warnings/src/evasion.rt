@@ -10,7 +10,7 @@ ghost use Rattle.seccomp_warnings.specs.Evasions as spec;
 ghost use Rattle.seccomp_warnings.specs.Evasions.{AreEvasions, DeniesCall, IsApart, IsApartBy, IsPermitting, IsShown, LetsThrough, blank_call, condition_pairs, entry_pairs, own_pairs, with_argument, with_bytes};
 ghost use Rattle.seccomp_warnings.specs.Walks.{Adds, AreDecisionsOf};
 
-use crate::argument::flag_of;
+use crate::argument::{flag_of, further_flag_of};
 use crate::code::{Code, is_among};
 use crate::condition::part_of;
 use crate::detour::push_detours;
@@ -35,7 +35,7 @@ pub struct Evasion {
 }
 
 /// The evasions of entries and defaults, in the order of the entries, but for those of the allowed codes. Each condition has a pair of
-/// calls for the high half of its argument, one for a flag, and some with another call. A pair is an evasion if the first call is denied,
+/// calls for the high half of its argument, two for flags, and some with another call. A pair is an evasion if the first call is denied,
 /// the second is let through, and the condition holds for one of them alone, or, if the second is another call, not for the first.
 ///
 /// The defaults start at 0, each above the one before it, and each entry is for a number up to 462.
@@ -120,27 +120,16 @@ fn push_own(
     requires { AreDecisionsOf lowered.now decisions.now }
     ensures { OnOk result (Adds (IsShown allowed.now lowered.now) (own_pairs call.now lowered.now.target_arch number entry place condition.now) found.old.items found.new.items) }
 {
-    let arch = lowered.target_arch;
-    let high = pair_of(
-        Code::HighHalfEvades,
-        call,
-        arch,
-        number,
-        entry,
-        place,
-        condition,
-    );
+    let (arch, index) = (lowered.target_arch, condition.arg_index());
+    let bits = high_bits(condition.arg_len(), condition.operator(), condition.value());
+    let high = pair_of(Code::HighHalfEvades, bits, call, entry, place, condition);
     push_shown(found, lowered, decisions, allowed, condition, &high)?;
-    let flag = pair_of(
-        Code::FlagEvades,
-        call,
-        arch,
-        number,
-        entry,
-        place,
-        condition,
-    );
+    let bits = flag_bits(condition, flag_of(arch, number, index));
+    let flag = pair_of(Code::FlagEvades, bits, call, entry, place, condition);
     push_shown(found, lowered, decisions, allowed, condition, &flag)?;
+    let bits = flag_bits(condition, further_flag_of(arch, number, index));
+    let further = pair_of(Code::FlagEvades, bits, call, entry, place, condition);
+    push_shown(found, lowered, decisions, allowed, condition, &further)?;
     Ok(())
 }
 
@@ -241,43 +230,31 @@ pub(crate) fn comparison_at(entry: usize, place: usize, condition: &SeccompCondi
     }
 }
 
-// The pair of calls of the condition at a place of the entry at a place.
+// The pair of calls of the condition at a place of the entry at a place that differ in these bits.
 fn pair_of(
     code: Code,
+    bits: u64,
     call: &[u8; 64],
-    arch: TargetArch,
-    number: u32,
     entry: usize,
     place: usize,
     condition: &SeccompCondition,
 ) -> Evasion
-    ensures { result ≡ spec.pair_of code call.now arch number entry place condition.now }
+    ensures { result ≡ spec.pair_of code bits call.now entry place condition.now }
 {
-    let comparison = comparison_at(entry, place, condition);
     let edge = edge_of(condition);
-    let other = edge ^ bits_of(code, arch, number, condition);
     Evasion {
         code,
-        comparison,
+        comparison: comparison_at(entry, place, condition),
         denied: with_argument(call, condition.arg_index(), edge),
-        passed: with_argument(call, condition.arg_index(), other),
+        passed: with_argument(call, condition.arg_index(), edge ^ bits),
     }
 }
 
-// The bits of the condition's argument in which the calls of a pair differ.
-fn bits_of(code: Code, arch: TargetArch, number: u32, condition: &SeccompCondition) -> u64
-    ensures { result ≡ spec.bits_of code arch number condition.now }
+// The flag, as far as calls of a condition may differ in it.
+fn flag_bits(condition: &SeccompCondition, flag: u64) -> u64
+    ensures { result ≡ spec.flag_bits condition.now flag }
 {
-    match code {
-        Code::HighHalfEvades => {
-            high_bits(condition.arg_len(), condition.operator(), condition.value())
-        }
-        Code::FlagEvades => {
-            let flag = flag_of(arch, number, condition.arg_index());
-            flag_by(condition.operator(), edge_of(condition), flag)
-        }
-        _ => 0,
-    }
+    flag_by(condition.operator(), edge_of(condition), flag)
 }
 
 // High bits of an argument that a condition of 64 bits may compare.

@@ -33,6 +33,7 @@ SAID = {
     "the condition",
     "high-half-evades": 'the same call if the argument has 32 bits; then write "dword"',
     "flag-evades": 'the same but for a flag that changes nothing of it; write "masked_eq" with a mask of the flags that count',
+    "condition-evaded": "by which the same can be done; give that call the same condition, or deny it",
     "pointer-compared": "the argument is an address, which says nothing of what stands there; leave the condition out",
     "signed-compared": 'the argument is signed, and a filter takes negative numbers for large ones; write "eq" or "ne", or a '
     "second condition that bounds it",
@@ -112,14 +113,14 @@ def warned(filters, *lines, allowed=f"{OF_PARTS} {NOT_ALL}"):
 
 
 def with_calls(filters, it):
-    """Returns the line with the two calls, if it is that of an evasion of these filters."""
+    """Returns the line with the two calls, if it is that of an evasion of these filters: as often as there are such calls."""
     if CALLS not in it:
         return it
     for name, own in filters.items():
         escaped = "".join(char if char.isprintable() else "".join(f"\\x{byte:02x}" for byte in char.encode()) for char in name)
         for (entry, place, code), calls in evasions_of(own).items():
             if f" {escaped}.filter[{entry}].args[{place}]: warning [{code}]: " in it:
-                return it.replace(CALLS, calls)
+                return "".join(it.replace(CALLS, each) for each in calls)
     return it
 
 
@@ -371,6 +372,67 @@ def of_entries(name, entries, codes):
     return warned(filters, *lines, allowed=f"{OF_PARTS} --allow allows-by-default --allow pointer-compared")
 
 
+# Filters that let a call through by a condition, beside other entries, and the calls that evade it: what is asked of the first one, and the
+# other one with what it takes. The index, operator and value of the condition are those of a "dword".
+NEW_USER, READS, NO_EXEC = 0x10000000, (masked(3), 0), (masked(4), 0)
+BY_OTHERS = ("openat2", "creat", "io_uring_setup")
+DETOURED = [
+    ("open", (1, *READS), ["openat"], [(2, "openat", 2, 2)]),
+    *(("open", (1, *READS), [other], [(2, other, 0, 0)]) for other in BY_OTHERS),
+    ("openat", (2, *READS), ["open"], [(2, "open", 1, 2)]),
+    *(("openat", (2, *READS), [other], [(2, other, 0, 0)]) for other in BY_OTHERS),
+    ("openat", (2, *READS), [*BY_OTHERS, "open"], [(2, "open", 1, 2), *((2, other, 0, 0) for other in BY_OTHERS)]),
+    ("mmap", (2, *NO_EXEC), ["mprotect"], [(4, "mprotect", 2, 4)]),
+    ("mmap", (2, *NO_EXEC), ["pkey_mprotect"], [(4, "pkey_mprotect", 2, 4)]),
+    ("mmap", (2, "eq", 3), ["mprotect"], [(7, "mprotect", 2, 7)]),
+    ("mprotect", (2, *NO_EXEC), ["pkey_mprotect"], [(4, "pkey_mprotect", 2, 4)]),
+    ("pkey_mprotect", (2, *NO_EXEC), ["mprotect"], [(4, "mprotect", 2, 4)]),
+    ("clone", (0, masked(NEW_USER), 0), ["unshare"], [(NEW_USER, "unshare", 0, NEW_USER)]),
+    # unshare takes no signal.
+    ("clone", (0, "eq", SIGCHLD), ["unshare"], [(NEW_USER | SIGCHLD, "unshare", 0, NEW_USER)]),
+    ("unshare", (0, masked(NEW_USER), 0), ["clone"], [(NEW_USER, "clone", 0, NEW_USER)]),
+    ("unshare", (0, masked(NEW_USER), 0), ["clone3"], [(NEW_USER, "clone3", 0, 0)]),
+    ("socket", (0, "eq", 1), ["io_uring_setup"], [(17, "io_uring_setup", 0, 0)]),
+    # The number of the condition is denied itself.
+    ("socket", (0, "ne", 16), ["io_uring_setup"], [(16, "io_uring_setup", 0, 0)]),
+    ("openat", (2, "gt", 4), ["open"], [(4, "open", 1, 4)]),
+    ("openat", (2, "ge", 1), ["open"], [(0, "open", 1, 0)]),
+    ("socket", (0, "le", 2), ["io_uring_setup"], [(18, "io_uring_setup", 0, 0)]),
+    ("openat", (2, "lt", 2), ["open"], [(3, "open", 1, 3)]),
+    # The other call is denied too: all of it, or by the same condition; another condition lets the same through, or doesn't.
+    ("openat", (2, *READS), [], []),
+    ("openat", (2, *READS), [("open", 1, *READS)], []),
+    ("openat", (2, *READS), [("open", 1, "eq", 2)], [(2, "open", 1, 2)]),
+    ("openat", (2, *READS), [("open", 1, "eq", 1)], []),
+    ("mprotect", (2, *NO_EXEC), [("pkey_mprotect", 2, *NO_EXEC), ("mmap", 2, *NO_EXEC)], []),
+    ("clone", (0, masked(NEW_USER), 0), [("unshare", 0, masked(NEW_USER), 0)], []),
+    # What is asked is let through, by the condition or by another entry; the condition is on another argument; or the other call isn't
+    # one of these.
+    ("openat", (2, "eq", 2), ["open"], []),
+    ("openat", (2, masked(1), 0), ["open"], []),
+    ("openat", (2, *READS), ["open", ("openat", 2, "eq", 2)], []),
+    ("openat", (3, *READS), ["open"], []),
+    ("openat", (2, *READS), ["mmap"], []),
+    ("socketpair", (0, "eq", 1), ["io_uring_setup"], []),
+]
+NOT_OF_THESE = "".join(f" --allow {it}" for it in ("clone-by-clone3", "flag-evades", "allows-by-default"))
+
+
+def called(name, index, value):
+    """Returns a call as it is shown, with this argument and else 0."""
+    return f"{name}({', '.join(f'0x{value if it == index else 0:x}' for it in range(6))})"
+
+
+def of_detours(name, asked, beside, evaded, mismatch="trap", match="allow", arch="x86_64"):
+    """Returns the cases of a filter that lets a call through by a condition, beside other entries, and is evaded by these calls."""
+    entries = [{"syscall": it} if isinstance(it, str) else {"syscall": it[0], "args": [condition("dword", *it[2:], it[1])]} for it in beside]
+    own = {"syscall": name, "args": [condition("dword", *asked[1:], asked[0])]}
+    filters = {"a": {"mismatch_action": mismatch, "match_action": match, "filter": [own, *entries]}}
+    lines = (line("a.filter[0].args[0]", "condition-evaded", calls=f"{called(name, asked[0], more)} is denied, and let through is {called(*other)}")
+             for more, *other in evaded)
+    return warned(filters, *lines, allowed=f"-a {arch} {OF_PARTS} {NOT_ALL}{NOT_OF_THESE}")
+
+
 # Actions that deny a call.
 DENIES = ("kill_process", "kill_thread", "trap", {"errno": 1})
 
@@ -595,7 +657,7 @@ def lines_of_filter(name, it, settled=()):
         for place, compared in enumerate(rule.get("args") or []):
             calls = {code: evasions[entry, place, code] for code in EVASIONS if (entry, place, code) in evasions}
             codes = codes_of(rule["syscall"], compared, calls)
-            lines += [line(f"{name}.filter[{entry}].args[{place}]", code, calls=calls.get(code)) for code in codes]
+            lines += [line(f"{name}.filter[{entry}].args[{place}]", code, calls=each) for code in codes for each in calls.get(code, [CALLS])]
     return [it for it in lines if not any(f" [{code}]: " in it for code in settled)]
 
 
@@ -618,6 +680,15 @@ CASES = [
     *(it for row in EVADED_LIST for it in of_condition(*row, {"errno": 1}, "allow")),
     *DEFAULTS,
     *(it for row in BESIDE_OTHERS for it in of_entries(*row)),
+    *(it for row in DETOURED for it in of_detours(*row)),
+    # Whatever lets calls through; and nothing that is listed is let through, or all is.
+    *of_detours("openat", (2, *READS), ["open"], [(2, "open", 1, 2)], {"errno": 1}, "log"),
+    *of_detours("openat", (2, "eq", 1), ["openat2"], [], "allow", "trap"),
+    *of_detours("openat", (2, *READS), ["open"], [], "allow", "log"),
+    # aarch64 has no open, and number 2 is io_submit.
+    *of_detours("openat", (2, *READS), ["io_submit"], [], arch="aarch64"),
+    *of_detours("openat", (2, *READS), ["openat2", "io_submit"], [(2, "openat2", 0, 0)], arch="aarch64"),
+    *of_detours("socket", (0, "eq", 1), ["io_uring_setup"], [(17, "io_uring_setup", 0, 0)], arch="riscv64"),
     *warned(SEVERAL, *IN_ORDER),
     *warned({}),
     # A policy with a fault has no warnings.

@@ -45,5 +45,6 @@ returns c =
     let new : List Evasion = c.loop-detour.found.items in
     each_one (IsShown c.args.allowed.now c.args.lowered.now) c.all_detours-detour-items.result.now c.loop-detour.detour-index
     c.args.found.now.items
-    (λ d. listed (detour_pair c.args.call.now c.args.lowered.now.target_arch c.args.own.now c.args.entry c.args.place c.args.condition.now d))
+    (λ d. listed
+    (detour_pair c.args.call.now c.args.lowered.now.target_arch c.args.own.now c.args.entry c.args.place c.args.condition.now d))
     new c.loop-detour-test.false c.all_detours-detour-items.ensures.are c.loop-detour.invariant

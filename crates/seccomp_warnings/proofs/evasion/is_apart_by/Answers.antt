@@ -13,5 +13,5 @@ of_others P kind c denied passed other decides = decides
 
 pub returns-in_default : goal.returns-in_default
 returns-in_default c =
-    of_others (IsTrue c.is_apart.result) c.args.code c.args.condition.now c.args.denied.now c.args.passed.now c.in_default.not-ConditionEvaded
-    c.is_apart.ensures
+    of_others (IsTrue c.is_apart.result) c.args.code c.args.condition.now c.args.denied.now c.args.passed.now
+    c.in_default.not-ConditionEvaded c.is_apart.ensures

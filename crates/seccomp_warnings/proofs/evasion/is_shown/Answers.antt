@@ -15,7 +15,8 @@ returns-then-is_let_through-2 c =
     let not_allowed = isnt c.is_among.result c.is_among.ensures in (
       λ is. (
         record {
-          apart = subst (λ (k : Condition). IsApartBy pair.code k pair.denied pair.passed) (sym c.requires.condition) (c.is_apart_by.ensures.0 is_apart);
+          apart = subst (λ (k : Condition). IsApartBy pair.code k pair.denied pair.passed) (sym c.requires.condition)
+              (c.is_apart_by.ensures.0 is_apart);
           is_denied = c.is_let_through.ensures.denied.0 c.if-is_let_through.false;
           is_let_through = c.is_let_through-2.ensures.through.0 c.if-is_let_through-2.true;
         },

@@ -20,7 +20,8 @@ returns c =
     let kept = ap (λ (l : Lowered). l.target_arch) c.lowered.view_is in
     let high : c.high_bits-bits.result ≡ high_bits condition.arg_len condition.operator condition.value = cc in
     let flag : c.flag_of.result ≡ flag_of arch c.args.number condition.arg_index =
-    c.flag_of.ensures ∙ ap (λ (w : TargetArch). flag_of w c.args.number c.arg_index-index.result) kept ∙ ap (flag_of arch c.args.number) place in
+    c.flag_of.ensures ∙ ap (λ (w : TargetArch). flag_of w c.args.number c.arg_index-index.result) kept
+    ∙ ap (flag_of arch c.args.number) place in
     let further : c.further_flag_of.result ≡ further_flag_of arch c.args.number condition.arg_index =
     c.further_flag_of.ensures ∙ ap (λ (w : TargetArch). further_flag_of w c.args.number c.arg_index-index.result) kept
     ∙ ap (further_flag_of arch c.args.number) place in

@@ -47,14 +47,14 @@ _jail_add_command() {
 
 # Completes what follows --oci: its options, the profile, or the command.
 _jail_add_of_profile() {
-    while [[ ${before[0]-} == --@(cap|kernel) ]]; do
+    while [[ ${before[0]-} == --@(cap|kernel|runtime) ]]; do
         ((${#before[@]} > 1)) || return 0
         before=("${before[@]:2}")
     done
     if ((${#before[@]} > 0)); then
         _jail_add_command 1
     elif [[ $current == -* ]]; then
-        _jail_add --cap --kernel
+        _jail_add --cap --kernel --runtime
     else
         _jail_add_files
     fi

@@ -16,7 +16,7 @@ function __jail_word
         set option file
         test $words[1] = --oci; and set option own
         set -e words[1]
-        while test $option = own; and contains -- "$words[1]" --cap --kernel
+        while test $option = own; and contains -- "$words[1]" --cap --kernel --runtime
             test (count $words) -eq 1; and echo value; and return
             set -e words[1..2]
         end
@@ -62,7 +62,7 @@ end
 
 complete -c jail -f
 complete -c jail -n '__jail_is option' -a '--tree --log --close-fds --program --oci --help --version'
-complete -c jail -n '__jail_is own' -a '--cap --kernel'
+complete -c jail -n '__jail_is own' -a '--cap --kernel --runtime'
 complete -c jail -n '__jail_is file' -F
 complete -c jail -n '__jail_is filters' -a '(__jail_filters)'
 complete -c jail -n '__jail_is command' -a '(__jail_command)'

@@ -259,7 +259,8 @@ def compare_jail(results, folder):
     files = sorted([*files, "two.json"])
     rows = [
         ([""], files), (["--tree", "--log", ""], files), (["-"], sorted(options)), (["--program", ""], files), (["--oci", ""], files),
-        (["--oci", "-"], ["--cap", "--kernel"]), (["--oci", "--cap", ""], []), (["--oci", "--kernel", "6.1", ""], files),
+        (["--oci", "-"], ["--cap", "--kernel", "--runtime"]), (["--oci", "--cap", ""], []), (["--oci", "--kernel", "6.1", ""], files),
+        (["--oci", "--runtime", "runc", ""], files),
         (["two.json", ""], sorted(named)), (["two.json", "main,"], sorted(f"main,{it}" for it in named)), (["--", "two.json", ""], sorted(named)),
     ]
     for words, wanted in rows:

@@ -233,6 +233,7 @@ LINES = [
     ("JAIL --program . touch run", "", ".", errno.EISDIR),
     # What stands for seccomptool prints its arguments, and writes what they are.
     ("allows: JAIL --oci --cap C --kernel 1 --strict -- echo run 2>&1", "compile --oci -a ARCH --cap C --kernel 1 -- --strict\nrun\n"),
+    ("allows: JAIL --oci --runtime runc p echo run 2>&1", "compile --oci -a ARCH --runtime runc -- p\nrun\n"),
     ("allows: env --default-signal --ignore-signal=CHLD JAIL --oci p -- grep SigIgn /proc/self/status 2>&1",
      "compile --oci -a ARCH -- p\nSigIgn:\t0000000000010000\n"),
     ("allows: JAIL --oci p cat list.json <&- >&- 2>&-", ""),

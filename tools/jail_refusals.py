@@ -8,13 +8,13 @@ from jail_cases import REFUSED
 FORMS = [
     "[OPTION].. POLICY FILTER[,FILTER].. [--] COMMAND [ARGUMENT]..", "[OPTION].. POLICY -- COMMAND [ARGUMENT]..",
     "[OPTION].. --program PROGRAM [--] COMMAND [ARGUMENT]..",
-    "[OPTION].. --oci [--cap CAP].. [--kernel KERNEL] PROFILE [--] COMMAND [ARGUMENT]..",
+    "[OPTION].. --oci [--cap CAP].. [--kernel KERNEL] [--runtime RUNTIME] PROFILE [--] COMMAND [ARGUMENT]..",
 ]
 # Arguments that ask for nothing.
 WRONG_WORDS = [
     [], ["actions.json"], ["actions.json", "log"], ["actions.json", "log", "--"], ["actions.json", "--"], ["--strict", "a", "true"],
     ["--program"], ["--program", "zero"], ["--oci"], ["--oci", "zero"], ["--oci", "zero", "--"], ["--oci", "--cap"],
-    ["--oci", "--cap", "CAP_KILL", "zero"], ["--oci", "--kernel", "6.1", "zero", "--"],
+    ["--oci", "--cap", "CAP_KILL", "zero"], ["--oci", "--kernel", "6.1", "zero", "--"], ["--oci", "--runtime", "runc", "zero"],
 ]
 
 

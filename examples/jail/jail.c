@@ -46,7 +46,7 @@ static const char usage[] =
     "usage: jail [OPTION].. POLICY FILTER[,FILTER].. [--] COMMAND [ARGUMENT]..\n"
     "       jail [OPTION].. POLICY -- COMMAND [ARGUMENT]..\n"
     "       jail [OPTION].. --program PROGRAM [--] COMMAND [ARGUMENT]..\n"
-    "       jail [OPTION].. --oci [--cap CAP].. [--kernel KERNEL] PROFILE [--] COMMAND [ARGUMENT]..\n";
+    "       jail [OPTION].. --oci [--cap CAP].. [--kernel KERNEL] [--runtime RUNTIME] PROFILE [--] COMMAND [ARGUMENT]..\n";
 
 static const char help[] =
     "\n"
@@ -319,7 +319,7 @@ static _Noreturn void misuse(void)
 /* Returns whether this is an option of a profile, which has a value. */
 static int is_of_profile(const char *word)
 {
-    return strcmp(word, "--cap") == 0 || strcmp(word, "--kernel") == 0;
+    return strcmp(word, "--cap") == 0 || strcmp(word, "--kernel") == 0 || strcmp(word, "--runtime") == 0;
 }
 
 /* Returns the words of the command: without `--` in front, and at least one. */

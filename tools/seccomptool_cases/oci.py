@@ -328,6 +328,26 @@ def unnamed(case):
     return case._replace(words=case.words.replace(" --oci", "", 1))
 
 
+# The capabilities that Docker and Podman give a container by default, by the documentation of `docker run` and containers.conf(5); and all
+# of Linux that are none of them, by capabilities(7).
+PODMAN_CAPS = "CHOWN DAC_OVERRIDE FOWNER FSETID KILL NET_BIND_SERVICE SETFCAP SETGID SETPCAP SETUID SYS_CHROOT".split()
+DOCKER_CAPS = [*PODMAN_CAPS, "AUDIT_WRITE", "MKNOD", "NET_RAW"]
+OTHER_CAPS = """AUDIT_CONTROL AUDIT_READ BLOCK_SUSPEND BPF CHECKPOINT_RESTORE DAC_READ_SEARCH IPC_LOCK IPC_OWNER LEASE LINUX_IMMUTABLE MAC_ADMIN
+MAC_OVERRIDE NET_ADMIN NET_BROADCAST PERFMON SYSLOG SYS_ADMIN SYS_BOOT SYS_MODULE SYS_NICE SYS_PACCT SYS_PTRACE SYS_RAWIO SYS_RESOURCE SYS_TIME
+SYS_TTY_CONFIG WAKE_ALARM""".split()
+OF_CAPS = [(["all", "ALL", "docker-default,all"], [*DOCKER_CAPS, *OTHER_CAPS]), (["docker-default", "podman-default,docker-default"], DOCKER_CAPS),
+           (["podman-default"], PODMAN_CAPS), (["podman-default,net_raw"], [*PODMAN_CAPS, "NET_RAW"]), (["podman-default --cap bpf"], [*PODMAN_CAPS, "BPF"])]
+
+
+def sets_of_capabilities():
+    """Returns the cases of names that stand for several capabilities: of each capability whether `read` is let through that needs it."""
+    return [
+        writes(f"explain --oci --cap {words} - read", json.dumps(profile(entry("read", includes={"caps": [f"CAP_{cap}"]}))),
+               "allow: syscalls[0] of read (0)\n" if cap in given else "errno 1 (EPERM): defaultAction of read (0)\n")
+        for names, given in OF_CAPS for words in names for cap in [*DOCKER_CAPS, *OTHER_CAPS]
+    ]
+
+
 # A policy of which the text has the key's bytes.
 COMMENTED = LOGS.replace("[]", '[{"syscall":"read","comment":"defaultAction"}]')
 NO_NAME = "No filter has this name: a.\n"
@@ -342,6 +362,7 @@ CASES = [
     # A runtime is of a profile, as a container is: a policy and a program are what they are.
     writes("explain --runtime runc explained.json 0", "", "errno 1 (EPERM): no entry of read (0)\n"),
     writes("explain --runtime=runc reads-profile.json read --cap=kill", "", "allow: syscalls[0] of read (0)\n"),
+    *sets_of_capabilities(),
     # With `--oci` nothing else is a profile.
     rejects("explain --oci logs.json read", "", NO_PROFILE, TOOL + "logs.json: "),
     rejects("explain --oci - read", "{", PARSING),
@@ -373,9 +394,9 @@ CASES = [
     misused("diff --oci --kernel 6 reads-profile.json reads-profile.json", "the value of --kernel isn't a version of two numbers, such as 6.1"),
     *[misused(f"{it} reads-profile.json", f"no capability is called '{name}'") for it, name in (
         ("compile --cap SYS_ADMN", "SYS_ADMN"), ("check --cap cap_sys_ptracee", "cap_sys_ptracee"),
-        ("show --cap CAP_KILL,chwon", "chwon"), ("compile --cap CAP_KILL --cap all", "all"), ("compile --cap ''", ""),
+        ("show --cap CAP_KILL,chwon", "chwon"), ("compile --cap CAP_KILL --cap every", "every"), ("compile --cap ''", ""),
         ("compile --cap CAP_KILL,", ""), ("compile --cap 'CAP_KILL CAP_BPF'", "CAP_KILL CAP_BPF"),
-        ("compile --cap KILLCAP_", "KILLCAP_"), ("compile --cap all,none", "all"))],
+        ("compile --cap KILLCAP_", "KILLCAP_"), ("compile --cap all,none", "none"), ("compile --cap All", "All"), ("check --cap docker", "docker"))],
     misused("diff --cap CAP_NOTHING reads-profile.json reads-profile.json", "no capability is called 'CAP_NOTHING'"),
     Case("compile --runtime podman reads-profile.json", 2, "",
          "error: invalid value 'podman' for '--runtime <RUNTIME>'\n  [possible values: crun, runc]\n.."),

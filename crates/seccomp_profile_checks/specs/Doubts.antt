@@ -1,7 +1,6 @@
 -- What is doubtful about a profile.
-use Rattle.std.specs.Prelude.{◌≡◌, ◌≢◌, ◌<◌, ◌≤◌, ◌+◌, ◌++◌, ℕ, List, [], ◌∷◌, All, Any, MatchOption, Option, None, Some, length, slice_get}
-use Rattle.std.specs.Prelude.{Bool, true, false, if◌then◌else◌, nat_eq, take}
-use Rattle.std.specs.List.{flat_map}
+use Rattle.std.specs.Prelude.{◌≡◌, ◌≢◌, ◌<◌, ◌≤◌, ◌++◌, ℕ, List, [], ◌∷◌, All, Any, MatchOption, Option, None, Some, length, slice_get}
+use Rattle.std.specs.Prelude.{Bool, true, false, if◌then◌else◌, get_or, nat_eq, take}
 use Rattle.seccompiler.specs.declared.backend.SeccompAction.{SeccompAction}
 use Rattle.seccompiler.specs.declared.backend.SeccompAction.TheVariants.{Errno}
 use Rattle.seccompiler.specs.declared.backend.TargetArch.{TargetArch}
@@ -55,11 +54,7 @@ IsDoubt arch container p (doubt.ManyConditions place) = AtEntry p.entries place 
 
 -- ---- what is found in the profile in one form
 
--- The entry is of the profile's at this place, and for the calls of the number.
-abbrev pub IsOfNumber : (place number : ℕ) → entries.Entry → Type 0
-IsOfNumber place number e = (e.place ≡ place) × (e.number ≡ number)
-
--- It is for the calls of the number, and has no conditions.
+-- The entry is for the calls of the number, and has no conditions.
 abbrev pub Settles : ℕ → entries.Entry → Type 0
 Settles number e = (e.number ≡ number) × (e.conditions ≡ [])
 
@@ -73,10 +68,6 @@ pub record IsSettler (all : List entries.Entry) (number index : ℕ) : Type 0 wh
   pub settles : Settles number entry
   pub before : NoneSettlesIn (take index all) number
 
--- It is there, or none does.
-abbrev pub IsSettlerOr : List entries.Entry → ℕ → Option ℕ → Type 0
-IsSettlerOr all number found = MatchOption found (NoneSettlesIn all number) (IsSettler all number)
-
 -- An entry is the first of its alternatives, or has none.
 abbrev pub is_first : Option ℕ → Bool
 is_first None = true
@@ -87,12 +78,6 @@ pub record IsSettledFrom (all : List entries.Entry) (number place : ℕ) : Type 
   pub index : ℕ
   pub settler : IsSettler all number index
   pub place_is : settler.entry.place ≡ place
-
--- The first settles the number, and another one, the second, is for its calls.
-pub record IsBehindIn (all : List entries.Entry) (first second number : ℕ) : Type 0 where
-  pub settled : IsSettledFrom all number first
-  pub there : Any (IsOfNumber second number) all
-  pub apart : first ≢ second
 
 -- An entry that decides the record is of the profile's at this place, and has this action.
 pub record IsDecidedAt (all : List entries.Entry) (r : List ℕ) (place : ℕ) (action : SeccompAction) : Type 0 where
@@ -133,27 +118,26 @@ asked_at place = doubt.EqualsDefault place ∷ doubt.LargeErrno place ∷ doubt.
 abbrev pub asked_alone : Profile → List Doubt
 asked_alone p = numbered (λ place e. asked_at place) 0 p.entries
 
--- The entry is for the calls of the number, of another entry of the profile than the one at the place, and the first of its alternatives.
+-- The entry is of another one of the profile than that at the place, and the first of its alternatives.
 abbrev pub is_of_other : ℕ → entries.Entry → Bool
 is_of_other first e = if nat_eq e.place first then false else is_first e.alternative
 
-abbrev pub is_behind : (first number : ℕ) → entries.Entry → Bool
-is_behind first number e = if nat_eq e.number number then is_of_other first e else false
+-- The doubt about such an entry, whose number the one at the place settles.
+abbrev pub behind_at : (first : ℕ) → entries.Entry → List Doubt
+behind_at first e = if is_of_other first e then doubt.Behind first e.place e.number ∷ [] else []
 
--- The doubt about such an entry.
-abbrev pub behind_at : (first number : ℕ) → entries.Entry → List Doubt
-behind_at first number e = if is_behind first number e then doubt.Behind first e.place number ∷ [] else []
+-- Of these entries exactly those whose number another one of all entries settles, in their order.
+pub data AreBehind (all : List entries.Entry) : (entries : List entries.Entry) → List Doubt → Type 0 where
+  none : AreBehind all [] []
+  unsettled : {es : List entries.Entry} {found : List Doubt} (e : entries.Entry) → NoneSettlesIn all e.number → AreBehind all es found
+      → AreBehind all (es ++ e ∷ []) found
+  settled : {es : List entries.Entry} {found : List Doubt} (e : entries.Entry) (first : ℕ) → IsSettledFrom all e.number first
+      → AreBehind all es found → AreBehind all (es ++ e ∷ []) (found ++ behind_at first e)
 
--- Of the calls of a number: the one that settles them, and exactly the others, in their order; none if none settles them.
-pub data AreBehind (all : List entries.Entry) (number : ℕ) (found : List Doubt) : Type 0 where
-  unsettled : NoneSettlesIn all number → found ≡ [] → AreBehind all number found
-  settled : (first : ℕ) → IsSettledFrom all number first → found ≡ flat_map (behind_at first number) all → AreBehind all number found
-
--- Of the calls of the numbers below this one.
-pub data AreAllBehind (all : List entries.Entry) : ℕ → List Doubt → Type 0 where
-  none : AreAllBehind all 0 []
-  more : {found : List Doubt} (number : ℕ) (next : List Doubt) → AreAllBehind all number found → AreBehind all number next
-      → AreAllBehind all (number + 1) (found ++ next)
+-- Between layers: of each number the entry that settles it, none if none of the entries so far does.
+abbrev pub AreSettlers : (all front : List entries.Entry) → List (Option ℕ) → Type 0
+AreSettlers all front settlers =
+    (n : ℕ) → n < 463 → MatchOption (get_or settlers n None) (NoneSettlesIn front n) (IsSettledFrom all n)
 
 -- The profile leaves the answer to a call open.
 abbrev pub IsLeftOpen : List entries.Entry → Doubt → Type 0
@@ -161,15 +145,15 @@ IsLeftOpen all (doubt.OpenOrder first second call) = IsOpenIn all first second c
 IsLeftOpen all d = ⊥
 
 -- The doubts about a profile that has these entries: exactly those of the default action and of entries, one by one; exactly those about
--- entries that decide no call of a number, since another one without conditions does (no call has a number of 463 or more); and some
--- of those about calls whose answer is left open, each of which is so.
+-- entries that decide no call of their number, since another one without conditions does; and some of those about calls whose answer is
+-- left open, each of which is so.
 pub record AreDoubts (p : Profile) (all : List entries.Entry) (doubts : List Doubt) : Type 0 where
   pub default : List Doubt
   pub are_of_default : ArePicked (IsSoAlone p all) (doubt.LargeDefaultErrno ∷ []) default
   pub alone : List Doubt
   pub are_alone : ArePicked (IsSoAlone p all) (asked_alone p) alone
   pub behind : List Doubt
-  pub are_behind : AreAllBehind all 463 behind
+  pub are_behind : AreBehind all all behind
   pub left_open : List Doubt
   pub are_left_open : All (IsLeftOpen all) left_open
   pub all_are : doubts ≡ ((default ++ alone) ++ behind) ++ left_open

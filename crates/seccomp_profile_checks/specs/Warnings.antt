@@ -56,7 +56,7 @@ code_of (Evaded v origin) = v.code
 abbrev pub keys_told : Profile → List ProfileWarning
 keys_told p = map UnknownKey (range_with_len 0 (length p.unknown_keys))
 
--- The first architecture that no runtime knows, by its place.
+-- The first architecture that the OCI runtime specification doesn't have, by its place.
 abbrev pub architecture_told : Option ℕ → List ProfileWarning
 architecture_told None = []
 architecture_told (Some place) = UnknownArchitecture place ∷ []

@@ -8,7 +8,7 @@ use seccomp_entries::Entry;
 use std::alloc::{AllocError, Global};
 
 // One more than the greatest number of a call that has a name.
-const NUMBERS: usize = 463;
+pub(crate) const NUMBERS: usize = 463;
 
 /// Of the entries of a profile in one form those whose calls none in front settles, in their order: none of the same number has no
 /// conditions. So each decides some call, unless its conditions never hold.
@@ -30,7 +30,7 @@ pub(crate) fn effective_of(alloc: Global, entries: &[Entry]) -> Result<Vec<Entry
 }
 
 // The number of its calls.
-fn index_of(entry: &Entry) -> usize
+pub(crate) fn index_of(entry: &Entry) -> usize
     ensures { result ≡ entry.now.number }
 {
     entry.number as usize

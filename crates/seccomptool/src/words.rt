@@ -36,7 +36,7 @@ use std::alloc::Global;
 const COMMON: &str = "\
 --arch -a ARCH=x86_64: The architecture
 --oci: Read each text as a profile of a container runtime, whatever it contains
---cap CAP..: Capabilities of a profile's container, such as CAP_SYS_ADMIN,CAP_BPF
+--cap CAP..: Capabilities of a profile's container, such as CAP_SYS_ADMIN,CAP_BPF; all; docker-default; podman-default
 --kernel KERNEL: The kernel version for a profile, such as 6.1; without it, newer than any
 --runtime RUNTIME=crun: The runtime of a profile's container";
 

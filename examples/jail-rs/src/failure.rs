@@ -11,7 +11,7 @@ pub const USAGE: &str = "\
 usage: jail-rs [OPTION].. POLICY FILTER[,FILTER].. [--] COMMAND [ARGUMENT]..
        jail-rs [OPTION].. POLICY -- COMMAND [ARGUMENT]..
        jail-rs [OPTION].. --program PROGRAM [--] COMMAND [ARGUMENT]..
-       jail-rs [OPTION].. --oci [--cap CAP].. [--kernel KERNEL] PROFILE [--] COMMAND [ARGUMENT]..
+       jail-rs [OPTION].. --oci [--cap CAP].. [--kernel KERNEL] [--runtime RUNTIME] PROFILE [--] COMMAND [ARGUMENT]..
 ";
 
 /// What the help says of them.

@@ -199,7 +199,7 @@ fn of_program(words: &[OsString]) -> Result<Jailed<'_>, Failure> {
 
 /// Takes the program of a profile.
 fn of_profile(words: &[OsString]) -> Result<Jailed<'_>, Failure> {
-    let is_option = |it: &OsString| it == "--cap" || it == "--kernel";
+    let is_option = |it: &OsString| it == "--cap" || it == "--kernel" || it == "--runtime";
     let mut count = 0;
     while words.get(count).map_or(false, is_option) {
         count += 2;

@@ -1,5 +1,6 @@
 -- For `is_behind`, `is_open` and `has_large_errno`: what entries of a list say of the profile that they are of.
-use Rattle.std.proofs.Common.{◌≡◌, ℕ, zero, suc, List, [], ◌∷◌, Option, Some, None, get_or, take, refl, sym, subst, ap, ◌∙◌, arith, All}
+use Rattle.std.proofs.Common.{◌≡◌, ◌≢◌, ℕ, zero, suc, List, [], ◌∷◌, Option, Some, None, get_or, take, refl, sym, subst, ap, ◌∙◌, arith}
+use Rattle.std.proofs.Common.{All, Contains}
 use Rattle.std.specs.Prelude.{Any, slice_get}
 use Rattle.std.specs.List.{AllPairs}
 use Rattle.std.proofs.lemmas.List.Elements.{All-cons, All-nil}
@@ -14,7 +15,7 @@ use Rattle.seccomp_oci.specs.Conditions.{AreConditionsOf, alone, together}
 use Rattle.seccomp_oci.specs.Decision.{Concerns, IsByEntry, tested}
 use Rattle.seccomp_oci.specs.Lowered.{AtEntry, DecidesAs, IsAskedBefore, IsLoweredProfile, IsOwn, rank_in}
 use Rattle.seccomp_oci.specs.Lowered.{by_condition, by_number, by_place, by_rank}
-use Rattle.seccomp_profile_checks.specs.Doubts.{HasLargeErrno, IsBehind, IsBehindIn, IsLargeErrno, IsOfNumber, IsOpen, IsOpenIn, IsOther}
+use Rattle.seccomp_profile_checks.specs.Doubts.{HasLargeErrno, IsBehind, IsLargeErrno, IsOpen, IsOpenIn, IsOther, IsSettledFrom}
 use Rattle.seccomp_profile_checks.specs.Doubts.{IsSettler, MeetsOtherwise, NoneSettles, Settles}
 use Rattle.seccomp_profiles.specs.declared.types.Argument.{Argument}
 use Rattle.seccomp_profiles.specs.Types.{Container, Entry, Profile}
@@ -49,12 +50,8 @@ module _ (arch : TargetArch) (container : Container) (p : Profile) (l : Lowered)
   abbrev Own : entries.Entry → Type 0
   Own = IsOwn arch container p.default p.entries
 
-  pub concerns_at : (place n : ℕ) → Any (IsOfNumber place n) l.entries → AtEntry p.entries place (Concerns arch container p.default n)
-  concerns_at place n (k, e, within, at, of) =
-      let own = (is.exactly e).0 (k, within, at) in
-      subst (λ place. AtEntry p.entries place (Concerns arch container p.default n)) of.0
-      (subst (λ n. AtEntry p.entries e.place (Concerns arch container p.default n)) of.1
-      (own.entry, (own.within, own.there), own.concerns))
+  concerned : (e : entries.Entry) → Contains l.entries e → AtEntry p.entries e.place (Concerns arch container p.default e.number)
+  concerned e there = let own = (is.exactly e).0 there in (own.entry, (own.within, own.there), own.concerns)
 
   -- Where no entry of the list settles a number, none of the profile does.
   pub none_settle : (n : ℕ) → All (λ e. Settles n e → ⊥) l.entries → NoneSettles arch container p n
@@ -119,16 +116,16 @@ module _ (arch : TargetArch) (container : Container) (p : Profile) (l : Lowered)
       (x.0, x.1, record { matches = x.2; differs = λ is. is_other.2 (own.action ∙ ap (λ (x : Entry). x.action) (sym same) ∙ is) })
 
   -- The entries of a list are doubtful, and so is the profile.
-  pub behind : DecidesAs arch container p l → (first second n : ℕ) → IsBehindIn l.entries first second n
-      → IsBehind arch container p first second n
-  behind decides first second n found = record {
+  pub behind : DecidesAs arch container p l → (first : ℕ) (e : entries.Entry) → IsSettledFrom l.entries e.number first
+      → Contains l.entries e → first ≢ e.place → IsBehind arch container p first e.place e.number
+  behind decides first e from there apart = record {
     decides = λ r number. (
-      found.settled.settler.entry.action,
-      subst (IsByEntry arch container p r found.settled.settler.entry.action) found.settled.place_is
-          (settler_decides n found.settled.index found.settled.settler decides r number),
+      from.settler.entry.action,
+      subst (IsByEntry arch container p r from.settler.entry.action) from.place_is
+          (settler_decides e.number from.index from.settler decides r number),
     );
-    concerns = concerns_at second n found.there;
-    apart = found.apart;
+    concerns = concerned e there;
+    apart = apart;
   }
 
   pub open_order : DecidesAs arch container p l → (first second : ℕ) (r : List ℕ) → IsOpenIn l.entries first second r
@@ -145,6 +142,7 @@ module _ (arch : TargetArch) (container : Container) (p : Profile) (l : Lowered)
   pub large_errno : (place : ℕ) → HasLargeErrno p.entries l.entries place
       → AtEntry p.entries place (λ e. IsLargeErrno e.action × ((n : ℕ) × Concerns arch container p.default n e))
   large_errno place ((x, at, large), (k, e, within, is_e, there)) =
-      let own = concerns_at place e.number (k, e, within, is_e, (there, refl)) in
+      let own : AtEntry p.entries place (Concerns arch container p.default e.number) =
+      subst (λ at. AtEntry p.entries at (Concerns arch container p.default e.number)) there (concerned e (k, within, is_e)) in
       let same : own.0 ≡ x = same_at p.entries place own.0 x at.0 own.1.1 at.1 in
       (x, at, (large, (e.number, subst (Concerns arch container p.default e.number) same own.2)))

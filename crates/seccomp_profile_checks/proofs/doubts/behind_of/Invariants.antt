@@ -1,6 +1,7 @@
-use Rattle.seccomp_profile_checks.specs.Doubts.{AreAllBehind}
+use Rattle.std.proofs.Common.{take}
+use Rattle.seccomp_profile_checks.specs.Doubts.{AreBehind}
 use Rattle.seccomp_profile_checks.proofs.doubts.behind_of.Given as goal
 
--- those of the numbers so far
-abbrev pub invariant-loop-number : goal.invariant-loop-number
-invariant-loop-number l = AreAllBehind l.entries l.number l.all.items
+-- those so far
+abbrev pub invariant-loop-entry : goal.invariant-loop-entry
+invariant-loop-entry l = AreBehind l.entries (take l.entry-index l.entries) l.found.items

@@ -1,6 +1,6 @@
 use Rattle.std.proofs.Common.{◌≡◌, ◌++◌, ◌∙◌, ◌∷◌, [], List, ap, subst}
 use Rattle.seccomp_entries.specs.Entries.{Entry, Lowered}
-use Rattle.seccomp_profile_checks.specs.Doubts.{AreAllBehind, IsSoAlone, asked_alone}
+use Rattle.seccomp_profile_checks.specs.Doubts.{AreBehind, IsSoAlone, asked_alone}
 use Rattle.seccomp_profile_checks.specs.declared.doubts.Doubt.{Doubt}
 use Rattle.seccomp_profile_checks.specs.declared.doubts.Doubt.TheVariants.{LargeDefaultErrno}
 use Rattle.seccomp_warnings.specs.Picked.{ArePicked}
@@ -21,7 +21,7 @@ returns c =
       are_alone = subst (λ (es : List Entry). ArePicked (IsSoAlone p es) (asked_alone p) c.in_ok-alone.alone.items) same
           c.in_ok-alone.ensures;
       behind = behind;
-      are_behind = subst (λ (es : List Entry). AreAllBehind es 463 behind) same c.in_ok-behind.ensures;
+      are_behind = subst (λ (es : List Entry). AreBehind es es behind) same c.in_ok-behind.ensures;
       left_open = left_open;
       are_left_open = c.in_ok-left_open.ensures;
       all_are = c.in_ok-append-3.ensures.items ∙ ap (λ (ds : List Doubt). ds ++ left_open)

@@ -221,7 +221,7 @@ fn said_of(
         ),
         ProfileWarning::UnknownArchitecture(_) => String::from_str(
             alloc,
-            "no runtime knows this architecture, so no container starts; correct it, also its letter case, or leave it out",
+            "the OCI runtime specification has no such architecture, so runc starts no container; correct it, also its letter case, or leave it out",
         ),
         other => String::from_str(alloc, said_of_code(code_of(other))),
     }

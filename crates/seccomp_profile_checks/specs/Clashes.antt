@@ -1,5 +1,6 @@
 -- Entries beside which libseccomp may make another program than the profile says, or none (found by trying; docs/OCI.md has examples).
-use Rattle.std.specs.Prelude.{◌≡◌, ◌≢◌, ◌<◌, ◌+◌, ◌⊎◌, ℕ, Bool, true, false, IsTrue, List, [], ◌∷◌, ◌++◌, Any, bit_and, length}
+use Rattle.std.specs.Prelude.{◌≡◌, ◌≢◌, ◌<◌, ◌+◌, ◌⊎◌, ℕ, Bool, true, false, IsTrue, List, [], ◌∷◌, ◌++◌, Any, bit_and, length, nat_eq}
+use Rattle.std.specs.List.{filter}
 use Rattle.seccompiler.specs.declared.backend.SeccompCmpOp.{SeccompCmpOp}
 use Rattle.seccompiler.specs.declared.backend.SeccompCmpOp.TheVariants.{Eq, MaskedEq}
 use Rattle.seccompiler.specs.Policy.{Condition}
@@ -85,18 +86,13 @@ pub data AreClashes (effect : Effect) (all : List Entry) : (entries : List Entry
   passed : {es : List Entry} {own : List Clash} (e : Entry) → (Any (Affects effect all e) all → ⊥) → AreClashes effect all es own
       → AreClashes effect all (es ++ e ∷ []) own
 
--- Of these entries exactly those for the calls of this number, in their order.
-pub data AreOfNumber (number : ℕ) : (entries own : List Entry) → Type 0 where
-  none : AreOfNumber number [] []
-  taken : {es own : List Entry} (e : Entry) → e.number ≡ number → AreOfNumber number es own
-      → AreOfNumber number (es ++ e ∷ []) (own ++ e ∷ [])
-  passed : {es own : List Entry} (e : Entry) → e.number ≢ number → AreOfNumber number es own → AreOfNumber number (es ++ e ∷ []) own
+-- Of these entries those for the calls of this number, in their order.
+abbrev pub entries_of : (number : ℕ) → List Entry → List Entry
+entries_of number all = filter (λ e. nat_eq e.number number) all
 
 -- Of the entries for the calls of this number exactly those that libseccomp rejects behind others of these.
-pub record AreRejectedIn (x86 : Bool) (all : List Entry) (number : ℕ) (clashes : List Clash) : Type 0 where
-  pub own : List Entry
-  pub are_own : AreOfNumber number all own
-  pub are : AreClashes (Rejected x86) own own clashes
+abbrev pub AreRejectedIn : (x86 : Bool) → List Entry → (number : ℕ) → List Clash → Type 0
+AreRejectedIn x86 all number clashes = AreClashes (Rejected x86) (entries_of number all) (entries_of number all) clashes
 
 -- Those for the calls of the numbers below this one.
 pub data AreRejected (x86 : Bool) (all : List Entry) : ℕ → List Clash → Type 0 where

@@ -1,8 +1,8 @@
 // Entries that libseccomp may get wrong beside each other, or rejects.
 
-ghost use Rattle.std.specs.Prelude.{◌≡◌, ◌≢◌, ◌<◌, ◌↔◌, ◌⊎◌, Any, IfNone, IfOk, IfSome, IsFalse, IsTrue, length};
+ghost use Rattle.std.specs.Prelude.{◌≡◌, ◌≢◌, ◌<◌, ◌↔◌, ◌⊎◌, Any, IfNone, IfOk, IfSome, IsFalse, IsTrue, length, nat_eq};
 ghost use Rattle.seccomp_profile_checks.specs.Clashes as spec;
-ghost use Rattle.seccomp_profile_checks.specs.Clashes.{Affects, AreAffected, AreClashes, AreOfNumber, AreOne, AreRejected, AreRejectedIn, Clashes, HasSame, IsAnother, IsClashOf, IsDelicate, IsOrderBeside, IsOrderOn, IsOtherOf, Repeats};
+ghost use Rattle.seccomp_profile_checks.specs.Clashes.{Affects, AreAffected, AreClashes, AreOne, AreRejected, AreRejectedIn, Clashes, HasSame, IsAnother, IsClashOf, IsDelicate, IsOrderBeside, IsOrderOn, IsOtherOf, Repeats, entries_of};
 
 use crate::effective::copy_of;
 use crate::rejected::rejects;
@@ -77,22 +77,21 @@ fn entries_of_number(
     number: u32,
     entries: &[Entry],
 ) -> Result<Vec<Entry>, AllocError>
-    ensures { IfOk result (λ own. AreOfNumber number entries.now own.items) }
+    ensures { IfOk result (λ own. own.items ≡ entries_of number entries.now) }
 {
     let mut own = Vec::new(alloc);
     for entry in entries {
-        if is_of_other(entry, number) {
-            continue;
+        if is_of(entry, number) {
+            own.push(copy_of(alloc, entry)?)?;
         }
-        own.push(copy_of(alloc, entry)?)?;
     }
     Ok(own)
 }
 
-fn is_of_other(entry: &Entry, number: u32) -> bool
-    ensures { IsFalse result ↔ (entry.now.number ≡ number) }
+fn is_of(entry: &Entry, number: u32) -> bool
+    ensures { result ≡ nat_eq entry.now.number number }
 {
-    entry.number != number
+    entry.number == number
 }
 
 // Of these entries those to which libseccomp does this beside each other.

@@ -58,7 +58,7 @@ module _ (arch : TargetArch) (container : Container) (p : Profile) (l : Lowered)
       (λ yes.
       let apart = not_first (nat_eq e.place first) (is_first e.alternative) yes in
       All-cons So (doubt.Behind first e.place e.number) []
-          (behind arch container p l is decides first e from there (λ same. grind (arith, nat_tests, apart, same))) (All-nil So))
+      (behind arch container p l is decides first e from there (λ same. grind (arith, nat_tests, apart, same))) (All-nil So))
       (λ no. All-nil So)
 
   behind_are_so : (es : List entries.Entry) (found : List Doubt) → All (Contains l.entries) es → AreBehind l.entries es found → All So found

@@ -268,9 +268,9 @@ fn caps_in(found: &ArgMatches<'_>, wrong: &mut Text) -> Vec<String> {
             match (capability(name), set_called(name)) {
                 (Some(cap), _) => push_caps(wrong, &mut caps, &[cap]),
                 (None, Some(set)) => push_caps(wrong, &mut caps, set),
-                (None, None) => wrong.push_format(
-                    format!(in alloc; "no capability is called '{name}'\n"),
-                ),
+                (None, None) => wrong.push_format(format!(in alloc;
+                    "no capability is called '{name}'\n"
+                )),
             }
         }
     }

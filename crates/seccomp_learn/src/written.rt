@@ -1,6 +1,7 @@
 // Policies that are written as text, and read back.
 
-ghost use Rattle.std.specs.Prelude.{◌≡◌, IfOk, IfSome};
+ghost use Rattle.std.specs.Prelude.{◌≡◌, IfErr, IfOk, IfSome};
+ghost use Rattle.seccompiler.specs.JsonSteps.{IsBeforePolicies};
 ghost use Rattle.seccomp_learn.specs.Written.{HasFilters, beside, found_in};
 
 use crate::text::policy_text;
@@ -23,7 +24,8 @@ pub fn written_policy(
     name: &str,
     filter: &JsonFilter,
 ) -> Result<Vec<u8>, JsonFrontendError>
-    ensures { IfOk result (λ text. HasFilters text.items (beside (found_in others.now) name.now filter.now)) }
+    ensures written { IfOk result (λ text. HasFilters text.items (beside (found_in others.now) name.now filter.now)) }
+    ensures refused { IfErr result IsBeforePolicies }
 {
     let text = policy_text(alloc, others, name, filter)?;
     let mut read = filters_of(alloc, &text)?;
@@ -35,7 +37,8 @@ pub fn written_policy(
 
 /// Takes the filter of this name out of a policy's filters, if there is one. The others stay.
 pub fn take_filter(filters: &mut JsonFilterMap, name: &str) -> Option<JsonFilter>
-    ensures { IfSome result (λ filter. found_in filters.old ≡ beside (found_in filters.new) name.now filter) }
+    ensures there { result ≡ found_in filters.old name.now }
+    ensures taken { IfSome result (λ filter. found_in filters.old ≡ beside (found_in filters.new) name.now filter) }
 {
     filters.0.remove(name)
 }

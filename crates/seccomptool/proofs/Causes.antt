@@ -1,6 +1,6 @@
 -- For the causes of errors: what a layer below refuses, as an error of the tool.
-use Rattle.std.proofs.Common.{◌≡◌, ℕ, ℤ, pos, negsuc, ◌<◌, ◌^◌, List, [], ◌∷◌, ◌++◌, Bool, map, Option, Some, None}
-use Rattle.std.proofs.Common.{IfSome, All, Contains, String, Global, string_bytes, string_cmp, refl, sym, subst, ◌∙◌, arith}
+use Rattle.std.proofs.Common.{◌≡◌, ℕ, ℤ, pos, negsuc, ◌<◌, ◌^◌, List, ◌∷◌, ◌++◌, Bool, map, Option}
+use Rattle.std.proofs.Common.{IfSome, All, String, Global, string_bytes, string_cmp, refl, sym, subst, ◌∙◌, arith}
 use Rattle.std.specs.BTreeMap.{is_at}
 use Rattle.std.specs.List.Sorted.{IsStrictlySortedBy}
 use Rattle.std.specs.Map.{keys_of, lookup}

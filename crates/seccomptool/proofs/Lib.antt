@@ -5,3 +5,4 @@ pub mod Readings
 pub mod Named
 pub mod Causes
 pub mod Traces
+pub mod Wanted

@@ -208,7 +208,7 @@ IsDone verb.Explain asked traces given bytes made =
     OnRecords asked bytes (IsExplained asked given) × (made.verdict ≡ Same) × (IsTrue made.is_cut ↔ EndsInside asked.calls bytes)
 IsDone verb.Call asked traces none other made = IsCalled asked made.text.items × IsPlain made
 IsDone verb.Diff asked traces old new made = IsCompared asked old new made.verdict × (made.is_cut ≡ false)
-IsDone verb.Learn asked traces none policy made = IsLesson asked traces policy × IsPlain made
+IsDone verb.Learn asked traces none policy made = IsLesson asked traces policy made.text.items × IsPlain made
 
 abbrev pub IsCarriedOut : Asked → List Trace → (first second : List ℕ) → Made → Type 0
 IsCarriedOut asked traces first second made = IsDone asked.verb asked traces first second made

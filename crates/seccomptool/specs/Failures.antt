@@ -1,6 +1,7 @@
 -- Why a command isn't carried out on bytes that are read.
-use Rattle.std.specs.Prelude.{◌≡◌, Bool, true, false, List, ℕ, ⊤}
+use Rattle.std.specs.Prelude.{◌≡◌, Bool, true, false, List, ℕ}
 use Rattle.seccompiler.specs.declared.backend.TargetArch.{TargetArch}
+use Rattle.seccomp_learn.specs.declared.trace.Trace.{Trace}
 use Rattle.seccomptool.specs.declared.error.ToolError.{ToolError}
 use Rattle.seccomptool.specs.declared.error.ToolError.TheVariants.{OutOfMemory}
 use Rattle.seccomptool.specs.declared.words.Asked.{Asked}
@@ -10,23 +11,24 @@ use Rattle.seccomptool.specs.declared.words.Verb.TheVariants as verb
 use Rattle.seccomptool.specs.Causes.{IsUncompared, IsUncompiled, IsUnexplained, IsUnshown}
 use Rattle.seccomptool.specs.Commands.{IsAskedAbout}
 use Rattle.seccomptool.specs.Record.{IsUncalled, IsUnknownCall}
+use Rattle.seccomptool.specs.Unlearned.{IsUnlearned}
 
 -- The text is no call of the architecture; or no call that has a name, of those that are asked about.
 abbrev pub IsUncalledOn : (recorded : Bool) → (each : Bool) → TargetArch → Call → ToolError → Type 0
 IsUncalledOn true each arch call e = IsUncalled arch call.name.now e
 IsUncalledOn false each arch call e = IsUnknownCall (IsAskedAbout each arch) call.name.now e
 
--- A command fails on these bytes for this. `check` and the list of codes fail only if memory runs out, since a fault of what is given
--- is what `check` finds. Why `learn` fails isn't said.
-abbrev pub IsFailureOf : Verb → Asked → (first second : List ℕ) → ToolError → Type 0
-IsFailureOf verb.Check asked given none e = e ≡ OutOfMemory
-IsFailureOf verb.Codes asked none other e = e ≡ OutOfMemory
-IsFailureOf verb.Call asked none other e = IsUncalledOn asked.recorded asked.each_arch asked.arch asked.call e
-IsFailureOf verb.Compile asked given none e = IsUncompiled asked given e
-IsFailureOf verb.Show asked given none e = IsUnshown asked given e
-IsFailureOf verb.Explain asked given none e = IsUnexplained asked given e
-IsFailureOf verb.Diff asked old new e = IsUncompared asked old new e
-IsFailureOf other asked first second e = ⊤
+-- A command fails on these bytes and traces for this. `check` and the list of codes fail only if memory runs out, since a fault of
+-- what is given is what `check` finds.
+abbrev pub IsFailureOf : Verb → Asked → List Trace → (first second : List ℕ) → ToolError → Type 0
+IsFailureOf verb.Check asked traces given none e = e ≡ OutOfMemory
+IsFailureOf verb.Codes asked traces none other e = e ≡ OutOfMemory
+IsFailureOf verb.Call asked traces none other e = IsUncalledOn asked.recorded asked.each_arch asked.arch asked.call e
+IsFailureOf verb.Compile asked traces given none e = IsUncompiled asked given e
+IsFailureOf verb.Show asked traces given none e = IsUnshown asked given e
+IsFailureOf verb.Explain asked traces given none e = IsUnexplained asked given e
+IsFailureOf verb.Diff asked traces old new e = IsUncompared asked old new e
+IsFailureOf verb.Learn asked traces none policy e = IsUnlearned asked traces policy e
 
-abbrev pub IsFailure : Asked → (first second : List ℕ) → ToolError → Type 0
-IsFailure asked first second e = IsFailureOf asked.verb asked first second e
+abbrev pub IsFailure : Asked → List Trace → (first second : List ℕ) → ToolError → Type 0
+IsFailure asked traces first second e = IsFailureOf asked.verb asked traces first second e

@@ -1,31 +1,65 @@
 -- What `learn` gives: a policy of the calls that were observed, which are added to a filter.
-use Rattle.std.specs.Prelude.{◌≡◌, ℕ, List, [], ◌∷◌, ◌++◌, Bool, true, false, Option}
+use Rattle.std.specs.Prelude.{◌≡◌, ℕ, List, [], ◌∷◌, ◌++◌, All, Any, Bool, true, false, Option, Some, None, codes, slice_index_or, ⊤}
+use Rattle.std.specs.Prelude.{unwrap_or}
 use Rattle.seccompiler.specs.declared.backend.TargetArch.{TargetArch}
-use Rattle.seccompiler.specs.declared.backend.SeccompAction.TheVariants.{Allow}
+use Rattle.seccompiler.specs.declared.backend.SeccompAction.TheVariants.{Allow, Errno}
 use Rattle.seccompiler.specs.JsonTypes.{JsonFilter}
 use Rattle.seccomp_learn.specs.declared.observation.Kept.{Kept}
 use Rattle.seccomp_learn.specs.declared.observation.Observation.{Observation}
 use Rattle.seccomp_learn.specs.declared.policy.Lesson.{Lesson}
 use Rattle.seccomp_learn.specs.declared.trace.Trace.{Trace}
 use Rattle.seccomp_learn.specs.Learned.{IsLearnedWithin}
-use Rattle.seccomp_learn.specs.Usual.{AreCloning, AreRunnable}
-use Rattle.seccomp_learn.specs.Written.{HasFilter}
+use Rattle.seccomp_learn.specs.Usual.{AreCloning, AreRunnable, AreUsual, IsAskedArgument}
+use Rattle.seccomp_learn.specs.Written.{HasFilters, beside}
+use Rattle.seccomptool.specs.declared.error.ToolError.{ToolError}
+use Rattle.seccomptool.specs.declared.error.ToolError.TheVariants.{OutOfMemory, Told}
+use Rattle.seccomptool.specs.declared.learn.AskedArguments.{AskedArguments}
 use Rattle.seccomptool.specs.declared.learn.Start.{Start}
 use Rattle.seccomptool.specs.declared.learn.Start.TheVariants.{Otherwise, Into}
 use Rattle.seccomptool.specs.declared.words.Asked.{Asked}
 use Rattle.seccomptool.specs.Chosen.{IsChosen, text_of}
+use Rattle.seccomptool.specs.Record.{IsCall, IsUncalled}
 
--- What calls are added to: a filter that allows nothing, and answers with this action; or the filter that is asked for, or the
--- only one, of a policy's text, if it allows what it lists.
-abbrev pub IsBase : Start → (asked : Option (List ℕ)) → (text : List ℕ) → JsonFilter → Type 0
-IsBase (Otherwise action) asked text base = base ≡ record { mismatch_action = action; match_action = Allow; rules = [] }
-IsBase Into asked text base = (name : List ℕ) × IsChosen text asked name × HasFilter text name base × (base.match_action ≡ Allow)
+-- Calls are added to this filter of this name, beside others: one that allows nothing, and answers with this action; or that of a
+-- policy's text that is asked for, or the only one, if it allows what it lists.
+abbrev pub IsBase : Start → (asked : Option (List ℕ)) → (text name : List ℕ) → JsonFilter → (others : List ℕ → Option JsonFilter) → Type 0
+IsBase (Otherwise action) asked text name base others =
+    (name ≡ unwrap_or asked (codes "main")) × (base ≡ record { mismatch_action = action; match_action = Allow; rules = [] })
+    × ((other : List ℕ) → others other ≡ None)
+IsBase Into asked text name base others =
+    IsChosen text asked name × HasFilters text (beside others name base) × (base.match_action ≡ Allow)
 
--- The lesson is learned of the observed calls, which are added to this.
-pub record IsLearned (asked : Asked) (wanted : List Kept) (observed : List Observation) (text : List ℕ) (lesson : Lesson) : Type 0 where
+-- The filter that answers `clone3` with ENOSYS, and allows other calls.
+abbrev pub clone3_filter : JsonFilter
+clone3_filter = record {
+  mismatch_action = Allow;
+  match_action = Errno 38;
+  rules = record { syscall = codes "clone3"; conditions = None } ∷ [];
+}
+
+-- What is found beside the filter of this name: the others, and this one, if it is asked for.
+abbrev pub with_second : (asked : Bool) → (name : List ℕ) → (others : List ℕ → Option JsonFilter) → List ℕ → Option JsonFilter
+with_second false name others = others
+with_second true name others = beside others (name ++ codes "_clone3") clone3_filter
+
+-- The lesson is learned of the observed calls, which are added to this; it has this name, and these others beside it.
+pub record IsLearned (asked : Asked) (wanted : List Kept) (observed : List Observation) (text name : List ℕ) (lesson : Lesson)
+    (beside_it : List ℕ → Option JsonFilter) : Type 0 where
   pub base : JsonFilter
-  pub is_base : IsBase asked.start (text_of asked.name) text base
+  pub others : List ℕ → Option JsonFilter
+  pub is_base : IsBase asked.start (text_of asked.name) text name base others
   pub learned : IsLearnedWithin asked.arch asked.most wanted observed base lesson
+  pub beside_is : beside_it ≡ with_second asked.old_clone name others
+
+-- That is so, unless an option is given.
+abbrev pub Unless : (given : Bool) → Type 0 → Type 0
+Unless true P = ⊤
+Unless false P = P
+
+-- A policy is written that has this filter under this name, and the others; unless it is a profile or a drop-in.
+abbrev pub IsWrittenPolicy : Asked → (others : List ℕ → Option JsonFilter) → (name : List ℕ) → JsonFilter → (text : List ℕ) → Type 0
+IsWrittenPolicy asked others name filter text =
+    Unless asked.as_profile (Unless asked.as_unit (HasFilters text (beside others name filter)))
 
 -- The calls that were read of traces.
 abbrev pub read_in : List Trace → List Observation
@@ -56,10 +90,70 @@ pub record AreObserved (asked : Asked) (traces : List Trace) (observed : List Ob
   pub are : observed ≡ read_in traces ++ added
   pub are_added : AreAdded asked added
 
--- A lesson is learned of what was read of these traces, and of no other call.
-pub record IsLesson (asked : Asked) (traces : List Trace) (text : List ℕ) : Type 0 where
+-- ---- the arguments whose values are wanted
+
+-- Each of these changes a value in turn, the first one first.
+abbrev pub InTurn : {X S : Type 0} → (Step : X → S → S → Type 0) → List X → (before after : S) → Type 0
+InTurn Step [] before after = after ≡ before
+InTurn {S = S} Step (x ∷ xs) before after = (between : S) × Step x before between × InTurn Step xs between after
+
+-- It is this argument of the call of this number, or any of the call's.
+abbrev pub IsArgument : (number : ℕ) → (index : Option ℕ) → Kept → Type 0
+IsArgument number None kept = kept.number ≡ number
+IsArgument number (Some index) kept = (kept.number ≡ number) × (kept.arg_index ≡ index)
+
+-- The argument of this index is added at the end, if it is asked for and isn't there yet.
+pub data IsWithArgument (observed : List Observation) (number : ℕ) (asked : List Bool) (index : ℕ) (before after : List Kept) : Type 0 where
+  unasked : slice_index_or asked index false ≡ false → after ≡ before → IsWithArgument observed number asked index before after
+  there : Any (IsArgument number (Some index)) before → after ≡ before → IsWithArgument observed number asked index before after
+  added : (kept : Kept) → slice_index_or asked index false ≡ true → (Any (IsArgument number (Some index)) before → ⊥)
+      → IsAskedArgument observed number index kept → after ≡ before ++ kept ∷ [] → IsWithArgument observed number asked index before after
+
+-- The indices of a call's arguments.
+abbrev pub indices : List ℕ
+indices = 0 ∷ 1 ∷ 2 ∷ 3 ∷ 4 ∷ 5 ∷ []
+
+-- The arguments of a call that are asked for are added, in the order of their indices.
+abbrev pub AreWithCall : TargetArch → List Observation → AskedArguments → (before after : List Kept) → Type 0
+AreWithCall arch observed call before after =
+    (number : ℕ) × IsCall arch call.call.now number × InTurn (IsWithArgument observed number call.indices) indices before after
+
+-- These are the usual ones, to which those that are asked for are added, of one call after the other.
+pub record AreWanted (asked : Asked) (observed : List Observation) (wanted : List Kept) : Type 0 where
+  pub usual : List Kept
+  pub are_usual : AreUsual asked.arch usual
+  pub are : InTurn (AreWithCall asked.arch observed) asked.arguments.items usual wanted
+
+-- The error tells of one of the calls that are asked for that it is none of the architecture; or memory ran out.
+abbrev pub IsUnknown : Asked → ToolError → Type 0
+IsUnknown asked OutOfMemory = ⊤
+IsUnknown asked e = Any (λ (call : AskedArguments). IsUncalled asked.arch call.call.now e) asked.arguments.items
+
+-- ---- traces that aren't understood
+
+-- It is a trace; and no line and no byte of it isn't understood, if that is asked for.
+pub record IsUnderstood (strict : Bool) (trace : Trace) : Type 0 where
+  pub is_trace : trace.is_trace ≡ true
+  pub lines : strict ≡ true → trace.strange.items ≡ []
+  pub bytes : strict ≡ true → trace.rest ≡ 0
+
+-- The error tells that this isn't so, or is lack of memory.
+abbrev pub IsStrange : (strict : Bool) → Trace → ToolError → Type 0
+IsStrange strict trace (Told text) = IsUnderstood strict trace → ⊥
+IsStrange strict trace OutOfMemory = ⊤
+IsStrange strict trace e = ⊥
+
+-- ---- a lesson
+
+-- A lesson is learned of what was read of these traces, and of no other call. The traces are understood. It is written.
+pub record IsLesson (asked : Asked) (traces : List Trace) (text written : List ℕ) : Type 0 where
+  pub understood : All (IsUnderstood asked.strict) traces
   pub observed : List Observation
   pub are_observed : AreObserved asked traces observed
   pub wanted : List Kept
+  pub are_wanted : AreWanted asked observed wanted
+  pub name : List ℕ
   pub lesson : Lesson
-  pub is : IsLearned asked wanted observed text lesson
+  pub others : List ℕ → Option JsonFilter
+  pub is : IsLearned asked wanted observed text name lesson others
+  pub policy : Unless asked.json (IsWrittenPolicy asked others name lesson.learned.json written)

@@ -24,6 +24,7 @@ pub mod CheckProfile
 pub mod Kinds
 pub mod Commands
 pub mod Causes
+pub mod Unlearned
 pub mod Failures
 pub mod Outside
 -- Between layers: what the private steps of the engines promise each other.

@@ -3,6 +3,7 @@ use Rattle.std.specs.Prelude.{◌≡◌, ◌⊎◌, ℕ, max, Bool, true, false,
 use Rattle.std.specs.Str.Lossy.{utf8_lossy}
 use Rattle.seccomp_command_line.specs.Readable.{readable}
 use Rattle.seccomp_command_line.specs.declared.readable.TextKind.TheVariants.{Lines}
+use Rattle.seccomp_learn.specs.declared.trace.Trace.{Trace}
 use Rattle.seccomptool.specs.declared.check.format.CheckFormat.{CheckFormat}
 use Rattle.seccomptool.specs.declared.check.format.CheckFormat.TheVariants.{Json}
 use Rattle.seccomptool.specs.declared.compile.ProgramFormat.{ProgramFormat}
@@ -79,7 +80,7 @@ IsOfFile e = ⊥
 -- Trouble has a cause: an error of a file; or of what is asked for, on some bytes.
 pub data IsTrouble (asked : Asked) (e : ToolError) : Type 0 where
   of_file : IsOfFile e → IsTrouble asked e
-  of_bytes : (first second : List ℕ) → IsFailure asked first second e → IsTrouble asked e
+  of_bytes : (traces : List Trace) (first second : List ℕ) → IsFailure asked traces first second e → IsTrouble asked e
 
 -- The error is told, and nothing else is done.
 abbrev pub IsTold : ToolError → (before after : State) → Type 0

@@ -4,24 +4,25 @@ mod arguments;
 pub(crate) mod notes;
 mod unit;
 
-ghost use Rattle.std.specs.Prelude.{IfOk};
+ghost use Rattle.std.specs.Prelude.{◌≡◌, ◌++◌, All, Any, IfErr, IfOk, OnOk, codes, string_bytes};
+ghost use Rattle.seccomp_learn.specs.Written.{found_in};
 ghost use Rattle.seccomptool.specs.Chosen.{text_of};
 ghost use Rattle.seccomptool.specs.Commands.{IsPlain};
-ghost use Rattle.seccomptool.specs.Learn.{AreAdded, AreCloningIf, AreObserved, AreRunnableIf, IsBase, IsLearned, IsLesson};
+ghost use Rattle.seccomptool.specs.Learn.{AreAdded, AreCloningIf, AreObserved, AreRunnableIf, IsBase, IsLearned, IsLesson, IsStrange, IsUnderstood, IsWrittenPolicy, Unless, clone3_filter, with_second};
+ghost use Rattle.seccomptool.specs.Unlearned.{IsNoBase, IsUnlearned, IsUntaught, IsUnwritten};
 
 use crate::chosen::chosen_name;
 use crate::error::ToolError;
 use crate::findings::Verdict;
-use crate::learn::arguments::push_asked_notes;
-use crate::learn::notes::{has, learned_json, push_notes, refuse_trace};
+use crate::learn::arguments::{push_asked_notes, wanted_in};
+use crate::learn::notes::{learned_json, push_notes, refuse_trace};
 use crate::learn::unit::{push_unit_notes, unit_text};
 use crate::made::Made;
-use crate::record::call_number;
 use crate::text::Text;
 use crate::words::{Asked, Inputs};
 use seccomp_learn::{
-    Kept, Lesson, Observation, Trace, asked_kept, cloning_calls, learn_within, profile_text,
-    runnable_calls, usual_kept, written_policy,
+    Kept, Lesson, Observation, Trace, cloning_calls, learn_within, profile_text, runnable_calls,
+    take_filter, written_policy,
 };
 use seccompiler::json::filters_of;
 use seccompiler::{JsonFilter, JsonFilterMap, JsonRule, SeccompAction};
@@ -56,11 +57,10 @@ pub(crate) fn learn_made(
     traces: &[Trace],
     policy: &[u8],
 ) -> Result<Made, ToolError>
-    ensures { IfOk result (λ made. IsLesson asked.now traces.now policy.now × IsPlain made) }
+    ensures lesson { IfOk result (λ made. IsLesson asked.now traces.now policy.now made.text.items × IsPlain made) }
+    ensures cause { IfErr result (IsUnlearned asked.now traces.now policy.now) }
 {
-    for (index, trace) in traces.iter().enumerate() {
-        refuse_trace(alloc, asked, inputs, index, trace)?;
-    }
+    refuse_traces(alloc, asked, inputs, traces)?;
     let observed = observed_in(alloc, asked, traces)?;
     let wanted = wanted_in(alloc, asked, &observed)?;
     let learned = match learned_of(alloc, asked, &observed, &wanted, policy) {
@@ -71,6 +71,22 @@ pub(crate) fn learn_made(
     // Here, so that no branch has to.
     drop((observed, wanted, learned));
     made
+}
+
+// Rejects what is no trace; and, if it is asked for, a trace of which something isn't understood.
+fn refuse_traces(
+    alloc: Global,
+    asked: &Asked<'_>,
+    inputs: Inputs<'_>,
+    traces: &[Trace],
+) -> Result<(), ToolError>
+    ensures understood { OnOk result (All (IsUnderstood asked.now.strict) traces.now) }
+    ensures cause { IfErr result (λ error. Any (λ trace. IsStrange asked.now.strict trace error) traces.now) }
+{
+    for (index, trace) in traces.iter().enumerate() {
+        refuse_trace(alloc, asked, inputs, index, trace)?;
+    }
+    Ok(())
 }
 
 // The calls that all traces have, and those that are allowed too.
@@ -120,8 +136,7 @@ fn cloning_in(alloc: Global, asked: &Asked<'_>) -> Result<Vec<Observation>, Allo
     Ok(Vec::new(alloc))
 }
 
-// The text of what is learned, which is a policy's, a profile's, a drop-in of systemd or an object with one of the first two, and
-// the notes.
+// What is written of what is learned, or an object with it, and the notes.
 fn views_of(
     alloc: Global,
     asked: &Asked<'_>,
@@ -131,22 +146,37 @@ fn views_of(
     wanted: &[Kept],
     learned: &Named<Lesson>,
 ) -> Result<Made, ToolError>
-    ensures { IfOk result IsPlain }
+    ensures made { IfOk result (λ made. IsPlain made × Unless asked.now.json (IsWrittenPolicy asked.now (found_in learned.now.2) (string_bytes learned.now.0) learned.now.1.learned.json made.text.items)) }
+    ensures cause { IfErr result (IsUnwritten asked.now) }
+{
+    let text = lesson_text(alloc, asked, learned)?;
+    let notes = notes_in(alloc, asked, inputs, traces, wanted, &learned.1)?;
+    if !asked.json {
+        return Ok(Made::noting(text, Verdict::Same, notes.into_bytes()));
+    }
+    let kept = &learned.1.kept;
+    let object = learned_json(alloc, asked, observed, kept, notes.as_str(), &text)?;
+    Ok(Made::noting(object, Verdict::Same, notes.into_bytes()))
+}
+
+// The text of what is learned: a policy's, a profile's or a drop-in of systemd.
+fn lesson_text(
+    alloc: Global,
+    asked: &Asked<'_>,
+    learned: &Named<Lesson>,
+) -> Result<Vec<u8>, ToolError>
+    ensures policy { IfOk result (λ text. IsWrittenPolicy asked.now (found_in learned.now.2) (string_bytes learned.now.0) learned.now.1.learned.json text.items) }
+    ensures cause { IfErr result (IsUnwritten asked.now) }
 {
     let (name, lesson, others) = learned;
-    let (filter, kept) = (&lesson.learned.json, &lesson.kept);
-    let mut text = if asked.as_profile {
-        profile_text(alloc, asked.arch, filter)?
-    } else if asked.as_unit {
-        unit_text(alloc, filter)?
-    } else {
-        written_policy(alloc, others, name.as_str(), filter)?
-    };
-    let notes = notes_in(alloc, asked, inputs, traces, wanted, lesson)?;
-    if asked.json {
-        text = learned_json(alloc, asked, observed, kept, notes.as_str(), &text)?;
+    let filter = &lesson.learned.json;
+    if asked.as_profile {
+        return Ok(profile_text(alloc, asked.arch, filter)?);
     }
-    Ok(Made::noting(text, Verdict::Same, notes.into_bytes()))
+    if asked.as_unit {
+        return Ok(unit_text(alloc, filter)?);
+    }
+    Ok(written_policy(alloc, others, name.as_str(), filter)?)
 }
 
 // The notes on traces, and on what is learned.
@@ -179,7 +209,8 @@ fn learned_of(
     wanted: &[Kept],
     policy: &[u8],
 ) -> Result<Named<Lesson>, ToolError>
-    ensures { IfOk result (λ own. IsLearned asked.now wanted.now observed.now policy.now own.1) }
+    ensures learned { IfOk result (λ own. IsLearned asked.now wanted.now observed.now policy.now (string_bytes own.0) own.1 (found_in own.2)) }
+    ensures cause { IfErr result (IsUntaught asked.now policy.now) }
 {
     let (name, filter, mut others) = base_of(alloc, asked.start, asked.name, policy)?;
     let (arch, most) = (asked.arch, asked.most);
@@ -194,23 +225,39 @@ fn push_second(
     is_asked: bool,
     name: &str,
     others: &mut JsonFilterMap,
-) -> Result<(), AllocError> {
+) -> Result<(), AllocError>
+    ensures { OnOk result (found_in others.new ≡ with_second is_asked name.now (found_in others.old)) }
+{
     if !is_asked {
         return Ok(());
     }
-    let second = format!(in alloc; "{name}_clone3")?;
+    let second = second_name(alloc, name)?;
+    let filter = second_filter(alloc)?;
+    drop(others.0.insert(second, filter)?);
+    Ok(())
+}
+
+// The name of that filter.
+fn second_name(alloc: Global, name: &str) -> Result<String, AllocError>
+    ensures { IfOk result (λ second. string_bytes second ≡ name.now ++ codes "_clone3") }
+{
+    format!(in alloc; "{name}_clone3")
+}
+
+// The filter that answers `clone3` with ENOSYS.
+fn second_filter(alloc: Global) -> Result<JsonFilter, AllocError>
+    ensures { IfOk result (λ filter. filter ≡ clone3_filter) }
+{
     let mut rules = Vec::new(alloc);
     rules.push(JsonRule {
         syscall: String::from_str(alloc, "clone3")?,
         conditions: None,
     })?;
-    let filter = JsonFilter {
+    Ok(JsonFilter {
         mismatch_action: SeccompAction::Allow,
         match_action: SeccompAction::Errno(38),
         rules,
-    };
-    drop(others.0.insert(second, filter)?);
-    Ok(())
+    })
 }
 
 // What calls are added to: nothing yet, or the filter that is asked for, or a policy's only one, if it allows what it lists.
@@ -220,7 +267,8 @@ fn base_of(
     asked: Option<&str>,
     policy: &[u8],
 ) -> Result<Named<JsonFilter>, ToolError>
-    ensures { IfOk result (λ base. IsBase start (text_of asked.entry) policy.now base.1) }
+    ensures base { IfOk result (λ base. IsBase start (text_of asked.entry) policy.now (string_bytes base.0) base.1 (found_in base.2)) }
+    ensures cause { IfErr result (IsNoBase start (text_of asked.entry) policy.now) }
 {
     match start {
         Start::Otherwise(action) => {
@@ -236,7 +284,7 @@ fn base_of(
     }
     let mut others = filters_of(alloc, policy)?;
     let name = chosen_name(alloc, asked, &others.0)?;
-    let Some(filter) = others.0.remove(name.as_str()) else {
+    let Some(filter) = take_filter(&mut others, name.as_str()) else {
         return Err(ToolError::NoFilter(name));
     };
     match filter.match_action {
@@ -247,25 +295,4 @@ fn base_of(
             Err(ToolError::Fault(String::from_str(alloc, told)?))
         }
     }
-}
-
-// The arguments whose values are kept: the usual ones, and those that are asked for.
-fn wanted_in(
-    alloc: Global,
-    asked: &Asked<'_>,
-    observed: &[Observation],
-) -> Result<Vec<Kept>, ToolError> {
-    let arch = asked.arch;
-    let mut wanted = usual_kept(alloc, arch)?;
-    for each in &asked.arguments {
-        let Some(number) = call_number(arch, each.call) else {
-            return Err(ToolError::UnknownCall(String::from_str(alloc, each.call)?, arch));
-        };
-        for index in 0..6u8 {
-            if each.indices[index as usize] && !has(&wanted, number, Some(index)) {
-                wanted.push(asked_kept(observed, number, index))?;
-            }
-        }
-    }
-    Ok(wanted)
 }

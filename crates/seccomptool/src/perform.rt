@@ -30,7 +30,7 @@ pub(crate) fn perform(
     progress: &mut Watch<'_>,
 ) -> Result<Made, ToolError>
     ensures carried_out { IfOk result (λ made. IsCarriedOut asked.now traces.now first.now second.now made) }
-    ensures failed { IfErr result (IsFailure asked.now first.now second.now) }
+    ensures failed { IfErr result (IsFailure asked.now traces.now first.now second.now) }
 {
     let path = inputs.first.unwrap_or("-");
     match asked.verb {

@@ -1,13 +1,87 @@
-// What is noted of `--args` that keeps no values.
+// The arguments whose values are kept, and what is noted of `--args` that keeps no values.
+
+ghost use Rattle.std.specs.Prelude.{◌≡◌, Any, IfErr, IfOk, OnOk, false, slice_index_or};
+ghost use Rattle.seccomptool.specs.Learn.{AreWanted, AreWithCall, InTurn, IsUnknown, IsWithArgument};
+ghost use Rattle.seccomptool.specs.Record.{IsUncalled};
 
 use super::AskedArguments;
 use super::notes::{has, note_at};
+use crate::error::ToolError;
 use crate::record::call_number;
 use crate::text::Text;
 use crate::words::{Asked, Inputs};
 use seccomp_command_line::readable::TextKind;
-use seccomp_learn::{Kept, Symbolic, Trace};
+use seccomp_learn::{Kept, Observation, Symbolic, Trace, asked_kept, usual_kept};
+use seccompiler::TargetArch;
 use std::alloc::{AllocError, Global};
+
+// The arguments whose values are kept: the usual ones, and those that are asked for.
+pub(super) fn wanted_in(
+    alloc: Global,
+    asked: &Asked<'_>,
+    observed: &[Observation],
+) -> Result<Vec<Kept>, ToolError>
+    ensures wanted { IfOk result (λ wanted. AreWanted asked.now observed.now wanted.items) }
+    ensures cause { IfErr result (IsUnknown asked.now) }
+{
+    let mut wanted = usual_kept(alloc, asked.arch)?;
+    push_calls(alloc, asked.arch, observed, &asked.arguments, &mut wanted)?;
+    Ok(wanted)
+}
+
+// Adds the arguments that are asked for, of one call after the other.
+fn push_calls(
+    alloc: Global,
+    arch: TargetArch,
+    observed: &[Observation],
+    calls: &[AskedArguments<'_>],
+    wanted: &mut Vec<Kept>,
+) -> Result<(), ToolError>
+    ensures added { OnOk result (InTurn (AreWithCall arch observed.now) calls.now wanted.old.items wanted.new.items) }
+    ensures cause { IfErr result (λ error. Any (λ call. IsUncalled arch call.call.now error) calls.now) }
+{
+    for call in calls {
+        push_call(alloc, arch, observed, call, wanted)?;
+    }
+    Ok(())
+}
+
+// Adds the arguments of a call that are asked for and aren't there yet.
+fn push_call(
+    alloc: Global,
+    arch: TargetArch,
+    observed: &[Observation],
+    call: &AskedArguments<'_>,
+    wanted: &mut Vec<Kept>,
+) -> Result<(), ToolError>
+    ensures added { OnOk result (AreWithCall arch observed.now call.now wanted.old.items wanted.new.items) }
+    ensures cause { IfErr result (IsUncalled arch call.now.call.now) }
+{
+    let Some(number) = call_number(arch, call.call) else {
+        return Err(ToolError::UnknownCall(String::from_str(alloc, call.call)?, arch));
+    };
+    for index in 0..6u8 {
+        push_argument(observed, number, call, index, wanted)?;
+    }
+    Ok(())
+}
+
+// Adds an argument, if it is asked for and isn't there yet.
+fn push_argument(
+    observed: &[Observation],
+    number: u32,
+    call: &AskedArguments<'_>,
+    index: u8,
+    wanted: &mut Vec<Kept>,
+) -> Result<(), AllocError>
+    ensures { OnOk result (IsWithArgument observed.now number call.now.indices index wanted.old.items wanted.new.items) }
+{
+    if !is_asked(call, index) || has(wanted, number, Some(index)) {
+        return Ok(());
+    }
+    wanted.push(asked_kept(observed, number, index))?;
+    Ok(())
+}
 
 // Adds a note for each argument that is asked for and isn't a number in a trace, and for each call of which nothing is kept.
 pub(super) fn push_asked_notes(
@@ -53,8 +127,13 @@ pub(super) fn push_asked_notes(
 }
 
 // Whether this argument is asked for.
-fn is_asked(asked: &AskedArguments<'_>, index: u8) -> bool {
-    matches!(asked.indices.get(usize::from(index)), Some(true))
+fn is_asked(asked: &AskedArguments<'_>, index: u8) -> bool
+    ensures { result ≡ slice_index_or asked.now.indices index false }
+{
+    match asked.indices.get(usize::from(index)) {
+        Some(is_asked) => *is_asked,
+        None => false,
+    }
 }
 
 // Whether a trace has a call of this number with a value of an argument that is asked for.

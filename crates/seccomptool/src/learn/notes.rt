@@ -1,5 +1,8 @@
 // What is noted of a trace, and what is learned as JSON.
 
+ghost use Rattle.std.specs.Prelude.{◌↔◌, Any, IfErr, IsTrue, OnOk};
+ghost use Rattle.seccomptool.specs.Learn.{IsArgument, IsStrange, IsUnderstood};
+
 use crate::error::ToolError;
 use crate::findings::parts::name_of;
 use crate::json::{List, Object, call_name};
@@ -134,19 +137,22 @@ pub(super) fn refuse_trace(
     inputs: Inputs<'_>,
     index: usize,
     trace: &Trace,
-) -> Result<(), ToolError> {
+) -> Result<(), ToolError>
+    ensures understood { OnOk result (IsUnderstood asked.now.strict trace.now) }
+    ensures cause { IfErr result (IsStrange asked.now.strict trace.now) }
+{
+    if is_understood(asked.strict, trace) {
+        return Ok(());
+    }
     let mut told = Text::new(alloc);
-    if !trace.is_trace {
+    if trace.is_trace {
+        push_strange(&mut told, trace);
+    } else {
         told.push_str(
             "it has neither lines of strace, of the kernel's log or of the audit system, nor call records",
         );
-    } else if asked.strict {
-        push_strange(&mut told, trace);
     }
     let told = told.finish_string()?;
-    if told.is_empty() {
-        return Ok(());
-    }
     Err(match index.checked_sub(1) {
         None => ToolError::of_path(alloc, inputs.first.unwrap_or("-"), told.as_str()),
         Some(place) => {
@@ -154,6 +160,13 @@ pub(super) fn refuse_trace(
             ToolError::of_path(alloc, path, told.as_str())
         }
     })
+}
+
+// Whether it is a trace, and all of it is understood, if that is asked for.
+fn is_understood(strict: bool, trace: &Trace) -> bool
+    ensures { IsTrue result ↔ IsUnderstood strict trace.now }
+{
+    trace.is_trace && (!strict || (trace.strange.is_empty() && trace.rest == 0))
 }
 
 // Adds what of a trace isn't understood: the first line, or the bytes behind the last record.
@@ -170,13 +183,25 @@ fn push_strange(told: &mut Text, trace: &Trace) {
 }
 
 // Whether this argument of a call is among these, or any of the call's.
-pub(super) fn has(all: &[Kept], number: u32, index: Option<u8>) -> bool {
+pub(super) fn has(all: &[Kept], number: u32, index: Option<u8>) -> bool
+    ensures { IsTrue result ↔ Any (IsArgument number index) all.now }
+{
     for each in all {
-        if each.number == number && index.unwrap_or(each.arg_index) == each.arg_index {
+        if is_argument(each, number, index) {
             return true;
         }
     }
     false
+}
+
+// Whether it is this argument of a call, or any of the call's.
+fn is_argument(kept: &Kept, number: u32, index: Option<u8>) -> bool
+    ensures { IsTrue result ↔ IsArgument number index kept.now }
+{
+    match index {
+        None => kept.number == number,
+        Some(index) => kept.number == number && kept.arg_index == index,
+    }
 }
 
 // Adds the note on lines that aren't understood, if there are some: how many, and the first.

@@ -3,8 +3,8 @@ use Rattle.std.proofs.lemmas.Map.Text.{btree_map_updates_text}
 use Rattle.seccomp_learn.proofs.Beside.{taken_out}
 use Rattle.seccomp_learn.proofs.written.take_filter.Goals as goal
 
-pub returns : goal.returns
-returns c =
+pub returns-clause-taken : goal.returns-clause-taken
+returns-clause-taken c =
     let name = c.args.name.now in
     let old = c.args.filters.now.0 in
     let new = c.remove.new.self in

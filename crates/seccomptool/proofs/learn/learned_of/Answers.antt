@@ -1,0 +1,16 @@
+use Rattle.std.proofs.Common.{refl, string_bytes}
+use Rattle.std.proofs.lemmas.Result.{err_from_is_err_and}
+use Rattle.seccomp_learn.specs.Written.{found_in}
+use Rattle.seccomptool.specs.Unlearned.{no_base, no_policy}
+use Rattle.seccomptool.proofs.learn.learned_of.Goals as goal
+
+pub returns-in_err-name-clause-cause : goal.returns-in_err-name-clause-cause
+returns-in_err-name-clause-cause c =
+    let error = err_from_is_err_and c.from_residual.result c.from_residual.ensures.1 in
+    rw (error.1, error.2) (no_base c.in_err-name.ensures.cause)
+
+pub returns-in_err-lesson-clause-cause : goal.returns-in_err-lesson-clause-cause
+returns-in_err-lesson-clause-cause c =
+    let error = err_from_is_err_and c.from_residual-in_err-lesson.result c.from_residual-in_err-lesson.ensures.1 in
+    rw (error.1, error.2) (no_policy (string_bytes c.in_ok-name.name) c.in_ok-name.filter (found_in c.in_ok-name.others)
+    c.in_ok-name.ensures.base c.in_err-lesson.field-0.0 c.in_err-lesson.ensures.refused refl)

@@ -1,8 +1,8 @@
 -- What the arguments of a command ask for, as clap finds them.
-use Rattle.std.specs.Prelude.{◌≡◌, ◌||◌, ℕ, Bool, true, false, if◌then◌else◌, List, Option, Some, None, IfSome}
-use Rattle.std.specs.Prelude.{codes, drop, is_none, unwrap_or}
+use Rattle.std.specs.Prelude.{◌≡◌, ◌≢◌, ◌||◌, ℕ, Bool, true, false, if◌then◌else◌, List, [], ◌∷◌, ◌++◌, All, Option, Some, None}
+use Rattle.std.specs.Prelude.{◌==◌, codes, is_none, length, map, option_map, unwrap_or}
 use Rattle.std.specs.Str.{bytes_eq}
-use Rattle.clap.specs.Words.{first_value, one_text}
+use Rattle.clap.specs.Words.{first_value, matched_of, one_text, raw_values}
 use Rattle.clap.specs.declared.parser.matches.Found.{Found}
 use Rattle.seccompiler.specs.declared.backend.TargetArch.{TargetArch}
 use Rattle.seccompiler.specs.declared.backend.TargetArch.TheVariants.{x86_64, aarch64, riscv64}
@@ -13,6 +13,7 @@ use Rattle.seccomp_tree.specs.declared.layout.Layout.TheVariants.{Linear, Tree}
 use Rattle.seccomptool.specs.declared.diff.Scope.{Scope}
 use Rattle.seccomptool.specs.declared.diff.Scope.TheVariants as scope
 use Rattle.seccomptool.specs.declared.words.Asked.{Asked}
+use Rattle.seccomptool.specs.declared.words.Inputs.{Inputs}
 use Rattle.seccomptool.specs.declared.words.Verb.{Verb}
 use Rattle.seccomptool.specs.declared.words.Verb.TheVariants.{Call, Check, Codes, Compile, Diff, Explain, Learn, Show}
 use Rattle.seccomptool.specs.Chosen.{text_of}
@@ -59,9 +60,58 @@ verb_named is_list name =
 abbrev pub path_given : Found → List ℕ → List ℕ
 path_given found name = unwrap_or (first_value found name) (codes "-")
 
--- The text ends with the name of a filter, if there is one.
-abbrev pub EndsWithName : List ℕ → Option (List ℕ) → Type 0
-EndsWithName text name = IfSome name (λ n. (place : ℕ) × (n ≡ drop place text))
+-- The name of a filter that is given, if it isn't empty.
+abbrev pub name_given : List ℕ → Option (List ℕ)
+name_given name = if length name == 0 then None else Some name
+
+-- The bytes have no colon.
+abbrev pub HasNoColon : List ℕ → Type 0
+HasNoColon bytes = All (λ byte. byte ≢ 0x3a) bytes
+
+-- A text is a path, which stands in front of its last colon, and the name of a filter behind that; without a colon it is a path alone.
+pub data IsPathAndName (text path : List ℕ) (name : Option (List ℕ)) : Type 0 where
+  alone : HasNoColon text → path ≡ text → name ≡ None → IsPathAndName text path name
+  both : (behind : List ℕ) → text ≡ path ++ 0x3a ∷ behind → HasNoColon behind → name ≡ name_given behind → IsPathAndName text path name
+
+abbrev pub IsPathIn : (text path : List ℕ) → Type 0
+IsPathIn text path = (name : Option (List ℕ)) × IsPathAndName text path name
+
+abbrev pub IsNameIn : (text : List ℕ) → (name : Option (List ℕ)) → Type 0
+IsNameIn text name = (path : List ℕ) × IsPathAndName text path name
+
+-- ---- what is read
+
+-- All values that are given of an option or an argument.
+abbrev pub all_values : Found → List ℕ → List (List ℕ)
+all_values found name = unwrap_or (option_map raw_values (matched_of found name)) []
+
+-- The paths of what is read, the first and the second.
+abbrev pub paths_of : Inputs → Option (List ℕ) × Option (List ℕ)
+paths_of inputs = (text_of inputs.first, text_of inputs.second)
+
+-- Each of these is read first, with the same second; if there is none, the second alone, once.
+abbrev pub each_with : (second : Option (List ℕ)) → (firsts : List (List ℕ)) → List (Option (List ℕ) × Option (List ℕ))
+each_with second [] = (None, second) ∷ []
+each_with second (first ∷ firsts) = map (λ own. (Some own, second)) (first ∷ firsts)
+
+-- The records or the log that `explain` reads: none if a call is given.
+abbrev pub records_given : Found → (call log : Option (List ℕ)) → Option (List ℕ)
+records_given found (Some call) log = None
+records_given found None None = Some (path_given found (codes "records"))
+records_given found None (Some path) = Some path
+
+-- A command is carried out on what is read at these paths, one after the other.
+abbrev pub AreRead : Found → Verb → List (Option (List ℕ) × Option (List ℕ)) → Type 0
+AreRead found Diff paths =
+    (old new : List ℕ) × IsPathIn (path_given found (codes "OLD")) old × IsPathIn (path_given found (codes "NEW")) new
+    × (paths ≡ (Some old, Some new) ∷ [])
+AreRead found Learn paths = paths ≡ (first_value found (codes "TRACE"), first_value found (codes "into")) ∷ []
+AreRead found Explain paths =
+    paths ≡ each_with (records_given found (first_value found (codes "CALL")) (first_value found (codes "log")))
+    (all_values found (codes "SUBJECT"))
+AreRead found Call paths = paths ≡ (None, None) ∷ []
+AreRead found Codes paths = paths ≡ (None, None) ∷ []
+AreRead found verb paths = paths ≡ each_with None (all_values found (codes "SUBJECT"))
 
 -- ---- what is asked for
 
@@ -88,5 +138,6 @@ pub record IsAskedFor (found : Found) (asked : Asked) : Type 0 where
   pub runnable : IsFlag found (codes "runnable") asked.runnable
   pub old_clone : IsFlag found (codes "old-clone") asked.old_clone
   pub call : asked.call.name.now ≡ path_given found (codes "CALL")
-  pub old : EndsWithName (path_given found (codes "OLD")) (text_of asked.old)
-  pub new : EndsWithName (path_given found (codes "NEW")) (text_of asked.new)
+  pub old : IsNameIn (path_given found (codes "OLD")) (text_of asked.old)
+  pub new : IsNameIn (path_given found (codes "NEW")) (text_of asked.new)
+  pub read : AreRead found asked.verb (map paths_of asked.inputs.items)

@@ -1,8 +1,10 @@
 // The words that the program is called with.
 
+mod paths;
 mod program;
 mod values;
 
+ghost use Rattle.std.specs.Prelude.{IfOk};
 ghost use Rattle.clap.specs.Words.{found_of};
 ghost use Rattle.seccomptool.specs.Arguments.{IsAskedFor, IsVerbFor};
 
@@ -13,18 +15,19 @@ use crate::findings::Terms;
 use crate::kind::Reading;
 use crate::learn::{AskedArguments, Start};
 use crate::text::Text;
+use crate::words::paths::inputs_in;
 use crate::words::program::program;
 use crate::words::values::{
     allowed_in, arch_in, arguments_in, calls_in, check_format_in, format_in, further_in, kept_in,
-    layout_in, named_in, number_in, output_in, path_in, program_format_in, push, reading_in,
-    records_in, relation_in, scope_in, start_in, verb_in,
+    layout_in, named_in, number_in, output_in, path_in, program_format_in, reading_in, relation_in,
+    scope_in, start_in, verb_in,
 };
 use clap::ArgMatches;
 use clap::error::ErrorKind;
 use seccomp_tree::Layout;
 use seccomp_warnings::Code;
 use seccompiler::TargetArch;
-use std::alloc::Global;
+use std::alloc::{AllocError, Global};
 
 // A table of each command: its name and what it does, and in a line each its options and arguments, with what the help says of them
 // behind `: `. `--NAME` is an option that takes nothing, and `--NAME VALUE` one with a value; any other word is an argument. Behind
@@ -280,6 +283,7 @@ fn asked_of<'a>(
     let asked = asked_in(&matches, &mut wrong);
     // Here, so that no branch below has to.
     drop(matches);
+    let asked = asked?;
     // `--list` prints the codes, whatever else is asked for.
     let is_list = matches!(asked.verb, Verb::Codes);
     match wrong.finish_string() {
@@ -294,20 +298,25 @@ fn asked_of<'a>(
 }
 
 // What the matches of a subcommand ask for. What clap can't check is checked here: each fault is a line of `wrong`.
-fn asked_in<'a>(matches: &ArgMatches<'a>, wrong: &mut Text) -> Asked<'a> {
+fn asked_in<'a>(matches: &ArgMatches<'a>, wrong: &mut Text) -> Result<Asked<'a>, AllocError> {
     // clap lets no words pass without one.
     let (name, found) = matches.subcommand().unwrap_or(("", matches));
     asked_for(name, found, wrong)
 }
 
 // What the matches of the subcommand of this name ask for.
-fn asked_for<'a>(name: &str, found: &ArgMatches<'a>, wrong: &mut Text) -> Asked<'a>
-    ensures asked { IsAskedFor (found_of found.now) result }
-    ensures verb { IsVerbFor (found_of found.now) name.now result.verb }
+fn asked_for<'a>(
+    name: &str,
+    found: &ArgMatches<'a>,
+    wrong: &mut Text,
+) -> Result<Asked<'a>, AllocError>
+    ensures asked { IfOk result (IsAskedFor (found_of found.now)) }
+    ensures verb { IfOk result (λ asked. IsVerbFor (found_of found.now) name.now asked.verb) }
 {
     let verb = verb_in(name, found.get_flag("list"));
+    let inputs = inputs_in(found, wrong, verb)?;
     // What drops comes last, so that no branch before it has to.
-    Asked {
+    Ok(Asked {
         verb,
         output: output_in(found),
         json: format_in(found) == "json",
@@ -344,56 +353,9 @@ fn asked_for<'a>(name: &str, found: &ArgMatches<'a>, wrong: &mut Text) -> Asked<
         as_profile: found.get_flag("profile"),
         as_unit: found.get_flag("unit"),
         reading: reading_in(found, wrong),
-        inputs: inputs_in(found, wrong, verb),
+        inputs,
         allowed: allowed_in(found, wrong),
         arguments: kept_in(found, wrong),
         further: further_in(found, wrong),
-    }
-}
-
-// What a command is carried out on, one after the other.
-fn inputs_in<'a>(found: &ArgMatches<'a>, wrong: &mut Text, verb: Verb) -> Vec<Inputs<'a>> {
-    let subjects = found.get_strs("SUBJECT").unwrap_or(&[]);
-    match verb {
-        Verb::Codes | Verb::Call => inputs_of(wrong, verb, &[], None),
-        Verb::Check | Verb::Compile | Verb::Show => inputs_of(wrong, verb, subjects, None),
-        Verb::Explain => inputs_of(wrong, verb, subjects, records_in(found)),
-        Verb::Diff => {
-            let (old, _) = named_in(path_in(found, "OLD"));
-            let (new, _) = named_in(path_in(found, "NEW"));
-            inputs_of(wrong, verb, &[old], Some(new))
-        }
-        Verb::Learn => {
-            let traces = found.get_strs("TRACE").unwrap_or(&[]);
-            inputs_of(wrong, verb, traces, found.get_str("into"))
-        }
-    }
-}
-
-// Each of what a command reads first, with what it reads second. All traces are one, and a command that reads nothing first is
-// carried out once.
-fn inputs_of<'a>(
-    wrong: &mut Text,
-    verb: Verb,
-    firsts: &[&'a str],
-    second: Option<&'a str>,
-) -> Vec<Inputs<'a>> {
-    if second == Some("-") && firsts.contains(&"-") {
-        wrong.push_str(match verb {
-            Verb::Diff => "OLD and NEW can't both be read from standard input\n",
-            Verb::Learn => "TRACE and POLICY can't both be read from standard input\n",
-            _ =>
-                "SUBJECT and records can't both be read from standard input: give CALL, --records or --log\n",
-        });
-    }
-    let count = match verb {
-        Verb::Learn => 1,
-        _ => firsts.len().max(1),
-    };
-    let mut inputs = Vec::new(wrong.alloc());
-    for index in 0..count {
-        let first = firsts.get(index).copied();
-        push(wrong, &mut inputs, Inputs { first, second });
-    }
-    inputs
+    })
 }

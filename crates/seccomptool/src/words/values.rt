@@ -3,7 +3,7 @@
 
 ghost use Rattle.std.specs.Prelude.{◌≡◌, codes};
 ghost use Rattle.clap.specs.Words.{first_value, found_of};
-ghost use Rattle.seccomptool.specs.Arguments.{EndsWithName, IsFlag, arch_named, is_of_all, is_only_more, layout_named, path_given, verb_named};
+ghost use Rattle.seccomptool.specs.Arguments.{IsFlag, IsPathAndName, arch_named, is_of_all, is_only_more, layout_named, name_given, path_given, records_given, verb_named};
 ghost use Rattle.seccomptool.specs.Chosen.{text_of};
 
 use super::{Calls, Verb};
@@ -56,7 +56,7 @@ const PODMAN: [&str; 11] = [
 ];
 
 // Adds an item to a list.
-pub(super) fn push<T: Drop>(wrong: &mut Text, list: &mut Vec<T>, item: T) {
+fn push<T: Drop>(wrong: &mut Text, list: &mut Vec<T>, item: T) {
     if list.push(item).is_err() {
         wrong.fail();
     }
@@ -87,13 +87,22 @@ pub(super) fn path_in<'a>(found: &ArgMatches<'a>, id: &str) -> &'a str
 
 // A path, and the name of a filter, if one stands behind the last colon: none if nothing does.
 pub(super) fn named_in(text: &str) -> (&str, Option<&str>)
-    ensures { EndsWithName text.now (text_of result.1) }
+    ensures { IsPathAndName text.now result.0.now (text_of result.1) }
 {
     match text.rsplit_once(':') {
         None => (text, None),
-        Some((path, "")) => (path, None),
-        Some((path, name)) => (path, Some(name)),
+        Some((path, name)) => (path, given_name(name)),
     }
+}
+
+// The name of a filter that is given, if it isn't empty.
+fn given_name(name: &str) -> Option<&str>
+    ensures { text_of result ≡ name_given name.now }
+{
+    if name.is_empty() {
+        return None;
+    }
+    Some(name)
 }
 
 // The traces after the first one.
@@ -115,11 +124,13 @@ pub(super) fn calls_in(found: &ArgMatches<'_>) -> Calls {
 }
 
 // The path of the records or the log that is explained, if a call isn't.
-pub(super) fn records_in<'a>(found: &ArgMatches<'a>) -> Option<&'a str> {
-    match calls_in(found) {
-        Calls::One => None,
-        Calls::Records => Some(path_in(found, "records")),
-        Calls::Log => found.get_str("log"),
+pub(super) fn records_in<'a>(found: &ArgMatches<'a>) -> Option<&'a str>
+    ensures { text_of result ≡ records_given (found_of found.now) (first_value (found_of found.now) (codes "CALL")) (first_value (found_of found.now) (codes "log")) }
+{
+    match (found.get_str("CALL"), found.get_str("log")) {
+        (Some(_), _) => None,
+        (None, None) => Some(path_in(found, "records")),
+        (None, Some(path)) => Some(path),
     }
 }
 

@@ -1,0 +1,104 @@
+// What a command reads, by its arguments.
+
+ghost use Rattle.std.specs.Prelude.{◌≡◌, [], ◌∷◌, IfOk, map, option_map, unwrap_or};
+ghost use Rattle.clap.specs.Words.{found_of};
+ghost use Rattle.seccomptool.specs.Arguments.{AreRead, each_with, paths_of};
+ghost use Rattle.seccomptool.specs.Chosen.{text_of};
+
+use super::values::{named_in, path_in, records_in};
+use super::{Inputs, Verb};
+use crate::text::Text;
+use clap::ArgMatches;
+use std::alloc::{AllocError, Global};
+
+// What a command is carried out on, one after the other.
+pub(super) fn inputs_in<'a>(
+    found: &ArgMatches<'a>,
+    wrong: &mut Text,
+    verb: Verb,
+) -> Result<Vec<Inputs<'a>>, AllocError>
+    ensures { IfOk result (λ inputs. AreRead (found_of found.now) verb (map paths_of inputs.items)) }
+{
+    let alloc = wrong.alloc();
+    let subjects = found.get_strs("SUBJECT");
+    match verb {
+        Verb::Codes | Verb::Call => one_of(alloc, None, None),
+        Verb::Check | Verb::Compile | Verb::Show => inputs_of(alloc, subjects, None),
+        Verb::Explain => {
+            let second = records_in(found);
+            refuse_both(wrong, verb, subjects.unwrap_or(&[]), second);
+            inputs_of(alloc, subjects, second)
+        }
+        Verb::Diff => {
+            let (old, _) = named_in(path_in(found, "OLD"));
+            let (new, _) = named_in(path_in(found, "NEW"));
+            refuse_both(wrong, verb, &[old], Some(new));
+            one_of(alloc, Some(old), Some(new))
+        }
+        Verb::Learn => {
+            let traces = found.get_strs("TRACE").unwrap_or(&[]);
+            refuse_both(wrong, verb, traces, found.get_str("into"));
+            one_of(alloc, found.get_str("TRACE"), found.get_str("into"))
+        }
+    }
+}
+
+// That the second of what is read and one of the first would both be read from standard input.
+fn refuse_both(wrong: &mut Text, verb: Verb, firsts: &[&str], second: Option<&str>) {
+    if second == Some("-") && firsts.contains(&"-") {
+        wrong.push_str(match verb {
+            Verb::Diff => "OLD and NEW can't both be read from standard input\n",
+            Verb::Learn => "TRACE and POLICY can't both be read from standard input\n",
+            _ =>
+                "SUBJECT and records can't both be read from standard input: give CALL, --records or --log\n",
+        });
+    }
+}
+
+// Each of these is read first, with this second. A command that reads nothing first is carried out once.
+fn inputs_of<'a>(
+    alloc: Global,
+    firsts: Option<&[&'a str]>,
+    second: Option<&'a str>,
+) -> Result<Vec<Inputs<'a>>, AllocError>
+    ensures { IfOk result (λ inputs. map paths_of inputs.items ≡ each_with (text_of second.entry) (unwrap_or (option_map (λ all. map (λ first. first.now) all.now) firsts.entry) [])) }
+{
+    match firsts {
+        None => one_of(alloc, None, second),
+        Some(firsts) => each_of(alloc, firsts, second),
+    }
+}
+
+// The same, of those that are given.
+fn each_of<'a>(
+    alloc: Global,
+    firsts: &[&'a str],
+    second: Option<&'a str>,
+) -> Result<Vec<Inputs<'a>>, AllocError>
+    ensures { IfOk result (λ inputs. map paths_of inputs.items ≡ each_with (text_of second.entry) (map (λ first. first.now) firsts.now)) }
+{
+    if firsts.is_empty() {
+        return one_of(alloc, None, second);
+    }
+    let mut inputs = Vec::new(alloc);
+    for first in firsts {
+        inputs.push(Inputs {
+            first: Some(*first),
+            second,
+        })?;
+    }
+    Ok(inputs)
+}
+
+// This is read, once.
+fn one_of<'a>(
+    alloc: Global,
+    first: Option<&'a str>,
+    second: Option<&'a str>,
+) -> Result<Vec<Inputs<'a>>, AllocError>
+    ensures { IfOk result (λ inputs. map paths_of inputs.items ≡ (text_of first.entry, text_of second.entry) ∷ []) }
+{
+    let mut inputs = Vec::new(alloc);
+    inputs.push(Inputs { first, second })?;
+    Ok(inputs)
+}

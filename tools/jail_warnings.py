@@ -153,7 +153,7 @@ WARNED = {
         ("memfd_create 0 0", DENIED), ("memfd_create 0 1", NO_ADDRESS)]),
     "opens to write under a mask": Shown([], denying(when("openat", (2, "dword", {"masked_eq": 3}, 1))), [
         ("openat 0 0 1", DENIED), ("openat 0 0 0x80001", DENIED), ("openat 0 0 0x80002", NO_ADDRESS)]),
-    "opens to read, and creates": Shown(["condition-evaded"] * 2, allowing("creat"), [("openat 0 0 2", DENIED), ("creat 0 0", NO_ADDRESS)]),
+    "opens to read and creates": Shown(["condition-evaded"] * 2, allowing("creat"), [("openat 0 0 2", DENIED), ("creat 0 0", NO_ADDRESS)]),
     "at an address": Shown(["pointer-compared"], denying(when("openat", (1, "qword", "eq", LOW + 2))), [
         (f"openat 0 {LOW + 2} 0", DENIED), (f"openat 0 {LOW + 3} 0", NO_ADDRESS)]),
     "at no address": Shown([], denying(when("openat", (1, "dword", "eq", 0))), [("openat 0 0 0", DENIED), ("openat 0 1 0", NO_ADDRESS)]),

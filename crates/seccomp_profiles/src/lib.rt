@@ -19,6 +19,6 @@ mod version;
 
 pub use error::ProfileError;
 pub use fault::{ProfileFault, profile_fault_text};
-pub use profile::{profile_faults, profile_of};
+pub use profile::{profile_faults, profile_in, profile_of};
 pub use types::{Argument, Container, Criteria, Entry, Flag, Kernel, Operator, Profile, Runtime};
 pub use version::kernel_of;

@@ -6,7 +6,7 @@ ghost use Rattle.serde_json.specs.View.{members_view, view};
 ghost use Rattle.seccompiler.specs.JsonAnswers.{IsReadAs};
 ghost use Rattle.seccomp_profiles.specs.Types.{AllOnArguments};
 ghost use Rattle.seccomp_profiles.specs.ProfileShape.{IsList, IsProfile, is_unknown, keys_of};
-ghost use Rattle.seccomp_profiles.specs.ProfileText.{IsProfileFault, IsProfileText};
+ghost use Rattle.seccomp_profiles.specs.ProfileText.{IsProfileFault, IsProfileText, profile_in, seccomp_in};
 ghost use Rattle.seccomp_profiles.specs.Types.{Profile};
 
 use crate::actions::action_under;
@@ -94,9 +94,31 @@ fn read_profile(alloc: Global, value: &Value) -> Result<Option<Profile>, AllocEr
     }))
 }
 
+/// The part of a value that is read as a profile: of a container's configuration, which has no `defaultAction`, that under
+/// `linux.seccomp`; else the value itself.
+pub fn profile_in(value: &Value) -> &Value
+    ensures { view result.now ≡ profile_in (view value.now) }
+{
+    match (value.get("defaultAction"), seccomp_in(value)) {
+        (None, Some(found)) => found,
+        _ => value,
+    }
+}
+
+// `linux.seccomp`, as the configuration of a container has it.
+fn seccomp_in(value: &Value) -> Option<&Value>
+    ensures { option_map (λ v. view v.now) result ≡ seccomp_in (view value.now) }
+{
+    match value.get("linux") {
+        Some(linux) => linux.get("seccomp"),
+        None => None,
+    }
+}
+
 /// Reads a profile from a JSON text.
 ///
-/// The text is the value of `linux.seccomp` in the OCI runtime specification, or a profile of Docker or Podman.
+/// The text is the value of `linux.seccomp` in the OCI runtime specification, a profile of Docker or Podman, or a container's
+/// configuration, `config.json`, which has such a value.
 /// It is no profile if an entry or a part of one has an unknown name, or if an action, operator or flag can't
 /// be carried. Podman names an errno beside its number, as `"errno": "EPERM"`: the name wins. Each condition of
 /// a profile is on an argument from 0 to 5. Keys of the whole that no profile has are in `unknown_keys`.
@@ -113,9 +135,9 @@ pub fn profile_of(alloc: Global, text: &[u8]) -> Result<Profile, ProfileError>
     ensures arguments { IfOk result (λ p. AllOnArguments p.entries) }
 {
     let value = value_of(alloc, text)?;
-    match read_profile(alloc, &value)? {
+    match read_profile(alloc, profile_in(&value))? {
         Some(profile) => Ok(profile),
-        None => Err(ProfileError::NotAProfile(fault_of(alloc, &value)?)),
+        None => Err(ProfileError::NotAProfile(fault_of(alloc, profile_in(&value))?)),
     }
 }
 
@@ -126,7 +148,7 @@ pub fn profile_of(alloc: Global, text: &[u8]) -> Result<Profile, ProfileError>
 /// `AllocError` if memory runs out.
 pub fn profile_faults(alloc: Global, text: &[u8]) -> Result<Vec<ProfileFault>, AllocError> {
     match value_of(alloc, text) {
-        Ok(value) => faults_of(alloc, &value),
+        Ok(value) => faults_of(alloc, profile_in(&value)),
         Err(ProfileError::OutOfMemory) => Err(AllocError),
         Err(_) => Ok(Vec::new(alloc)),
     }

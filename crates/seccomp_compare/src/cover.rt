@@ -1,6 +1,6 @@
 // Whether rules hold wherever other rules do.
 
-ghost use Rattle.std.specs.Prelude.{◌≡◌, ℕ, List, IfOk, IsTrue};
+ghost use Rattle.std.specs.Prelude.{◌≡◌, ℕ, List, IfOk, IsSome, IsTrue};
 ghost use Rattle.seccomp_compare.specs.Spans.{AllSay, AreCovered, IsCovered, NoneSay};
 
 use crate::facts::{facts_of, imply, is_empty, with};
@@ -17,8 +17,15 @@ pub(crate) fn covers(
 ) -> Result<bool, AllocError>
     ensures { IfOk result (λ covers. IsTrue covers → AreCovered rules.now others.now) }
 {
+    // Each is looked for from where the one before it was found, so rules in the same order take one walk through both; and from the
+    // front again after one that wasn't found there.
+    let mut place = 0;
     for rule in rules {
-        if !is_covered(alloc, rule, others, most)? {
+        if let Some(held) = held_from(rule, others, place) {
+            place = held;
+        } else if is_covered(alloc, rule, others, most)? {
+            place = 0;
+        } else {
             return Ok(false);
         }
     }
@@ -58,7 +65,7 @@ fn advance(
     ensures rest { IfOk result (λ on. IsTrue on → (r : List ℕ) → NoneSay left.new.items r → NoneSay left.old.items r) }
     ensures part { IfOk result (λ on. IsTrue on → (r : List ℕ) → NoneSay others.now r → NoneSay left.new.items r → AllSay facts.now r → ⊥) }
 {
-    if is_done(facts, others) {
+    if is_empty(facts) || held_from(facts, others, 0).is_some() {
         return Ok(true);
     }
     let Some(span) = open_span(facts, others) else {
@@ -68,19 +75,16 @@ fn advance(
     Ok(true)
 }
 
-// Whether no arguments are seen to be left, or one of the rules is seen to hold.
-fn is_done(facts: &[Span], others: &[Vec<Span>]) -> bool
-    ensures { IsTrue result → (r : List ℕ) → AllSay facts.now r → NoneSay others.now r → ⊥ }
+// The first place from this one on of a rule that is seen to hold.
+fn held_from(facts: &[Span], others: &[Vec<Span>], from: usize) -> Option<usize>
+    ensures { IsSome result → (r : List ℕ) → AllSay facts.now r → NoneSay others.now r → ⊥ }
 {
-    if is_empty(facts) {
-        return true;
-    }
-    for rule in others {
-        if holds(facts, rule) {
-            return true;
+    for place in from..others.len() {
+        if holds(facts, &others[place]) {
+            return Some(place);
         }
     }
-    false
+    None
 }
 
 // Whether each span of a rule is seen to say something true.

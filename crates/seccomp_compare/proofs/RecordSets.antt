@@ -11,11 +11,11 @@ use Rattle.seccompiler.specs.Machine.{IsRecord, word_at}
 use Rattle.seccomp_compare.specs.Machine.{EndsFrom, Ends, returns}
 use Rattle.seccomp_compare.specs.declared.follow.At.{At}
 use Rattle.seccomp_compare.specs.declared.Relation.{Relation}
-use Rattle.seccomp_compare.specs.Compare.{Related, AnswersRelated, AnswersUnrelated}
+use Rattle.seccomp_compare.specs.Compare.{Related, AnswersRelated, AnswersUnrelated, ComesTo}
 use Rattle.seccomp_compare.proofs.Words.{word_fits}
 use Rattle.seccomp_compare.specs.declared.values.Values.{Values}
 use Rattle.seccomp_compare.specs.WordSets.{HasValue, IsTight}
-use Rattle.seccomp_compare.specs.RecordSets.{IsIn, AreTight, Reaches}
+use Rattle.seccomp_compare.specs.RecordSets.{IsIn, AreTight, Reaches, accumulator}
 
 -- what is in a list after a write: the new value at its place, the old ones elsewhere
 pub set_found : (part : List Values) (w : ℕ) (v : Values) (j : ℕ) (s : Values) → slice_get (slice_set part w v) j ≡ Some s
@@ -135,6 +135,10 @@ unrelated_at relation p q r p_at q_at i j to_p to_q here_p here_q returns_p retu
   other_ends = ends_at q r q_at j to_q here_q returns_q;
   unrelated = unrelated;
 }
+
+-- where a run comes to, by its place
+pub comes_to : (p : List sock_filter) (r : List ℕ) (at : At) → at.place < length p → Reaches p r at → ComesTo p r at.place
+comes_to p r at within to = record { within = within; accumulator = accumulator r at; steps = to.steps; ends = to.ends }
 
 -- each run comes to its start
 pub reaches_start : (p : List sock_filter) (r : List ℕ) → Reaches p r (record { place = 0; word = 0; mask = 0 })

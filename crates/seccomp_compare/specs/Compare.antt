@@ -1,12 +1,13 @@
 -- What a comparison of two programs, or of two filters, says of the calls of a set.
-use Rattle.std.specs.Prelude.{◌≡◌, ℕ, ◌≤◌, List, nat_eq, if◌then◌else◌, bit_and}
+use Rattle.std.specs.Prelude.{◌≡◌, ℕ, ◌+◌, ◌<◌, ◌≤◌, List, length, nat_eq, if◌then◌else◌, bit_and}
 use Rattle.seccompiler.specs.declared.bpf.sock_filter.{sock_filter}
 use Rattle.seccomp_compare.specs.declared.Relation.{Relation}
 use Rattle.seccomp_compare.specs.declared.Relation.TheVariants.{Alike, AtMostAsPermissive}
 use Rattle.seccomp_compare.specs.declared.Comparison.{Comparison}
 use Rattle.seccomp_compare.specs.declared.Comparison.TheVariants.{Holds, Fails, Undecided}
 use Rattle.seccompiler.specs.Machine.{IsRecord, word_at}
-use Rattle.seccomp_compare.specs.Machine.{Ends}
+use Rattle.seccomp_compare.specs.declared.Stop.{Stop}
+use Rattle.seccomp_compare.specs.Machine.{Ends, EndsFrom}
 
 -- A set of calls: those whose architecture words lie within two bounds, and whose numbers do within two, all included.
 pub record CallSet : Type 0 where
@@ -70,3 +71,16 @@ abbrev pub Compares : CallSet → Relation → List sock_filter → List sock_fi
 Compares calls relation p q Holds = (r : List ℕ) → IsCallOf calls r → AnswersRelated relation p q r
 Compares calls relation p q (Fails r) = IsCallOf calls r × AnswersUnrelated relation p q r
 Compares calls relation p q Undecided = Unit {0}
+
+-- The program's run on this record comes to this place, which is one of the program: as it ends from there, it ends.
+pub record ComesTo (p : List sock_filter) (r : List ℕ) (place : ℕ) : Type 0 where
+  pub within : place < length p
+  pub accumulator : ℕ
+  pub steps : ℕ
+  pub ends : (n w : ℕ) → EndsFrom p r place accumulator n w → Ends p r (steps + n) w
+
+-- Both programs come to these places on one of these calls.
+pub record IsStop (calls : CallSet) (p q : List sock_filter) (s : Stop) : Type 0 where
+  pub call : IsCallOf calls s.call
+  pub comes : ComesTo p s.call s.place
+  pub other_comes : ComesTo q s.call s.other_place

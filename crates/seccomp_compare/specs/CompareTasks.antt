@@ -2,14 +2,15 @@
 use Rattle.std.specs.Prelude.{ℕ, ◌⊎◌, List, [], ◌∷◌}
 use Rattle.seccompiler.specs.declared.bpf.sock_filter.{sock_filter}
 use Rattle.seccomp_compare.specs.declared.Relation.{Relation}
-use Rattle.seccomp_compare.specs.declared.Comparison.{Comparison}
-use Rattle.seccomp_compare.specs.declared.Comparison.TheVariants.{Holds, Fails, Undecided}
+use Rattle.seccomp_compare.specs.declared.Stop.{Stop}
+use Rattle.seccomp_compare.specs.declared.tasks.End.{End}
+use Rattle.seccomp_compare.specs.declared.tasks.End.TheVariants.{Holds, Fails, Stops}
 use Rattle.seccomp_compare.specs.declared.values.Values.{Values}
 use Rattle.seccomp_compare.specs.declared.tasks.Task.{Task}
 use Rattle.seccomp_compare.specs.declared.tasks.Progress.{Progress}
 use Rattle.seccomp_compare.specs.declared.tasks.Progress.TheVariants.{Done, Shows, Splits}
 use Rattle.seccompiler.specs.Machine.{IsRecord}
-use Rattle.seccomp_compare.specs.Compare.{AnswersRelated, AnswersUnrelated}
+use Rattle.seccomp_compare.specs.Compare.{AnswersRelated, AnswersUnrelated, ComesTo}
 use Rattle.seccomp_compare.specs.RecordSets.{IsIn, AreTight, Stands}
 
 -- The relation holds of the programs' words for each record of the set.
@@ -22,11 +23,18 @@ pub record ShowsUnrelated (relation : Relation) (p q : List sock_filter) (part :
   pub within : IsIn part r
   pub unrelated : AnswersUnrelated relation p q r
 
--- What each answer says of two programs on the records of a set.
-abbrev pub ComparesWithin : Relation → List sock_filter → List sock_filter → List Values → Comparison → Type 0
-ComparesWithin relation p q part Holds = AreRelated relation p q part
-ComparesWithin relation p q part (Fails r) = ShowsUnrelated relation p q part r
-ComparesWithin relation p q part Undecided = Unit {0}
+-- Both programs come to these places on this record of the set.
+pub record StopsWithin (p q : List sock_filter) (part : List Values) (s : Stop) : Type 0 where
+  pub record_is : IsRecord s.call
+  pub within : IsIn part s.call
+  pub comes : ComesTo p s.call s.place
+  pub other_comes : ComesTo q s.call s.other_place
+
+-- What each end says of two programs on the records of a set.
+abbrev pub EndsWithin : Relation → List sock_filter → List sock_filter → List Values → End → Type 0
+EndsWithin relation p q part Holds = AreRelated relation p q part
+EndsWithin relation p q part (Fails r) = ShowsUnrelated relation p q part r
+EndsWithin relation p q part (Stops s) = StopsWithin p q part s
 
 -- Both programs stand where the task says, and its set is tight.
 pub record IsTask (p q : List sock_filter) (t : Task) : Type 0 where

@@ -2,7 +2,7 @@
 //!
 //! - [`compare`] says whether two programs answer alike, or the first permits no more than the second
 //!   ([`Relation`]), on every call of a set ([`Calls`]). If not, it gives a call that shows it
-//!   ([`Comparison`]).
+//!   ([`Comparison`]). If neither is found, [`undecided_at`] says where it stopped ([`Stop`]).
 //! - [`compare_filters`] compares what two filters decide, and [`compare_program`] a program with a filter.
 //! - [`rank`] says how much the action of a return value permits.
 //!
@@ -39,10 +39,10 @@ mod spans;
 mod tasks;
 mod values;
 
-ghost use Rattle.std.specs.Prelude.{◌≡◌, ◌↔◌, IsTrue, IfOk, IsOkUnless};
+ghost use Rattle.std.specs.Prelude.{◌≡◌, ◌↔◌, IsTrue, IfOk, IfSome, IsOkUnless};
 ghost use Rattle.seccompiler.specs.declared.backend.BackendError.TheVariants.{OutOfMemory};
 ghost use Rattle.seccomp_compare.specs.Machine.{IsChecked};
-ghost use Rattle.seccomp_compare.specs.Compare.{Compares, Related, rank};
+ghost use Rattle.seccomp_compare.specs.Compare.{Compares, IsStop, Related, rank};
 
 pub use calls::Calls;
 pub use filters::{compare_filters, compare_program};
@@ -50,7 +50,7 @@ pub use rules::is_related_on;
 use seccompiler::BackendError;
 use seccompiler::bpf::BpfProgramRef;
 use std::alloc::Global;
-use tasks::compare_on;
+use tasks::{End, compare_on};
 
 // The actions of return values, from the one that permits least on, as `linux/seccomp.h` has them; that of killing
 // the process is any other.
@@ -93,6 +93,20 @@ pub enum Comparison {
     Fails([u8; 64]),
     /// As many sets of records were looked at as was allowed, and neither was found.
     Undecided,
+}
+
+/// A set of calls at which a comparison stopped, and where both programs stand on it.
+///
+/// The programs stand where not all calls of the set go on together: at a test whose outcome isn't the same for all of
+/// them, or at a return.
+#[derive(Clone, Copy, Debug)]
+pub struct Stop {
+    /// The record of one of the calls.
+    pub call: [u8; 64],
+    /// The place of the first program's instruction, counted from 0.
+    pub place: usize,
+    /// The place of the second program's.
+    pub other_place: usize,
 }
 
 /// Compares the answers of two programs for each call of a set.
@@ -144,7 +158,37 @@ pub fn compare(
     ensures compares { IfOk result (λ answer. Compares calls.now relation p.now q.now answer) }
     ensures memory { IsOkUnless result OutOfMemory }
 {
-    Ok(compare_on(alloc, p, q, &calls.records(), relation, most)?)
+    match compare_on(alloc, p, q, &calls.records(), relation, most)? {
+        End::Holds => Ok(Comparison::Holds),
+        End::Fails(call) => Ok(Comparison::Fails(call)),
+        End::Stops(_) => Ok(Comparison::Undecided),
+    }
+}
+
+/// Where [`compare`] stops, given the same arguments: none if it finds an answer.
+///
+/// It is one of the sets that weren't looked at; which one isn't promised.
+///
+/// # Errors
+///
+/// `OutOfMemory` if memory runs out.
+pub fn undecided_at(
+    alloc: Global,
+    p: BpfProgramRef<'_>,
+    q: BpfProgramRef<'_>,
+    calls: &Calls,
+    relation: Relation,
+    most: usize,
+) -> Result<Option<Stop>, BackendError>
+    requires p_checked { IsChecked p.now }
+    requires q_checked { IsChecked q.now }
+    ensures stop { IfOk result (λ at. IfSome at (IsStop calls.now p.now q.now)) }
+    ensures memory { IsOkUnless result OutOfMemory }
+{
+    match compare_on(alloc, p, q, &calls.records(), relation, most)? {
+        End::Stops(stop) => Ok(Some(stop)),
+        _ => Ok(None),
+    }
 }
 
 // Whether the relation holds of two words.

@@ -1,15 +1,15 @@
 // What is left to do of a comparison: sets of records, and where the two programs stand on them.
 
-ghost use Rattle.std.specs.Prelude.{◌≡◌, ◌<◌, ℕ, List, length, IfOk};
+ghost use Rattle.std.specs.Prelude.{◌≡◌, ◌<◌, ℕ, List, None, length, IfOk, IfSome};
 ghost use Rattle.seccompiler.specs.declared.bpf.sock_filter.{sock_filter};
 ghost use Rattle.seccomp_compare.specs.Machine.{IsChecked};
-ghost use Rattle.seccomp_compare.specs.RecordSets.{AreTight, LeavesSome};
-ghost use Rattle.seccomp_compare.specs.CompareTasks.{ComparesWithin, IsTask, AreParts, IsProgress};
+ghost use Rattle.seccomp_compare.specs.RecordSets.{AreTight, IsIn, LeavesSome};
+ghost use Rattle.seccomp_compare.specs.CompareTasks.{EndsWithin, IsTask, AreParts, IsProgress, StopsWithin};
 
 use crate::follow::{At, follow};
 use crate::sets::{is_empty, member, split};
 use crate::values::Values;
-use crate::{Comparison, Relation, is_related};
+use crate::{Relation, Stop, is_related};
 use seccompiler::bpf::{BpfProgramRef, RETURN, sock_filter};
 use std::alloc::{AllocError, Global};
 
@@ -32,6 +32,17 @@ pub(crate) enum Progress {
     Splits(Task, Task),
 }
 
+// How a comparison ends.
+#[derive(Clone, Copy)]
+pub(crate) enum End {
+    // The relation holds for all records.
+    Holds,
+    // It doesn't for this one.
+    Fails([u8; 64]),
+    // As many sets were looked at as was allowed, and this one is left.
+    Stops(Stop),
+}
+
 /// Compares two programs on the records of a set, looking at so many parts of it at most.
 pub(crate) fn compare_on(
     alloc: Global,
@@ -40,11 +51,11 @@ pub(crate) fn compare_on(
     part: &[Values; 16],
     relation: Relation,
     most: usize,
-) -> Result<Comparison, AllocError>
+) -> Result<End, AllocError>
     requires p_checked { IsChecked p.now }
     requires q_checked { IsChecked q.now }
     requires tight { AreTight part.now }
-    ensures { IfOk result (λ answer. ComparesWithin relation p.now q.now part.now answer) }
+    ensures { IfOk result (λ end. EndsWithin relation p.now q.now part.now end) }
 {
     let start = At {
         place: 0,
@@ -59,21 +70,42 @@ pub(crate) fn compare_on(
     })?;
     for _ in 0..most {
         let Some(task) = tasks.pop() else {
-            return Ok(Comparison::Holds);
+            return Ok(End::Holds);
         };
         match advance(p, q, relation, &task) {
             Progress::Done => {}
-            Progress::Shows(call) => return Ok(Comparison::Fails(call)),
+            Progress::Shows(call) => return Ok(End::Fails(call)),
             Progress::Splits(low, high) => {
                 tasks.push(high)?;
                 tasks.push(low)?;
             }
         }
     }
-    if tasks.is_empty() {
-        return Ok(Comparison::Holds);
+    while let Some(task) = tasks.pop() {
+        if let Some(stop) = stop_on(p, q, &task) {
+            return Ok(End::Stops(stop));
+        }
     }
-    Ok(Comparison::Undecided)
+    Ok(End::Holds)
+}
+
+// Where both programs stand on a record of the set, as far as all its records go together; none if it has no record.
+fn stop_on(p: BpfProgramRef<'_>, q: BpfProgramRef<'_>, task: &Task) -> Option<Stop>
+    requires p_checked { IsChecked p.now }
+    requires q_checked { IsChecked q.now }
+    requires task { IsTask p.now q.now task.now }
+    ensures stops { IfSome result (StopsWithin p.now q.now task.now.part) }
+    ensures empty { result ≡ None → (r : List ℕ) → IsIn task.now.part r → ⊥ }
+{
+    if is_empty(&task.part) {
+        return None;
+    }
+    let stand = followed(p, q, task);
+    Some(Stop {
+        call: member(&stand.part),
+        place: stand.p_at.place,
+        other_place: stand.q_at.place,
+    })
 }
 
 // Goes on with both programs as far as all records of the set go together.

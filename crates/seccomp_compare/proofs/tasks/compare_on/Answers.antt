@@ -1,7 +1,5 @@
-use Rattle.std.proofs.Common.{◌≡◌, ◌==◌, ◌++◌, ℕ, Bool, true, [], ◌∷◌, List, length, ⊎_elim, sym, ap, ◌∙◌, subst, refl, arith}
-use Rattle.std.proofs.lemmas.Bool.Decides.{nat_tests}
+use Rattle.std.proofs.Common.{◌≡◌, ◌++◌, [], ◌∷◌, List, sym, ap, ◌∙◌, subst, refl, arith}
 use Rattle.seccomp_compare.specs.declared.tasks.Task.{Task}
-use Rattle.seccomp_compare.specs.CompareTasks.{InSome}
 use Rattle.seccomp_compare.proofs.RecordSets.{reaches_start}
 use Rattle.seccomp_compare.proofs.TasksLeft.{AreLeft, left_first, left_done, left_split, tasks_pop}
 use Rattle.seccomp_compare.proofs.tasks.compare_on.Goals.{in-Done, in-Splits+in_ok-push-in-Splits+in_ok-push-in-Splits-2}
@@ -24,18 +22,18 @@ loop-init c =
       q_stands = record { within = omega (arith, c.requires.q_checked.some); word = omega arith; reached = λ r _ _. reaches_start q r };
       tight = c.requires.tight;
     }) in
-    record { tasks = left.0; rest = left.1 }
+    left
 
 pub advance-requires-clause-task : goal.advance-requires-clause-task
 advance-requires-clause-task c =
     let left = subst (λ ts. AreLeft c.args.relation c.args.p.now c.args.q.now c.args.part.now ts) c.in-Some.ensures.items
-    (c.loop.invariant.tasks, c.loop.invariant.rest) in
+    c.loop.invariant in
     (tasks_pop c.args.p.now c.args.q.now c.args.part.now c.pop.new.self.items c.in-Some.task left.0).1
 
 pub returns-in-Shows : goal.returns-in-Shows
 returns-in-Shows c =
     let left = subst (λ ts. AreLeft c.args.relation c.args.p.now c.args.q.now c.args.part.now ts) c.in-Some.ensures.items
-    (c.loop.invariant.tasks, c.loop.invariant.rest) in
+    c.loop.invariant in
     let back = (tasks_pop c.args.p.now c.args.q.now c.args.part.now c.pop.new.self.items c.in-Some.task left.0).2 in
     let shows = c.in-Shows.ensures in
     record { record_is = shows.record_is; within = back _ shows.record_is shows.within; unrelated = shows.unrelated }
@@ -47,13 +45,13 @@ loop-preserved c =
     let part = c.args.part.now in
     let before = c.pop.new.self.items in
     let task = c.in-Some.task in
-    let left = subst (λ ts. AreLeft c.args.relation p q part ts) c.in-Some.ensures.items (c.loop.invariant.tasks, c.loop.invariant.rest) in
+    let left = subst (λ ts. AreLeft c.args.relation p q part ts) c.in-Some.ensures.items c.loop.invariant in
     elim c.match-advance.branch [
       | in-Done w ↦ (
           let now : c.match-advance.tasks.items ≡ before = rw w.tasks-is refl in
           let done = subst (λ ts. AreLeft c.args.relation p q part ts) (sym now)
           (left_done c.args.relation p q part before task left w.in-Done.ensures) in
-          record { tasks = done.0; rest = done.1 })
+          done)
       | in-Splits+in_ok-push-in-Splits+in_ok-push-in-Splits-2 w ↦ (
           let low = w.in-Splits.low in
           let high = w.in-Splits.high in
@@ -62,21 +60,31 @@ loop-preserved c =
           let now : c.match-advance.tasks.items ≡ before ++ high ∷ [] ++ low ∷ [] = rw w.tasks-is pushed in
           let done = subst (λ ts. AreLeft c.args.relation p q part ts) (sym now)
           (left_split c.args.relation p q part before task low high left w.in-Splits.ensures) in
-          record { tasks = done.0; rest = done.1 })
+          done)
     ]
 
--- no record lies in the set of one of no tasks
-none_left : (ts : List Task) (r : List ℕ) (n : ℕ) (empty : Bool) → n ≡ length ts → empty ≡ (n == 0) → empty ≡ true → InSome ts r → ⊥
-none_left [] r n empty same is passed some = some
-none_left (t ∷ ts) r n empty same is passed some = absurd (grind (arith, nat_tests, same, is, passed))
+pub stop_on-requires-clause-task : goal.stop_on-requires-clause-task
+stop_on-requires-clause-task c =
+    let left = subst (λ ts. AreLeft c.args.relation c.args.p.now c.args.q.now c.args.part.now ts) c.in-Some-pop.ensures.items
+    c.loop-task.invariant in
+    (tasks_pop c.args.p.now c.args.q.now c.args.part.now c.pop-in-loop-task.new.self.items c.in-Some-pop.task left.0).1
 
-pub returns-then-is_empty : goal.returns-then-is_empty
-returns-then-is_empty c =
-    let tasks = c.loop.tasks in
+pub returns-in-Some-stop_on : goal.returns-in-Some-stop_on
+returns-in-Some-stop_on c =
+    let left = subst (λ ts. AreLeft c.args.relation c.args.p.now c.args.q.now c.args.part.now ts) c.in-Some-pop.ensures.items
+    c.loop-task.invariant in
+    let back = (tasks_pop c.args.p.now c.args.q.now c.args.part.now c.pop-in-loop-task.new.self.items c.in-Some-pop.task left.0).2 in
+    let stops = c.in-Some-stop_on.ensures.stops in
     record {
-      each = λ r rec inside.
-          ⊎_elim
-          (λ related. related)
-          (λ some. absurd (none_left tasks.items r tasks.len c.is_empty.result tasks.ok.0 c.is_empty.ensures c.if-is_empty.true some))
-          (c.loop.invariant.rest r rec inside);
+      record_is = stops.record_is;
+      within = back _ stops.record_is stops.within;
+      comes = stops.comes;
+      other_comes = stops.other_comes;
     }
+
+pub loop-task-preserved : goal.loop-task-preserved
+loop-task-preserved c =
+    let left = subst (λ ts. AreLeft c.args.relation c.args.p.now c.args.q.now c.args.part.now ts) c.in-Some-pop.ensures.items
+    c.loop-task.invariant in
+    left_done c.args.relation c.args.p.now c.args.q.now c.args.part.now c.pop-in-loop-task.new.self.items c.in-Some-pop.task left
+    record { each = λ r _ inside. absurd (c.in_default-stop_on.ensures.empty refl r inside) }

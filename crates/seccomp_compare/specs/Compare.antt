@@ -6,6 +6,8 @@ use Rattle.seccomp_compare.specs.declared.Relation.TheVariants.{Alike, AtMostAsP
 use Rattle.seccomp_compare.specs.declared.Comparison.{Comparison}
 use Rattle.seccomp_compare.specs.declared.Comparison.TheVariants.{Holds, Fails, Undecided}
 use Rattle.seccompiler.specs.Machine.{IsRecord, word_at}
+use Rattle.seccomp_compare.specs.declared.End.{End}
+use Rattle.seccomp_compare.specs.declared.End.TheVariants as end
 use Rattle.seccomp_compare.specs.declared.Stop.{Stop}
 use Rattle.seccomp_compare.specs.Machine.{Ends, EndsFrom}
 
@@ -84,3 +86,10 @@ pub record IsStop (calls : CallSet) (p q : List sock_filter) (s : Stop) : Type 0
   pub call : IsCallOf calls s.call
   pub comes : ComesTo p s.call s.place
   pub other_comes : ComesTo q s.call s.other_place
+
+-- What the end of a comparison says of two programs: that the relation holds for each of these calls; a call of them for which it doesn't;
+-- or where it stopped.
+abbrev pub EndsFor : CallSet → Relation → List sock_filter → List sock_filter → End → Type 0
+EndsFor calls relation p q end.Holds = (r : List ℕ) → IsCallOf calls r → AnswersRelated relation p q r
+EndsFor calls relation p q (end.Fails r) = IsCallOf calls r × AnswersUnrelated relation p q r
+EndsFor calls relation p q (end.Stops s) = IsStop calls p q s

@@ -3,8 +3,8 @@ use Rattle.std.specs.Prelude.{ℕ, ◌⊎◌, List, [], ◌∷◌}
 use Rattle.seccompiler.specs.declared.bpf.sock_filter.{sock_filter}
 use Rattle.seccomp_compare.specs.declared.Relation.{Relation}
 use Rattle.seccomp_compare.specs.declared.Stop.{Stop}
-use Rattle.seccomp_compare.specs.declared.tasks.End.{End}
-use Rattle.seccomp_compare.specs.declared.tasks.End.TheVariants.{Holds, Fails, Stops}
+use Rattle.seccomp_compare.specs.declared.End.{End}
+use Rattle.seccomp_compare.specs.declared.End.TheVariants.{Holds, Fails, Stops}
 use Rattle.seccomp_compare.specs.declared.values.Values.{Values}
 use Rattle.seccomp_compare.specs.declared.tasks.Task.{Task}
 use Rattle.seccomp_compare.specs.declared.tasks.Progress.{Progress}

@@ -2,7 +2,7 @@
 //!
 //! - [`compare`] says whether two programs answer alike, or the first permits no more than the second
 //!   ([`Relation`]), on every call of a set ([`Calls`]). If not, it gives a call that shows it
-//!   ([`Comparison`]). If neither is found, [`undecided_at`] says where it stopped ([`Stop`]).
+//!   ([`Comparison`]). [`compare_to_end`] also says where it stopped, if neither is found ([`End`]).
 //! - [`compare_filters`] compares what two filters decide, and [`compare_program`] a program with a filter.
 //! - [`rank`] says how much the action of a return value permits.
 //!
@@ -39,10 +39,10 @@ mod spans;
 mod tasks;
 mod values;
 
-ghost use Rattle.std.specs.Prelude.{◌≡◌, ◌↔◌, IsTrue, IfOk, IfSome, IsOkUnless};
+ghost use Rattle.std.specs.Prelude.{◌≡◌, ◌↔◌, IsTrue, IfOk, IsOkUnless};
 ghost use Rattle.seccompiler.specs.declared.backend.BackendError.TheVariants.{OutOfMemory};
 ghost use Rattle.seccomp_compare.specs.Machine.{IsChecked};
-ghost use Rattle.seccomp_compare.specs.Compare.{Compares, IsStop, Related, rank};
+ghost use Rattle.seccomp_compare.specs.Compare.{Compares, EndsFor, Related, rank};
 
 pub use calls::Calls;
 pub use filters::{compare_filters, compare_program};
@@ -50,7 +50,7 @@ pub use rules::is_related_on;
 use seccompiler::BackendError;
 use seccompiler::bpf::BpfProgramRef;
 use std::alloc::Global;
-use tasks::{End, compare_on};
+use tasks::compare_on;
 
 // The actions of return values, from the one that permits least on, as `linux/seccomp.h` has them; that of killing
 // the process is any other.
@@ -109,6 +109,17 @@ pub struct Stop {
     pub other_place: usize,
 }
 
+/// How a comparison ends, with the place where it stopped.
+#[derive(Clone, Copy, Debug)]
+pub enum End {
+    /// The relation holds for every call of the set.
+    Holds,
+    /// It doesn't for the call of this record, which is one of the set.
+    Fails([u8; 64]),
+    /// As many sets of records were looked at as was allowed, and this one is left.
+    Stops(Stop),
+}
+
 /// Compares the answers of two programs for each call of a set.
 ///
 /// The programs must pass [`machine::check`], and may be of any compiler. The comparison splits the calls by
@@ -158,37 +169,34 @@ pub fn compare(
     ensures compares { IfOk result (λ answer. Compares calls.now relation p.now q.now answer) }
     ensures memory { IsOkUnless result OutOfMemory }
 {
-    match compare_on(alloc, p, q, &calls.records(), relation, most)? {
+    match compare_to_end(alloc, p, q, calls, relation, most)? {
         End::Holds => Ok(Comparison::Holds),
         End::Fails(call) => Ok(Comparison::Fails(call)),
         End::Stops(_) => Ok(Comparison::Undecided),
     }
 }
 
-/// Where [`compare`] stops, given the same arguments: none if it finds an answer.
+/// Compares as [`compare`] does, and says where the comparison stopped if it found no answer.
 ///
-/// It is one of the sets that weren't looked at; which one isn't promised.
+/// That is one of the sets that weren't looked at; which one isn't promised.
 ///
 /// # Errors
 ///
 /// `OutOfMemory` if memory runs out.
-pub fn undecided_at(
+pub fn compare_to_end(
     alloc: Global,
     p: BpfProgramRef<'_>,
     q: BpfProgramRef<'_>,
     calls: &Calls,
     relation: Relation,
     most: usize,
-) -> Result<Option<Stop>, BackendError>
+) -> Result<End, BackendError>
     requires p_checked { IsChecked p.now }
     requires q_checked { IsChecked q.now }
-    ensures stop { IfOk result (λ at. IfSome at (IsStop calls.now p.now q.now)) }
+    ensures ends { IfOk result (λ end. EndsFor calls.now relation p.now q.now end) }
     ensures memory { IsOkUnless result OutOfMemory }
 {
-    match compare_on(alloc, p, q, &calls.records(), relation, most)? {
-        End::Stops(stop) => Ok(Some(stop)),
-        _ => Ok(None),
-    }
+    Ok(compare_on(alloc, p, q, &calls.records(), relation, most)?)
 }
 
 // Whether the relation holds of two words.

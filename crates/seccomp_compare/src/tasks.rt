@@ -9,7 +9,7 @@ ghost use Rattle.seccomp_compare.specs.CompareTasks.{EndsWithin, IsTask, ArePart
 use crate::follow::{At, follow};
 use crate::sets::{is_empty, member, split};
 use crate::values::Values;
-use crate::{Relation, Stop, is_related};
+use crate::{End, Relation, Stop, is_related};
 use seccompiler::bpf::{BpfProgramRef, RETURN, sock_filter};
 use std::alloc::{AllocError, Global};
 
@@ -30,17 +30,6 @@ pub(crate) enum Progress {
     Shows([u8; 64]),
     // Two tasks are left of it.
     Splits(Task, Task),
-}
-
-// How a comparison ends.
-#[derive(Clone, Copy)]
-pub(crate) enum End {
-    // The relation holds for all records.
-    Holds,
-    // It doesn't for this one.
-    Fails([u8; 64]),
-    // As many sets were looked at as was allowed, and this one is left.
-    Stops(Stop),
 }
 
 /// Compares two programs on the records of a set, looking at so many parts of it at most.

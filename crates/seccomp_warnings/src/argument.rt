@@ -7,7 +7,7 @@ use crate::call::is_number_of;
 use crate::code::Code;
 use crate::pointers::pointer_calls;
 use crate::warning::Comparison;
-use seccompiler::{SeccompCmpOp, TargetArch};
+use seccompiler::{SeccompCmpOp, SyscallTable, TargetArch};
 
 // The calls whose argument of this index is signed.
 fn signed_calls(index: u8) -> &'static [&'static str]
@@ -93,6 +93,18 @@ fn is_among(arch: TargetArch, number: u32, names: &[&str]) -> bool
     false
 }
 
+// The same of many names: one pass over the table takes less than a look-up of each.
+fn is_among_many(arch: TargetArch, number: u32, names: &[&str]) -> bool
+    ensures { result ≡ spec.is_among arch number (map (λ n. n.now) names.now) }
+{
+    for pair in SyscallTable::new(arch).pairs() {
+        if i64::from(number) == pair.1 && names.contains(&pair.0) {
+            return true;
+        }
+    }
+    false
+}
+
 // A flag that the call takes in the argument of this index, and that changes nothing of what it is denied for; 0 if none is known.
 pub(crate) fn flag_of(arch: TargetArch, number: u32, index: u8) -> u64
     ensures { result ≡ spec.flag_of arch number index }
@@ -142,8 +154,9 @@ pub(crate) fn is_so_of_call(
 {
     let index = comparison.arg_index;
     match code {
-        Code::PointerCompared => comparison.value != 0
-            && is_among(arch, number, pointer_calls(index)),
+        Code::PointerCompared => {
+            comparison.value != 0 && is_among_many(arch, number, pointer_calls(index))
+        }
         Code::SignedCompared => {
             is_order(comparison.operator) && is_among(arch, number, signed_calls(index))
         }

@@ -2,15 +2,29 @@
 
 ghost use Rattle.std.specs.Prelude.{◌≡◌, ◌↔◌, IsTrue, IsFalse};
 ghost use Rattle.seccompiler.specs.Policy.{part_of};
-ghost use Rattle.seccomp_warnings.specs.AnyArgument.{HoldsForAll, HoldsForNone, HoldsForSome, FailsForSome, condition_in};
+ghost use Rattle.seccomp_warnings.specs.AnyArgument.{HoldsForAll, HoldsForNone, HoldsForSome, FailsForSome, comparison_at, condition_in};
 ghost use Rattle.seccomp_warnings.specs.Warnings.{IsSoOfCondition, HasIgnoredHalf, HasValueOutside};
 
 use crate::code::Code;
 use crate::warning::Comparison;
-use seccompiler::{SeccompCmpArgLen, SeccompCmpOp};
+use seccompiler::{SeccompCmpArgLen, SeccompCmpOp, SeccompCondition};
 
 // The greatest number of 32 bits.
 const LOW_HALF: u64 = 0xffff_ffff;
+
+// The condition at a place of the entry at a place.
+pub(crate) fn comparison_at(entry: usize, place: usize, condition: &SeccompCondition) -> Comparison
+    ensures { result ≡ comparison_at entry place condition.now }
+{
+    Comparison {
+        entry,
+        place,
+        arg_index: condition.arg_index(),
+        arg_len: condition.arg_len(),
+        operator: condition.operator(),
+        value: condition.value(),
+    }
+}
 
 // Whether the value has bits in the high half, which isn't compared.
 fn has_ignored_half(comparison: Comparison) -> bool

@@ -10,9 +10,8 @@ ghost use Rattle.seccomp_warnings.specs.Walks.{Adds, AreDecisionsOf};
 
 use crate::call::is_number_of;
 use crate::code::Code;
-use crate::evasion::{
-    Evasion, blank_call, comparison_at, edge_of, is_permitting, push_shown, with_argument,
-};
+use crate::condition::comparison_at;
+use crate::evasion::{Evasion, blank_call, edge_of, is_permitting, push_shown, with_argument};
 use seccomp_entries::{Entry, Lowered};
 use seccomp_tree::Decisions;
 use seccompiler::{SeccompCmpOp, SeccompCondition, SyscallTable, TargetArch};
@@ -35,140 +34,42 @@ pub(crate) struct Detour {
     kept: u64,
 }
 
+// A detour, by its fields in their order.
+macro_rules! detour {
+    ($call:expr, $index:expr, $bits:expr, $other:expr, $other_index:expr, $kept:expr) => {
+        Detour {
+            call: $call,
+            index: $index,
+            bits: $bits,
+            other: $other,
+            other_index: $other_index,
+            kept: $kept,
+        }
+    };
+}
+
 // All of them.
 fn all_detours() -> &'static [Detour]
     ensures are { map spec.read result.now ≡ spec.detours }
     ensures in_range { list_all (λ d. nat_le d.other_index 5) result.now ≡ true }
 {
     &[
-        Detour {
-            call: "open",
-            index: 1,
-            bits: 2,
-            other: "openat",
-            other_index: 2,
-            kept: 0xffff_ffff_ffff_ffff,
-        },
-        Detour {
-            call: "open",
-            index: 1,
-            bits: 2,
-            other: "openat2",
-            other_index: 0,
-            kept: 0,
-        },
-        Detour {
-            call: "open",
-            index: 1,
-            bits: 2,
-            other: "creat",
-            other_index: 0,
-            kept: 0,
-        },
-        Detour {
-            call: "open",
-            index: 1,
-            bits: 2,
-            other: "io_uring_setup",
-            other_index: 0,
-            kept: 0,
-        },
-        Detour {
-            call: "openat",
-            index: 2,
-            bits: 2,
-            other: "open",
-            other_index: 1,
-            kept: 0xffff_ffff_ffff_ffff,
-        },
-        Detour {
-            call: "openat",
-            index: 2,
-            bits: 2,
-            other: "openat2",
-            other_index: 0,
-            kept: 0,
-        },
-        Detour {
-            call: "openat",
-            index: 2,
-            bits: 2,
-            other: "creat",
-            other_index: 0,
-            kept: 0,
-        },
-        Detour {
-            call: "openat",
-            index: 2,
-            bits: 2,
-            other: "io_uring_setup",
-            other_index: 0,
-            kept: 0,
-        },
-        Detour {
-            call: "mmap",
-            index: 2,
-            bits: 4,
-            other: "mprotect",
-            other_index: 2,
-            kept: 0xffff_ffff_ffff_ffff,
-        },
-        Detour {
-            call: "mmap",
-            index: 2,
-            bits: 4,
-            other: "pkey_mprotect",
-            other_index: 2,
-            kept: 0xffff_ffff_ffff_ffff,
-        },
-        Detour {
-            call: "mprotect",
-            index: 2,
-            bits: 4,
-            other: "pkey_mprotect",
-            other_index: 2,
-            kept: 0xffff_ffff_ffff_ffff,
-        },
-        Detour {
-            call: "pkey_mprotect",
-            index: 2,
-            bits: 4,
-            other: "mprotect",
-            other_index: 2,
-            kept: 0xffff_ffff_ffff_ffff,
-        },
-        Detour {
-            call: "clone",
-            index: 0,
-            bits: 0x1000_0000,
-            other: "unshare",
-            other_index: 0,
-            kept: 0x7e02_0080,
-        },
-        Detour {
-            call: "unshare",
-            index: 0,
-            bits: 0x1000_0000,
-            other: "clone",
-            other_index: 0,
-            kept: 0xffff_ffff_ffff_ffff,
-        },
-        Detour {
-            call: "unshare",
-            index: 0,
-            bits: 0x1000_0000,
-            other: "clone3",
-            other_index: 0,
-            kept: 0,
-        },
-        Detour {
-            call: "socket",
-            index: 0,
-            bits: 16,
-            other: "io_uring_setup",
-            other_index: 0,
-            kept: 0,
-        },
+        detour!("open", 1, 2, "openat", 2, 0xffff_ffff_ffff_ffff),
+        detour!("open", 1, 2, "openat2", 0, 0),
+        detour!("open", 1, 2, "creat", 0, 0),
+        detour!("open", 1, 2, "io_uring_setup", 0, 0),
+        detour!("openat", 2, 2, "open", 1, 0xffff_ffff_ffff_ffff),
+        detour!("openat", 2, 2, "openat2", 0, 0),
+        detour!("openat", 2, 2, "creat", 0, 0),
+        detour!("openat", 2, 2, "io_uring_setup", 0, 0),
+        detour!("mmap", 2, 4, "mprotect", 2, 0xffff_ffff_ffff_ffff),
+        detour!("mmap", 2, 4, "pkey_mprotect", 2, 0xffff_ffff_ffff_ffff),
+        detour!("mprotect", 2, 4, "pkey_mprotect", 2, 0xffff_ffff_ffff_ffff),
+        detour!("pkey_mprotect", 2, 4, "mprotect", 2, 0xffff_ffff_ffff_ffff),
+        detour!("clone", 0, 0x1000_0000, "unshare", 0, 0x7e02_0080),
+        detour!("unshare", 0, 0x1000_0000, "clone", 0, 0xffff_ffff_ffff_ffff),
+        detour!("unshare", 0, 0x1000_0000, "clone3", 0, 0),
+        detour!("socket", 0, 16, "io_uring_setup", 0, 0),
     ]
 }
 
@@ -188,40 +89,12 @@ pub(crate) fn push_detours(
     ensures { OnOk result (Adds (IsShown allowed.now lowered.now) (pairs.detour_pairs call.now lowered.now.target_arch own.now entry place condition.now) found.old.items found.new.items) }
 {
     for detour in all_detours() {
-        let pair = detour_pair(
-            call,
-            lowered.target_arch,
-            own,
-            entry,
-            place,
-            condition,
-            detour,
-        );
-        push_some(found, lowered, decisions, allowed, condition, pair)?;
+        let arch = lowered.target_arch;
+        if let Some(pair) = detour_pair(call, arch, own, entry, place, condition, detour) {
+            push_shown(found, lowered, decisions, allowed, condition, &pair)?;
+        }
     }
     Ok(())
-}
-
-// Adds a pair of calls of the condition, if there is one, it is an evasion and its code isn't allowed.
-fn push_some(
-    found: &mut Vec<Evasion>,
-    lowered: &Lowered,
-    decisions: &Decisions,
-    allowed: &[Code],
-    condition: &SeccompCondition,
-    pair: Option<Evasion>,
-) -> Result<(), AllocError>
-    requires decide { AreDecisionsOf lowered.now decisions.now }
-    requires condition { IfSome pair (λ v. condition_of v.comparison ≡ condition.now) }
-    ensures { OnOk result (Adds (IsShown allowed.now lowered.now) (pairs.listed pair) found.old.items found.new.items) }
-{
-    match pair {
-        Some(pair) => {
-            push_shown(found, lowered, decisions, allowed, condition, &pair)?;
-            Ok(())
-        }
-        None => Ok(()),
-    }
 }
 
 // The pair of calls of the condition at a place of the entry at a place by a detour, if there is one.
@@ -241,36 +114,17 @@ fn detour_pair(
     if !is_asked(detour, arch, own, condition) {
         return None;
     }
-    match call_number(arch, detour.other) {
-        Some(number) => Some(pair_by(call, arch, entry, place, condition, detour, number)),
-        None => None,
-    }
-}
-
-// The pair by a detour whose other call has this number.
-fn pair_by(
-    call: &[u8; 64],
-    arch: TargetArch,
-    entry: usize,
-    place: usize,
-    condition: &SeccompCondition,
-    detour: &Detour,
-    number: u32,
-) -> Evasion
-    requires { detour.now.other_index ≤ 5 }
-    ensures { result ≡ pairs.pair_by call.now arch entry place condition.now (spec.read detour.now) number }
-{
+    let Some(number) = SyscallTable::new(arch).get_syscall_nr(detour.other) else {
+        return None;
+    };
     let asked = asked_of(detour.bits, condition);
-    Evasion {
+    let other = blank_call(arch, number as u32);
+    Some(Evasion {
         code: Code::ConditionEvaded,
         comparison: comparison_at(entry, place, condition),
         denied: with_argument(call, condition.arg_index(), asked),
-        passed: with_argument(
-            &blank_call(arch, number),
-            detour.other_index,
-            asked & detour.kept,
-        ),
-    }
+        passed: with_argument(&other, detour.other_index, asked & detour.kept),
+    })
 }
 
 // What is asked of a call that the condition denies.
@@ -291,14 +145,4 @@ fn is_asked(detour: &Detour, arch: TargetArch, own: &Entry, condition: &SeccompC
     is_permitting(u32::from(own.action))
         && condition.arg_index() == detour.index
         && is_number_of(arch, detour.call, own.number)
-}
-
-// The number of the call of this name, if the architecture has it.
-fn call_number(arch: TargetArch, name: &str) -> Option<u32>
-    ensures { result ≡ spec.call_number arch name.now }
-{
-    match SyscallTable::new(arch).get_syscall_nr(name) {
-        Some(number) => Some(number as u32),
-        None => None,
-    }
 }

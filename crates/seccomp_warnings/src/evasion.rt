@@ -4,15 +4,15 @@
 ghost use Rattle.std.specs.Prelude.{◌≡◌, ◌+◌, ◌≤◌, ◌↔◌, ◌∷◌, [], IfOk, IsFalse, IsTrue, OnOk, length};
 ghost use Rattle.seccomp_entries.specs.Rulings.{AreOfCalls};
 ghost use Rattle.seccomp_tree.specs.Decided.{AscendFromZero};
-ghost use Rattle.seccomp_warnings.specs.AnyArgument.{comparison_at, condition_of};
+ghost use Rattle.seccomp_warnings.specs.AnyArgument.{condition_of};
 ghost use Rattle.seccomp_warnings.specs.Detours as detours;
 ghost use Rattle.seccomp_warnings.specs.Evasions as spec;
-ghost use Rattle.seccomp_warnings.specs.Evasions.{AreEvasions, DeniesCall, IsApart, IsApartBy, IsPermitting, IsShown, LetsThrough, blank_call, condition_pairs, entry_pairs, own_pairs, with_argument, with_bytes};
+ghost use Rattle.seccomp_warnings.specs.Evasions.{AreEvasions, DeniesCall, IsApart, IsApartBy, IsPermitting, IsShown, LetsThrough, blank_call, entry_pairs, own_pairs, with_argument, with_bytes};
 ghost use Rattle.seccomp_warnings.specs.Walks.{Adds, AreDecisionsOf};
 
 use crate::argument::{flag_of, further_flag_of};
 use crate::code::{Code, is_among};
-use crate::condition::part_of;
+use crate::condition::{comparison_at, part_of};
 use crate::detour::push_detours;
 use crate::warning::Comparison;
 use seccomp_entries::{Entry, Lowered, decisions_of};
@@ -74,34 +74,13 @@ fn push_entry(
 {
     let call = likely_call(lowered.target_arch, own.number, &own.conditions);
     for (place, condition) in own.conditions.iter().enumerate() {
-        push_condition(
+        push_own(
+            found, lowered, decisions, allowed, &call, own.number, entry, place, condition,
+        )?;
+        push_detours(
             found, lowered, decisions, allowed, &call, own, entry, place, condition,
         )?;
     }
-    Ok(())
-}
-
-// Adds those of the condition at a place of the entry at a place.
-fn push_condition(
-    found: &mut Vec<Evasion>,
-    lowered: &Lowered,
-    decisions: &Decisions,
-    allowed: &[Code],
-    call: &[u8; 64],
-    own: &Entry,
-    entry: usize,
-    place: usize,
-    condition: &SeccompCondition,
-) -> Result<(), AllocError>
-    requires { AreDecisionsOf lowered.now decisions.now }
-    ensures { OnOk result (Adds (IsShown allowed.now lowered.now) (condition_pairs call.now lowered.now.target_arch own.now entry place condition.now) found.old.items found.new.items) }
-{
-    push_own(
-        found, lowered, decisions, allowed, call, own.number, entry, place, condition,
-    )?;
-    push_detours(
-        found, lowered, decisions, allowed, call, own, entry, place, condition,
-    )?;
     Ok(())
 }
 
@@ -216,20 +195,6 @@ fn is_let_through(lowered: &Lowered, decisions: &Decisions, call: &[u8; 64]) -> 
     is_permitting(decisions.decide(call))
 }
 
-// The condition at a place of the entry at a place.
-pub(crate) fn comparison_at(entry: usize, place: usize, condition: &SeccompCondition) -> Comparison
-    ensures { result ≡ comparison_at entry place condition.now }
-{
-    Comparison {
-        entry,
-        place,
-        arg_index: condition.arg_index(),
-        arg_len: condition.arg_len(),
-        operator: condition.operator(),
-        value: condition.value(),
-    }
-}
-
 // The pair of calls of the condition at a place of the entry at a place that differ in these bits.
 fn pair_of(
     code: Code,
@@ -250,11 +215,20 @@ fn pair_of(
     }
 }
 
-// The flag, as far as calls of a condition may differ in it.
+// The flag, unless the condition is about it alone: it is the mask, or the number and no close-on-exec flag.
 fn flag_bits(condition: &SeccompCondition, flag: u64) -> u64
     ensures { result ≡ spec.flag_bits condition.now flag }
 {
-    flag_by(condition.operator(), edge_of(condition), flag)
+    match condition.operator() {
+        SeccompCmpOp::MaskedEq(mask) => { if mask == flag { 0 } else { flag } }
+        _ => {
+            if edge_of(condition) == flag && flag != 0x8_0000 {
+                0
+            } else {
+                flag
+            }
+        }
+    }
 }
 
 // High bits of an argument that a condition of 64 bits may compare.
@@ -275,22 +249,6 @@ fn high_bits(length: SeccompCmpArgLen, operator: SeccompCmpOp, value: u64) -> u6
                 0x1_0000_0000
             } else {
                 0
-            }
-        }
-    }
-}
-
-// The flag, unless the condition is about it alone: it is the mask, or the number and no close-on-exec flag.
-fn flag_by(operator: SeccompCmpOp, number: u64, flag: u64) -> u64
-    ensures { result ≡ spec.flag_by operator number flag }
-{
-    match operator {
-        SeccompCmpOp::MaskedEq(mask) => { if mask == flag { 0 } else { flag } }
-        _ => {
-            if number == flag && flag != 0x8_0000 {
-                0
-            } else {
-                flag
             }
         }
     }

@@ -4,7 +4,7 @@ ghost use Rattle.std.specs.Prelude.{◌≡◌, ◌↔◌, ◌⊎◌, map, IfErr,
 ghost use Rattle.seccompiler.specs.JsonPolicyOf.{IsPolicyOf};
 ghost use Rattle.seccompiler.specs.JsonSteps.{IsPolicyRefusal};
 ghost use Rattle.seccompiler.specs.Policy.{Filter};
-ghost use Rattle.seccomp_warnings.specs.Warnings.{AreTrueWarnings, AreWarned, AreWarnings, IsGiven, IsSo, IsSoOfEntryArgument, about, calls_asked, condition_asked, entry_asked};
+ghost use Rattle.seccomp_warnings.specs.Warnings.{AreTrueWarnings, AreWarned, AreWarnings, IsGiven, IsSo, IsSoOfEntryArgument, about, calls_asked, entry_asked};
 ghost use Rattle.seccomp_warnings.specs.Picked.{numbered};
 ghost use Rattle.seccomp_warnings.specs.CallWarnings.{IsJudged, IsSoOfEntry, all_unlisted};
 ghost use Rattle.seccomp_warnings.specs.Walks.{AddsPicked};
@@ -13,14 +13,14 @@ use crate::action::{is_so_of_action, is_so_of_both};
 use crate::argument::is_so_of_call;
 use crate::call::{is_judged, is_so_of_entry, is_so_of_unlisted};
 use crate::code::{Code, is_among};
-use crate::condition::is_so_of_condition;
+use crate::condition::{comparison_at, is_so_of_condition};
 use crate::evasion::evasions_of;
 use crate::judgement::{Judgement, judgements_of};
 use crate::part::{Part, part_by};
 use crate::unlisted::Unlisted;
 use crate::warning::{Comparison, FilterWarned, Subject, Warned, Warning};
 use seccomp_entries::{Entry, lowered_policy};
-use seccompiler::{JsonFilter, JsonFrontendError, SeccompCondition, TargetArch};
+use seccompiler::{JsonFilter, JsonFrontendError, TargetArch};
 use std::alloc::{AllocError, Global};
 
 /// The warnings of a filter of a policy: those of its part, and its evasions.
@@ -186,54 +186,6 @@ fn push_calls(
     Ok(())
 }
 
-// Adds the warnings of the condition at a place of the entry at a place.
-fn push_condition(
-    warnings: &mut Vec<Warning>,
-    allowed: &[Code],
-    judgements: &[Judgement],
-    part: &Part,
-    entry: usize,
-    place: usize,
-    condition: &SeccompCondition,
-) -> Result<(), AllocError>
-    ensures { OnOk result (AddsPicked allowed.now judgements.now part.now (condition_asked entry place condition.now) warnings.old.items warnings.new.items) }
-{
-    let comparison = Comparison {
-        entry,
-        place,
-        arg_index: condition.arg_index(),
-        arg_len: condition.arg_len(),
-        operator: condition.operator(),
-        value: condition.value(),
-    };
-    let subject = Subject::Condition(comparison);
-    push_those(
-        warnings,
-        allowed,
-        judgements,
-        part,
-        Code::of_conditions(),
-        subject,
-    )
-}
-
-// Adds the warnings of conditions, which are those of the entry at a place.
-fn push_conditions(
-    warnings: &mut Vec<Warning>,
-    allowed: &[Code],
-    judgements: &[Judgement],
-    part: &Part,
-    entry: usize,
-    conditions: &[SeccompCondition],
-) -> Result<(), AllocError>
-    ensures { OnOk result (AddsPicked allowed.now judgements.now part.now (numbered (condition_asked entry) 0 conditions.now) warnings.old.items warnings.new.items) }
-{
-    for (place, condition) in conditions.iter().enumerate() {
-        push_condition(warnings, allowed, judgements, part, entry, place, condition)?;
-    }
-    Ok(())
-}
-
 // Adds the warnings of the entry at a place, and of its conditions.
 fn push_entry(
     warnings: &mut Vec<Warning>,
@@ -254,7 +206,17 @@ fn push_entry(
         Code::of_entries(),
         subject,
     )?;
-    push_conditions(warnings, allowed, judgements, part, entry, &own.conditions)?;
+    for (place, condition) in own.conditions.iter().enumerate() {
+        let subject = Subject::Condition(comparison_at(entry, place, condition));
+        push_those(
+            warnings,
+            allowed,
+            judgements,
+            part,
+            Code::of_conditions(),
+            subject,
+        )?;
+    }
     Ok(())
 }
 

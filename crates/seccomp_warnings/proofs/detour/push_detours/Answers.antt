@@ -1,4 +1,4 @@
-use Rattle.std.proofs.Common.{◌≡◌, ℕ, ◌+◌, ◌<◌, ◌≤◌, List, Option, length, take, get_or, map, sym, ap, ◌∙◌, subst}
+use Rattle.std.proofs.Common.{◌≡◌, ℕ, ◌+◌, ◌∷◌, [], Global, Vec, ◌<◌, ◌≤◌, List, Option, length, take, get_or, map, sym, ap, ◌∙◌, subst}
 use Rattle.std.specs.List.{flat_map}
 use Rattle.std.proofs.lemmas.List.{take_all}
 use Rattle.std.proofs.lemmas.List.Folds.{flat_map-map}
@@ -8,7 +8,8 @@ use Rattle.seccomp_warnings.specs.Evasions.{IsShown, detour_pair, listed}
 use Rattle.seccomp_warnings.specs.Walks.{Adds}
 use Rattle.seccomp_warnings.specs.declared.detour.Detour as lent
 use Rattle.seccomp_warnings.specs.declared.evasion.Evasion.{Evasion}
-use Rattle.seccomp_warnings.proofs.Picked.{flat_more}
+use Rattle.seccomp_warnings.proofs.Picked.{adds_none, flat_more}
+use Rattle.seccomp_warnings.proofs.detour.push_detours.Goals.{in-Some+in_ok-push_shown, in_default}
 use Rattle.seccomp_warnings.proofs.detour.push_detours.Goals as goal
 
 module _ (P : Evasion → Type 0) (items : List lent.Detour) (at : ℕ) (begun : List Evasion) where
@@ -32,13 +33,20 @@ module _ (P : Evasion → Type 0) (items : List lent.Detour) (at : ℕ) (begun :
 
 pub loop-detour-preserved : goal.loop-detour-preserved
 loop-detour-preserved c =
+    let shown = IsShown c.args.allowed.now c.args.lowered.now in
     let old : List Evasion = c.loop-detour.found.items in
-    let new : List Evasion = c.push_some.new.found.items in
+    let new : List Evasion = c.match-detour_pair.found.items in
     let of = λ (l : Lowered) (e : lent.Detour).
     detour_pair c.args.call.now l.target_arch c.args.own.now c.args.entry c.args.place c.args.condition.now (read e) in
-    one_more (IsShown c.args.allowed.now c.args.lowered.now) c.all_detours-detour-items.result.now c.loop-detour.detour-index
-    c.args.found.now.items of _ c.args.lowered.now _ c.detour_pair-pair.result old new c.loop-detour-test.true c.lowered.view_is
-    c.detour_pair-pair.ensures.pair c.loop-detour.invariant c.in_ok-push_some.ensures
+    one_more shown c.all_detours-detour-items.result.now c.loop-detour.detour-index c.args.found.now.items of _ c.args.lowered.now _
+    c.detour_pair.result old new c.loop-detour-test.true c.lowered.view_is c.detour_pair.ensures.pair c.loop-detour.invariant
+    (elim c.match-detour_pair.branch [
+      | in-Some+in_ok-push_shown w ↦ subst (λ (v : Option Evasion). Adds shown (listed v) old new) (sym w.in-Some.is)
+          (subst (λ (all : Vec Evasion Global). Adds shown (w.in-Some.pair ∷ []) old all.items) (sym w.found-is)
+          w.in_ok-push_shown.ensures)
+      | in_default w ↦ subst (λ (v : Option Evasion). Adds shown (listed v) old new) (sym w.in_default.is)
+          (adds_none shown old new (ap (λ (all : Vec Evasion Global). all.items) w.found-is))
+    ])
 
 pub returns : goal.returns
 returns c =

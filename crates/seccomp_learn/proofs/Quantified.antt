@@ -1,5 +1,5 @@
 -- What holds of some of a list's elements, and of each, as the list grows or is put into order.
-use Rattle.std.proofs.Common.{◌↔◌, zero, suc, ℕ, ◌<◌, length, get_or, drop, List, [], ◌∷◌, ◌++◌, refl, subst, sym}
+use Rattle.std.proofs.Common.{◌↔◌, zero, suc, List, [], ◌∷◌, ◌++◌, refl, subst, sym}
 use Rattle.std.proofs.Common.{◌⊎◌, inl, inr, arith}
 use Rattle.std.specs.Prelude.{All, Any}
 use Rattle.std.specs.List.Sorted.{IsPermutation}
@@ -66,15 +66,3 @@ module _ {X : Type 0} (P : X → Type 0) where
   -- Some element of a list in another order.
   pub any_permuted : (xs ys : List X) → IsPermutation xs ys → Any P ys ↔ Any P xs
   any_permuted xs ys moved = (permuted ys xs (IsPermutation-sym xs ys moved), permuted xs ys moved)
-
-  -- Some element is at a place.
-  pub any_at : (xs : List X) (i : ℕ) (d : X) → i < length xs → P (get_or xs i d) → Any P xs
-  any_at [] i d within has = absurd (omega (arith, within))
-  any_at (x ∷ xs) zero d within has = any_head x xs has
-  any_at (x ∷ xs) (suc i) d within has = any_tail x xs (any_at xs i d (omega (arith, within)) has)
-
-  -- Some element of the end of a list.
-  pub any_drop : (n : ℕ) (xs : List X) → Any P (drop n xs) → Any P xs
-  any_drop zero xs any = any
-  any_drop (suc n) [] any = any
-  any_drop (suc n) (x ∷ xs) any = any_tail x xs (any_drop n xs any)

@@ -102,12 +102,9 @@ fn is_new(kept: &[Kept], others: &[Observation], observation: &Observation) -> b
     ensures apart { IsTrue result → All (λ other. IsSeenApart kept.now other observation.now) others.now }
     ensures alike { result ≡ false → Any (λ other. IsSeenAlike kept.now other observation.now) others.now }
 {
-    for other in others {
-        if !is_apart(kept, other, observation) {
-            return false;
-        }
-    }
-    true
+    others
+        .iter()
+        .all(|other| is_apart(kept, other, observation))
 }
 
 // Whether two observations of a call differ in a kept argument.
@@ -115,12 +112,7 @@ fn is_apart(kept: &[Kept], first: &Observation, second: &Observation) -> bool
     ensures apart { IsTrue result → IsSeenApart kept.now first.now second.now }
     ensures alike { result ≡ false → IsSeenAlike kept.now first.now second.now }
 {
-    for each in kept {
-        if is_apart_in(each, first, second) {
-            return true;
-        }
-    }
-    false
+    kept.iter().any(|each| is_apart_in(each, first, second))
 }
 
 // Whether two observations of a call differ in this argument, if it is one of the call.

@@ -26,22 +26,12 @@ pub(crate) fn put_pending<'a>(
     all: &mut Vec<Pending<'a>>,
     pending: Pending<'a>,
 ) -> Result<(), AllocError> {
-    let mut place = None;
-    for (index, other) in all.iter().enumerate() {
-        if other.thread == pending.thread {
-            place = Some(index);
-        }
+    match all.iter().position(|other| other.thread == pending.thread) {
+        Some(index) => all[index] = pending,
+        None if all.len() < MOST => all.push(pending)?,
+        None => {}
     }
-    match place {
-        Some(index) => {
-            if let Some(other) = all.get_mut(index) {
-                *other = pending;
-            }
-            Ok(())
-        }
-        None if all.len() < MOST => Ok(all.push(pending)?),
-        None => Ok(()),
-    }
+    Ok(())
 }
 
 /// Takes the call that this thread began, if it began one of this number.
@@ -50,15 +40,8 @@ pub(crate) fn take_pending<'a>(
     thread: &str,
     number: u32,
 ) -> Option<Pending<'a>> {
-    let mut place = None;
-    for (index, other) in all.iter().enumerate() {
-        if other.thread == thread && other.number == number {
-            place = Some(index);
-        }
-    }
-    let index = place?;
-    if index >= all.len() {
-        return None;
-    }
+    let index = all
+        .iter()
+        .position(|other| other.thread == thread && other.number == number)?;
     Some(all.swap_remove(index))
 }

@@ -13,8 +13,11 @@ use seccompiler::{JsonCondition, JsonRule, TargetArch};
 use std::alloc::{AllocError, Global};
 use std::cmp::Ordering;
 
-// As many entries at the end of a list are looked at before one more is added.
+// As many entries are looked at before one more is added.
 const LATELY: usize = 256;
+
+// More than the greatest number of a call.
+const NUMBERS: usize = 512;
 
 // Adds an entry for each observed call that has a name.
 pub(crate) fn push_observed(
@@ -26,8 +29,10 @@ pub(crate) fn push_observed(
 ) -> Result<(), AllocError>
     ensures { IfOk result (λ _. (r : List ℕ) → MeetsSome arch r rules.new.items ↔ (MeetsSome arch r rules.old.items ⊎ Any (IsAsNamed arch kept.now r) observed.now)) }
 {
+    // For each number, how many entries there were when one of it was last added.
+    let mut ends = [0; NUMBERS];
     for observation in observed {
-        push_call(alloc, arch, rules, kept, observation)?;
+        push_call(alloc, arch, rules, kept, observation, &mut ends)?;
     }
     Ok(())
 }
@@ -39,6 +44,7 @@ fn push_call(
     rules: &mut Vec<JsonRule>,
     kept: &[Kept],
     observation: &Observation,
+    ends: &mut [usize; NUMBERS],
 ) -> Result<(), AllocError>
     ensures { IfOk result (λ _. (r : List ℕ) → MeetsSome arch r rules.new.items ↔ (MeetsSome arch r rules.old.items ⊎ IsAsNamed arch kept.now r observation.now)) }
 {
@@ -47,13 +53,15 @@ fn push_call(
     };
     let conditions = conditions_of(alloc, kept, observation)?;
     let syscall = String::from_str(alloc, name)?;
-    push_rule(
-        rules,
-        JsonRule {
-            syscall,
-            conditions,
-        },
-    )
+    let rule = JsonRule {
+        syscall,
+        conditions,
+    };
+    let place = observation.number as usize % NUMBERS;
+    let mut end = ends[place];
+    push_rule(rules, rule, &mut end)?;
+    ends[place] = end;
+    Ok(())
 }
 
 // Puts entries into order, and leaves out those that others cover.
@@ -61,46 +69,36 @@ pub(crate) fn in_order(alloc: Global, mut rules: Vec<JsonRule>) -> Result<Vec<Js
     ensures { IfOk result (λ ordered. MeetAlike rules.items ordered.items) }
 {
     rules.sort_by(compare)?;
-    needed(alloc, rules)
-}
-
-// Leaves out entries that earlier ones cover.
-fn needed(alloc: Global, rules: Vec<JsonRule>) -> Result<Vec<JsonRule>, AllocError>
-    ensures { IfOk result (λ left. MeetAlike rules.items left.items) }
-{
-    let mut left = Vec::new(alloc);
+    let (mut left, mut end) = (Vec::new(alloc), 0);
     for rule in rules {
-        push_rule(&mut left, rule)?;
+        push_rule(&mut left, rule, &mut end)?;
     }
     Ok(left)
 }
 
-// Adds an entry, if no other one covers it.
-fn push_rule(rules: &mut Vec<JsonRule>, rule: JsonRule) -> Result<(), AllocError>
+// Adds an entry, unless one of its call right in front of the end covers it. The end is then behind it.
+fn push_rule(rules: &mut Vec<JsonRule>, rule: JsonRule, end: &mut usize) -> Result<(), AllocError>
     ensures { IfOk result (λ _. MeetAlso rule rules.old.items rules.new.items) }
 {
-    if is_covered_lately(rules, &rule) {
+    if is_covered(rules, &rule, *end) {
         return Ok(());
     }
-    Ok(rules.push(rule)?)
+    rules.push(rule)?;
+    *end = rules.len();
+    Ok(())
 }
 
-// Whether one of the last entries is for the same call, with the same conditions or none. In order the others are for other calls,
-// or have other conditions.
-fn is_covered_lately(rules: &[JsonRule], rule: &JsonRule) -> bool
+// Whether one of the entries in front of the end, as far as they are for the same call, has the same conditions or none.
+fn is_covered(rules: &[JsonRule], rule: &JsonRule, end: usize) -> bool
     ensures { IsTrue result → (arch : TargetArch) (r : List ℕ) → MeetsEntry arch r rule.now → MeetsSome arch r rules.now }
 {
-    match rules.split_at_checked(rules.len().saturating_sub(LATELY)) {
-        Some((_, last)) => is_covered(last, rule),
-        None => false,
-    }
-}
-
-// Whether one of these entries is for the same call, with the same conditions or none.
-fn is_covered(rules: &[JsonRule], rule: &JsonRule) -> bool
-    ensures { IsTrue result → (arch : TargetArch) (r : List ℕ) → MeetsEntry arch r rule.now → MeetsSome arch r rules.now }
-{
-    for other in rules {
+    for place in (end.saturating_sub(LATELY)..end).rev() {
+        let Some(other) = rules.get(place) else {
+            return false;
+        };
+        if other.syscall != rule.syscall {
+            return false;
+        }
         if covers(other, rule) {
             return true;
         }

@@ -80,12 +80,11 @@ fn is_passed(rest: &str) -> bool {
 
 // Whether it may be a call's name.
 fn is_name(name: &str) -> bool {
-    for byte in name.bytes() {
-        if !byte.is_ascii_lowercase() && !byte.is_ascii_digit() && byte != b'_' {
-            return false;
-        }
-    }
-    !name.is_empty() && !name.starts_with(|c: char| c.is_ascii_digit())
+    !name.is_empty()
+        && !name.starts_with(|c: char| c.is_ascii_digit())
+        && name.bytes().all(|byte| byte.is_ascii_lowercase()
+            || byte.is_ascii_digit()
+            || byte == b'_')
 }
 
 // The thread of a line, and the line without what may stand before a call: the process, the time, the instruction pointer, the
@@ -141,10 +140,5 @@ fn thread_in(part: &str) -> &str {
 
 // Whether all of it are digits, and there are some.
 fn is_digits(text: &str) -> bool {
-    for byte in text.bytes() {
-        if !byte.is_ascii_digit() {
-            return false;
-        }
-    }
-    !text.is_empty()
+    !text.is_empty() && text.bytes().all(|byte| byte.is_ascii_digit())
 }

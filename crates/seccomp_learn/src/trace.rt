@@ -314,6 +314,9 @@ pub(crate) fn push_seen(
 
 // The number of a call that has this name, or is written by its number, if the architecture has such a call.
 fn known_number(arch: TargetArch, name: &str) -> Option<u32> {
+    if let Some(number) = named_number(arch, name) {
+        return Some(number);
+    }
     let number = told_number(arch, name)?;
     name_of(arch, number)?;
     Some(number)
@@ -332,10 +335,8 @@ pub fn told_number(arch: TargetArch, name: &str) -> Option<u32> {
 
 // Adds a name, unless it is there, or as many are as are kept.
 fn push_unnamed(alloc: Global, trace: &mut Trace, name: &str) -> Result<(), AllocError> {
-    for other in trace.unnamed.as_slice() {
-        if other.as_str() == name {
-            return Ok(());
-        }
+    if trace.unnamed.iter().any(|other| other.as_str() == name) {
+        return Ok(());
     }
     if trace.unnamed.len() < MOST {
         return Ok(trace.unnamed.push(front_of(alloc, name.as_bytes())?)?);
@@ -356,10 +357,12 @@ fn push_strange(
         return Ok(());
     }
     let text = front_of(alloc, line)?;
-    for other in trace.strange.as_slice() {
-        if other.text.as_str() == text.as_str() {
-            return Ok(());
-        }
+    if trace
+        .strange
+        .iter()
+        .any(|other| other.text.as_str() == text.as_str())
+    {
+        return Ok(());
     }
     Ok(trace.strange.push(StrangeLine { number, text })?)
 }

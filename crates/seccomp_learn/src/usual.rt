@@ -1,7 +1,7 @@
 // What the C library makes by itself, and the arguments that say what a call does.
 
 ghost use Rattle.std.specs.Prelude.{◌≡◌, ◌↔◌, ℕ, pos, Some, IfOk, IfSome, IfNone, IsTrue, slice_index_or, true, false};
-ghost use Rattle.seccomp_learn.specs.Usual.{AreCloning, AreOfNames, AreRunnable, AreUsual, IsAskedArgument, IsNumbered, IsShort, IsShortIn, entries_of, runnable_call, usual_argument};
+ghost use Rattle.seccomp_learn.specs.Usual.{AreCloning, AreOfNames, AreRunnable, AreUsual, IsAskedArgument, IsNumbered, IsShortIn, entries_of, runnable_call, usual_argument};
 
 use crate::observation::{Kept, Observation};
 use seccompiler::{SeccompCmpArgLen, SyscallTable, TargetArch};
@@ -138,19 +138,8 @@ pub fn asked_kept(observed: &[Observation], number: u32, arg_index: u8) -> Kept
 fn is_short_in(observed: &[Observation], number: u32, arg_index: u8) -> bool
     ensures { IsTrue result ↔ IsShortIn observed.now number arg_index }
 {
-    for observation in observed {
-        if is_short_call(observation, number, arg_index) {
-            return true;
-        }
-    }
-    false
-}
-
-// Whether it is a call of this number with such an argument.
-fn is_short_call(observation: &Observation, number: u32, arg_index: u8) -> bool
-    ensures { IsTrue result ↔ IsShort number arg_index observation.now }
-{
-    observation.number == number && is_short(observation, arg_index)
+    observed.iter().any(|observation| observation.number == number
+        && is_short(observation, arg_index))
 }
 
 // Whether the low 32 bits of an argument alone are known.

@@ -1,22 +1,18 @@
-use Rattle.std.proofs.Common.{◌≡◌, IsTrue, All, false, subst, rules}
-use Rattle.std.proofs.lemmas.List.{take_all}
-use Rattle.std.proofs.lemmas.List.Elements.{All-more}
-use Rattle.seccomp_learn.specs.Observed.{IsSeenAlike, IsSeenApart}
-use Rattle.seccomp_learn.proofs.Quantified.{any_at}
+use Rattle.std.proofs.Common.{◌≡◌, rules, Bool, true, subst}
+use Rattle.std.specs.Bool.{⊤, MatchBool}
+use Rattle.std.proofs.lemmas.Iterator.{YieldsList-from_slice, cases_from_all}
+use Rattle.std.proofs.lemmas.List.Elements.{All-from_all_within}
+use borrow.Author.Tests.{tests}
+use Rattle.seccomp_learn.specs.declared.observation.Observation.{Observation}
+use Rattle.seccomp_learn.specs.Observed.{IsSeenApart}
 use Rattle.seccomp_learn.proofs.limits.is_new.Goals as goal
 
-pub loop-other-preserved : goal.loop-other-preserved
-loop-other-preserved c =
-    let yes : IsTrue c.is_apart.result = search rules in
-    All-more (λ other. IsSeenApart c.args.kept.now other c.args.observation.now) c.args.others.now c.loop-other.other-index _
-    c.loop-other-test.true c.loop-other.invariant (c.is_apart.ensures.apart yes)
+where_true : {A : Type 0} (B : Type 0) (b : Bool) → b ≡ true → MatchBool b A B → A
+where_true {A} B b is either = subst (λ (own : Bool). MatchBool own A B) is either
 
 pub returns-clause-apart : goal.returns-clause-apart
-returns-clause-apart c = λ _. subst (All (λ other. IsSeenApart c.args.kept.now other c.args.observation.now))
-    (take_all c.loop-other.other-index c.args.others.now c.loop-other-test.false) c.loop-other.invariant
-
-pub returns-then-not-is_apart-clause-alike : goal.returns-then-not-is_apart-clause-alike
-returns-then-not-is_apart-clause-alike c = λ _.
-    let no : c.is_apart.result ≡ false = search rules in
-    any_at (λ other. IsSeenAlike c.args.kept.now other c.args.observation.now) c.args.others.now c.loop-other.other-index _
-    c.loop-other-test.true (c.is_apart.ensures.alike no)
+returns-clause-apart c = λ yes.
+    let others = c.args.others.now in
+    let IsApart = λ (other : Observation). IsSeenApart c.args.kept.now other c.args.observation.now in
+    All-from_all_within IsApart others (where_true _ _ yes (cases_from_all _ _ c.all.result IsApart (λ _. ⊤) c.all.ensures.ran
+    (YieldsList-from_slice others cc) (λ x q k. search (rules, tests)) (λ x q k. tt)))

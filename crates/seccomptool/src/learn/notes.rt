@@ -186,12 +186,7 @@ fn push_strange(told: &mut Text, trace: &Trace) {
 pub(super) fn has(all: &[Kept], number: u32, index: Option<u8>) -> bool
     ensures { IsTrue result ↔ Any (IsArgument number index) all.now }
 {
-    for each in all {
-        if is_argument(each, number, index) {
-            return true;
-        }
-    }
-    false
+    all.iter().any(|each| is_argument(each, number, index))
 }
 
 // Whether it is this argument of a call, or any of the call's.

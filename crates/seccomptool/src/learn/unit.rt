@@ -3,7 +3,7 @@
 use crate::notes::note;
 use crate::text::Text;
 use seccomp_names::error_name;
-use seccompiler::{JsonFilter, JsonRule, SeccompAction};
+use seccompiler::{JsonFilter, SeccompAction};
 use std::alloc::{AllocError, Global};
 
 // How long a line of names grows before the next one begins.
@@ -54,7 +54,8 @@ pub(super) fn push_unit_notes(notes: &mut Text, path: &str, filter: &JsonFilter)
     let mut before = "";
     for rule in &filter.rules {
         let name = rule.syscall.as_str();
-        if name != before && has_conditions(&filter.rules, name) {
+        // One without conditions would cover this one.
+        if name != before && rule.conditions.is_some() {
             before = name;
             let told = format!(in alloc;
                 "SystemCallFilter= has no conditions, so {name} is allowed with any arguments"
@@ -72,14 +73,4 @@ pub(super) fn push_unit_notes(notes: &mut Text, path: &str, filter: &JsonFilter)
     };
     let told = format!(in alloc; "systemd has no {action} for other calls, so they kill");
     note(notes, path, told);
-}
-
-// Whether the entries of a call have conditions, each of them.
-fn has_conditions(rules: &[JsonRule], name: &str) -> bool {
-    for rule in rules {
-        if rule.syscall.as_str() == name && rule.conditions.is_none() {
-            return false;
-        }
-    }
-    true
 }

@@ -1,14 +1,18 @@
 -- Entries beside which libseccomp may make another program than the profile says, or none (found by trying; docs/OCI.md has examples).
-use Rattle.std.specs.Prelude.{◌≡◌, ◌≢◌, ◌<◌, ◌+◌, ◌⊎◌, ℕ, Bool, true, false, IsTrue, List, [], ◌∷◌, ◌++◌, Any, bit_and, length, nat_eq}
+use Rattle.std.specs.Prelude.{◌≡◌, ◌≢◌, ◌<◌, ◌≤◌, ◌+◌, ◌⊎◌, ℕ, Bool, true, false, IsTrue, List, [], ◌∷◌, ◌++◌, Any, Option, bit_and, length, nat_eq}
 use Rattle.std.specs.List.{filter}
 use Rattle.seccompiler.specs.declared.backend.SeccompCmpOp.{SeccompCmpOp}
 use Rattle.seccompiler.specs.declared.backend.SeccompCmpOp.TheVariants.{Eq, MaskedEq}
+use Rattle.seccompiler.specs.declared.backend.TargetArch.{TargetArch}
 use Rattle.seccompiler.specs.Policy.{Condition}
 use Rattle.seccomp_entries.specs.Entries.{Entry}
+use Rattle.seccomp_oci.specs.Types.{Container, Profile}
+use Rattle.seccomp_profile_checks.specs.Multiplexed.{IsX86Of}
 use Rattle.seccomp_profile_checks.specs.Rejected.{Rejects}
 use Rattle.seccomp_profile_checks.specs.declared.clashes.Clash.{Clash}
 use Rattle.seccomp_profile_checks.specs.declared.clashes.Effect.{Effect}
 use Rattle.seccomp_profile_checks.specs.declared.clashes.Effect.TheVariants.{Miscompiled, Rejected}
+use Rattle.seccomp_profile_checks.specs.declared.multiplexed.X86.{X86}
 
 -- The operator is none of SCMP_CMP_EQ and SCMP_CMP_MASKED_EQ.
 abbrev pub is_order : SeccompCmpOp → Bool
@@ -90,20 +94,19 @@ pub data AreClashes (effect : Effect) (all : List Entry) : (entries : List Entry
 abbrev pub entries_of : (number : ℕ) → List Entry → List Entry
 entries_of number all = filter (λ e. nat_eq e.number number) all
 
--- Of the entries for the calls of this number exactly those that libseccomp rejects behind others of these.
-abbrev pub AreRejectedIn : (x86 : Bool) → List Entry → (number : ℕ) → List Clash → Type 0
-AreRejectedIn x86 all number clashes = AreClashes (Rejected x86) (entries_of number all) (entries_of number all) clashes
+-- Of the entries for the calls of this number exactly those that libseccomp rejects behind others of these; one alone it doesn't.
+pub data AreRejectedIn (arch : TargetArch) (container : Container) (p : Profile) (all : List Entry) (number : ℕ) : List Clash → Type 0
+  where
+    alone : length (entries_of number all) ≤ 1 → AreRejectedIn arch container p all number []
+    several : (x86 : Option X86) (clashes : List Clash) → IsX86Of arch container p number x86
+        → AreClashes (Rejected x86) (entries_of number all) (entries_of number all) clashes
+        → AreRejectedIn arch container p all number clashes
 
 -- Those for the calls of the numbers below this one.
-pub data AreRejected (x86 : Bool) (all : List Entry) : ℕ → List Clash → Type 0 where
-  none : AreRejected x86 all 0 []
-  more : {own : List Clash} (number : ℕ) (next : List Clash) → AreRejected x86 all number own → AreRejectedIn x86 all number next
-      → AreRejected x86 all (number + 1) (own ++ next)
-
--- Of these entries exactly those to which libseccomp does this. No call has a number of 463 or more.
-abbrev pub AreAffected : Effect → List Entry → List Clash → Type 0
-AreAffected Miscompiled all clashes = AreClashes Miscompiled all all clashes
-AreAffected (Rejected x86) all clashes = AreRejected x86 all 463 clashes
+pub data AreRejected (arch : TargetArch) (container : Container) (p : Profile) (all : List Entry) : ℕ → List Clash → Type 0 where
+  none : AreRejected arch container p all 0 []
+  more : {own : List Clash} (number : ℕ) (next : List Clash) → AreRejected arch container p all number own
+      → AreRejectedIn arch container p all number next → AreRejected arch container p all (number + 1) (own ++ next)
 
 -- ---- between the private functions of `clashes`
 

@@ -2,6 +2,7 @@
 pub mod Clashes
 pub mod Doubts
 pub mod Effective
+pub mod Multiplexed
 pub mod Parts
 pub mod Rejected
 pub mod Told

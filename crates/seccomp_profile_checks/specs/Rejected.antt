@@ -1,10 +1,12 @@
 -- Entries that libseccomp rejects behind others of their call, so that a runtime starts no container (found by trying; docs/OCI.md).
-use Rattle.std.specs.Prelude.{◌≡◌, ◌≢◌, ◌<◌, ◌≤◌, ◌⊎◌, ℕ, Bool, IsTrue, List, [], ◌∷◌, All, Any, bit_and}
-use Rattle.std.specs.Prelude.{unwrap_or}
+use Rattle.std.specs.Prelude.{◌≡◌, ◌≢◌, ◌<◌, ◌≤◌, ◌⊎◌, ℕ, List, [], ◌∷◌, All, Any, bit_and}
+use Rattle.std.specs.Prelude.{IfSome, Option, None, Some, unwrap_or}
 use Rattle.seccompiler.specs.declared.backend.SeccompCmpOp.{SeccompCmpOp}
 use Rattle.seccompiler.specs.declared.backend.SeccompCmpOp.TheVariants.{MaskedEq}
 use Rattle.seccompiler.specs.Policy.{Condition}
 use Rattle.seccomp_entries.specs.Entries.{Entry}
+use Rattle.seccomp_profile_checks.specs.Multiplexed.{IsOfIpc, IsOfSockets}
+use Rattle.seccomp_profile_checks.specs.declared.multiplexed.X86.{X86}
 use Rattle.seccomp_profile_checks.specs.declared.rejected.Reading.{Reading}
 
 -- ---- what is tested of an argument
@@ -94,22 +96,23 @@ pub record RejectsAs (reading : Reading) (all : List Entry) (e f : Entry) : Type
 abbrev pub IsOfX86 : ℕ → Type 0
 IsOfX86 n = All (λ m. n ≢ m) (184 ∷ 185 ∷ 214 ∷ 215 ∷ 262 ∷ 320 ∷ [])
 
--- semtimedop, accept4, recvmmsg and sendmmsg
-abbrev pub IsLaterMultiplexed : ℕ → Type 0
-IsLaterMultiplexed n = (n ≡ 220) ⊎ ((n ≡ 288) ⊎ ((n ≡ 299) ⊎ (n ≡ 307)))
+-- The entry stands in front of the place from which on these calls are settled.
+abbrev pub IsUnsettled : X86 → Entry → Type 0
+IsUnsettled x86 e = IfSome x86.settled_from (λ place. e.place < place)
 
--- x86 has them by socketcall(2) or ipc(2).
-abbrev pub IsMultiplexed : ℕ → Type 0
-IsMultiplexed n = ((29 ≤ n) × (n ≤ 31)) ⊎ (((41 ≤ n) × (n ≤ 55)) ⊎ (((64 ≤ n) × (n ≤ 71)) ⊎ IsLaterMultiplexed n))
+-- x86 has the calls of the entry by one of them, and they aren't settled.
+abbrev pub IsMultiplexed : X86 → Entry → Type 0
+IsMultiplexed x86 e = (IsOfIpc e.number ⊎ IsOfSockets e.number) × IsUnsettled x86 e
 
--- libseccomp rejects the first entry behind the second, one of these, in the program of x86.
-abbrev pub RejectsOnX86 : List Entry → Entry → Entry → Type 0
-RejectsOnX86 all e f = (IsOfX86 e.number × RejectsAs low all e f) ⊎ (IsMultiplexed e.number × RejectsAs multiplexed all e f)
+-- libseccomp rejects the first entry behind the second, one of these, in the program of x86, in which this is so of its calls.
+abbrev pub RejectsOnX86 : X86 → List Entry → Entry → Entry → Type 0
+RejectsOnX86 x86 all e f = (IsOfX86 e.number × RejectsAs low all e f) ⊎ (IsMultiplexed x86 e × RejectsAs multiplexed all e f)
 
--- It does so in the program of x86_64, or in that of x86 of a profile that lists it.
-abbrev pub RejectsByAny : (x86 : Bool) → List Entry → Entry → Entry → Type 0
-RejectsByAny x86 all e f = RejectsAs whole all e f ⊎ (IsTrue x86 × RejectsOnX86 all e f)
+-- It does so in the program of x86_64, or in that of x86, if it makes one.
+abbrev pub RejectsByAny : Option X86 → List Entry → Entry → Entry → Type 0
+RejectsByAny None all e f = RejectsAs whole all e f
+RejectsByAny (Some x86) all e f = RejectsAs whole all e f ⊎ RejectsOnX86 x86 all e f
 
 -- libseccomp rejects the first entry behind the second, one of these.
-abbrev pub Rejects : (x86 : Bool) → List Entry → Entry → Entry → Type 0
+abbrev pub Rejects : Option X86 → List Entry → Entry → Entry → Type 0
 Rejects x86 all e f = IsOther e f × RejectsByAny x86 all e f

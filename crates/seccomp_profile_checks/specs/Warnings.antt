@@ -1,13 +1,12 @@
 -- The warnings of a profile: those of its own, and those of its parts.
-use Rattle.std.specs.Prelude.{◌≡◌, ◌++◌, ℕ, All, Bool, false, Contains, List, [], ◌∷◌, Option, Some, None, if◌then◌else◌}
+use Rattle.std.specs.Prelude.{◌≡◌, ◌++◌, ℕ, All, Contains, List, [], ◌∷◌, Option, Some, None, if◌then◌else◌}
 use Rattle.std.specs.Prelude.{length, map, nat_eq, slice_get}
 use Rattle.std.specs.List.{flat_map, range_with_len}
 use Rattle.seccomp_entries.specs.Entries.{Entry, Lowered}
 use Rattle.seccompiler.specs.declared.backend.TargetArch.{TargetArch}
-use Rattle.seccompiler.specs.declared.backend.TargetArch.TheVariants.{x86_64}
 use Rattle.seccomp_oci.specs.Lowered.{DecidesAs, IsLoweredProfile}
 use Rattle.seccomp_oci.specs.Types.{Container, Profile}
-use Rattle.seccomp_profile_checks.specs.Clashes.{AreAffected}
+use Rattle.seccomp_profile_checks.specs.Clashes.{AreClashes, AreRejected}
 use Rattle.seccomp_profile_checks.specs.Doubts.{AreDoubts, IsDoubt}
 use Rattle.seccomp_profile_checks.specs.Effective.{AreEffective}
 use Rattle.seccomp_profile_checks.specs.Parts.{origin_of}
@@ -65,19 +64,14 @@ architecture_told (Some place) = UnknownArchitecture place ∷ []
 abbrev pub flags_told : Profile → List ProfileWarning
 flags_told p = if nat_eq (length p.flags) 0 then [] else Flags ∷ []
 
--- libseccomp makes a program for x86 too.
-abbrev pub has_x86 : TargetArch → Profile → Bool
-has_x86 x86_64 p = p.lists_x86
-has_x86 arch p = false
-
 -- The warnings of a profile of which these are the doubts, the entries in one form and the effective ones: the doubts, its unknown keys,
 -- architecture and flags, exactly the entries that libseccomp rejects, and exactly the effective ones that it may get wrong.
-pub record AreOwn (arch : TargetArch) (p : Profile) (doubts : List Doubt) (entries effective : List Entry) (all : List ProfileWarning)
-    : Type 0 where
+pub record AreOwn (arch : TargetArch) (container : Container) (p : Profile) (doubts : List Doubt) (entries effective : List Entry)
+    (all : List ProfileWarning) : Type 0 where
   pub rejected : List Clash
-  pub are_rejected : AreAffected (Rejected (has_x86 arch p)) entries rejected
+  pub are_rejected : AreRejected arch container p entries 463 rejected
   pub clashes : List Clash
-  pub are_clashes : AreAffected Miscompiled effective clashes
+  pub are_clashes : AreClashes Miscompiled effective effective clashes
   pub all_are : all ≡ ((((map Doubtful doubts ++ keys_told p) ++ architecture_told p.unknown_architecture) ++ flags_told p)
       ++ map Clashing rejected) ++ map Clashing clashes
 
@@ -114,7 +108,7 @@ pub record AreProfileWarnings (arch : TargetArch) (container : Container) (allow
   pub effective : List Entry
   pub are_effective : AreEffective lowered.entries effective
   pub own : List ProfileWarning
-  pub own_are : AreOwn arch p doubts lowered.entries effective own
+  pub own_are : AreOwn arch container p doubts lowered.entries effective own
   pub kept : List ProfileWarning
   pub are_kept : AreKept allowed own kept
   pub evasions : List Evasion

@@ -2,12 +2,14 @@
 
 ghost use Rattle.std.specs.Prelude.{◌≡◌, ◌≢◌, ◌<◌, ◌↔◌, ◌⊎◌, Any, IfNone, IfOk, IfSome, IsFalse, IsTrue, length, nat_eq};
 ghost use Rattle.seccomp_profile_checks.specs.Clashes as spec;
-ghost use Rattle.seccomp_profile_checks.specs.Clashes.{Affects, AreAffected, AreClashes, AreOne, AreRejected, AreRejectedIn, Clashes, HasSame, IsAnother, IsClashOf, IsDelicate, IsOrderBeside, IsOrderOn, IsOtherOf, Repeats, entries_of};
+ghost use Rattle.seccomp_profile_checks.specs.Clashes.{Affects, AreClashes, AreOne, AreRejected, AreRejectedIn, Clashes, HasSame, IsAnother, IsClashOf, IsDelicate, IsOrderBeside, IsOrderOn, IsOtherOf, Repeats, entries_of};
 
 use crate::effective::copy_of;
+use crate::multiplexed::{X86, x86_of};
 use crate::rejected::rejects;
 use seccomp_entries::Entry;
-use seccompiler::{SeccompCmpOp, SeccompCondition};
+use seccomp_oci::{Container, Profile};
+use seccompiler::{SeccompCmpOp, SeccompCondition, TargetArch};
 use std::alloc::{AllocError, Global};
 
 /// What libseccomp does to an entry, since another one is beside it.
@@ -15,8 +17,9 @@ use std::alloc::{AllocError, Global};
 pub enum Effect {
     /// Its program may decide otherwise than the profile, or it may come to no end.
     Miscompiled,
-    /// It rejects the entry, so that no container starts. That of a profile that lists `SCMP_ARCH_X86` says `true`.
-    Rejected(bool),
+    /// It rejects the entry, so that no container starts. If it makes a program for x86 too, this is so of
+    /// the entry's calls there.
+    Rejected(Option<X86>),
 }
 
 /// An entry to which libseccomp does this, since another one is beside it.
@@ -32,27 +35,20 @@ pub struct Clash {
     pub number: u32,
 }
 
-/// Of these entries those to which libseccomp does this.
-pub(crate) fn affected_of(
+/// Of these entries of a profile those that libseccomp rejects: only entries of one call are held against each other. No call has a
+/// number of 463 or more.
+pub(crate) fn rejected_of(
     alloc: Global,
-    effect: Effect,
+    target: TargetArch,
+    container: &Container,
+    profile: &Profile,
     entries: &[Entry],
 ) -> Result<Vec<Clash>, AllocError>
-    ensures { IfOk result (λ all. AreAffected effect entries.now all.items) }
-{
-    match effect {
-        Effect::Miscompiled => clashes_of(alloc, Effect::Miscompiled, entries),
-        Effect::Rejected(x86) => rejected_of(alloc, x86, entries),
-    }
-}
-
-// Those that it rejects: only entries of one call are held against each other.
-fn rejected_of(alloc: Global, x86: bool, entries: &[Entry]) -> Result<Vec<Clash>, AllocError>
-    ensures { IfOk result (λ all. AreRejected x86 entries.now 463 all.items) }
+    ensures { IfOk result (λ all. AreRejected target container.now profile.now entries.now 463 all.items) }
 {
     let mut all = Vec::new(alloc);
     for number in 0..463u32 {
-        let mut next = rejected_in(alloc, x86, number, entries)?;
+        let mut next = rejected_in(alloc, target, container, profile, number, entries)?;
         all.append(&mut next)?;
     }
     Ok(all)
@@ -61,13 +57,19 @@ fn rejected_of(alloc: Global, x86: bool, entries: &[Entry]) -> Result<Vec<Clash>
 // Those of the calls of a number.
 fn rejected_in(
     alloc: Global,
-    x86: bool,
+    target: TargetArch,
+    container: &Container,
+    profile: &Profile,
     number: u32,
     entries: &[Entry],
 ) -> Result<Vec<Clash>, AllocError>
-    ensures { IfOk result (λ all. AreRejectedIn x86 entries.now number all.items) }
+    ensures { IfOk result (λ all. AreRejectedIn target container.now profile.now entries.now number all.items) }
 {
     let own = entries_of_number(alloc, number, entries)?;
+    if own.len() <= 1 {
+        return Ok(Vec::new(alloc));
+    }
+    let x86 = x86_of(target, container, profile, number);
     clashes_of(alloc, Effect::Rejected(x86), own.as_slice())
 }
 
@@ -94,8 +96,12 @@ fn is_of(entry: &Entry, number: u32) -> bool
     entry.number == number
 }
 
-// Of these entries those to which libseccomp does this beside each other.
-fn clashes_of(alloc: Global, effect: Effect, entries: &[Entry]) -> Result<Vec<Clash>, AllocError>
+/// Of these entries those to which libseccomp does this beside each other.
+pub(crate) fn clashes_of(
+    alloc: Global,
+    effect: Effect,
+    entries: &[Entry],
+) -> Result<Vec<Clash>, AllocError>
     ensures { IfOk result (λ all. AreClashes effect entries.now entries.now all.items) }
 {
     let mut clashes = Vec::new(alloc);

@@ -6,6 +6,7 @@
 pub mod clashes;
 pub mod doubts;
 mod effective;
+mod multiplexed;
 pub mod parts;
 mod rejected;
 mod told;
@@ -14,5 +15,6 @@ pub mod warnings;
 
 pub use clashes::{Clash, Effect};
 pub use doubts::Doubt;
+pub use multiplexed::X86;
 pub use parts::{Origin, parts_of};
 pub use warnings::{ProfileWarning, code_of, profile_warnings_of};

@@ -1,10 +1,12 @@
 // Entries that libseccomp rejects behind others, so that no container starts.
 
 ghost use Rattle.std.specs.Prelude.{◌≡◌, ◌≢◌, ◌<◌, ◌≤◌, ◌↔◌, ◌⊎◌, All, Any, IsTrue, unwrap_or};
+ghost use Rattle.seccomp_profile_checks.specs.Multiplexed.{IsOfIpc, IsOfSockets};
 ghost use Rattle.seccomp_profile_checks.specs.Rejected as spec;
 ghost use Rattle.seccompiler.specs.declared.backend.SeccompCmpOp.TheVariants.{MaskedEq};
-ghost use Rattle.seccomp_profile_checks.specs.Rejected.{AreOne, Begins, Counts, IsBefore, IsInFront, IsLaterMultiplexed, IsMultiplexed, IsOfX86, IsOther, IsOwn, IsOwnOrPast, IsPast, IsShorter, Rejects, RejectsAs, RejectsByAny, RejectsOnX86};
+ghost use Rattle.seccomp_profile_checks.specs.Rejected.{AreOne, Begins, Counts, IsBefore, IsInFront, IsMultiplexed, IsOfX86, IsOther, IsOwn, IsOwnOrPast, IsPast, IsShorter, IsUnsettled, Rejects, RejectsAs, RejectsByAny, RejectsOnX86};
 
+use crate::multiplexed::{X86, is_of_ipc, is_of_sockets};
 use seccomp_entries::Entry;
 use seccompiler::{SeccompAction, SeccompCmpOp, SeccompCondition};
 
@@ -30,8 +32,9 @@ const MULTIPLEXED: Reading = Reading {
     first: 1,
 };
 
-/// Whether libseccomp rejects an entry, since the other one is in front of it; in a profile that lists `SCMP_ARCH_X86`, or doesn't.
-pub(crate) fn rejects(x86: bool, entries: &[Entry], entry: &Entry, other: &Entry) -> bool
+/// Whether libseccomp rejects an entry, since the other one is in front of it; if it makes a program for x86, this is so of
+/// its calls there.
+pub(crate) fn rejects(x86: Option<X86>, entries: &[Entry], entry: &Entry, other: &Entry) -> bool
     ensures { IsTrue result ↔ Rejects x86 entries.now entry.now other.now }
 {
     is_other(entry, other) && rejects_by_any(x86, entries, entry, other)
@@ -70,16 +73,21 @@ fn alternative_of(entry: &Entry) -> usize
 }
 
 // Whether it is rejected in the program of one of the architectures.
-fn rejects_by_any(x86: bool, entries: &[Entry], entry: &Entry, other: &Entry) -> bool
+fn rejects_by_any(x86: Option<X86>, entries: &[Entry], entry: &Entry, other: &Entry) -> bool
     ensures { IsTrue result ↔ RejectsByAny x86 entries.now entry.now other.now }
 {
-    rejects_as(WHOLE, entries, entry, other) || x86 && rejects_on_x86(entries, entry, other)
+    match x86 {
+        None => rejects_as(WHOLE, entries, entry, other),
+        Some(x86) => {
+            rejects_as(WHOLE, entries, entry, other) || rejects_on_x86(x86, entries, entry, other)
+        }
+    }
 }
 
-fn rejects_on_x86(entries: &[Entry], entry: &Entry, other: &Entry) -> bool
-    ensures { IsTrue result ↔ RejectsOnX86 entries.now entry.now other.now }
+fn rejects_on_x86(x86: X86, entries: &[Entry], entry: &Entry, other: &Entry) -> bool
+    ensures { IsTrue result ↔ RejectsOnX86 x86 entries.now entry.now other.now }
 {
-    rejects_low(entries, entry, other) || rejects_multiplexed(entries, entry, other)
+    rejects_low(entries, entry, other) || rejects_multiplexed(x86, entries, entry, other)
 }
 
 fn rejects_low(entries: &[Entry], entry: &Entry, other: &Entry) -> bool
@@ -88,10 +96,10 @@ fn rejects_low(entries: &[Entry], entry: &Entry, other: &Entry) -> bool
     is_of_x86(entry.number) && rejects_as(LOW, entries, entry, other)
 }
 
-fn rejects_multiplexed(entries: &[Entry], entry: &Entry, other: &Entry) -> bool
-    ensures { IsTrue result ↔ (IsMultiplexed entry.now.number × RejectsAs spec.multiplexed entries.now entry.now other.now) }
+fn rejects_multiplexed(x86: X86, entries: &[Entry], entry: &Entry, other: &Entry) -> bool
+    ensures { IsTrue result ↔ (IsMultiplexed x86 entry.now × RejectsAs spec.multiplexed entries.now entry.now other.now) }
 {
-    is_multiplexed(entry.number) && rejects_as(MULTIPLEXED, entries, entry, other)
+    is_multiplexed(x86, entry) && rejects_as(MULTIPLEXED, entries, entry, other)
 }
 
 // Whether x86 has the calls of this number of x86_64.
@@ -101,25 +109,26 @@ fn is_of_x86(number: u32) -> bool
     !matches!(number, 184 | 185 | 214 | 215 | 262 | 320)
 }
 
-// Whether x86 has them by socketcall(2) or ipc(2).
-fn is_multiplexed(number: u32) -> bool
-    ensures { IsTrue result ↔ IsMultiplexed number }
+// Whether x86 has them by socketcall(2) or ipc(2), and they aren't settled.
+fn is_multiplexed(x86: X86, entry: &Entry) -> bool
+    ensures { IsTrue result ↔ IsMultiplexed x86 entry.now }
 {
-    is_in(29, 31, number)
-        || (is_in(41, 55, number) || (is_in(64, 71, number) || is_later_multiplexed(number)))
+    is_of_either(entry.number) && is_unsettled(x86, entry)
 }
 
-fn is_in(first: u32, last: u32, number: u32) -> bool
-    ensures { IsTrue result ↔ ((first ≤ number) × (number ≤ last)) }
+fn is_of_either(number: u32) -> bool
+    ensures { IsTrue result ↔ (IsOfIpc number ⊎ IsOfSockets number) }
 {
-    first <= number && number <= last
+    is_of_ipc(number) || is_of_sockets(number)
 }
 
-// semtimedop, accept4, recvmmsg and sendmmsg.
-fn is_later_multiplexed(number: u32) -> bool
-    ensures { IsTrue result ↔ IsLaterMultiplexed number }
+fn is_unsettled(x86: X86, entry: &Entry) -> bool
+    ensures { IsTrue result ↔ IsUnsettled x86 entry.now }
 {
-    matches!(number, 220 | 288 | 299 | 307)
+    match x86.settled_from {
+        None => true,
+        Some(place) => entry.place < place,
+    }
 }
 
 fn rejects_as(reading: Reading, entries: &[Entry], entry: &Entry, other: &Entry) -> bool

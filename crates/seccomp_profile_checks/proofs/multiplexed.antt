@@ -1,0 +1,3 @@
+-- Lemmas for the functions of `multiplexed`.
+pub mod From
+pub mod InFront

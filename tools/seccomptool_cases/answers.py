@@ -102,15 +102,14 @@ def part(line):
     number = None if bounds else NUMBERS[front]
     least, greatest = bounds or (number, number)
     found = {"call": None if bounds else front, "number": number, "least": least, "greatest": greatest}
-    if rest == "undecided":
-        return {**found, "verdict": rest, **dict.fromkeys(("old", "new", "change", "example"))}
     old, new, change, arch, call, given, pointer = re.fullmatch(
-        r"(.*) -> (.*), (\w+): (?:(0x\w+) )?(\w+)\((.*)\)(?: at (0x\w+))?", rest).groups()
+        r"(?:undecided at instruction \d+ of OLD and \d+ of NEW|(.*) -> (.*), (\w+)): (?:(0x\w+) )?(\w+)\((.*)\)(?: at (0x\w+))?", rest).groups()
     example = {
         "number": NUMBERS[call] if call in NUMBERS else int(call), "architecture": int(arch, 0) if arch else X86_64,
         "instruction_pointer": pointer or "0x0", "arguments": given.split(", ")
     }
-    return {**found, "verdict": "different", "old": action(old), "new": action(new), "change": change, "example": example}
+    verdict = "different" if change else "undecided"
+    return {**found, "verdict": verdict, "old": old and action(old), "new": new and action(new), "change": change, "example": example}
 
 
 def found(old, new, verdict, *lines, arch="x86_64"):

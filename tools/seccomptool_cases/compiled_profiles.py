@@ -27,6 +27,12 @@ def entry(names, action="SCMP_ACT_ALLOW", **more):
     return {"names": names.split(), "action": action, **more}
 
 
+def configured(given):
+    """Returns the configuration of a container with this profile."""
+    return {"ociVersion": "1.2.0", "process": {"args": ["sh"], "capabilities": {"bounding": ["CAP_KILL"]}}, "root": {"path": "rootfs"},
+            "linux": {"namespaces": [{"type": "mount"}], "seccomp": given}}
+
+
 def when(index, operator, value, *two):
     """Returns a condition, with `valueTwo` if that is given."""
     return {"index": index, "value": value, "op": f"SCMP_CMP_{operator}", **{"valueTwo": it for it in two}}
@@ -141,6 +147,11 @@ CASES = [
     *compiles("-", WHOLE, *OF_WHOLE, told=OF_FLAGS),
     *compiles("--oci", WHOLE, *OF_WHOLE, told=OF_FLAGS),
     *compiles("-q", WHOLE, *OF_WHOLE),
+    # In the configuration of a container, with or without --oci; a default action beside it counts.
+    *compiles("", configured(json.loads(WHOLE)), *OF_WHOLE, told=OF_FLAGS),
+    *compiles("--oci", configured(json.loads(WHOLE)), *OF_WHOLE, told=OF_FLAGS),
+    *compiles("", {**configured(profile(entry("read"))), "defaultAction": "SCMP_ACT_LOG"}, ("read", "log")),
+    *compiles("", configured({**configured(profile(default="SCMP_ACT_TRAP")), **profile(entry("read"))}), READ, OTHER),
     *compiles("reads-profile.json", "", READ, OTHER),
     *compiles("--oci --arch=x86_64 --kernel=6.1 --cap=CAP_KILL --strict ./reads-profile.json", "", READ, OTHER),
     *compiles("", '{"defaultAction": "SCMP_ACT_ALLOW"}', READ),

@@ -123,11 +123,11 @@ CASES = [
     fails("log:s.json logs.json", MISSING, TOOL + "log: "),
     fails("log:s.json: logs.json", MISSING, TOOL + "log:s.json: "),
     # No set may be looked at, or few.
-    Case("diff --most 0 logs.json allows-read.json", 3, "filter a: undecided\n  read: undecided\n  write: undecided\n..", ""),
-    Case("diff --most=0x0 --only-more logs.json allows-read.json", 3, "filter a: undecided\n  read: undecided\n..", ""),
+    Case("diff --most 0 logs.json allows-read.json", 3, "filter a: undecided\n  read: undecided at instruction ..", ""),
+    Case("diff --most=0x0 --only-more logs.json allows-read.json", 3, "filter a: undecided\n  read: undecided at instruction ..", ""),
     same("--most 0x10 logs.json logs.json", SAME),
     # The calls of `read` take more than one set, by the test of an argument for 5. Every other part takes one.
-    Case("diff --most 1 allows-read.json allows-read-of-5.json", 3, "filter a: undecided\n  read: undecided\n", ""),
+    Case("diff --most 1 allows-read.json allows-read-of-5.json", 3, "filter a: undecided\n  read: undecided at instruction ..", ""),
     # Rules that hold wherever others do take none.
     same("--most 1 allows-read-of-5.json allows-read-of-5-twice.json", SAME),
     same("--most 1 allows-read-of-5-twice.json allows-read-of-5.json", SAME),

@@ -7,7 +7,7 @@ The texts are written by hand, from the tables of docs/OCI.md.
 import json
 
 from .forms import INPUT, LOGS, TOOL, Case, rejects
-from .compiled_profiles import entry, profile, when
+from .compiled_profiles import configured, entry, profile, when
 
 # What may stand under a key or at a place.
 ACTION = ("SCMP_ACT_ALLOW, SCMP_ACT_ERRNO, SCMP_ACT_KILL, SCMP_ACT_KILL_PROCESS, SCMP_ACT_KILL_THREAD, SCMP_ACT_LOG, "
@@ -216,13 +216,13 @@ WRITTEN = [
     ('{"defaultAction": "SCMP_ACT_LOG", "flags": [], "flags": 5}', "flags: expected null or an array, found 5\n"),
 ]
 
-# A runtime's configuration as it is, a policy, and a profile that is wrong in an entry.
-CONFIG = {"ociVersion": "1.2.0", "process": {"args": ["sh"]}, "root": {"path": "rootfs"}, "linux": {"seccomp": profile()}}
+# A profile that is wrong in an entry, by itself and in a container's configuration; and a configuration without one.
 IN_ENTRY = f'{CONDITION}.index: expected 0 to 5, found 6\n'
-NO_PROFILE = OF_CONFIG = f'the profile: {missing("defaultAction")}\n'
+NO_PROFILE = f'the profile: {missing("defaultAction")}\n'
 WRONG = in_condition({**ARGUMENT, "index": 6})
 
-FILES = {"config.json": CONFIG, "wrong-profile.json": WRONG}
+FILES = {"config.json": configured(WRONG), "wrong-profile.json": WRONG, "no-linux.json": {"ociVersion": "1.2.0", "process": {"args": ["sh"]}},
+         "no-seccomp.json": {"ociVersion": "1.2.0", "linux": {"namespaces": []}}}
 
 # What each command has of a profile that it reads, and the exit status.
 COMMANDS = [
@@ -244,10 +244,13 @@ CASES = [
             f'defaultAction: expected {ACTION}, found "\\xc2\\x9b2J\\x7f\u00b5"\n'),
     # Each command reports the same, after the file that is no profile.
     *[Case(words.format(file), status, "", f"{TOOL}{file}: {told}") for words, status in COMMANDS
-      for file, told in (("wrong-profile.json", IN_ENTRY), ("config.json", OF_CONFIG), ("logs.json", NO_PROFILE))],
+      for file, told in (("wrong-profile.json", IN_ENTRY), ("config.json", IN_ENTRY), ("logs.json", NO_PROFILE), ("no-linux.json", NO_PROFILE))],
+    rejects("compile --oci", json.dumps(FILES["no-seccomp.json"]), NO_PROFILE),
+    rejects("compile --oci", json.dumps(configured(None)), f"the profile: {stands(OBJECT, None)}\n"),
+    rejects("compile --oci", json.dumps(configured({})), NO_PROFILE),
     *[Case(words.format("-"), status, "", INPUT + IN_ENTRY, json.dumps(WRONG)) for words, status in COMMANDS if "<" not in words],
     rejects("compile --oci --strict", LOGS, NO_PROFILE),
     # Of two that are none the first one.
-    Case("diff --oci config.json wrong-profile.json", 2, "", f"{TOOL}config.json: {OF_CONFIG}"),
-    Case("diff --oci wrong-profile.json config.json", 2, "", f"{TOOL}wrong-profile.json: {IN_ENTRY}"),
+    Case("diff --oci no-linux.json wrong-profile.json", 2, "", f"{TOOL}no-linux.json: {NO_PROFILE}"),
+    Case("diff --oci wrong-profile.json no-linux.json", 2, "", f"{TOOL}wrong-profile.json: {IN_ENTRY}"),
 ]

@@ -83,5 +83,5 @@ CASES = [
     ],
     # Beside the program of the entries in another order the search ends without an answer.
     Case("compile -q --layout linear four-masks-reversed.json | ./seccomptool diff -q --most 100000 four-masks.json -", 3,
-         "filter a: undecided\n  read: undecided\n" + OTHERS, ""),
+         "filter a: undecided\n  read: undecided at instruction ..", ""),
 ]

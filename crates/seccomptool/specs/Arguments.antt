@@ -10,9 +10,16 @@ use Rattle.seccomp_compare.specs.declared.Relation.{Relation}
 use Rattle.seccomp_compare.specs.declared.Relation.TheVariants.{Alike, AtMostAsPermissive}
 use Rattle.seccomp_tree.specs.declared.layout.Layout.{Layout}
 use Rattle.seccomp_tree.specs.declared.layout.Layout.TheVariants.{Linear, Tree}
+use Rattle.seccomptool.specs.declared.check.format.CheckFormat.{CheckFormat}
+use Rattle.seccomptool.specs.declared.check.format.CheckFormat.TheVariants as check_format
+use Rattle.seccomptool.specs.declared.compile.ProgramFormat.{ProgramFormat}
+use Rattle.seccomptool.specs.declared.compile.ProgramFormat.TheVariants as format
 use Rattle.seccomptool.specs.declared.diff.Scope.{Scope}
 use Rattle.seccomptool.specs.declared.diff.Scope.TheVariants as scope
+use Rattle.seccomptool.specs.declared.kind.Reading.{Reading}
 use Rattle.seccomptool.specs.declared.words.Asked.{Asked}
+use Rattle.seccomptool.specs.declared.words.Calls.{Calls}
+use Rattle.seccomptool.specs.declared.words.Calls.TheVariants as calls
 use Rattle.seccomptool.specs.declared.words.Inputs.{Inputs}
 use Rattle.seccomptool.specs.declared.words.Verb.{Verb}
 use Rattle.seccomptool.specs.declared.words.Verb.TheVariants.{Call, Check, Codes, Compile, Diff, Explain, Learn, Show}
@@ -36,6 +43,46 @@ arch_named (Some name) =
 abbrev pub layout_named : Option (List ℕ) → Layout
 layout_named None = Tree
 layout_named (Some name) = if bytes_eq name (codes "linear") then Linear else Tree
+
+-- The name of the format that is asked for: `json` by --json, else that of --format; nothing if neither is given.
+pub record IsFormatName (found : Found) (name : List ℕ) : Type 0 where
+  pub none : one_text found (codes "json") ≡ None → name ≡ unwrap_or (first_value found (codes "format")) []
+  pub value : one_text found (codes "json") ≡ Some (codes "true") → name ≡ codes "json"
+  pub other : one_text found (codes "json") ≡ Some (codes "false") → name ≡ unwrap_or (first_value found (codes "format")) []
+
+-- It is what that name names.
+abbrev pub IsByFormat : {Format : Type 0} → Found → (named : List ℕ → Format) → Format → Type 0
+IsByFormat found named format = (name : List ℕ) × IsFormatName found name × (format ≡ named name)
+
+abbrev pub is_json : List ℕ → Bool
+is_json name = bytes_eq name (codes "json")
+
+abbrev pub program_format_named : List ℕ → ProgramFormat
+program_format_named name =
+    if bytes_eq name (codes "listing") then format.Listing
+    else if bytes_eq name (codes "c") then format.C
+    else if bytes_eq name (codes "json") then format.Json else format.Raw
+
+abbrev pub check_format_named : List ℕ → CheckFormat
+check_format_named name =
+    if bytes_eq name (codes "gcc") then check_format.Gcc
+    else if bytes_eq name (codes "json") then check_format.Json else check_format.Text
+
+-- The path of the file that is written; none of standard output.
+abbrev pub output_named : Option (List ℕ) → Option (List ℕ)
+output_named None = None
+output_named (Some path) = if bytes_eq path (codes "-") then None else Some path
+
+-- Where the calls are that are explained: a call that is given is the only one.
+abbrev pub calls_named : (call log : Option (List ℕ)) → Calls
+calls_named (Some call) log = calls.One
+calls_named None None = calls.Records
+calls_named None (Some path) = calls.Log
+
+-- How what is given is read. The container is tested.
+pub record IsReadingFor (found : Found) (reading : Reading) : Type 0 where
+  pub of_profiles : IsFlag found (codes "oci") reading.of_profiles
+  pub listed : IsFlag found (codes "verbose") reading.listed
 
 -- Whether a relation asks that a side permits no more, and whether all calls count.
 abbrev pub is_only_more : Relation → Bool
@@ -125,6 +172,16 @@ pub record IsVerbFor (found : Found) (name : List ℕ) (verb : Verb) : Type 0 wh
 pub record IsAskedFor (found : Found) (asked : Asked) : Type 0 where
   pub arch : asked.arch ≡ arch_named (first_value found (codes "arch"))
   pub target : asked.terms.target ≡ arch_named (first_value found (codes "arch"))
+  pub output : text_of asked.output ≡ output_named (first_value found (codes "output"))
+  pub json : IsByFormat found is_json asked.json
+  pub format : IsByFormat found program_format_named asked.format
+  pub check_format : IsByFormat found check_format_named asked.check_format
+  pub reading : IsReadingFor found asked.reading
+  pub calls : asked.calls ≡ calls_named (first_value found (codes "CALL")) (first_value found (codes "log"))
+  pub name : text_of asked.name ≡ first_value found (codes "name")
+  pub quiet : IsFlag found (codes "quiet") asked.quiet
+  pub as_profile : IsFlag found (codes "profile") asked.as_profile
+  pub as_unit : IsFlag found (codes "unit") asked.as_unit
   pub each_arch : asked.each_arch ≡ is_none (first_value found (codes "arch"))
   pub filter : text_of asked.filter ≡ first_value found (codes "filter")
   pub layout : asked.layout ≡ layout_named (first_value found (codes "layout"))

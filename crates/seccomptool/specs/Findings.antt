@@ -1,6 +1,6 @@
 -- The sets of calls that a comparison of two programs goes through, what it finds on each, and its verdict.
 use Rattle.std.specs.Prelude.{◌≡◌, ◌≢◌, ℕ, pos, ◌+◌, ◌-◌, ◌^◌, ◌<◌, ◌≤◌, ◌⊎◌, List, [], ◌∷◌, ◌++◌, map, All, Option, Some, None}
-use Rattle.std.specs.Prelude.{if◌then◌else◌, Bool, true, false, IsTrue, ⊤}
+use Rattle.std.specs.Prelude.{if◌then◌else◌, Bool, true, false, IsTrue}
 use Rattle.std.specs.Ordering.{int_eq}
 use Rattle.seccompiler.specs.declared.backend.TargetArch.{TargetArch}
 use Rattle.seccomp_compare.specs.declared.Relation.{Relation}
@@ -60,13 +60,13 @@ pub data ArePartsBelow (table : List Pair) : List Part → ℕ → Type 0 where
 
 -- What is found on a part, if Words r new old says that the new side's word for the record is the one and the old side's
 -- the other: that the relation holds of the words for each of these calls; or a call of them, with its words, for which it
--- doesn't, and which are the words for each of these calls if it is said so; or nothing.
+-- doesn't, and which are the words for each of these calls if it is said so; or nothing but a call of them.
 abbrev pub IsFound : (TargetArch) → Relation → (List ℕ → ℕ → ℕ → Type 0) → Part → Answer → Type 0
 IsFound target relation Words part Holds = (r : List ℕ) → IsInPart target part r
     → (new : ℕ) × (old : ℕ) × Words r new old × Related relation new old
 IsFound target relation Words part (Fails call old new throughout) = IsInPart target part call × Words call new old
     × (Related relation new old → ⊥) × (IsTrue throughout → (r : List ℕ) → IsInPart target part r → Words r new old)
-IsFound target relation Words part Undecided = ⊤
+IsFound target relation Words part (Undecided call old_place new_place) = IsInPart target part call
 
 -- These are found on these parts, one on each.
 pub record AreFoundOn (target : TargetArch) (relation : Relation) (Words : List ℕ → ℕ → ℕ → Type 0) (parts : List Part)
@@ -112,7 +112,7 @@ worse verdict.Same other = other
 abbrev pub verdict_on : Answer → Verdict
 verdict_on Holds = verdict.Same
 verdict_on (Fails call old new throughout) = verdict.Different
-verdict_on Undecided = verdict.Undecided
+verdict_on (Undecided call old_place new_place) = verdict.Undecided
 
 -- The verdict of all that is found.
 abbrev pub verdict_of : List Finding → Verdict

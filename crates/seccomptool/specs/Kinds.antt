@@ -8,6 +8,7 @@ use Rattle.seccompiler.specs.declared.backend.TargetArch.{TargetArch}
 use Rattle.seccompiler.specs.JsonAnswers.{ArePoliciesOf, IsReadAs, OfValue}
 use Rattle.seccompiler.specs.JsonShape.{Under}
 use Rattle.seccompiler.specs.Policy.{Filter}
+use Rattle.seccomp_oci.specs.ProfileText.{profile_in}
 use Rattle.seccomptool.specs.declared.kind.Reading.{Reading}
 use Rattle.seccomptool.specs.declared.kind.Subject.{Subject}
 use Rattle.seccomptool.specs.declared.kind.Subject.TheVariants as subject
@@ -25,12 +26,13 @@ IsText d = (text : List ℕ) × (d ≡ string text)
 abbrev pub NamesDefault : Data → Type 0
 NamesDefault d = Under d (codes "defaultAction") IsText
 
--- The text is taken for a profile's: it has the key as it is mostly written, and is read as an object that names its default action.
+-- The text is taken for a profile's: it has the key as it is mostly written, and is read as an object that names its default action, or as
+-- the configuration of a container that has one.
 pub record IsOfProfile (text : List ℕ) : Type 0 where
   pub key : StandsIn (codes "\"defaultAction\"") text
   pub value : Data
   pub is_read : IsReadAs text value
-  pub names : NamesDefault value
+  pub names : NamesDefault (profile_in value)
 
 -- The text is of a policy on this architecture.
 abbrev pub IsPolicyText : TargetArch → List ℕ → Type 0

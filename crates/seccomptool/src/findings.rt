@@ -19,7 +19,9 @@ ghost use Rattle.seccomptool.specs.Rulings.{AreFindingsOf, Ruling, StandsFor};
 
 use crate::findings::parts::parts;
 use crate::progress::Watch;
-use seccomp_compare::{Calls, Comparison, Relation, compare, is_related_on, machine};
+use seccomp_compare::{
+    Calls, Comparison, End, Relation, compare, compare_to_end, is_related_on, machine,
+};
 use seccompiler::bpf::{RETURN, sock_filter};
 use seccompiler::{BpfProgramRef, SeccompFilter, TargetArch};
 use std::alloc::{AllocError, Global};
@@ -67,8 +69,13 @@ pub enum Answer {
         new: u32,
         throughout: bool,
     },
-    /// As many sets of records were looked at as was allowed, and neither was found.
-    Undecided,
+    /// As many sets of records were looked at as was allowed, and neither was found. The call of this record is of a set that is left,
+    /// where the sides' programs come to these instructions, from 0.
+    Undecided {
+        call: [u8; 64],
+        old: usize,
+        new: usize,
+    },
 }
 
 /// A part, and what a comparison finds on it.
@@ -110,7 +117,7 @@ pub(crate) fn verdict_of(findings: &[Finding]) -> Verdict
         verdict = verdict.worse(match finding.answer {
             Answer::Holds => Verdict::Same,
             Answer::Fails { .. } => Verdict::Different,
-            Answer::Undecided => Verdict::Undecided,
+            Answer::Undecided { .. } => Verdict::Undecided,
         });
     }
     verdict
@@ -269,20 +276,24 @@ pub(crate) fn answer_on(
         terms.most
     };
     loop {
-        match compare(alloc, new, old, &calls, terms.relation, sets) {
-            Ok(Comparison::Holds) => return Ok(Answer::Holds),
-            Ok(Comparison::Fails(call)) => {
+        match compare_to_end(alloc, new, old, &calls, terms.relation, sets) {
+            Ok(End::Holds) => return Ok(Answer::Holds),
+            Ok(End::Fails(call)) => {
                 return answer_at(alloc, terms, part, new, old, call);
             }
-            Ok(Comparison::Undecided) => progress.looked_at(terms.target, part, sets),
+            Ok(End::Stops(stop)) => {
+                progress.looked_at(terms.target, part, sets);
+                if sets >= terms.most {
+                    let call = stop.call;
+                    let (old, new) = (stop.other_place, stop.place);
+                    return Ok(Answer::Undecided { call, old, new });
+                }
+            }
             // It fails for want of memory alone.
             Err(error) => {
                 drop(error);
                 return Err(AllocError);
             }
-        }
-        if sets >= terms.most {
-            return Ok(Answer::Undecided);
         }
         sets = sets.saturating_add(sets).min(terms.most);
     }

@@ -6,7 +6,7 @@ ghost use Rattle.seccomptool.specs.Kinds.{IsOfProfile, IsPolicyText, IsTakenAs};
 
 use crate::run::initializers::begins_as_initializers;
 use memchr::memmem::find;
-use seccomp_oci::Container;
+use seccomp_oci::{Container, profile_in};
 use serde_json::Value;
 use std::alloc::{AllocError, Global};
 
@@ -63,7 +63,7 @@ fn is_of_profile(alloc: Global, text: &[u8]) -> Result<bool, AllocError>
     }
     match Value::from_slice(alloc, text) {
         Ok(value) => {
-            let is = match value.get("defaultAction") {
+            let is = match profile_in(&value).get("defaultAction") {
                 Some(action) => action.is_string(),
                 None => false,
             };

@@ -18,7 +18,7 @@ use crate::text::Text;
 use crate::words::paths::inputs_in;
 use crate::words::program::program;
 use crate::words::values::{
-    allowed_in, arch_in, arguments_in, calls_in, check_format_in, format_in, further_in, kept_in,
+    allowed_in, arch_in, arguments_in, calls_in, check_format_in, further_in, is_json, kept_in,
     layout_in, named_in, number_in, output_in, path_in, program_format_in, reading_in, relation_in,
     scope_in, start_in, verb_in,
 };
@@ -319,7 +319,7 @@ fn asked_for<'a>(
     Ok(Asked {
         verb,
         output: output_in(found),
-        json: format_in(found) == "json",
+        json: is_json(found),
         arch: arch_in(found),
         each_arch: found.get_str("arch").is_none(),
         filter: found.get_str("filter"),

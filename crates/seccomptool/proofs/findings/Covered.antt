@@ -22,9 +22,9 @@ use Rattle.seccomptool.specs.declared.findings.Verdict.TheVariants.{Same, Differ
 both_same : (a : Answer) (v : Verdict) → worse (verdict_on a) v ≡ Same → (a ≡ answer.Holds) × (v ≡ Same)
 both_same answer.Holds v is = (refl, is)
 both_same (answer.Fails call old new throughout) v is = cc
-both_same answer.Undecided Same is = cc
-both_same answer.Undecided Different is = cc
-both_same answer.Undecided Undecided is = cc
+both_same (answer.Undecided call old new) Same is = cc
+both_same (answer.Undecided call old new) Different is = cc
+both_same (answer.Undecided call old new) Undecided is = cc
 
 all_hold : (findings : List Finding) → verdict_of findings ≡ Same → All (λ (f : Finding). f.answer ≡ answer.Holds) findings
 all_hold [] is = All-nil (λ (f : Finding). f.answer ≡ answer.Holds)

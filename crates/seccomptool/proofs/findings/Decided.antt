@@ -45,7 +45,7 @@ module _ (target : TargetArch) (relation : Relation) (new old : List sock_filter
     found.2,
     λ all r own. words_decided r (record_in target part r own) new_word old_word (found.3 all r own),
   )
-  found_decided part Undecided found = tt
+  found_decided part (Undecided call old_place new_place) found = found
 
   -- It is found of them on the same parts.
   pub decided_on : (parts : List Part) (findings : List Finding) → AreFoundOn target relation (AreReturned new old) parts findings

@@ -16,4 +16,4 @@ kept_verdict (f ∷ all) = by (kept_verdict all) f.answer refl
         → verdict_of (filter is_kept (f ∷ all)) ≡ verdict_of (f ∷ all)
     by rest Holds is = rw is rest
     by rest (Fails call old new throughout) is = rw is refl
-    by rest Undecided is = rw is (ap (worse verdict.Undecided) rest)
+    by rest (Undecided call old new) is = rw is (ap (worse verdict.Undecided) rest)

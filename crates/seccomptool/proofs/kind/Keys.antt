@@ -5,6 +5,7 @@ use Rattle.memchr.specs.Find.{FindsNeedle}
 use Rattle.serde_json.specs.Data.{Data, string}
 use Rattle.serde_json.specs.Find.{as_str, get}
 use Rattle.seccompiler.specs.JsonAnswers.{IsReadAs}
+use Rattle.seccomp_oci.specs.ProfileText.{profile_in}
 use Rattle.seccomptool.specs.Kinds.{IsOfProfile, IsText, NamesDefault, StandsIn}
 use Rattle.seccomptool.proofs.Readings.{one_value}
 
@@ -38,9 +39,9 @@ no_default d test lacks is = (λ yes. absurd cc, λ names. let some : None ≡ S
 
 -- So a text that has the key is taken for a profile's where the test of its value says so.
 pub is_taken : (text : List ℕ) (value : Data) (test : Bool) → StandsIn (codes "\"defaultAction\"") text → IsReadAs text value
-    → (test ≡ true → NamesDefault value) × (NamesDefault value → test ≡ true)
+    → (test ≡ true → NamesDefault (profile_in value)) × (NamesDefault (profile_in value) → test ≡ true)
     → (test ≡ true → IsOfProfile text) × (IsOfProfile text → test ≡ true)
 is_taken text value test stands read tests = (
   λ yes. record { key = stands; value = value; is_read = read; names = tests.0 yes },
-  λ is. tests.1 (subst NamesDefault (one_value text is.value value is.is_read read) is.names),
+  λ is. tests.1 (subst (λ d. NamesDefault (profile_in d)) (one_value text is.value value is.is_read read) is.names),
 )

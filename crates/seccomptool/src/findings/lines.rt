@@ -26,11 +26,32 @@ pub(crate) fn push_filter(text: &mut Text, name: &str) {
 /// Adds the line of what is found on a part: none if the relation holds. The example has the instruction pointer if one of both sides may
 /// depend on it.
 pub(crate) fn push_finding(text: &mut Text, target: TargetArch, pointer: bool, finding: Finding) {
-    if matches!(finding.answer, Answer::Holds) {
-        return;
+    match finding.answer {
+        Answer::Holds => {}
+        Answer::Fails { call, old, new, .. } => {
+            push_part(text, target, finding.part);
+            push_change(text, old, new);
+            text.push_str(": ");
+            push_example(text, target, pointer, &call);
+            text.push_str("\n");
+        }
+        Answer::Undecided { call, old, new } => {
+            push_part(text, target, finding.part);
+            text.push_str(": undecided at instruction ");
+            text.push_display(&old);
+            text.push_str(" of OLD and ");
+            text.push_display(&new);
+            text.push_str(" of NEW: ");
+            push_example(text, target, pointer, &call);
+            text.push_str("\n");
+        }
     }
+}
+
+// Adds the calls of a part, at the beginning of a line.
+fn push_part(text: &mut Text, target: TargetArch, part: Part) {
     text.push_str("  ");
-    match finding.part {
+    match part {
         Part::Named { number } => push_call(text, target, number),
         Part::Unnamed { least, greatest } => {
             text.push_str(match (least, target) {
@@ -48,13 +69,6 @@ pub(crate) fn push_finding(text: &mut Text, target: TargetArch, pointer: bool, f
             push_hexadecimal(text, greatest as u64);
         }
     }
-    let Answer::Fails { call, old, new, .. } = finding.answer else {
-        return text.push_str(": undecided\n");
-    };
-    push_change(text, old, new);
-    text.push_str(": ");
-    push_example(text, target, pointer, &call);
-    text.push_str("\n");
 }
 
 /// Adds the line of calls for which both sides have these values throughout: as many of their names as fit it, in byte order.
@@ -228,18 +242,22 @@ pub(crate) fn part_value(alloc: Global, target: TargetArch, finding: Finding) ->
     part.field("number", number);
     part.field("least", least);
     part.field("greatest", greatest);
-    if let Answer::Fails { call, old, new, .. } = finding.answer {
+    if let Answer::Fails { old, new, .. } = finding.answer {
         part.field("verdict", "different");
         part.field("old", word_value(alloc, old));
         part.field("new", word_value(alloc, new));
         part.field("change", kind_of(old, new));
-        part.field("example", record_value(alloc, &call));
     } else {
         part.field("verdict", "undecided");
         part.field("old", None::<u32>);
         part.field("new", None::<u32>);
         part.field("change", None::<u32>);
-        part.field("example", None::<u32>);
+    }
+    match finding.answer {
+        Answer::Fails { call, .. } | Answer::Undecided { call, .. } => {
+            part.field("example", record_value(alloc, &call));
+        }
+        Answer::Holds => part.field("example", None::<u32>),
     }
     part
 }

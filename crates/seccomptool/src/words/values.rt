@@ -3,7 +3,7 @@
 
 ghost use Rattle.std.specs.Prelude.{◌≡◌, codes};
 ghost use Rattle.clap.specs.Words.{first_value, found_of};
-ghost use Rattle.seccomptool.specs.Arguments.{IsFlag, IsPathAndName, arch_named, is_of_all, is_only_more, layout_named, name_given, path_given, records_given, verb_named};
+ghost use Rattle.seccomptool.specs.Arguments.{IsByFormat, IsFlag, IsFormatName, IsPathAndName, IsReadingFor, arch_named, calls_named, check_format_named, is_json, is_of_all, is_only_more, layout_named, name_given, output_named, path_given, program_format_named, records_given, verb_named};
 ghost use Rattle.seccomptool.specs.Chosen.{text_of};
 
 use super::{Calls, Verb};
@@ -115,7 +115,9 @@ pub(super) fn further_in<'a>(found: &ArgMatches<'a>, wrong: &mut Text) -> Vec<&'
 }
 
 // Where the calls are that are explained.
-pub(super) fn calls_in(found: &ArgMatches<'_>) -> Calls {
+pub(super) fn calls_in(found: &ArgMatches<'_>) -> Calls
+    ensures { result ≡ calls_named (first_value (found_of found.now) (codes "CALL")) (first_value (found_of found.now) (codes "log")) }
+{
     match (found.get_str("CALL"), found.get_str("log")) {
         (Some(_), _) => Calls::One,
         (None, None) => Calls::Records,
@@ -135,7 +137,9 @@ pub(super) fn records_in<'a>(found: &ArgMatches<'a>) -> Option<&'a str>
 }
 
 // The path of the file that is written, if it isn't standard output.
-pub(super) fn output_in<'a>(found: &ArgMatches<'a>) -> Option<&'a str> {
+pub(super) fn output_in<'a>(found: &ArgMatches<'a>) -> Option<&'a str>
+    ensures { text_of result ≡ output_named (first_value (found_of found.now) (codes "output")) }
+{
     match found.get_str("output") {
         Some("-") => None,
         output => output,
@@ -172,7 +176,16 @@ pub(super) fn layout_in(found: &ArgMatches<'_>) -> Layout
     }
 }
 
-pub(super) fn program_format_in(found: &ArgMatches<'_>) -> ProgramFormat {
+// Whether the answer is written as JSON.
+pub(super) fn is_json(found: &ArgMatches<'_>) -> bool
+    ensures { IsByFormat (found_of found.now) is_json result }
+{
+    format_in(found) == "json"
+}
+
+pub(super) fn program_format_in(found: &ArgMatches<'_>) -> ProgramFormat
+    ensures { IsByFormat (found_of found.now) program_format_named result }
+{
     match format_in(found) {
         "listing" => ProgramFormat::Listing,
         "c" => ProgramFormat::C,
@@ -181,7 +194,9 @@ pub(super) fn program_format_in(found: &ArgMatches<'_>) -> ProgramFormat {
     }
 }
 
-pub(super) fn check_format_in(found: &ArgMatches<'_>) -> CheckFormat {
+pub(super) fn check_format_in(found: &ArgMatches<'_>) -> CheckFormat
+    ensures { IsByFormat (found_of found.now) check_format_named result }
+{
     match format_in(found) {
         "gcc" => CheckFormat::Gcc,
         "json" => CheckFormat::Json,
@@ -189,8 +204,10 @@ pub(super) fn check_format_in(found: &ArgMatches<'_>) -> CheckFormat {
     }
 }
 
-// The format that is asked for: `json` with --json.
-pub(super) fn format_in<'a>(found: &ArgMatches<'a>) -> &'a str {
+// The name of the format that is asked for.
+fn format_in<'a>(found: &ArgMatches<'a>) -> &'a str
+    ensures { IsFormatName (found_of found.now) result.now }
+{
     if found.get_flag("json") {
         return "json";
     }
@@ -250,7 +267,9 @@ pub(super) fn arguments_in(found: &ArgMatches<'_>, wrong: &mut Text) -> [u64; 6]
 
 // How what is given is read: whether as profiles, and in the container of the capabilities that `--cap` names, of the kernel that
 // `--kernel` names, and of the runtime of `--runtime`; and whether names that are left out are listed.
-pub(super) fn reading_in(found: &ArgMatches<'_>, wrong: &mut Text) -> Reading {
+pub(super) fn reading_in(found: &ArgMatches<'_>, wrong: &mut Text) -> Reading
+    ensures { IsReadingFor (found_of found.now) result }
+{
     let version = found.get_str("kernel");
     let kernel = kernel_of(version.unwrap_or(""));
     if version.is_some() && kernel.is_none() {

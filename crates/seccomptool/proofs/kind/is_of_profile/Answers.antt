@@ -1,4 +1,4 @@
-use Rattle.std.proofs.Common.{◌≡◌, codes, rules, ap, not, true, ◌∙◌}
+use Rattle.std.proofs.Common.{◌≡◌, codes, rules, ap, not, subst, true, ◌∙◌}
 use Rattle.std.proofs.lemmas.Bool.{false≢true}
 use Rattle.serde_json.specs.View.{view}
 use Rattle.seccompiler.specs.JsonAnswers.{IsReadAs}
@@ -21,10 +21,12 @@ returns-after-get-clause-taken c =
     let read : IsReadAs c.args.text.now value = search rules in
     let stands = (stand_if c.args.text.now (codes "\"defaultAction\"") c.find.result c.find.ensures).1
     (c.is_none.ensures ∙ ap not c.if-is_none.false) in
-    let tests : (is ≡ true → NamesDefault value) × (NamesDefault value → is ≡ true) = elim c.match-get.branch [
-      | in-Some w ↦ is_default value (view w.in-Some.action.now) is (rw w.in-Some.is at c.get.ensures) (w.is-is ∙ w.is_string-is.ensures)
-      | in-None w ↦ no_default value is (rw w.in-None.is at c.get.ensures) w.is-is
+    let own = view c.profile_in.result.now in
+    let of_own : (is ≡ true → NamesDefault own) × (NamesDefault own → is ≡ true) = elim c.match-get.branch [
+      | in-Some w ↦ is_default own (view w.in-Some.action.now) is (rw w.in-Some.is at c.get.ensures) (w.is-is ∙ w.is_string-is.ensures)
+      | in-None w ↦ no_default own is (rw w.in-None.is at c.get.ensures) w.is-is
     ] in
+    let tests = subst (λ d. (is ≡ true → NamesDefault d) × (NamesDefault d → is ≡ true)) c.profile_in.ensures of_own in
     is_taken c.args.text.now value is stands read tests
 
 pub returns-after-get-clause-no_policy : goal.returns-after-get-clause-no_policy

@@ -1,5 +1,6 @@
 -- Entries beside which libseccomp may make another program than the profile says, or none (found by trying; docs/OCI.md has examples).
-use Rattle.std.specs.Prelude.{◌≡◌, ◌≢◌, ◌<◌, ◌≤◌, ◌+◌, ◌⊎◌, ℕ, Bool, true, false, IsTrue, List, [], ◌∷◌, ◌++◌, Any, Option, bit_and, length, nat_eq}
+use Rattle.std.specs.Prelude.{◌≡◌, ◌≢◌, ◌<◌, ◌≤◌, ◌+◌, ◌⊎◌, ℕ, Bool, true, false, IsTrue, List, [], ◌∷◌, ◌++◌, Any, Option}
+use Rattle.std.specs.Prelude.{bit_and, length, nat_eq}
 use Rattle.std.specs.List.{filter}
 use Rattle.seccompiler.specs.declared.backend.SeccompCmpOp.{SeccompCmpOp}
 use Rattle.seccompiler.specs.declared.backend.SeccompCmpOp.TheVariants.{Eq, MaskedEq}

@@ -12,7 +12,8 @@ returns-then-eq c =
     let own = c.own-item.result in
     let same : string_bytes own ≡ a.name.now =
     sym c.as_str.ensures.value ∙ (bytes_eq-Decides c.as_str.result.now a.name.now).0 (sym c.eq.ensures ∙ c.if-eq.true) in (
-      λ _. c.loop-own.invariant.0 (stands_here a.name.now a.number a.names.now c.loop-own.own-index own c.loop-own-test.true c.own-item.is same),
+      λ _. c.loop-own.invariant.0
+          (stands_here a.name.now a.number a.names.now c.loop-own.own-index own c.loop-own-test.true c.own-item.is same),
       λ _. refl,
     )
 

@@ -39,7 +39,8 @@ returns c =
       effective = effective;
       are_effective = subst (λ (es : List Entry). AreEffective es effective) first c.in_ok-effective.ensures;
       own = own;
-      own_are = subst (λ (ds : List Doubt). AreOwn c.args.target c.args.container.now p ds lowered.entries effective own) c.deref.ensures.value
+      own_are = subst (λ (ds : List Doubt). AreOwn c.args.target c.args.container.now p ds lowered.entries effective own)
+          c.deref.ensures.value
           (subst (λ (es : List Entry). AreOwn c.args.target c.args.container.now p c.deref.result.now es effective own) second
           (subst (λ (es : List Entry). AreOwn c.args.target c.args.container.now p c.deref.result.now c.as_slice-entries.result.now es own)
           c.as_slice-effective_entries.ensures.value c.in_ok-all.ensures));

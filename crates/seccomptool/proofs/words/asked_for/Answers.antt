@@ -34,5 +34,9 @@ returns c = record {
     new = search rules;
     read = search rules;
   };
-  verb = record { is_list = c.get_flag.result; listed = record { none = c.get_flag.ensures.none; value = c.get_flag.ensures.value; other = c.get_flag.ensures.other }; is = c.verb_in-verb.ensures };
+  verb = record {
+    is_list = c.get_flag.result;
+    listed = record { none = c.get_flag.ensures.none; value = c.get_flag.ensures.value; other = c.get_flag.ensures.other };
+    is = c.verb_in-verb.ensures;
+  };
 }

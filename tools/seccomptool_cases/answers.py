@@ -193,6 +193,9 @@ OF_DECISIONS = [
          "getpid() = 1\nhello\n"),
 ]
 
+# One set is parted by the high half of the argument, where NEW tests it. In what is left OLD is at its return, NEW at the next test.
+STOPPED = "  read: undecided at instruction 4 of OLD and 7 of NEW: read(0x0, 0x0, 0x0, 0x0, 0x0, 0x0)\n"
+
 OF_COMPARISONS = [
     compared("logs.json logs.json", 0, SAME),
     compared("none.json none.json", 0),
@@ -201,7 +204,7 @@ OF_COMPARISONS = [
     # Calls that change alike are elements of their own.
     compared("logs.json reads-writes.json", 1, found("a", "a", "different", READS, READS.replace("read", "write"))),
     compared("--only-more errno-1.json errno-2.json", 0, SAME),
-    compared("--most 1 allows-read.json allows-read-of-5.json", 3, found("a", "a", "undecided", "  read: undecided\n")),
+    compared("--most 1 allows-read.json allows-read-of-5.json", 3, found("a", "a", "undecided", STOPPED)),
     compared("filters-b-a.json filters-c-a.json", 1, SAME, found("b", None, "different"), found(None, "c", "different")),
     compared("filters-b-a.json:b filters-c-a.json:c", 0, found("b", "c", "same")),
     compared("allows-read.json writes.bpf", 1, found("a", "program", "different", NO_LONGER_READS, WRITES), ELSEWHERE),

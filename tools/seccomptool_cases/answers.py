@@ -193,8 +193,8 @@ OF_DECISIONS = [
          "getpid() = 1\nhello\n"),
 ]
 
-# One set is parted by the high half of the argument, where NEW tests it. In what is left OLD is at its return, NEW at the next test.
-STOPPED = "  read: undecided at instruction 4 of OLD and 7 of NEW: read(0x0, 0x0, 0x0, 0x0, 0x0, 0x0)\n"
+# One set is parted by the argument, where NEW tests it. If it isn't 5 OLD is at `ret allow`, and NEW at `ret log` (`show` numbers them).
+STOPPED = "  read: undecided at instruction 4 of OLD and 6 of NEW: read(0x0, 0x0, 0x0, 0x0, 0x0, 0x0)\n"
 
 OF_COMPARISONS = [
     compared("logs.json logs.json", 0, SAME),

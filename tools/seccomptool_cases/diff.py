@@ -127,7 +127,7 @@ CASES = [
     Case("diff --most=0x0 --only-more logs.json allows-read.json", 3, "filter a: undecided\n  read: undecided at instruction ..", ""),
     same("--most 0x10 logs.json logs.json", SAME),
     # The calls of `read` take more than one set, by the test of an argument for 5. Every other part takes one.
-    Case("diff --most 1 allows-read.json allows-read-of-5.json", 3, "filter a: undecided\n  read: undecided at instruction 4 of OLD and 7 of NEW: "
+    Case("diff --most 1 allows-read.json allows-read-of-5.json", 3, "filter a: undecided\n  read: undecided at instruction 4 of OLD and 6 of NEW: "
          "read(0x0, 0x0, 0x0, 0x0, 0x0, 0x0)\n", ""),
     # Rules that hold wherever others do take none.
     same("--most 1 allows-read-of-5.json allows-read-of-5-twice.json", SAME),

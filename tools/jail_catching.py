@@ -9,6 +9,7 @@ it aren't run.
 import json
 import os
 import pathlib
+import random
 import shutil
 import struct
 import subprocess
@@ -204,6 +205,33 @@ def try_runtime(results, program, folder, runtime, architectures):
     results.compare(f"{what}: compared", found if found in wanted else wanted, found)
 
 
+# Calls that x86 has by socketcall(2) and ipc(2), these two, and another one; and how many profiles of them are tried.
+MULTIPLEXED = "bind listen sendmmsg semop shmget semtimedop socketcall ipc mount".split()
+PROFILES = 40
+
+
+def multiplexed(draw):
+    """Returns a profile by chance of entries without args for these calls."""
+    actions = [f"SCMP_ACT_{it}" for it in ("KILL_PROCESS", "TRAP", "ERRNO", "ALLOW")]
+    entries = [{"names": draw.sample(MULTIPLEXED, draw.randint(1, 4)), "action": draw.choice(actions)} for _ in range(draw.randint(2, 4))]
+    architectures = [f"SCMP_ARCH_{it}" for it in ("X86_64", "X86", "X32")]
+    return {"defaultAction": "SCMP_ACT_ALLOW", "architectures": architectures, "syscalls": entries}
+
+
+def try_refused(results, folder, runtime):
+    """Starts containers with profiles by chance: `check` of config.json warns exactly of those with which none starts."""
+    draw = random.Random(5)
+    starts = []
+    for _ in range(PROFILES):
+        profile = multiplexed(draw)
+        status = run(contained(folder, runtime, profile), folder)[2]
+        out, err, code = run([TOOL, "check", "config.json"], folder)
+        starts.append(status == 0)
+        warned = "[refused-by-libseccomp]" in out
+        results.compare(f"{pathlib.Path(runtime).name}: {profile['syscalls']}", (status == 0, 0), (not warned, code))
+    results.compare(f"{pathlib.Path(runtime).name}: containers start with some profiles", True, len(set(starts)) == 2)
+
+
 def try_runtimes(results, program, folder):
     """Runs a container by each runtime that is installed."""
     (folder / "root").mkdir()
@@ -219,6 +247,7 @@ def try_runtimes(results, program, folder):
         if status == 0:
             for _, architectures in (it for it in NUMBERS if it[0] == name):
                 try_runtime(results, program, folder, runtime, architectures)
+            try_refused(results, folder, runtime)
         else:
             print(f"{name} runs no container here, so no program of its containers is caught: {(err or out).strip()}")
 

@@ -96,7 +96,9 @@ def is_profile(words, text):
     if text is None or words[0] not in OF_TOOL:
         return False
     try:
-        return isinstance(json.loads(text)["defaultAction"], str)
+        value = json.loads(text)
+        own = value if "defaultAction" in value else value["linux"]["seccomp"]
+        return isinstance(own["defaultAction"], str)
     except (ValueError, TypeError, KeyError):
         return False
 

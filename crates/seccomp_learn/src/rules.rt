@@ -7,7 +7,7 @@ ghost use Rattle.seccomp_learn.specs.Observed.{IsAsNamed};
 ghost use Rattle.seccomp_learn.specs.Parts.{MeetAlike, MeetAlso, MeetsSome};
 
 use crate::conditions::conditions_of;
-use crate::names::name_of;
+use crate::names::{NUMBERS, name_by, places_of};
 use crate::observation::{Kept, Observation};
 use seccompiler::{JsonCondition, JsonRule, TargetArch};
 use std::alloc::{AllocError, Global};
@@ -15,9 +15,6 @@ use std::cmp::Ordering;
 
 // As many entries are looked at before one more is added.
 const LATELY: usize = 256;
-
-// More than the greatest number of a call.
-const NUMBERS: usize = 512;
 
 // Adds an entry for each observed call that has a name.
 pub(crate) fn push_observed(
@@ -29,10 +26,11 @@ pub(crate) fn push_observed(
 ) -> Result<(), AllocError>
     ensures { IfOk result (λ _. (r : List ℕ) → MeetsSome arch r rules.new.items ↔ (MeetsSome arch r rules.old.items ⊎ Any (IsAsNamed arch kept.now r) observed.now)) }
 {
+    let places = places_of(arch);
     // For each number, how many entries there were when one of it was last added.
     let mut ends = [0; NUMBERS];
     for observation in observed {
-        push_call(alloc, arch, rules, kept, observation, &mut ends)?;
+        push_call(alloc, arch, rules, kept, observation, &places, &mut ends)?;
     }
     Ok(())
 }
@@ -44,11 +42,12 @@ fn push_call(
     rules: &mut Vec<JsonRule>,
     kept: &[Kept],
     observation: &Observation,
+    places: &[usize; NUMBERS],
     ends: &mut [usize; NUMBERS],
 ) -> Result<(), AllocError>
     ensures { IfOk result (λ _. (r : List ℕ) → MeetsSome arch r rules.new.items ↔ (MeetsSome arch r rules.old.items ⊎ IsAsNamed arch kept.now r observation.now)) }
 {
-    let Some(name) = name_of(arch, observation.number) else {
+    let Some(name) = name_by(places, arch, observation.number) else {
         return Ok(());
     };
     let conditions = conditions_of(alloc, kept, observation)?;

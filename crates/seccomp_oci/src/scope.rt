@@ -55,8 +55,8 @@ fn is_any_among(texts: &[String], names: &[String]) -> bool
     false
 }
 
-// Whether the text is one of these.
-fn has_text(texts: &[String], text: &str) -> bool
+/// Whether the text is one of these.
+pub fn has_text(texts: &[String], text: &str) -> bool
     ensures { IsTrue result ↔ Contains (map string_bytes texts.now) text.now }
 {
     is_listed(text, texts)

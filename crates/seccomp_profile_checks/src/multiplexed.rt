@@ -1,13 +1,11 @@
 // From which entry of a profile on libseccomp adds nothing for calls that x86 has by socketcall(2) and ipc(2).
 
 ghost use Rattle.std.specs.Prelude.{◌≡◌, ◌≢◌, ◌<◌, ◌≤◌, ◌↔◌, Contains, IsTrue, MatchOption, [], codes, length, map, string_bytes};
-ghost use Rattle.std.specs.List.{list_any};
-ghost use Rattle.std.specs.Str.{bytes_eq};
 ghost use Rattle.seccompiler.specs.declared.backend.TargetArch.TheVariants.{x86_64};
 ghost use Rattle.seccomp_oci.specs.Decision.{Applies, IsNameOf};
 ghost use Rattle.seccomp_profile_checks.specs.Multiplexed.{IsOfIpc, IsOfSockets, IsSettled, IsSettledBy, IsSettler, IsX86Of, NoneSettles, Settles, StandsInFront, has_x86};
 
-use seccomp_oci::{Container, Entry, Profile, applies};
+use seccomp_oci::{Container, Entry, Profile, applies, has_text};
 use seccompiler::{SeccompAction, SyscallTable, TargetArch};
 
 /// What is so of the calls of a number in libseccomp's program for x86.
@@ -128,24 +126,7 @@ fn gives_other(default: SeccompAction, entry: &Entry) -> bool
 fn names_one(container: &Container, name: &str, entry: &Entry) -> bool
     ensures { IsTrue result ↔ (Applies x86_64 container.now entry.now × Contains entry.now.names name.now) }
 {
-    applies(TargetArch::x86_64, container, entry) && is_named(name, entry.names.as_slice())
-}
-
-fn is_named(name: &str, names: &[String]) -> bool
-    ensures { IsTrue result ↔ Contains (map string_bytes names.now) name.now }
-{
-    is_listed(name, names)
-}
-
-fn is_listed(name: &str, names: &[String]) -> bool
-    ensures { result ≡ list_any (bytes_eq name.now) (map string_bytes names.now) }
-{
-    for one in names {
-        if name == one.as_str() {
-            return true;
-        }
-    }
-    false
+    applies(TargetArch::x86_64, container, entry) && has_text(&entry.names, name)
 }
 
 // Whether the name stands among these in front of that of the calls of this number.

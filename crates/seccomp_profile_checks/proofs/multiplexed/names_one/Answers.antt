@@ -4,10 +4,10 @@ use Rattle.seccomp_profile_checks.proofs.multiplexed.names_one.Goals as goal
 
 pub returns-then-applies : goal.returns-then-applies
 returns-then-applies c =
-    let names : map string_bytes c.as_slice.result.now ≡ c.args.entry.now.names = search rules in (
+    let names : map string_bytes c.deref.result.now ≡ c.args.entry.now.names = search rules in (
       λ yes. (
         c.applies.ensures.0 c.if-applies.true,
-        subst (λ (ns : List (List ℕ)). Contains ns c.args.name.now) names (c.is_named.ensures.0 yes),
+        subst (λ (ns : List (List ℕ)). Contains ns c.args.name.now) names (c.has_text.ensures.0 yes),
       ),
-      λ is. c.is_named.ensures.1 (subst (λ (ns : List (List ℕ)). Contains ns c.args.name.now) (sym names) is.1),
+      λ is. c.has_text.ensures.1 (subst (λ (ns : List (List ℕ)). Contains ns c.args.name.now) (sym names) is.1),
     )

@@ -10,4 +10,5 @@ mod machines;
 mod permitted;
 mod policies;
 mod readme;
+mod stacks;
 mod widened;

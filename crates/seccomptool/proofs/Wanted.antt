@@ -1,5 +1,5 @@
--- For what is wanted of calls: steps that are made in turn, one more of them, and none that has what no element has.
-use Rattle.std.proofs.Common.{◌≡◌, ◌<◌, ◌≤◌, ◌+◌, ℕ, zero, suc, All, List, [], ◌∷◌, ◌++◌, arith, get_or, length, refl, subst, sym, take}
+-- For what is wanted of calls: steps that are made in turn, and one more of them.
+use Rattle.std.proofs.Common.{◌≡◌, ◌<◌, ◌≤◌, ◌+◌, ℕ, zero, suc, List, [], ◌∷◌, ◌++◌, arith, get_or, length, refl, subst, sym, take}
 use Rattle.std.specs.Prelude.{Any}
 use Rattle.std.proofs.lemmas.List.{get_or_default, take_all, take_more}
 use Rattle.seccomptool.specs.Learn.{InTurn, IsUnknown, indices}
@@ -8,10 +8,6 @@ use Rattle.seccomptool.specs.declared.error.ToolError.{ToolError}
 use Rattle.seccomptool.specs.declared.error.ToolError.TheVariants.{OutOfMemory}
 use Rattle.seccomptool.specs.declared.learn.AskedArguments.{AskedArguments}
 use Rattle.seccomptool.specs.declared.words.Asked.{Asked}
-
--- What no element has, none has.
-pub none_has : {X : Type 0} (P : X → Type 0) (xs : List X) → All (λ x. P x → ⊥) xs → Any P xs → ⊥
-none_has P xs none (k, x, within, is, has) = none k x within (subst P (sym is) has)
 
 -- What an element has, one has.
 pub some_has : {X : Type 0} (P : X → Type 0) (xs : List X) (i : ℕ) (d : X) → i < length xs → P (get_or xs i d) → Any P xs

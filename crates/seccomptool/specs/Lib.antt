@@ -29,5 +29,4 @@ pub mod Failures
 pub mod Outside
 -- Between layers: what the private steps of the engines promise each other.
 pub mod DiffParts
-pub mod Settled
 pub mod RunParts

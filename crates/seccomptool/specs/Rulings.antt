@@ -11,6 +11,7 @@ use Rattle.seccomp_compare.specs.Machine.{Ends, IsChecked}
 use Rattle.seccomp_compare.specs.declared.Relation.{Relation}
 use Rattle.seccomp_oci.specs.Decision.{IsProfileDecision}
 use Rattle.seccomp_oci.specs.Types.{Container, Profile}
+use Rattle.seccomptool.specs.declared.findings.Filters.{Filters}
 use Rattle.seccomptool.specs.declared.findings.Finding.{Finding}
 use Rattle.seccomptool.specs.declared.findings.Verdict.TheVariants.{Same}
 use Rattle.seccomptool.specs.Findings.{AreFindings, HoldsThroughout, is_kept, verdict_of}
@@ -39,6 +40,11 @@ pub record EndsAsDecided (target : TargetArch) (ruling : Ruling) (p : List sock_
 pub record StandsFor (target : TargetArch) (ruling : Ruling) (p : List sock_filter) : Type 0 where
   pub checked : IsChecked p
   pub decides : (r : List ℕ) → IsRecord r → EndsAsDecided target ruling p r
+
+-- Each program stands for its filter.
+pub record AreOf (target : TargetArch) (new old : List sock_filter) (filters : Filters) : Type 0 where
+  pub of_new : StandsFor target (of_filter filters.new.now) new
+  pub of_old : StandsFor target (of_filter filters.old.now) old
 
 -- The words are what the new and the old ruling decide for the record.
 abbrev pub AreDecided : TargetArch → (new old : Ruling) → List ℕ → ℕ → ℕ → Type 0

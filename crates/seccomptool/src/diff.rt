@@ -2,7 +2,7 @@
 
 pub(crate) mod text;
 
-ghost use Rattle.std.specs.Prelude.{◌≡◌, IfErr, IfOk, Some, option_map};
+ghost use Rattle.std.specs.Prelude.{◌≡◌, IfErr, IfOk, IfSome, Some, option_map};
 ghost use Rattle.std.specs.BTreeMap.{get_by_text};
 ghost use Rattle.seccomptool.specs.Causes.{AreUnfitting, IsOfEither, IsUndiffed, IsUnfittingFilter, IsUnfittingIn, IsUnfittingUnder, IsUnruled};
 ghost use Rattle.seccomptool.specs.Diff as spec;
@@ -10,12 +10,10 @@ ghost use Rattle.seccomptool.specs.Diff.{IsByName, IsDiff, IsFoundOf, IsOfPair};
 ghost use Rattle.seccomptool.specs.DiffParts.{IsFoundByName};
 
 use crate::error::ToolError;
-use crate::findings::{
-    Finding, Part, Terms, Verdict, answer_on, findings_of, settled_of, verdict_of,
-};
+use crate::findings::{Filters, Finding, Part, Terms, Verdict, answer_on, findings_of, verdict_of};
 use crate::kind::Subject;
 use crate::progress::Watch;
-use crate::sides::{Side, program_in, ruled_like};
+use crate::sides::{Ruled, Side, program_in, ruled_like};
 use seccomp_tree::fitting_bpf;
 use seccompiler::bpf::LOAD;
 use seccompiler::{BpfProgramRef, JsonCompiler, SeccompFilter};
@@ -145,10 +143,10 @@ fn diff_pair(
         Ok(by_new) => by_new,
         Err(error) => return Err(ToolError::in_second(alloc, error)),
     };
-    let settled = settled_of(alloc, terms, by_new.filter.as_ref(), by_old.filter.as_ref())?;
+    let filters = filters_of(&by_new, &by_old);
     let new: BpfProgramRef<'_> = &by_new.program;
     let old: BpfProgramRef<'_> = &by_old.program;
-    let own = findings_of(alloc, terms, new, old, &settled, progress)?;
+    let own = findings_of(alloc, terms, new, old, filters, progress)?;
     // The calls of the architectures with a lesser word than this one, and of those with a greater one.
     let word = terms.target.get_audit_value();
     let lesser = Part::Elsewhere {
@@ -159,8 +157,8 @@ fn diff_pair(
         least: word + 1,
         greatest: u32::MAX,
     };
-    let on_lesser = answer_on(alloc, terms, lesser, new, old, progress)?;
-    let on_greater = answer_on(alloc, terms, greater, new, old, progress)?;
+    let on_lesser = answer_on(alloc, terms, lesser, new, old, None, progress)?;
+    let on_greater = answer_on(alloc, terms, greater, new, old, None, progress)?;
     let others = [
         Finding {
             part: lesser,
@@ -179,6 +177,15 @@ fn diff_pair(
         own,
         others,
     }))
+}
+
+// The filters that two sides rule by, if both do.
+fn filters_of<'a>(by_new: &'a Ruled, by_old: &'a Ruled) -> Option<Filters<'a>>
+    ensures { IfSome result (λ filters. (by_new.now.filter ≡ Some filters.new.now) × (by_old.now.filter ≡ Some filters.old.now)) }
+{
+    let new = by_new.filter.as_ref()?;
+    let old = by_old.filter.as_ref()?;
+    Some(Filters { new, old })
 }
 
 // Whether a program loads a word of the instruction pointer.
@@ -258,7 +265,7 @@ fn found_of(
         Ok(by_new) => by_new,
         Err(error) => return Err(ToolError::in_second(alloc, error.into())),
     };
-    let settled = settled_of(alloc, terms, Some(new), Some(old))?;
-    let findings = findings_of(alloc, terms, &by_new, &by_old, &settled, progress)?;
+    let filters = Some(Filters { new, old });
+    let findings = findings_of(alloc, terms, &by_new, &by_old, filters, progress)?;
     Ok(Found::Both(findings))
 }

@@ -4,18 +4,16 @@ pub(crate) mod lines;
 pub(crate) mod parts;
 
 ghost use Rattle.std.specs.List.{filter};
-ghost use Rattle.std.specs.Prelude.{◌≡◌, ℕ, List, [], ◌∷◌, ◌++◌, ◌↔◌, All, IfOk, IsTrue, option_map};
-ghost use Rattle.seccomp_compare.specs.Rules.{AreRelatedOn};
+ghost use Rattle.std.specs.Prelude.{◌≡◌, ℕ, List, [], ◌∷◌, ◌++◌, ◌↔◌, IfOk, IfSome, IsTrue};
 ghost use Rattle.seccompiler.specs.declared.backend.TargetArch.{TargetArch};
 ghost use Rattle.seccompiler.specs.declared.bpf.sock_filter.{sock_filter};
 ghost use Rattle.seccomp_compare.specs.declared.Comparison.TheVariants as comparison;
 ghost use Rattle.seccomp_compare.specs.declared.Relation.{Relation};
 ghost use Rattle.seccomptool.specs.declared.findings.Answer.TheVariants.{Holds};
-ghost use Rattle.seccomptool.specs.Settled.{AreSettled, AreSettledOf};
 ghost use Rattle.seccomp_compare.specs.Compare.{AnswersUnrelated, IsCallOf};
 ghost use Rattle.seccomp_compare.specs.Machine.{Ends, IsChecked};
 ghost use Rattle.seccomptool.specs.Findings.{AreReturned, IsFound, IsInPart, is_kept, worse, verdict_of};
-ghost use Rattle.seccomptool.specs.Rulings.{AreFindingsOf, Ruling, StandsFor};
+ghost use Rattle.seccomptool.specs.Rulings.{AreFindingsOf, AreOf, Ruling, StandsFor};
 
 use crate::findings::parts::parts;
 use crate::progress::Watch;
@@ -27,12 +25,14 @@ use seccompiler::{BpfProgramRef, SeccompFilter, TargetArch};
 use std::alloc::{AllocError, Global};
 
 // So many sets of records are looked at in the first of several tries.
-const FIRST: usize = 250_000;
+const FIRST: usize = 10_000;
 
 // So many of each program are, to see whether it returns one value throughout.
 const MOST_THROUGHOUT: usize = 1_000;
 
-// So many sets of arguments are looked at of each rule.
+// So many sets of arguments are looked at of each rule before programs are searched, and after the first search.
+const FIRST_BY_RULES: usize = 4;
+
 const MOST_BY_RULES: usize = 10_000;
 
 /// On which terms two sides are compared.
@@ -44,6 +44,13 @@ pub struct Terms {
     pub relation: Relation,
     /// How many sets of records are looked at, at most, for each part.
     pub most: usize,
+}
+
+/// Two filters of which programs are made.
+#[derive(Clone, Copy)]
+pub struct Filters<'a> {
+    pub new: &'a SeccompFilter,
+    pub old: &'a SeccompFilter,
 }
 
 /// A set of calls that is compared by itself.
@@ -134,84 +141,25 @@ fn calls_of(target: TargetArch, part: Part) -> Calls
     }
 }
 
-/// The numbers that the old filter has rules for and of which the relation is seen to hold of what both filters decide, rule by rule;
-/// none if one of the sides isn't a filter.
-pub(crate) fn settled_of(
-    alloc: Global,
-    terms: Terms,
-    new: Option<&SeccompFilter>,
-    old: Option<&SeccompFilter>,
-) -> Result<Vec<u32>, AllocError>
-    ensures { IfOk result (λ settled. AreSettledOf terms.relation (option_map (λ f. f.now) new.entry) (option_map (λ f. f.now) old.entry) settled.items) }
-{
-    let mut settled = Vec::new(alloc);
-    let Some(new) = new else {
-        return Ok(settled);
-    };
-    let Some(old) = old else {
-        return Ok(settled);
-    };
-    for (number, _) in old.rules() {
-        push_settled(alloc, &mut settled, terms, new, old, *number)?;
-    }
-    Ok(settled)
-}
-
-// Adds a number if that is so of it.
-fn push_settled(
-    alloc: Global,
-    settled: &mut Vec<u32>,
-    terms: Terms,
-    new: &SeccompFilter,
-    old: &SeccompFilter,
-    number: i64,
-) -> Result<(), AllocError>
-    ensures { IfOk result (λ _. All (AreRelatedOn terms.relation new.now old.now) settled.old.items → All (AreRelatedOn terms.relation new.now old.now) settled.new.items) }
-{
-    let Ok(number) = u32::try_from(number) else {
-        return Ok(());
-    };
-    if !is_related_on(alloc, terms.relation, new, old, number, MOST_BY_RULES)? {
-        return Ok(());
-    }
-    settled.push(number)?;
-    Ok(())
-}
-
-// Whether the part is of a number that is settled.
-fn is_settled(settled: &[u32], part: Part) -> bool
-    ensures { IsTrue result → (target : TargetArch) (relation : Relation) (new old : List sock_filter) → AreSettled target relation new old settled.now → IsFound target relation (AreReturned new old) part Holds }
-{
-    let Part::Named { number } = part else {
-        return false;
-    };
-    for one in settled {
-        if *one == number {
-            return true;
-        }
-    }
-    false
-}
-
-// What is found on a part: that the relation holds, if it is of a number that is settled; else what the programs say.
-fn answer_beside(
+// Whether the relation is seen to hold of what both filters decide for each call of a part, rule by rule, by looking at so many sets of
+// arguments for each rule.
+fn holds_by_rules(
     alloc: Global,
     terms: Terms,
     part: Part,
-    new: BpfProgramRef<'_>,
-    old: BpfProgramRef<'_>,
-    settled: &[u32],
-    progress: &mut Watch<'_>,
-) -> Result<Answer, AllocError>
-    requires new_checked { IsChecked new.now }
-    requires old_checked { IsChecked old.now }
-    requires settled { AreSettled terms.target terms.relation new.now old.now settled.now }
-    ensures { IfOk result (IsFound terms.target terms.relation (AreReturned new.now old.now) part) }
+    filters: Option<Filters<'_>>,
+    most: usize,
+) -> Result<bool, AllocError>
+    ensures { IfOk result (λ holds. IsTrue holds → (new old : List sock_filter) → IfSome filters.entry (AreOf terms.target new old) → IsFound terms.target terms.relation (AreReturned new old) part Holds) }
 {
-    if is_settled(settled, part) {
-        return Ok(Answer::Holds);
-    }
-    answer_on(alloc, terms, part, new, old, progress)
+    let Part::Named { number } = part else {
+        return Ok(false);
+    };
+    let Some(filters) = filters else {
+        return Ok(false);
+    };
+    let relation = terms.relation;
+    is_related_on(alloc, relation, filters.new, filters.old, number, most)
 }
 
 // Adds a finding, if the relation doesn't hold on its part or nothing is known.
@@ -225,19 +173,19 @@ fn push_kept(findings: &mut Vec<Finding>, finding: Finding) -> Result<(), AllocE
     Ok(())
 }
 
-/// What is found of two programs, on each part of the architecture's calls: nothing of parts on which the relation holds. Those of some
-/// numbers are settled.
+/// What is found of two programs, of these filters if there are any, on each part of the architecture's calls: nothing of parts on
+/// which the relation holds.
 pub(crate) fn findings_of(
     alloc: Global,
     terms: Terms,
     new: BpfProgramRef<'_>,
     old: BpfProgramRef<'_>,
-    settled: &[u32],
+    filters: Option<Filters<'_>>,
     progress: &mut Watch<'_>,
 ) -> Result<Vec<Finding>, AllocError>
     requires new_checked { IsChecked new.now }
     requires old_checked { IsChecked old.now }
-    requires settled { AreSettled terms.target terms.relation new.now old.now settled.now }
+    requires filters { IfSome filters (AreOf terms.target new.now old.now) }
     // Of whatever the programs stand for.
     ensures { IfOk result (λ findings. (by_new by_old : Ruling) → StandsFor terms.target by_new new.now → StandsFor terms.target by_old old.now → AreFindingsOf terms.target terms.relation by_new by_old findings.items) }
 {
@@ -245,36 +193,37 @@ pub(crate) fn findings_of(
     let mut findings = Vec::new(alloc);
     for part in &parts {
         let part = *part;
-        let answer = answer_beside(alloc, terms, part, new, old, settled, progress)?;
+        let answer = answer_on(alloc, terms, part, new, old, filters, progress)?;
         push_kept(&mut findings, Finding { part, answer })?;
     }
     Ok(findings)
 }
 
-/// What is found of two programs on the calls of a part; of programs that are the same without a search. Where the progress is shown, it
-/// tries with few sets first and then with twice as many each time, since a comparison can't be interrupted; a try that has an answer is
-/// the last one.
+/// What is found of two programs on the calls of a part; of programs that are the same without a search. It tries by
+/// the rules of the filters first if the programs are of these, then with few sets, by the rules again, and then with four times as many
+/// sets each time.
 pub(crate) fn answer_on(
     alloc: Global,
     terms: Terms,
     part: Part,
     new: BpfProgramRef<'_>,
     old: BpfProgramRef<'_>,
+    filters: Option<Filters<'_>>,
     progress: &mut Watch<'_>,
 ) -> Result<Answer, AllocError>
     requires new_checked { IsChecked new.now }
     requires old_checked { IsChecked old.now }
+    requires filters { IfSome filters (AreOf terms.target new.now old.now) }
     ensures { IfOk result (IsFound terms.target terms.relation (AreReturned new.now old.now) part) }
 {
     if new == old {
         return Ok(Answer::Holds);
     }
+    if holds_by_rules(alloc, terms, part, filters, FIRST_BY_RULES)? {
+        return Ok(Answer::Holds);
+    }
     let calls = calls_of(terms.target, part);
-    let mut sets = if progress.is_shown() {
-        FIRST.min(terms.most)
-    } else {
-        terms.most
-    };
+    let mut sets = FIRST.min(terms.most);
     loop {
         match compare_to_end(alloc, new, old, &calls, terms.relation, sets) {
             Ok(End::Holds) => return Ok(Answer::Holds),
@@ -283,6 +232,9 @@ pub(crate) fn answer_on(
             }
             Ok(End::Stops(stop)) => {
                 progress.looked_at(terms.target, part, sets);
+                if sets <= FIRST && holds_by_rules(alloc, terms, part, filters, MOST_BY_RULES)? {
+                    return Ok(Answer::Holds);
+                }
                 if sets >= terms.most {
                     let call = stop.call;
                     let (old, new) = (stop.other_place, stop.place);
@@ -295,7 +247,7 @@ pub(crate) fn answer_on(
                 return Err(AllocError);
             }
         }
-        sets = sets.saturating_add(sets).min(terms.most);
+        sets = sets.saturating_mul(4).min(terms.most);
     }
 }
 

@@ -34,11 +34,6 @@ impl<'a> Watch<'a> {
         }
     }
 
-    /// Whether anything is shown.
-    pub(crate) fn is_shown(&self) -> bool {
-        self.start.is_some()
-    }
-
     /// So many sets of calls of a part were looked at without an answer.
     pub(crate) fn looked_at(&mut self, target: TargetArch, part: Part, sets: usize) {
         self.sets = self.sets.saturating_add(sets);

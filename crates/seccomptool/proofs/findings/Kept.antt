@@ -1,7 +1,7 @@
 -- For `findings_of`: the findings that are kept.
 use Rattle.std.proofs.Common.{◌≡◌, List, [], ◌∷◌, refl, ap}
 use Rattle.std.specs.List.{filter}
-use Rattle.seccomptool.specs.Findings.{is_kept, verdict_of, verdict_on, worse}
+use Rattle.seccomptool.specs.Findings.{is_kept, verdict_of, worse}
 use Rattle.seccomptool.specs.declared.findings.Answer.{Answer}
 use Rattle.seccomptool.specs.declared.findings.Answer.TheVariants.{Holds, Fails, Undecided}
 use Rattle.seccomptool.specs.declared.findings.Finding.{Finding}

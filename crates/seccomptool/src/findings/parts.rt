@@ -1,10 +1,10 @@
 // The parts of an architecture's calls: one for each number that has a name, and one for each range of numbers
 // between these. x32's numbers are a range of their own.
 
-ghost use Rattle.std.specs.Prelude.{◌≡◌, ◌^◌, IfOk, option_map};
+ghost use Rattle.std.specs.Prelude.{◌≡◌, ◌^◌, ◌↔◌, IfOk, IsTrue, option_map};
 ghost use Rattle.seccompiler.specs.Architecture.{table_of};
 ghost use Rattle.seccomptool.specs.Findings as spec;
-ghost use Rattle.seccomptool.specs.Findings.{ArePartsBelow};
+ghost use Rattle.seccomptool.specs.Findings.{ArePartsBelow, HasName};
 
 use crate::findings::Part;
 use seccompiler::{SyscallTable, TargetArch};
@@ -12,6 +12,9 @@ use std::alloc::{AllocError, Global};
 
 // More than the greatest number that has a name.
 const END: u32 = 463;
+
+// More than the greatest number that has a name, for tables by numbers.
+const NUMBERS: usize = 512;
 
 // x32's numbers begin here (`__X32_SYSCALL_BIT` of asm/unistd.h).
 pub(crate) const X32: u32 = 0x4000_0000;
@@ -22,9 +25,10 @@ pub(crate) fn parts(alloc: Global, target: TargetArch) -> Result<Vec<Part>, Allo
 {
     // Its table has no number from the end on.
     let _table = SyscallTable::new(target);
+    let places = places_of(target);
     let (mut parts, mut least) = (Vec::new(alloc), 0);
     for number in 0..END {
-        if name_of(target, number).is_some() {
+        if is_named(&places, target, number) {
             if least < number {
                 parts.push(Part::Unnamed {
                     least,
@@ -44,6 +48,30 @@ pub(crate) fn parts(alloc: Global, target: TargetArch) -> Result<Vec<Part>, Allo
         greatest: u32::MAX,
     })?;
     Ok(parts)
+}
+
+// Where each number stands in the table.
+fn places_of(target: TargetArch) -> [usize; NUMBERS] {
+    let mut places = [0; NUMBERS];
+    for (place, (_, number)) in SyscallTable::new(target).pairs().iter().enumerate() {
+        if let Ok(number) = usize::try_from(*number) {
+            places[number % NUMBERS] = place;
+        }
+    }
+    places
+}
+
+// Whether a number has a name. The table is gone over only if the number doesn't stand at its place.
+fn is_named(places: &[usize; NUMBERS], target: TargetArch, number: u32) -> bool
+    ensures { IsTrue result ↔ HasName (table_of target) number }
+{
+    let table = SyscallTable::new(target);
+    if let Some((name, _)) = table.pairs().get(places[number as usize % NUMBERS])
+        && table.get_syscall_nr(name) == Some(i64::from(number))
+    {
+        return true;
+    }
+    name_of(target, number).is_some()
 }
 
 // The first name of a number, in byte order.

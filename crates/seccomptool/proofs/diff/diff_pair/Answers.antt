@@ -1,21 +1,19 @@
 use Rattle.std.proofs.Common.{◌≡◌, ℕ, List, Option, Some, None, [], ◌∷◌, ◌+◌, ◌-◌, ◌^◌, subst, sym}
+use Rattle.seccomptool.specs.declared.findings.Filters.{Filters}
 use Rattle.seccomptool.specs.declared.findings.Finding.{Finding}
 use Rattle.seccomptool.specs.declared.findings.Part.TheVariants.{Elsewhere}
 use Rattle.seccomptool.specs.Findings.{AreReturned}
-use Rattle.seccomptool.specs.Rulings.{AreDecided, StandsFor, of_filter}
+use Rattle.seccomptool.specs.Rulings.{AreDecided, AreOf, StandsFor, of_filter}
 use Rattle.std.specs.Prelude.{IfSome}
-use Rattle.std.specs.Option.{option_copied}
 use Rattle.seccompiler.specs.Policy.{Filter}
 use Rattle.seccompiler.specs.declared.backend.TargetArch.{TargetArch}
 use Rattle.seccompiler.specs.declared.bpf.sock_filter.{sock_filter}
 use Rattle.seccomptool.specs.Chosen.{text_of}
-use Rattle.seccomptool.specs.Settled.{AreSettledOf}
 use Rattle.seccomptool.specs.Sides.{IsFilterFor}
 use Rattle.seccomptool.specs.declared.kind.Subject.{Subject}
 use Rattle.seccomptool.specs.Diff.{other_parts}
 use Rattle.seccomptool.proofs.findings.Decided.{decided_on}
 use Rattle.seccomptool.proofs.diff.Others.{found_elsewhere, others_covered}
-use Rattle.seccomptool.proofs.findings.Settled.{settled}
 use Rattle.seccomptool.proofs.sides.Profiles.{side_stands}
 use Rattle.seccomptool.specs.Causes.{of_new, of_old}
 use Rattle.std.proofs.lemmas.Result.{err_from_is_err_and}
@@ -28,23 +26,30 @@ stands_of : (target : TargetArch) (kind : Subject) (asked : Option (List ℕ)) (
 stands_of target kind asked given p q None same is = tt
 stands_of target kind asked given p q (Some f) same is = subst (StandsFor target (of_filter f)) (sym same) is.stands
 
-pub findings_of-requires-clause-settled : goal.findings_of-requires-clause-settled
-findings_of-requires-clause-settled c =
+-- of two filters each program stands for its own
+are_of : (target : TargetArch) (new old : List sock_filter) (both : Option Filters) (f g : Option Filter)
+    → IfSome both (λ filters. (f ≡ Some filters.new.now) × (g ≡ Some filters.old.now))
+    → IfSome f (λ filter. StandsFor target (of_filter filter) new) → IfSome g (λ filter. StandsFor target (of_filter filter) old)
+    → IfSome both (AreOf target new old)
+are_of target new old None f g are new_stands old_stands = tt
+are_of target new old (Some filters) f g are new_stands old_stands = record {
+  of_new = subst (λ o. IfSome o (λ filter. StandsFor target (of_filter filter) new)) are.0 new_stands;
+  of_old = subst (λ o. IfSome o (λ filter. StandsFor target (of_filter filter) old)) are.1 old_stands;
+}
+
+pub findings_of-requires-clause-filters : goal.findings_of-requires-clause-filters
+findings_of-requires-clause-filters c =
     let target = c.args.terms.target in
-    let relation = c.args.terms.relation in
     let by_new = c.in-Ok.by_new in
     let by_old = c.in_ok-by_old.by_old in
     let new = c.args.new in
     let old = c.args.old in
-    let of_new = stands_of target new.kind (text_of new.filter) new.given.now by_new.program.items c.deref-new.result.now by_new.filter
+    let new_stands = stands_of target new.kind (text_of new.filter) new.given.now by_new.program.items c.deref-new.result.now by_new.filter
     c.deref-new.ensures.value c.in-Ok.ensures.filter in
-    let of_old = stands_of target old.kind (text_of old.filter) old.given.now by_old.program.items c.deref-old.result.now by_old.filter
+    let old_stands = stands_of target old.kind (text_of old.filter) old.given.now by_old.program.items c.deref-old.result.now by_old.filter
     c.deref-old.ensures.value c.in_ok-by_old.ensures.filter in
-    settled target relation c.deref-new.result.now c.deref-old.result.now by_new.filter by_old.filter c.deref-3.result.now of_new of_old
-    (subst (AreSettledOf relation by_new.filter by_old.filter) (sym c.deref-3.ensures.value)
-    (subst (λ o. AreSettledOf relation o by_old.filter c.in_ok-settled.settled.items) c.as_ref.ensures.value
-    (subst (λ o. AreSettledOf relation (option_copied c.as_ref.result) o c.in_ok-settled.settled.items) c.as_ref-2.ensures.value
-    c.in_ok-settled.ensures)))
+    are_of target c.deref-new.result.now c.deref-old.result.now c.filters_of-filters.result by_new.filter by_old.filter
+    c.filters_of-filters.ensures new_stands old_stands
 
 pub returns-clause-pair : goal.returns-clause-pair
 returns-clause-pair c =

@@ -1,8 +1,6 @@
-use Rattle.std.proofs.Common.{Bor, Option, Some, ap, refl, sym, subst}
+use Rattle.std.proofs.Common.{Bor, Option, ap, refl, sym, subst}
 use Rattle.seccomp_compare.specs.Machine.{IsChecked}
 use Rattle.seccomptool.specs.Rulings.{StandsFor, of_filter}
-use Rattle.seccomptool.specs.Settled.{AreSettledOf}
-use Rattle.seccomptool.proofs.findings.Settled.{settled}
 use Rattle.seccomptool.proofs.sides.Filters.{fitting_stands}
 use Rattle.std.proofs.lemmas.Result.{err_from_is_err_and}
 use Rattle.std.specs.Prelude.{option_map}
@@ -30,18 +28,17 @@ returns-clause-found c =
     rw c.in-Some.is (c.in_ok-findings.ensures new old (subst (StandsFor target new) (sym c.deref.ensures.value) of_new)
     (subst (StandsFor target old) (sym c.deref-2.ensures.value) of_old))
 
-pub findings_of-requires-clause-settled : goal.findings_of-requires-clause-settled
-findings_of-requires-clause-settled c =
+pub findings_of-requires-clause-filters : goal.findings_of-requires-clause-filters
+findings_of-requires-clause-filters c =
     let target = c.args.terms.target in
-    let relation = c.args.terms.relation in
     let new = c.in-Some.new.now in
     let old = c.args.old.now in
-    let of_new = subst (StandsFor target (of_filter new)) (sym c.deref.ensures.value)
-    (fitting_stands target new c.in-Ok.by_new.items c.in-Ok.ensures.fitting) in
-    let of_old = subst (StandsFor target (of_filter old)) (sym c.deref-2.ensures.value)
-    (fitting_stands target old c.in_ok-by_old.by_old.items c.in_ok-by_old.ensures.fitting) in
-    settled target relation c.deref.result.now c.deref-2.result.now (Some new) (Some old) c.deref-3.result.now of_new of_old
-    (subst (AreSettledOf relation (Some new) (Some old)) (sym c.deref-3.ensures.value) c.in_ok-settled.ensures)
+    record {
+      of_new = subst (StandsFor target (of_filter new)) (sym c.deref.ensures.value)
+          (fitting_stands target new c.in-Ok.by_new.items c.in-Ok.ensures.fitting);
+      of_old = subst (StandsFor target (of_filter old)) (sym c.deref-2.ensures.value)
+          (fitting_stands target old c.in_ok-by_old.by_old.items c.in_ok-by_old.ensures.fitting);
+    }
 
 pub returns-in_err-by_old-clause-cause : goal.returns-in_err-by_old-clause-cause
 returns-in_err-by_old-clause-cause c =

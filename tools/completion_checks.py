@@ -102,7 +102,7 @@ def compare_options(results, folder, command, text, files):
     given = [it for it in completed(folder, "seccomptool", command, "-") if it != "-"]
     results.compare(f"{ask} -: options", (both,), (given,))
     for short, option, kind, values in found:
-        listed = sorted(values.split(", ")) if values else wanted_for(kind, files)
+        listed = sorted(values.split(", ")) if values else wanted_for(kind, files, text)
         if kind == "FILTER":
             continue
         for form in (it for it in (short, option) if it and kind):

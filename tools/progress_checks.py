@@ -8,7 +8,7 @@ It needs the built program, and pseudo-terminals. A comparison that takes longer
 with standard error as a terminal and as a pipe:
 
 - on the terminal come lines that name the call and how many sets were looked at, each from the line's begin on, and the
-  last one is erased; the numbers are sums of tries with 250,000 sets, and with twice as many each time;
+  last one is erased; the numbers are sums of tries with 10,000 sets, and with four times as many each time;
 - on the pipe comes nothing;
 - the exit status and standard output are the same, and what they have to be.
 
@@ -41,7 +41,7 @@ TOP = pathlib.Path(__file__).resolve().parent.parent
 SECONDS = 300
 
 # How many sets the first try looks at.
-FIRST = 250_000
+FIRST = 10_000
 
 # What goes back to the begin of a line, and what erases it from there on.
 BACK, ERASE = b"\r", b"\x1b[K"
@@ -94,7 +94,7 @@ def sums_of_tries(most):
     """Returns how many sets all tries so far looked at, after each try but one that has an answer."""
     tries = [min(FIRST, most)]
     while tries[-1] < most:
-        tries.append(min(2 * tries[-1], most))
+        tries.append(min(4 * tries[-1], most))
     return list(itertools.accumulate(tries))
 
 

@@ -7,15 +7,15 @@ from the program's output.
 
 from . import (
     answers, call, calls, check, compile, compiled_profiles, conditions, counts, diff, entries, explain, formats, hostile, initializers, learn, lines, logs, oci,
-    outputs, profile_checks, profile_faults, profile_stats, program_diffs, programs, random_filters, same_filters, show, stats, subjects, warnings,
-    words
+    outputs, profile_checks, profile_faults, profile_stats, program_diffs, programs, random_filters, same_filters, show, stacks, stats, subjects,
+    warnings, words
 )
 from .forms import Case
 
 FILES = {
     **explain.FILES, **compile.FILES, **diff.FILES, **programs.FILES, **program_diffs.FILES, **subjects.FILES, **compiled_profiles.FILES, **oci.FILES,
     **profile_faults.FILES, **initializers.FILES, **counts.FILES, **profile_checks.FILES, **hostile.FILES, **outputs.FILES, **learn.FILES,
-    **lines.FILES, **logs.FILES, **random_filters.FILES, **same_filters.FILES
+    **lines.FILES, **logs.FILES, **random_filters.FILES, **same_filters.FILES, **stacks.FILES
 }
 
 
@@ -32,7 +32,7 @@ CASES = [
         for it in (
             show, check, warnings, conditions, calls, entries, explain, logs, programs, stats, call, counts, program_diffs,
             compiled_profiles, initializers, profile_faults, oci, profile_checks, profile_stats, words, hostile, outputs,
-            subjects, learn, lines, formats, answers, same_filters
+            subjects, learn, lines, formats, answers, same_filters, stacks
         )
         for case in it.CASES
     ],

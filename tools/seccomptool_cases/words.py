@@ -12,7 +12,7 @@ NAMED = (
     '"":{"mismatch_action":"log","match_action":"allow","filter":[]}}'
 )
 
-COMMANDS = ("check", "compile", "show", "explain", "diff", "learn", "call")
+COMMANDS = ("check", "compile", "show", "explain", "diff", "stack", "learn", "call")
 
 NO_VERSION = "error: the value of --kernel isn't a version of two numbers, such as 6.1\n.."
 

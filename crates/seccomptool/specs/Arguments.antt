@@ -22,7 +22,7 @@ use Rattle.seccomptool.specs.declared.words.Calls.{Calls}
 use Rattle.seccomptool.specs.declared.words.Calls.TheVariants as calls
 use Rattle.seccomptool.specs.declared.words.Inputs.{Inputs}
 use Rattle.seccomptool.specs.declared.words.Verb.{Verb}
-use Rattle.seccomptool.specs.declared.words.Verb.TheVariants.{Call, Check, Codes, Compile, Diff, Explain, Learn, Show}
+use Rattle.seccomptool.specs.declared.words.Verb.TheVariants.{Call, Check, Codes, Compile, Diff, Explain, Learn, Show, Stack}
 use Rattle.seccomptool.specs.Chosen.{text_of}
 
 -- ---- values
@@ -101,6 +101,7 @@ verb_named is_list name =
     else if bytes_eq name (codes "show") then Show
     else if bytes_eq name (codes "explain") then Explain
     else if bytes_eq name (codes "diff") then Diff
+    else if bytes_eq name (codes "stack") then Stack
     else if bytes_eq name (codes "learn") then Learn else Call
 
 -- A path of standard input if none is given.
@@ -152,6 +153,7 @@ abbrev pub AreRead : Found → Verb → List (Option (List ℕ) × Option (List 
 AreRead found Diff paths =
     (old new : List ℕ) × IsPathIn (path_given found (codes "OLD")) old × IsPathIn (path_given found (codes "NEW")) new
     × (paths ≡ (Some old, Some new) ∷ [])
+AreRead found Stack paths = paths ≡ (first_value found (codes "SUBJECT"), None) ∷ []
 AreRead found Learn paths = paths ≡ (first_value found (codes "TRACE"), first_value found (codes "into")) ∷ []
 AreRead found Explain paths =
     paths ≡ each_with (records_given found (first_value found (codes "CALL")) (first_value found (codes "log")))

@@ -1,5 +1,6 @@
 -- Why an engine gives no answer: each error has its cause in what is given. Lack of memory may come in place of all.
-use Rattle.std.specs.Prelude.{◌≡◌, ◌≢◌, ℕ, ◌&&◌, Bool, true, false, List, Option, Some, None, String, Vec, string_bytes, ⊤}
+use Rattle.std.specs.Prelude.{◌≡◌, ◌≢◌, ℕ, ◌&&◌, Bool, true, false, List, [], Option, Some, None, String, Vec, Any, string_bytes, ⊤}
+use Rattle.std.specs.List.{AllZip}
 use Rattle.std.specs.declared.alloc.Global.{Global}
 use Rattle.seccompiler.specs.Compiled.{IsTooLarge}
 use Rattle.seccompiler.specs.Errors.{IsNoMemoryInFrontend, from_backend}
@@ -10,6 +11,7 @@ use Rattle.seccompiler.specs.Policy.{Filter}
 use Rattle.seccompiler.specs.declared.backend.BackendError.{BackendError}
 use Rattle.seccompiler.specs.declared.backend.BackendError.TheVariants as backend
 use Rattle.seccompiler.specs.declared.backend.TargetArch.{TargetArch}
+use Rattle.seccompiler.specs.declared.bpf.sock_filter.{sock_filter}
 use Rattle.seccompiler.specs.declared.error.Error.TheVariants as library
 use Rattle.seccompiler.specs.declared.json.error.JsonFrontendError.{JsonFrontendError}
 use Rattle.seccompiler.specs.declared.json.error.JsonFrontendError.TheVariants as frontend
@@ -22,11 +24,13 @@ use Rattle.seccomp_oci.specs.CompiledProfile.{HasUnknown}
 use Rattle.seccomp_oci.specs.Types.{Container}
 use Rattle.seccomp_oci.specs.declared.compiled.CompileError.TheVariants as profile
 use Rattle.seccomp_check.specs.Checks.{IsRefusedFor}
+use Rattle.seccomp_stack.specs.Joined.{IsRefusal}
+use Rattle.seccomp_stack.specs.declared.StackError.{StackError}
 use Rattle.seccomptool.specs.Chosen.{HasOnlyName, IsOnly, text_of}
 use Rattle.seccomptool.specs.CheckProfile.{IsRefusedProfile}
-use Rattle.seccomptool.specs.Commands.{IsSideOf}
+use Rattle.seccomptool.specs.Commands.{IsLayer, IsSideOf}
 use Rattle.seccomptool.specs.Diff.{is_whole}
-use Rattle.seccomptool.specs.Errors.{IsOfSecond, from_filter, from_library}
+use Rattle.seccomptool.specs.Errors.{IsAtPath, IsOfSecond, from_filter, from_library, from_stack}
 use Rattle.seccomptool.specs.Kinds.{IsTakenAs}
 use Rattle.seccomptool.specs.Record.{IsUncalled}
 use Rattle.seccomptool.specs.Run.{IsRefusedProgram}
@@ -37,6 +41,7 @@ use Rattle.seccomptool.specs.declared.kind.Reading.{Reading}
 use Rattle.seccomptool.specs.declared.kind.Subject.{Subject}
 use Rattle.seccomptool.specs.declared.kind.Subject.TheVariants as subject
 use Rattle.seccomptool.specs.declared.sides.Side.{Side}
+use Rattle.seccomptool.specs.declared.stack.Layer.{Layer}
 use Rattle.seccomptool.specs.declared.words.Asked.{Asked}
 use Rattle.seccomptool.specs.declared.words.Calls.TheVariants.{One}
 
@@ -221,11 +226,6 @@ IsUndecidedAs asked kind given e =
 abbrev pub IsUndecided : Asked → (given : List ℕ) → ToolError → Type 0
 IsUndecided asked given e = IsOfKind asked.reading given (λ kind. IsUndecidedAs asked kind given e) e
 
--- Why `explain` explains nothing: one call is asked about, and is none of the architecture; or by what is given.
-pub data IsUnexplained (asked : Asked) (given : List ℕ) (e : ToolError) : Type 0 where
-  uncalled : asked.calls ≡ One → IsUncalled asked.arch asked.call.name.now e → IsUnexplained asked given e
-  undecided : IsUndecided asked given e → IsUnexplained asked given e
-
 -- Memory ran out; or the error is of the old side; or it is told as one of the second of what is read, and is one of the new side.
 pub data IsOfEither (Old New : ToolError → Type 0) (e : ToolError) : Type 0 where
   of_neither : e ≡ OutOfMemory → IsOfEither Old New e
@@ -250,6 +250,29 @@ pub data IsUncompared (asked : Asked) (old_given new_given : List ℕ) (e : Tool
   unknown_kind : e ≡ OutOfMemory → IsUncompared asked old_given new_given e
   of_sides : (old new : Side) → IsSideOf asked.reading asked.old old_given old → IsSideOf asked.reading asked.new new_given new
       → IsUndiffed asked.terms.target old new e → IsUncompared asked old_given new_given e
+
+-- Why there is no program of a layer, told with its path.
+pub data IsUnlayered (asked : Asked) (layer : Layer) (e : ToolError) : Type 0 where
+  unknown_layer : e ≡ OutOfMemory → IsUnlayered asked layer e
+  of_layer : (side : Side) → IsSideOf asked.reading layer.filter layer.text.items side → (own : ToolError)
+      → IsUnruled asked.arch side own → IsAtPath own e → IsUnlayered asked layer e
+
+-- Memory ran out; or one of the layers has no program.
+pub data IsOfLayers (asked : Asked) (layers : List Layer) (e : ToolError) : Type 0 where
+  of_no_layer : e ≡ OutOfMemory → IsOfLayers asked layers e
+  of_some_layer : Any (λ layer. IsUnlayered asked layer e) layers → IsOfLayers asked layers e
+
+-- Why `explain` explains nothing: one call is asked about, and is none of the architecture; or by what is given, or by the layers.
+pub data IsUnexplained (asked : Asked) (layers : List Layer) (given : List ℕ) (e : ToolError) : Type 0 where
+  uncalled : asked.calls ≡ One → IsUncalled asked.arch asked.call.name.now e → IsUnexplained asked layers given e
+  undecided : layers ≡ [] → IsUndecided asked given e → IsUnexplained asked layers given e
+  of_layers : IsOfLayers asked layers e → IsUnexplained asked layers given e
+
+-- Why `stack` writes nothing: by the layers; or the program of all would be too long.
+pub data IsUnstacked (asked : Asked) (layers : List Layer) (e : ToolError) : Type 0 where
+  unstacked : IsOfLayers asked layers e → IsUnstacked asked layers e
+  too_long : (programs : List (Vec sock_filter Global)) → AllZip (IsLayer asked) layers programs → (refusal : StackError)
+      → IsRefusal programs refusal → e ≡ from_stack refusal → IsUnstacked asked layers e
 
 -- ---- the steps
 

@@ -1,7 +1,9 @@
 -- What it means that a command is carried out on the texts that it is given.
-use Rattle.std.specs.Prelude.{◌≡◌, ◌≢◌, ◌<◌, ◌↔◌, ℕ, ◌/◌, ◌%◌, Bool, true, false, IsTrue, List, Option, length, ⊤}
+use Rattle.std.specs.Prelude.{◌≡◌, ◌≢◌, ◌<◌, ◌↔◌, ℕ, ◌/◌, ◌%◌, Bool, true, false, IsTrue, List, [], Option, Vec, length, ⊤}
 use Rattle.std.specs.Borrow.{Bor}
+use Rattle.std.specs.List.{AllZip}
 use Rattle.std.specs.Simd.{first_chunks}
+use Rattle.std.specs.declared.alloc.Global.{Global}
 use Rattle.seccompiler.specs.declared.backend.TargetArch.{TargetArch}
 use Rattle.seccompiler.specs.declared.bpf.sock_filter.{sock_filter}
 use Rattle.seccomp_tree.specs.declared.layout.Layout.{Layout}
@@ -12,6 +14,7 @@ use Rattle.seccomp_compare.specs.Machine.{IsChecked}
 use Rattle.seccomp_oci.specs.declared.compiled.CompiledProfile.{CompiledProfile}
 use Rattle.seccomp_oci.specs.CompiledProfile.{IsCompiledProfile}
 use Rattle.seccomp_oci.specs.Types.{Container}
+use Rattle.seccomp_stack.specs.Stack.{IsStack}
 use Rattle.seccomp_learn.specs.declared.trace.Trace.{Trace}
 use Rattle.seccomptool.specs.declared.check.CheckedPolicy.{CheckedPolicy}
 use Rattle.seccomptool.specs.declared.check.profile.CheckedProfile.{CheckedProfile}
@@ -28,6 +31,7 @@ use Rattle.seccomptool.specs.declared.kind.Subject.TheVariants as subject
 use Rattle.seccomptool.specs.declared.made.Made.{Made}
 use Rattle.seccomptool.specs.declared.record.KnownCall.{KnownCall}
 use Rattle.seccomptool.specs.declared.sides.Side.{Side}
+use Rattle.seccomptool.specs.declared.stack.Layer.{Layer}
 use Rattle.seccomptool.specs.declared.stats.FilterStats.{FilterStats}
 use Rattle.seccomptool.specs.declared.stats.Measure.{Measure}
 use Rattle.seccomptool.specs.declared.words.Call.{Call}
@@ -41,12 +45,12 @@ use Rattle.seccomptool.specs.CheckProfile.{IsProfileCheckOf, IsRefusedProfile}
 use Rattle.seccomptool.specs.Chosen.{text_of}
 use Rattle.seccomptool.specs.Compile.{ArePrograms, IsWrittenAs}
 use Rattle.seccomptool.specs.Diff.{IsDiff, verdict_in}
-use Rattle.seccomptool.specs.Explain.{IsOfPolicy, IsOfProfile, IsOfProgram}
+use Rattle.seccomptool.specs.Explain.{IsOfPolicy, IsOfProfile, IsOfProgram, IsOfStack}
 use Rattle.seccomptool.specs.Kinds.{IsTakenAs}
 use Rattle.seccomptool.specs.Learn.{IsLesson}
 use Rattle.seccomptool.specs.Record.{AreKnownCalls, IsRecordOf}
 use Rattle.seccomptool.specs.Run.{IsProgramOf, IsRefusedProgram}
-use Rattle.seccomptool.specs.Sides.{IsChosen, Policies}
+use Rattle.seccomptool.specs.Sides.{IsChosen, IsProgramFor, Policies}
 use Rattle.seccomptool.specs.Stats.{AreStats, IsMeasureOf, IsProfileMeasure}
 
 -- ---- what each command answers
@@ -150,10 +154,9 @@ IsExplainedAs arch subject.Policy asked text records e = IsOfPolicy arch asked t
 IsExplainedAs arch (subject.Profile container) asked text records e = IsOfProfile arch container.now text records e
 IsExplainedAs arch subject.Program asked bytes records e = IsOfProgram bytes records e
 
-abbrev pub IsExplained : Asked → (given : List ℕ) → (records : List (List ℕ)) → Type 0
-IsExplained asked given records =
-    (kind : Subject) × IsTakenAs asked.reading given kind
-    × (e : Explanation) × IsExplainedAs asked.arch kind (text_of asked.filter) given records e
+abbrev pub Explains : Asked → (given : List ℕ) → (records : List (List ℕ)) → Explanation → Type 0
+Explains asked given records e =
+    (kind : Subject) × IsTakenAs asked.reading given kind × IsExplainedAs asked.arch kind (text_of asked.filter) given records e
 
 -- The architecture that is asked about, or each.
 abbrev pub IsAskedAbout : (each : Bool) → (asked of : TargetArch) → Type 0
@@ -186,6 +189,34 @@ pub record IsCompared (asked : Asked) (old_given new_given : List ℕ) (v : Verd
   pub is : IsDiff asked.terms.target asked.terms.relation old new found
   pub verdict : v ≡ verdict_in asked.scope found
 
+-- The program is that of a layer.
+pub record IsLayer (asked : Asked) (layer : Layer) (program : Vec sock_filter Global) : Type 0 where
+  pub side : Side
+  pub of_layer : IsSideOf asked.reading layer.filter layer.text.items side
+  pub is : IsProgramFor asked.arch side.kind (text_of side.filter) side.given.now program.items
+
+-- What is decided on the records is what the kernel makes of the programs of all layers.
+pub record IsStackExplained (asked : Asked) (layers : List Layer) (records : List (List ℕ)) (e : Explanation) : Type 0 where
+  pub programs : List (Vec sock_filter Global)
+  pub each : AllZip (IsLayer asked) layers programs
+  pub decided : AllZip (IsOfStack programs) records e.records.items
+
+-- One program answers as the kernel makes it of those of all layers, and it is what is written.
+pub record IsStacked (asked : Asked) (layers : List Layer) (written : List ℕ) : Type 0 where
+  pub programs : List (Vec sock_filter Global)
+  pub each : AllZip (IsLayer asked) layers programs
+  pub program : List sock_filter
+  pub stack : IsStack programs program
+  pub is_written : IsWrittenAs asked.format program written
+
+-- What is given decides so on the records, and why; or, if there are layers, all of them do together.
+abbrev pub ExplainsIn : Asked → List Layer → (given : List ℕ) → (records : List (List ℕ)) → Explanation → Type 0
+ExplainsIn asked [] given records e = Explains asked given records e
+ExplainsIn asked layers given records e = IsStackExplained asked layers records e
+
+abbrev pub IsExplainedIn : Asked → List Layer → (given : List ℕ) → (records : List (List ℕ)) → Type 0
+IsExplainedIn asked layers given records = (e : Explanation) × ExplainsIn asked layers given records e
+
 -- ---- a command
 
 -- The bytes end inside a record, if they are records.
@@ -197,22 +228,25 @@ EndsInside calls bytes = ⊥
 abbrev pub IsPlain : Made → Type 0
 IsPlain made = (made.verdict ≡ Same) × (made.is_cut ≡ false)
 
--- What is asked for is carried out on these bytes, the first and the second that are read, and on these traces: a value is made that
--- is so, with this verdict and what is written. The bytes say what is given.
-abbrev pub IsDone : Verb → Asked → List Trace → (first second : List ℕ) → Made → Type 0
-IsDone verb.Compile asked traces given none made = IsCompiled asked given made.text.items × IsPlain made
-IsDone verb.Show asked traces given none made = IsShown asked given × IsPlain made
-IsDone verb.Check asked traces given none made = IsCheck asked given made.verdict × (made.is_cut ≡ false)
-IsDone verb.Codes asked traces none other made = IsPlain made
-IsDone verb.Explain asked traces given bytes made =
-    OnRecords asked bytes (IsExplained asked given) × (made.verdict ≡ Same) × (IsTrue made.is_cut ↔ EndsInside asked.calls bytes)
-IsDone verb.Call asked traces none other made = IsCalled asked made.text.items × IsPlain made
-IsDone verb.Diff asked traces old new made = IsCompared asked old new made.verdict × (made.is_cut ≡ false)
-IsDone verb.Learn asked traces none policy made = IsLesson asked traces policy made.text.items × IsPlain made
+-- What is asked for is carried out on these bytes, the first and the second that are read, on these traces, and on these layers: a value
+-- is made that is so, with this verdict and what is written. The bytes say what is given.
+abbrev pub IsDone : Verb → Asked → List Trace → List Layer → (first second : List ℕ) → Made → Type 0
+IsDone verb.Compile asked traces layers given none made = IsCompiled asked given made.text.items × IsPlain made
+IsDone verb.Show asked traces layers given none made = IsShown asked given × IsPlain made
+IsDone verb.Check asked traces layers given none made = IsCheck asked given made.verdict × (made.is_cut ≡ false)
+IsDone verb.Codes asked traces layers none other made = IsPlain made
+IsDone verb.Explain asked traces layers given bytes made =
+    OnRecords asked bytes (IsExplainedIn asked layers given) × (made.verdict ≡ Same) × (IsTrue made.is_cut ↔ EndsInside asked.calls bytes)
+IsDone verb.Call asked traces layers none other made = IsCalled asked made.text.items × IsPlain made
+IsDone verb.Diff asked traces layers old new made = IsCompared asked old new made.verdict × (made.is_cut ≡ false)
+IsDone verb.Stack asked traces layers none other made = IsStacked asked layers made.text.items × IsPlain made
+IsDone verb.Learn asked traces layers none policy made = IsLesson asked traces policy made.text.items × IsPlain made
 
-abbrev pub IsCarriedOut : Asked → List Trace → (first second : List ℕ) → Made → Type 0
-IsCarriedOut asked traces first second made = IsDone asked.verb asked traces first second made
+abbrev pub IsCarriedOut : Asked → List Trace → List Layer → (first second : List ℕ) → Made → Type 0
+IsCarriedOut asked traces layers first second made = IsDone asked.verb asked traces layers first second made
 
--- It is carried out on some bytes and traces.
+-- It is carried out on some bytes, traces and layers.
 abbrev pub IsPerformed : Asked → Made → Type 0
-IsPerformed asked made = (traces : List Trace) × (first : List ℕ) × (second : List ℕ) × IsCarriedOut asked traces first second made
+IsPerformed asked made =
+    (traces : List Trace) × (layers : List Layer) × (first : List ℕ) × (second : List ℕ)
+    × IsCarriedOut asked traces layers first second made

@@ -6,6 +6,8 @@ use Rattle.seccompiler.specs.declared.error.Error.{Error as LibraryError}
 use Rattle.seccompiler.specs.declared.error.Error.TheVariants as library
 use Rattle.seccomp_tree.specs.declared.error.FilterError.{FilterError}
 use Rattle.seccomp_tree.specs.declared.error.FilterError.TheVariants as filter
+use Rattle.seccomp_stack.specs.declared.StackError.{StackError}
+use Rattle.seccomp_stack.specs.declared.StackError.TheVariants as stack
 use Rattle.seccomptool.specs.declared.error.ToolError.{ToolError}
 use Rattle.seccomptool.specs.declared.error.ToolError.TheVariants.{Library, OutOfMemory, Second}
 use Rattle.seccomptool.specs.declared.error.ToolError.TheVariants as tool
@@ -22,6 +24,15 @@ from_filter (filter.FilterTooLarge n) = Library (library.Backend (backend.Filter
 from_filter filter.TreeTooLarge = tool.TreeTooLarge
 from_filter filter.OutOfMemory = OutOfMemory
 
+-- Why programs make no stack.
+abbrev pub from_stack : StackError → ToolError
+from_stack (stack.TooLong n) = tool.StackTooLong n
+from_stack stack.OutOfMemory = OutOfMemory
+
 -- An error is told as one of the second of what is read, and is no lack of memory; or memory ran out.
 abbrev pub IsOfSecond : (own error : ToolError) → Type 0
 IsOfSecond own error = (error ≡ OutOfMemory) ⊎ ((own ≢ OutOfMemory) × (told : String Global) × (error ≡ Second told))
+
+-- An error is told with its path, and is no lack of memory; or memory ran out.
+abbrev pub IsAtPath : (own error : ToolError) → Type 0
+IsAtPath own error = (error ≡ OutOfMemory) ⊎ ((own ≢ OutOfMemory) × (told : String Global) × (error ≡ tool.Told told))

@@ -13,6 +13,7 @@ use Rattle.seccomptool.specs.declared.error.ToolError.TheVariants.{Told, OutOfMe
 use Rattle.seccomptool.specs.declared.findings.Verdict.{Verdict}
 use Rattle.seccomptool.specs.declared.findings.Verdict.TheVariants.{Same, Different, Undecided}
 use Rattle.seccomptool.specs.declared.made.Made.{Made}
+use Rattle.seccomptool.specs.declared.stack.Layer.{Layer}
 use Rattle.seccomptool.specs.declared.words.Asked.{Asked}
 use Rattle.seccomptool.specs.declared.words.Inputs.{Inputs}
 use Rattle.seccomptool.specs.declared.words.Verb.{Verb}
@@ -50,6 +51,7 @@ gathers asked = is_gathered asked.verb asked.check_format
 -- The bytes of a program or of a record are asked for.
 abbrev pub is_of_bytes : Verb → ProgramFormat → (recorded : Bool) → Bool
 is_of_bytes verb.Compile Raw recorded = true
+is_of_bytes verb.Stack Raw recorded = true
 is_of_bytes verb.Call format recorded = recorded
 is_of_bytes other format recorded = false
 
@@ -80,7 +82,8 @@ IsOfFile e = ⊥
 -- Trouble has a cause: an error of a file; or of what is asked for, on some bytes.
 pub data IsTrouble (asked : Asked) (e : ToolError) : Type 0 where
   of_file : IsOfFile e → IsTrouble asked e
-  of_bytes : (traces : List Trace) (first second : List ℕ) → IsFailure asked traces first second e → IsTrouble asked e
+  of_bytes : (traces : List Trace) (layers : List Layer) (first second : List ℕ) → IsFailure asked traces layers first second e
+      → IsTrouble asked e
 
 -- The error is told, and nothing else is done.
 abbrev pub IsTold : ToolError → (before after : State) → Type 0

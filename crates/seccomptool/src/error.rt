@@ -1,6 +1,6 @@
 // Why the program fails.
 
-ghost use Rattle.seccomptool.specs.Errors.{IsOfSecond};
+ghost use Rattle.seccomptool.specs.Errors.{IsAtPath, IsOfSecond};
 ghost use Rattle.seccomptool.specs.Outside.{IsOfFile};
 
 use crate::notes::push_front;
@@ -8,6 +8,7 @@ use crate::run::fault::ProgramFault;
 use crate::text::Text;
 use seccomp_check::Fault;
 use seccomp_oci::CompileError;
+use seccomp_stack::StackError;
 use seccomp_tree::FilterError;
 use seccompiler::json::JsonFrontendError;
 use seccompiler::{BackendError, TargetArch};
@@ -36,6 +37,8 @@ pub enum ToolError {
     Placed(String, Fault),
     /// A filter would have more than 4096 instructions as a tree.
     TreeTooLarge,
+    /// The program of all that hold together would have so many instructions, more than 4096.
+    StackTooLong(usize),
     /// The program can't be read, or may not be run.
     Program(ProgramFault),
     /// A profile isn't compiled.
@@ -58,7 +61,7 @@ impl Drop for ToolError {
             | ToolError::Fault(told)
             | ToolError::Second(told)
             | ToolError::Told(told) => drop(told),
-            ToolError::TreeTooLarge | ToolError::OutOfMemory => {}
+            ToolError::TreeTooLarge | ToolError::StackTooLong(_) | ToolError::OutOfMemory => {}
         }
     }
 }
@@ -79,6 +82,24 @@ impl ToolError {
         }
     }
 
+    // An error of what is at a path, which its text names.
+    pub(crate) fn at_path(alloc: Global, path: &str, error: ToolError) -> ToolError
+        ensures { IsAtPath error result }
+    {
+        if let ToolError::OutOfMemory = error {
+            return ToolError::OutOfMemory;
+        }
+        let told = match error.told(alloc) {
+            Ok(told) => path_text(alloc, path, told.as_str()),
+            Err(error) => Err(error),
+        };
+        drop(error);
+        match told {
+            Ok(told) => ToolError::Told(told),
+            Err(error) => error.into(),
+        }
+    }
+
     // That what is at a path can't be opened, read or written.
     pub(crate) fn of_io(alloc: Global, path: &str, error: io::Error) -> ToolError
         ensures { IsOfFile result }
@@ -93,10 +114,7 @@ impl ToolError {
     pub(crate) fn of_path(alloc: Global, path: &str, told: &str) -> ToolError
         ensures { IsOfFile result }
     {
-        let mut text = Text::new(alloc);
-        push_front(&mut text, path);
-        text.push_str(told);
-        match text.finish_string() {
+        match path_text(alloc, path, told) {
             Ok(text) => ToolError::Told(text),
             Err(error) => error.into(),
         }
@@ -124,9 +142,20 @@ impl ToolError {
                 alloc,
                 "A filter needs more than 4096 instructions in the tree layout.",
             ),
+            ToolError::StackTooLong(length) => {
+                format!(in alloc; "The program of all needs {length} instructions; 4096 fit.")
+            }
             ToolError::OutOfMemory => String::from_str(alloc, "Out of memory."),
         }
     }
+}
+
+// What is wrong with what is at a path, behind the path.
+fn path_text(alloc: Global, path: &str, told: &str) -> Result<String, AllocError> {
+    let mut text = Text::new(alloc);
+    push_front(&mut text, path);
+    text.push_str(told);
+    text.finish_string()
 }
 
 /// The library's `OutOfMemory` is the program's.
@@ -172,6 +201,20 @@ impl From<FilterError> for ToolError {
             FilterError::FilterTooLarge(length) => BackendError::FilterTooLarge(length).into(),
             FilterError::TreeTooLarge => ToolError::TreeTooLarge,
             FilterError::OutOfMemory => ToolError::OutOfMemory,
+        }
+    }
+}
+
+impl From<StackError> for ToolError {
+    ghost use Rattle.std.specs.Prelude.{◌≡◌};
+    ghost use Rattle.seccomptool.specs.Errors.{from_stack};
+
+    ghost from_gives = { λ refusal error. error ≡ from_stack refusal };
+
+    fn from(refusal: StackError) -> ToolError {
+        match refusal {
+            StackError::TooLong(length) => ToolError::StackTooLong(length),
+            StackError::OutOfMemory => ToolError::OutOfMemory,
         }
     }
 }

@@ -23,6 +23,7 @@ mod run;
 mod shell;
 mod show;
 mod sides;
+mod stack;
 mod stats;
 mod text;
 mod words;

@@ -20,7 +20,10 @@ pub(crate) fn tell(
     error: &ToolError,
 ) -> Result<(), AllocError> {
     let path = match error {
-        ToolError::OutOfMemory | ToolError::UnknownCall(_, _) | ToolError::Told(_) => None,
+        ToolError::OutOfMemory
+        | ToolError::UnknownCall(_, _)
+        | ToolError::StackTooLong(_)
+        | ToolError::Told(_) => None,
         ToolError::Second(_) => Some(inputs.second.unwrap_or("-")),
         _ => Some(inputs.first.unwrap_or("-")),
     };

@@ -10,12 +10,13 @@ use crate::explain::made::explain_made;
 use crate::learn::learn_made;
 use crate::made::{Made, call_made, codes_made, compile_made, diff_made, show_made};
 use crate::progress::Watch;
+use crate::stack::{Layer, stack_made};
 use crate::words::{Asked, Inputs, Verb};
 use seccomp_learn::Trace;
 use std::alloc::Global;
 
 /// What a command makes of these texts, the first and the second that it reads, ready to be written; `learn` has traces in place of
-/// the first. `inputs` are their paths; `progress` gets how far comparisons are.
+/// the first, and `stack`, and `explain` of several programs, have layers. `inputs` are their paths; `progress` gets how far comparisons are.
 ///
 /// # Errors
 ///
@@ -25,12 +26,13 @@ pub(crate) fn perform(
     asked: &Asked<'_>,
     inputs: Inputs<'_>,
     traces: &[Trace],
+    layers: &[Layer<'_>],
     first: &[u8],
     second: &[u8],
     progress: &mut Watch<'_>,
 ) -> Result<Made, ToolError>
-    ensures carried_out { IfOk result (λ made. IsCarriedOut asked.now traces.now first.now second.now made) }
-    ensures failed { IfErr result (IsFailure asked.now traces.now first.now second.now) }
+    ensures carried_out { IfOk result (λ made. IsCarriedOut asked.now traces.now layers.now first.now second.now made) }
+    ensures failed { IfErr result (IsFailure asked.now traces.now layers.now first.now second.now) }
 {
     let path = inputs.first.unwrap_or("-");
     match asked.verb {
@@ -38,9 +40,10 @@ pub(crate) fn perform(
         Verb::Show => show_made(alloc, asked, first),
         Verb::Check => check_made(alloc, asked, path, first),
         Verb::Codes => codes_made(alloc, asked.json),
-        Verb::Explain => explain_made(alloc, asked, inputs, first, second),
+        Verb::Explain => explain_made(alloc, asked, inputs, layers, first, second),
         Verb::Call => call_made(alloc, asked),
         Verb::Diff => diff_made(alloc, asked, inputs, first, second, progress),
+        Verb::Stack => stack_made(alloc, asked, layers),
         Verb::Learn => learn_made(alloc, asked, inputs, traces, second),
     }
 }

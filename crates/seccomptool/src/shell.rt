@@ -19,7 +19,8 @@ use crate::notes::{readable, tell_notes};
 use crate::outside::{OUTPUT, Outside};
 use crate::perform::perform;
 use crate::progress::Watch;
-use crate::words::{Asked, Inputs, Verb, read};
+use crate::stack::Layer;
+use crate::words::{Asked, Inputs, Verb, named_in, read};
 use clap::error::ErrorKind;
 use seccomp_command_line::readable::TextKind;
 use seccomp_learn::{Trace, read_trace};
@@ -208,18 +209,20 @@ fn carried_out<O: Outside>(
     refuse_output(rt, asked, inputs, to_terminal)?;
     let first = first_of(rt, asked, inputs)?;
     let traces = traces_of(rt, asked, inputs)?;
+    let layers = layers_of(rt, asked, inputs)?;
     let second = whole_of(rt, inputs.second)?;
     let made = perform(
         rt.alloc(),
         asked,
         inputs,
         &traces,
+        &layers,
         &first,
         &second,
         progress,
     );
     // Here, so that no branch below has to.
-    drop((traces, first, second));
+    drop((traces, layers, first, second));
     let made = made?;
     write_made(rt.alloc(), out, asked, &made.text, gathered)?;
     Ok(made)
@@ -277,12 +280,13 @@ fn refuse_output(
     Err(ToolError::of_path(rt.alloc(), asked.output.unwrap_or(OUTPUT), told))
 }
 
-// The first one of what a command reads: nothing of `learn`, which reads traces.
+// The first one of what a command reads: nothing if that is traces or layers.
 fn first_of(rt: &HostRuntime, asked: &Asked<'_>, inputs: Inputs<'_>) -> Result<Vec<u8>, ToolError>
     ensures { IfErr result IsOfFile }
 {
     match asked.verb {
-        Verb::Learn => Ok(Vec::new(rt.alloc())),
+        Verb::Learn | Verb::Stack => Ok(Vec::new(rt.alloc())),
+        Verb::Explain if !asked.further.is_empty() => Ok(Vec::new(rt.alloc())),
         _ => whole_of(rt, inputs.first),
     }
 }
@@ -305,6 +309,46 @@ fn traces_of(
     Ok(traces)
 }
 
+// The layers of `stack`, or of `explain` if it has several, in the order in which they were installed.
+fn layers_of<'a>(
+    rt: &HostRuntime,
+    asked: &Asked<'a>,
+    inputs: Inputs<'a>,
+) -> Result<Vec<Layer<'a>>, ToolError>
+    ensures { IfErr result IsOfFile }
+{
+    let mut layers = Vec::new(rt.alloc());
+    let path = inputs.first.unwrap_or("-");
+    if let Verb::Stack = asked.verb {
+        layers.push(layer_of(rt, path)?)?;
+    }
+    if matches!(asked.verb, Verb::Stack | Verb::Explain) {
+        for text in &asked.further {
+            layers.push(layer_of(rt, text)?)?;
+        }
+    }
+    if matches!(asked.verb, Verb::Explain) && !layers.is_empty() {
+        layers.push(Layer {
+            path,
+            filter: asked.filter,
+            text: whole_of(rt, inputs.first)?,
+        })?;
+    }
+    Ok(layers)
+}
+
+// The layer at a path, behind which the name of a filter may stand.
+fn layer_of<'a>(rt: &HostRuntime, text: &'a str) -> Result<Layer<'a>, ToolError>
+    ensures { IfErr result IsOfFile }
+{
+    let (path, filter) = named_in(text);
+    Ok(Layer {
+        path,
+        filter,
+        text: whole_of(rt, Some(path))?,
+    })
+}
+
 // The trace at a path.
 fn trace_of(rt: &HostRuntime, asked: &Asked<'_>, path: Option<&str>) -> Result<Trace, ToolError>
     ensures { IfErr result IsOfFile }
@@ -316,11 +360,19 @@ fn trace_of(rt: &HostRuntime, asked: &Asked<'_>, path: Option<&str>) -> Result<T
 // Whether a command reads the file at a path.
 fn is_read(rt: &HostRuntime, asked: &Asked<'_>, inputs: Inputs<'_>, path: &str) -> bool {
     for further in &asked.further {
-        if is_same(rt, further, path) {
+        if is_same(rt, path_of(asked, further), path) {
             return true;
         }
     }
-    matches!(inputs.first, Some(first) if is_same(rt, first, path))
+    matches!(inputs.first, Some(first) if is_same(rt, path_of(asked, first), path))
+}
+
+// The path of what is read, behind which `stack` has the name of a filter.
+fn path_of<'a>(asked: &Asked<'_>, text: &'a str) -> &'a str {
+    match asked.verb {
+        Verb::Stack => named_in(text).0,
+        _ => text,
+    }
 }
 
 // Whether a command writes bytes that are no text.
@@ -328,7 +380,7 @@ fn writes_bytes(asked: &Asked<'_>) -> bool
     ensures { result ≡ spec.writes_bytes asked.now }
 {
     match asked.verb {
-        Verb::Compile => matches!(asked.format, ProgramFormat::Raw),
+        Verb::Compile | Verb::Stack => matches!(asked.format, ProgramFormat::Raw),
         Verb::Call => asked.recorded,
         _ => false,
     }

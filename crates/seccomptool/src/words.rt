@@ -17,10 +17,11 @@ use crate::learn::{AskedArguments, Start};
 use crate::text::Text;
 use crate::words::paths::inputs_in;
 use crate::words::program::program;
+pub(crate) use crate::words::values::named_in;
 use crate::words::values::{
     allowed_in, arch_in, arguments_in, calls_in, check_format_in, further_in, is_json, kept_in,
-    layout_in, named_in, number_in, output_in, path_in, program_format_in, reading_in, relation_in,
-    scope_in, start_in, verb_in,
+    layout_in, number_in, output_in, path_in, program_format_in, reading_in, relation_in, scope_in,
+    start_in, verb_in,
 };
 use clap::ArgMatches;
 use clap::error::ErrorKind;
@@ -77,6 +78,7 @@ const EXPLAIN: &str = "\
 explain: Print what is decided for calls, and why
 --filter -f FILTER: The name of the filter; optional if the policy has only one
 --json: Write the answer as one JSON object
+--after SUBJECT..: What holds too and was installed before SUBJECT, in this order; append :FILTER to name a filter
 --records FILE !CALL !log: Without CALL, read call records from FILE instead of standard input
 --log FILE !CALL: Explain the calls that lines of a log or of strace in FILE are about
 SUBJECT: The file of a policy, profile or program, or - for standard input
@@ -93,6 +95,13 @@ diff: Print the calls that OLD and NEW decide differently
 --quiet -q: Don't print the number of warnings
 OLD: The old file, or - for standard input; append :FILTER to name a filter
 NEW: The new file, or - for standard input; append :FILTER to name a filter";
+
+const STACK: &str = "\
+stack: Write one program that answers as all SUBJECTs do if they hold together
+--format FORMAT=raw !json: How the program is written: as bytes, as a listing, or as a C initializer
+--json: Write the answer as one JSON object
+--output -o FILE: Write the program to FILE instead of standard output
+SUBJECT..: The files in the order in which they were installed, or - for standard input; append :FILTER to name a filter";
 
 const LEARN: &str = "\
 learn: Print a policy of the calls that a trace has
@@ -121,12 +130,13 @@ CALL: The call's name or number
 ARG*: The call's arguments; those that aren't given are 0";
 
 // The tables of the commands, in the order of the help, each after the options that it shares with others.
-const TABLES: [(&str, &str); 7] = [
+const TABLES: [(&str, &str); 8] = [
     (COMMON, CHECK),
     (COMMON, COMPILE),
     (COMMON, SHOW),
     (COMMON, EXPLAIN),
     (COMMON, DIFF),
+    (COMMON, STACK),
     ("", LEARN),
     ("", CALL),
 ];
@@ -148,6 +158,8 @@ pub enum Verb {
     Call,
     /// Print the calls that two sides decide otherwise.
     Diff,
+    /// Write one program that answers as several do that hold together.
+    Stack,
     /// Write a policy of the calls that a trace has.
     Learn,
 }
@@ -247,7 +259,7 @@ pub struct Asked<'a> {
     pub allowed: Vec<Code>,
     /// The arguments whose values are kept, beside the usual ones.
     pub arguments: Vec<AskedArguments<'a>>,
-    /// The traces after the first one.
+    /// The paths of traces or layers after the first one; of what `explain` has before it.
     pub further: Vec<&'a str>,
 }
 
@@ -268,7 +280,11 @@ pub(crate) fn read<'a>(
     for code in Code::all() {
         codes.push(code.name())?;
     }
-    let mut program = program(alloc, &TABLES, codes)?;
+    let first = match words.first() {
+        Some(word) => word.as_str(),
+        None => "",
+    };
+    let mut program = program(alloc, &TABLES, first, codes)?;
     asked_of(alloc, &mut program, words)
 }
 

@@ -26,7 +26,9 @@ pub(super) fn inputs_in<'a>(
         Verb::Check | Verb::Compile | Verb::Show => inputs_of(alloc, subjects, None),
         Verb::Explain => {
             let second = records_in(found);
-            refuse_both(wrong, verb, subjects.unwrap_or(&[]), second);
+            for firsts in [subjects, found.get_strs("after")] {
+                refuse_both(wrong, verb, firsts.unwrap_or(&[]), second);
+            }
             inputs_of(alloc, subjects, second)
         }
         Verb::Diff => {
@@ -35,6 +37,7 @@ pub(super) fn inputs_in<'a>(
             refuse_both(wrong, verb, &[old], Some(new));
             one_of(alloc, Some(old), Some(new))
         }
+        Verb::Stack => one_of(alloc, found.get_str("SUBJECT"), None),
         Verb::Learn => {
             let traces = found.get_strs("TRACE").unwrap_or(&[]);
             refuse_both(wrong, verb, traces, found.get_str("into"));

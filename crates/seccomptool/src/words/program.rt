@@ -17,15 +17,19 @@ Exit status: 0 for yes, 1 for no (`check`: rejected; `diff`: different), 2 for
 trouble, 3 if `diff` didn't decide.";
 
 /// The program with the commands of these tables, whose options take these codes of warnings. The arguments that it reads are those
-/// after the program's own name.
+/// after the program's own name. If the first of them is a command's name, `clap` gets no options of the others, at which it wouldn't
+/// look.
 pub(super) fn program<'a>(
     alloc: Global,
     tables: &[(&'a str, &'a str)],
+    first: &str,
     codes: &'a [&'a str],
 ) -> Result<Command<'a>, AllocError> {
+    let is_named = tables.iter().any(|(_, table)| begins_with(table, first));
     let mut commands = Vec::new(alloc);
     for (common, table) in tables {
-        commands.push(subcommand(alloc, common, table, codes)?)?;
+        let is_asked = !is_named || begins_with(table, first);
+        commands.push(subcommand(alloc, common, table, is_asked, codes)?)?;
     }
     Command::new(alloc, "seccomptool")
         .version(VERSION)
@@ -38,17 +42,24 @@ pub(super) fn program<'a>(
         .bin_name("seccomptool")
 }
 
-// The command of a table, which has these common options too.
+// Whether a table is that of this command.
+fn begins_with(table: &str, command: &str) -> bool {
+    matches!(table.split_once(": "), Some((name, _)) if name == command)
+}
+
+// The command of a table, which has these common options too; without any if it isn't asked for.
 fn subcommand<'a>(
     alloc: Global,
     common: &'a str,
     table: &'a str,
+    is_asked: bool,
     codes: &'a [&'a str],
 ) -> Result<Command<'a>, AllocError> {
     let (head, own) = table.split_once('\n').unwrap_or((table, ""));
     let (name, about) = head.split_once(": ").unwrap_or((head, ""));
     let mut args = Vec::new(alloc);
-    for rows in [common, own] {
+    let parts = if is_asked { [common, own] } else { ["", ""] };
+    for rows in parts {
         for row in rows.lines() {
             args.push(arg_of(alloc, name, row, codes)?)?;
         }
@@ -104,6 +115,7 @@ fn argument_of<'a>(alloc: Global, word: &'a str) -> Arg<'a> {
     match word.strip_prefix(name).unwrap_or("") {
         "..=-" => arg.default_value("-").num_args(1..),
         "=-" => arg.default_value("-"),
+        ".." => arg.required(true).num_args(1..),
         "*" => arg.num_args(0..=6).action(ArgAction::Append),
         "?" => arg,
         _ => arg.required(true),
@@ -118,7 +130,7 @@ fn values_of<'a>(command: &str, option: &str, codes: &'a [&'a str]) -> &'a [&'a 
         ("runtime", _) => &["crun", "runc"],
         ("allow", _) => codes,
         ("format", "check") => &["text", "gcc", "json"],
-        ("format", "compile") => &["raw", "listing", "c"],
+        ("format", "compile" | "stack") => &["raw", "listing", "c"],
         _ => &[],
     }
 }

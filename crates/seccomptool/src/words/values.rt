@@ -73,6 +73,7 @@ pub(super) fn verb_in(name: &str, is_list: bool) -> Verb
         "show" => Verb::Show,
         "explain" => Verb::Explain,
         "diff" => Verb::Diff,
+        "stack" => Verb::Stack,
         "learn" => Verb::Learn,
         _ => Verb::Call,
     }
@@ -86,7 +87,7 @@ pub(super) fn path_in<'a>(found: &ArgMatches<'a>, id: &str) -> &'a str
 }
 
 // A path, and the name of a filter, if one stands behind the last colon: none if nothing does.
-pub(super) fn named_in(text: &str) -> (&str, Option<&str>)
+pub(crate) fn named_in(text: &str) -> (&str, Option<&str>)
     ensures { IsPathAndName text.now result.0.now (text_of result.1) }
 {
     match text.rsplit_once(':') {
@@ -105,10 +106,14 @@ fn given_name(name: &str) -> Option<&str>
     Some(name)
 }
 
-// The traces after the first one.
+// The traces or subjects after the first one; or what `explain` has before it.
 pub(super) fn further_in<'a>(found: &ArgMatches<'a>, wrong: &mut Text) -> Vec<&'a str> {
     let mut further = Vec::new(wrong.alloc());
-    for path in found.get_strs("TRACE").unwrap_or(&[]).iter().skip(1) {
+    let (paths, first) = match found.get_strs("after") {
+        Some(paths) => (Some(paths), 0),
+        None => (found.get_strs("TRACE").or(found.get_strs("SUBJECT")), 1),
+    };
+    for path in paths.unwrap_or(&[]).iter().skip(first) {
         push(wrong, &mut further, *path);
     }
     further

@@ -1,0 +1,13 @@
+use Rattle.std.proofs.Common.{List, Vec, Global, refl, subst}
+use Rattle.std.proofs.lemmas.Result.{err_from_is_err_and}
+use Rattle.seccompiler.specs.declared.bpf.sock_filter.{sock_filter}
+use Rattle.seccomp_stack.specs.Joined.{IsRefusal}
+use Rattle.seccomptool.specs.Causes.{too_long}
+use Rattle.seccomptool.proofs.stack.stack_made.Goals as goal
+
+pub returns-in_err-program-clause-cause : goal.returns-in_err-program-clause-cause
+returns-in_err-program-clause-cause c =
+    let error = err_from_is_err_and c.from_residual-in_err-program.result c.from_residual-in_err-program.ensures.1 in
+    let refusal = c.in_err-program.field-0.0 in
+    rw (error.1, error.2) (too_long c.in_ok-programs.programs.items c.in_ok-programs.ensures.programs refusal
+    (subst (λ (ps : List (Vec sock_filter Global)). IsRefusal ps refusal) c.deref.ensures.value c.in_err-program.ensures.refused) refl)

@@ -1,5 +1,6 @@
 -- Why an engine gives no answer: each error has its cause in what is given. Lack of memory may come in place of all.
-use Rattle.std.specs.Prelude.{◌≡◌, ◌≢◌, ℕ, ◌&&◌, Bool, true, false, List, [], Option, Some, None, String, Vec, Any, string_bytes, ⊤}
+use Rattle.std.specs.Prelude.{◌≡◌, ◌≢◌, ℕ, ◌&&◌, Bool, true, false, List, [], Option, Some, None, String, Vec, slice_get}
+use Rattle.std.specs.Prelude.{string_bytes, take, ⊤}
 use Rattle.std.specs.List.{AllZip}
 use Rattle.std.specs.declared.alloc.Global.{Global}
 use Rattle.seccompiler.specs.Compiled.{IsTooLarge}
@@ -257,10 +258,11 @@ pub data IsUnlayered (asked : Asked) (layer : Layer) (e : ToolError) : Type 0 wh
   of_layer : (side : Side) → IsSideOf asked.reading layer.filter layer.text.items side → (own : ToolError)
       → IsUnruled asked.arch side own → IsAtPath own e → IsUnlayered asked layer e
 
--- Memory ran out; or one of the layers has no program.
+-- Memory ran out; or the error is of the first layer that has no program: each in front of it has one.
 pub data IsOfLayers (asked : Asked) (layers : List Layer) (e : ToolError) : Type 0 where
   of_no_layer : e ≡ OutOfMemory → IsOfLayers asked layers e
-  of_some_layer : Any (λ layer. IsUnlayered asked layer e) layers → IsOfLayers asked layers e
+  of_first : (place : ℕ) (layer : Layer) → slice_get layers place ≡ Some layer → (programs : List (Vec sock_filter Global))
+      → AllZip (IsLayer asked) (take place layers) programs → IsUnlayered asked layer e → IsOfLayers asked layers e
 
 -- Why `explain` explains nothing: one call is asked about, and is none of the architecture; or by what is given, or by the layers.
 pub data IsUnexplained (asked : Asked) (layers : List Layer) (given : List ℕ) (e : ToolError) : Type 0 where

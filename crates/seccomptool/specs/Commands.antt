@@ -152,7 +152,7 @@ abbrev pub IsExplainedAs : TargetArch → Subject → (asked : Option (List ℕ)
     → Type 0
 IsExplainedAs arch subject.Policy asked text records e = IsOfPolicy arch asked text records e
 IsExplainedAs arch (subject.Profile container) asked text records e = IsOfProfile arch container.now text records e
-IsExplainedAs arch subject.Program asked bytes records e = IsOfProgram bytes records e
+IsExplainedAs arch subject.Program asked bytes records e = IsOfProgram arch bytes records e
 
 abbrev pub Explains : Asked → (given : List ℕ) → (records : List (List ℕ)) → Explanation → Type 0
 Explains asked given records e =
@@ -199,7 +199,7 @@ pub record IsLayer (asked : Asked) (layer : Layer) (program : Vec sock_filter Gl
 pub record IsStackExplained (asked : Asked) (layers : List Layer) (records : List (List ℕ)) (e : Explanation) : Type 0 where
   pub programs : List (Vec sock_filter Global)
   pub each : AllZip (IsLayer asked) layers programs
-  pub decided : AllZip (IsOfStack programs) records e.records.items
+  pub decided : AllZip (IsOfStack asked.arch programs) records e.records.items
 
 -- One program answers as the kernel makes it of those of all layers, and it is what is written.
 pub record IsStacked (asked : Asked) (layers : List Layer) (written : List ℕ) : Type 0 where

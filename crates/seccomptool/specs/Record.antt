@@ -1,9 +1,11 @@
 -- What `record` gives: the record of a call.
-use Rattle.std.specs.Prelude.{◌≡◌, ◌≢◌, ℕ, ◌^◌, ◌<◌, All, Contains, List, [], ◌++◌, map, pos, Some, string_bytes, ⊤}
+use Rattle.std.specs.Prelude.{◌≡◌, ◌≢◌, ℕ, ◌^◌, ◌<◌, ◌==◌, if◌then◌else◌, All, Contains, List, [], ◌++◌, map, pos, Option, Some, None}
+use Rattle.std.specs.Prelude.{string_bytes, ⊤}
 use Rattle.std.specs.Int.{w32, w64, to_le_bytes}
 use Rattle.std.specs.List.{concat}
 use Rattle.seccompiler.specs.declared.backend.TargetArch.{TargetArch}
 use Rattle.seccompiler.specs.Architecture.{audit_word, table_of}
+use Rattle.seccompiler.specs.Machine.{word_at}
 use Rattle.seccompiler.specs.SyscallTable.{number_of}
 use Rattle.seccomptool.specs.declared.error.ToolError.{ToolError}
 use Rattle.seccomptool.specs.declared.error.ToolError.TheVariants.{UnknownCall, Told, OutOfMemory}
@@ -36,6 +38,10 @@ record_bytes target n arguments =
 -- The bytes are those of the record of the text's call.
 abbrev pub IsRecordOf : TargetArch → List ℕ → List ℕ → List ℕ → Type 0
 IsRecordOf target call arguments bytes = (n : ℕ) × IsCall target call n × (bytes ≡ record_bytes target n arguments)
+
+-- The number of a record's call, if the record is of the architecture.
+abbrev pub number_for : TargetArch → (r : List ℕ) → Option ℕ
+number_for target r = if word_at r 4 == audit_word target then Some (word_at r 0) else None
 
 -- The error tells that the text is no call of the architecture, or is want of memory.
 abbrev pub IsUncalled : TargetArch → List ℕ → ToolError → Type 0

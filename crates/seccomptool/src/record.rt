@@ -3,7 +3,7 @@
 ghost use Rattle.std.specs.Prelude.{◌≡◌, ◌≤◌, ℕ, Contains, IfOk, IfErr, IfSome, IfNone};
 ghost use Rattle.seccompiler.specs.Machine.{word_at};
 ghost use Rattle.seccomptool.specs.Numbers.{IsNumber};
-ghost use Rattle.seccomptool.specs.Record.{AreKnownCalls, IsCall, IsRecordOf, IsUncalled, IsUnknownCall};
+ghost use Rattle.seccomptool.specs.Record.{AreKnownCalls, IsCall, IsRecordOf, IsUncalled, IsUnknownCall, number_for};
 
 use crate::error::ToolError;
 use crate::findings::parts::name_of;
@@ -124,6 +124,14 @@ pub(crate) fn read_number(text: &str) -> Option<u64>
         None if text.len() > 1 && text.as_bytes()[0] == b'0' => None,
         None => read_digits(text, 10),
     }
+}
+
+// The number of a record's call, if the record is of the architecture.
+pub(crate) fn number_for(target: TargetArch, call: &[u8; 64]) -> Option<u32>
+    ensures { result ≡ number_for target call.now }
+{
+    let is_own = word_at(call, 4) == target.get_audit_value();
+    is_own.then_some(word_at(call, 0))
 }
 
 // The 32-bit word of bytes `k` to `k + 3`.

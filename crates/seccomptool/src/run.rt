@@ -10,7 +10,7 @@ ghost use Rattle.seccomp_compare.specs.Machine.{IsChecked};
 ghost use Rattle.seccomptool.specs.Explain.{IsReturned};
 
 use crate::explain::{Explained, Why};
-use crate::record::word_at;
+use crate::record::number_for;
 use seccomp_compare::machine;
 use seccompiler::machine::Outcome;
 use seccompiler::{BpfProgramRef, TargetArch};
@@ -27,13 +27,12 @@ pub fn returned(
     records: &[[u8; 64]],
 ) -> Result<Vec<Explained>, AllocError>
     requires { IsChecked program.now }
-    ensures { IfOk result (λ all. AllZip (IsReturned program.now) records.now all.items) }
+    ensures { IfOk result (λ all. AllZip (IsReturned target program.now) records.now all.items) }
 {
     let mut all = Vec::new(alloc);
     for call in records {
         let Outcome { word, steps } = machine::run(program, call);
-        let is_own = word_at(call, 4) == target.get_audit_value();
-        let number = is_own.then_some(word_at(call, 0));
+        let number = number_for(target, call);
         let why = Why::Program { number, steps };
         all.push(Explained { word, why })?;
     }

@@ -12,7 +12,7 @@ use crate::error::ToolError;
 use crate::explain::{Explained, Explanation, Why};
 use crate::kind::subject_of;
 use crate::made::Made;
-use crate::record::word_at;
+use crate::record::number_for;
 use crate::sides::{Side, ruled_by};
 use crate::words::Asked;
 use seccomp_stack::{Decision, run, stack};
@@ -109,13 +109,12 @@ fn decided_on(
     records: &[[u8; 64]],
 ) -> Result<Vec<Explained>, AllocError>
     requires { All (λ p. IsChecked p.items) programs.now }
-    ensures { IfOk result (λ all. AllZip (IsOfStack programs.now) records.now all.items) }
+    ensures { IfOk result (λ all. AllZip (IsOfStack target programs.now) records.now all.items) }
 {
     let mut all = Vec::with_capacity(alloc, records.len())?;
     for call in records {
         let Decision { word, place, steps } = run(programs, call);
-        let is_own = word_at(call, 4) == target.get_audit_value();
-        let number = is_own.then_some(word_at(call, 0));
+        let number = number_for(target, call);
         let why = Why::Layer {
             number,
             place,

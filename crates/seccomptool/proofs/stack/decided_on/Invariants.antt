@@ -5,4 +5,4 @@ use Rattle.seccomptool.proofs.stack.decided_on.Given as goal
 
 -- the records so far are decided
 abbrev pub invariant-loop-call : goal.invariant-loop-call
-invariant-loop-call l = AllZip (IsOfStack l.programs) (take l.call-index l.records) l.all.items
+invariant-loop-call l = AllZip (IsOfStack l.target l.programs) (take l.call-index l.records) l.all.items

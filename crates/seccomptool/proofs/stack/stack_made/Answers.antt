@@ -2,8 +2,13 @@ use Rattle.std.proofs.Common.{List, Vec, Global, refl, subst}
 use Rattle.std.proofs.lemmas.Result.{err_from_is_err_and}
 use Rattle.seccompiler.specs.declared.bpf.sock_filter.{sock_filter}
 use Rattle.seccomp_stack.specs.Joined.{IsRefusal}
-use Rattle.seccomptool.specs.Causes.{too_long}
+use Rattle.seccomptool.specs.Causes.{too_long, unstacked}
 use Rattle.seccomptool.proofs.stack.stack_made.Goals as goal
+
+pub returns-in_err-programs-clause-cause : goal.returns-in_err-programs-clause-cause
+returns-in_err-programs-clause-cause c =
+    let error = err_from_is_err_and c.from_residual.result c.from_residual.ensures.1 in
+    rw (error.1, error.2) (unstacked c.in_err-programs.ensures.cause)
 
 pub returns-in_err-program-clause-cause : goal.returns-in_err-program-clause-cause
 returns-in_err-program-clause-cause c =

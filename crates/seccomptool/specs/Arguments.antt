@@ -1,6 +1,7 @@
 -- What the arguments of a command ask for, as clap finds them.
 use Rattle.std.specs.Prelude.{◌≡◌, ◌≢◌, ◌||◌, ℕ, Bool, true, false, if◌then◌else◌, List, [], ◌∷◌, ◌++◌, All, Option, Some, None}
-use Rattle.std.specs.Prelude.{◌==◌, codes, is_none, length, map, option_map, unwrap_or}
+use Rattle.std.specs.Prelude.{◌==◌, codes, drop, is_none, length, map, option_map, unwrap_or}
+use Rattle.std.specs.Borrow.{Bor}
 use Rattle.std.specs.Str.{bytes_eq}
 use Rattle.clap.specs.Words.{first_value, matched_of, one_text, raw_values}
 use Rattle.clap.specs.declared.parser.matches.Found.{Found}
@@ -162,6 +163,13 @@ AreRead found Call paths = paths ≡ (None, None) ∷ []
 AreRead found Codes paths = paths ≡ (None, None) ∷ []
 AreRead found verb paths = paths ≡ each_with None (all_values found (codes "SUBJECT"))
 
+-- The further ones of what is read: of `learn` and `stack` those behind the first; of `explain` those that it has before it.
+abbrev pub further_given : Found → Verb → List (List ℕ)
+further_given found Learn = drop 1 (all_values found (codes "TRACE"))
+further_given found Stack = drop 1 (all_values found (codes "SUBJECT"))
+further_given found Explain = all_values found (codes "after")
+further_given found verb = []
+
 -- ---- what is asked for
 
 -- The subcommand is to do this.
@@ -200,3 +208,4 @@ pub record IsAskedFor (found : Found) (asked : Asked) : Type 0 where
   pub old : IsNameIn (path_given found (codes "OLD")) (text_of asked.old)
   pub new : IsNameIn (path_given found (codes "NEW")) (text_of asked.new)
   pub read : AreRead found asked.verb (map paths_of asked.inputs.items)
+  pub further : map (λ (path : Bor (List ℕ)). path.now) asked.further.items ≡ further_given found asked.verb

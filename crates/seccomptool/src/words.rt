@@ -15,13 +15,13 @@ use crate::findings::Terms;
 use crate::kind::Reading;
 use crate::learn::{AskedArguments, Start};
 use crate::text::Text;
-use crate::words::paths::inputs_in;
+use crate::words::paths::{further_in, inputs_in};
 use crate::words::program::program;
 pub(crate) use crate::words::values::named_in;
 use crate::words::values::{
-    allowed_in, arch_in, arguments_in, calls_in, check_format_in, further_in, is_json, kept_in,
-    layout_in, number_in, output_in, path_in, program_format_in, reading_in, relation_in, scope_in,
-    start_in, verb_in,
+    allowed_in, arch_in, arguments_in, calls_in, check_format_in, is_json, kept_in, layout_in,
+    number_in, output_in, path_in, program_format_in, reading_in, relation_in, scope_in, start_in,
+    verb_in,
 };
 use clap::ArgMatches;
 use clap::error::ErrorKind;
@@ -330,6 +330,7 @@ fn asked_for<'a>(
     ensures verb { IfOk result (λ asked. IsVerbFor (found_of found.now) name.now asked.verb) }
 {
     let verb = verb_in(name, found.get_flag("list"));
+    let further = further_in(wrong.alloc(), found, verb)?;
     let inputs = inputs_in(found, wrong, verb)?;
     // What drops comes last, so that no branch before it has to.
     Ok(Asked {
@@ -372,6 +373,6 @@ fn asked_for<'a>(
         inputs,
         allowed: allowed_in(found, wrong),
         arguments: kept_in(found, wrong),
-        further: further_in(found, wrong),
+        further,
     })
 }

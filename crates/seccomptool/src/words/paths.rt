@@ -1,8 +1,8 @@
 // What a command reads, by its arguments.
 
-ghost use Rattle.std.specs.Prelude.{◌≡◌, [], ◌∷◌, IfOk, map, option_map, unwrap_or};
+ghost use Rattle.std.specs.Prelude.{◌≡◌, [], ◌∷◌, IfOk, drop, map, option_map, unwrap_or};
 ghost use Rattle.clap.specs.Words.{found_of};
-ghost use Rattle.seccomptool.specs.Arguments.{AreRead, each_with, paths_of};
+ghost use Rattle.seccomptool.specs.Arguments.{AreRead, each_with, further_given, paths_of};
 ghost use Rattle.seccomptool.specs.Chosen.{text_of};
 
 use super::values::{named_in, path_in, records_in};
@@ -104,4 +104,40 @@ fn one_of<'a>(
     let mut inputs = Vec::new(alloc);
     inputs.push(Inputs { first, second })?;
     Ok(inputs)
+}
+
+/// The further ones of what a command reads: behind the first one those of `stack` and `learn`; those that `explain` has before it.
+pub(super) fn further_in<'a>(
+    alloc: Global,
+    found: &ArgMatches<'a>,
+    verb: Verb,
+) -> Result<Vec<&'a str>, AllocError>
+    ensures { IfOk result (λ further. map (λ path. path.now) further.items ≡ further_given (found_of found.now) verb) }
+{
+    match verb {
+        Verb::Explain => all_of(alloc, found.get_strs("after")),
+        Verb::Stack => behind_first(alloc, found.get_strs("SUBJECT")),
+        Verb::Learn => behind_first(alloc, found.get_strs("TRACE")),
+        _ => Ok(Vec::new(alloc)),
+    }
+}
+
+// All of these, if any are given.
+fn all_of<'a>(alloc: Global, paths: Option<&[&'a str]>) -> Result<Vec<&'a str>, AllocError>
+    ensures { IfOk result (λ all. map (λ path. path.now) all.items ≡ unwrap_or (option_map (λ given. map (λ path. path.now) given.now) paths.entry) []) }
+{
+    match paths {
+        Some(paths) => Vec::from_slice(alloc, paths),
+        None => Ok(Vec::new(alloc)),
+    }
+}
+
+// The same but the first.
+fn behind_first<'a>(alloc: Global, paths: Option<&[&'a str]>) -> Result<Vec<&'a str>, AllocError>
+    ensures { IfOk result (λ behind. map (λ path. path.now) behind.items ≡ drop 1 (unwrap_or (option_map (λ given. map (λ path. path.now) given.now) paths.entry) [])) }
+{
+    match paths {
+        Some([_, behind @ ..]) => Vec::from_slice(alloc, behind),
+        _ => Ok(Vec::new(alloc)),
+    }
 }

@@ -106,19 +106,6 @@ fn given_name(name: &str) -> Option<&str>
     Some(name)
 }
 
-// The traces or subjects after the first one; or what `explain` has before it.
-pub(super) fn further_in<'a>(found: &ArgMatches<'a>, wrong: &mut Text) -> Vec<&'a str> {
-    let mut further = Vec::new(wrong.alloc());
-    let (paths, first) = match found.get_strs("after") {
-        Some(paths) => (Some(paths), 0),
-        None => (found.get_strs("TRACE").or(found.get_strs("SUBJECT")), 1),
-    };
-    for path in paths.unwrap_or(&[]).iter().skip(first) {
-        push(wrong, &mut further, *path);
-    }
-    further
-}
-
 // Where the calls are that are explained.
 pub(super) fn calls_in(found: &ArgMatches<'_>) -> Calls
     ensures { result ≡ calls_named (first_value (found_of found.now) (codes "CALL")) (first_value (found_of found.now) (codes "log")) }

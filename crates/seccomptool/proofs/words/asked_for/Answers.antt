@@ -33,6 +33,7 @@ returns c = record {
     old = search rules;
     new = search rules;
     read = search rules;
+    further = c.in_ok-further.ensures;
   };
   verb = record {
     is_list = c.get_flag.result;

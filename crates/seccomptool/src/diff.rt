@@ -10,7 +10,9 @@ ghost use Rattle.seccomptool.specs.Diff.{IsByName, IsDiff, IsFoundOf, IsOfPair};
 ghost use Rattle.seccomptool.specs.DiffParts.{IsFoundByName};
 
 use crate::error::ToolError;
-use crate::findings::{Filters, Finding, Part, Terms, Verdict, answer_on, findings_of, verdict_of};
+use crate::findings::{
+    Filters, Finding, Part, Terms, Verdict, answer_on, are_same, findings_of, verdict_of,
+};
 use crate::kind::Subject;
 use crate::progress::Watch;
 use crate::sides::{Ruled, Side, program_in, ruled_like};
@@ -157,8 +159,9 @@ fn diff_pair(
         least: word + 1,
         greatest: u32::MAX,
     };
-    let on_lesser = answer_on(alloc, terms, lesser, new, old, None, progress)?;
-    let on_greater = answer_on(alloc, terms, greater, new, old, None, progress)?;
+    let is_same = are_same(new, old);
+    let on_lesser = answer_on(alloc, terms, lesser, new, old, is_same, None, progress)?;
+    let on_greater = answer_on(alloc, terms, greater, new, old, is_same, None, progress)?;
     let others = [
         Finding {
             part: lesser,

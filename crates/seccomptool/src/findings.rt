@@ -190,13 +190,21 @@ pub(crate) fn findings_of(
     ensures { IfOk result (λ findings. (by_new by_old : Ruling) → StandsFor terms.target by_new new.now → StandsFor terms.target by_old old.now → AreFindingsOf terms.target terms.relation by_new by_old findings.items) }
 {
     let parts = parts(alloc, terms.target)?;
+    let is_same = are_same(new, old);
     let mut findings = Vec::new(alloc);
     for part in &parts {
         let part = *part;
-        let answer = answer_on(alloc, terms, part, new, old, filters, progress)?;
+        let answer = answer_on(alloc, terms, part, new, old, is_same, filters, progress)?;
         push_kept(&mut findings, Finding { part, answer })?;
     }
     Ok(findings)
+}
+
+/// Whether two programs have the same instructions.
+pub(crate) fn are_same(new: BpfProgramRef<'_>, old: BpfProgramRef<'_>) -> bool
+    ensures { IsTrue result → new.now ≡ old.now }
+{
+    new == old
 }
 
 /// What is found of two programs on the calls of a part; of programs that are the same without a search. It tries by
@@ -208,15 +216,17 @@ pub(crate) fn answer_on(
     part: Part,
     new: BpfProgramRef<'_>,
     old: BpfProgramRef<'_>,
+    is_same: bool,
     filters: Option<Filters<'_>>,
     progress: &mut Watch<'_>,
 ) -> Result<Answer, AllocError>
     requires new_checked { IsChecked new.now }
     requires old_checked { IsChecked old.now }
+    requires same { IsTrue is_same → new.now ≡ old.now }
     requires filters { IfSome filters (AreOf terms.target new.now old.now) }
     ensures { IfOk result (IsFound terms.target terms.relation (AreReturned new.now old.now) part) }
 {
-    if new == old {
+    if is_same {
         return Ok(Answer::Holds);
     }
     if holds_by_rules(alloc, terms, part, filters, FIRST_BY_RULES)? {

@@ -1,10 +1,11 @@
 // The parts of an architecture's calls: one for each number that has a name, and one for each range of numbers
 // between these. x32's numbers are a range of their own.
 
-ghost use Rattle.std.specs.Prelude.{◌≡◌, ◌^◌, ◌↔◌, IfOk, IsTrue, option_map};
+ghost use Rattle.std.specs.Prelude.{◌≡◌, ◌^◌, ◌<◌, ℕ, IfOk, false, option_map, slice_index_or};
+ghost use Rattle.std.specs.Option.{is_some};
 ghost use Rattle.seccompiler.specs.Architecture.{table_of};
 ghost use Rattle.seccomptool.specs.Findings as spec;
-ghost use Rattle.seccomptool.specs.Findings.{ArePartsBelow, HasName};
+ghost use Rattle.seccomptool.specs.Findings.{ArePartsBelow};
 
 use crate::findings::Part;
 use seccompiler::{SyscallTable, TargetArch};
@@ -13,7 +14,7 @@ use std::alloc::{AllocError, Global};
 // More than the greatest number that has a name.
 const END: u32 = 463;
 
-// More than the greatest number that has a name, for tables by numbers.
+// More than the greatest number that has a name, for arrays by numbers.
 const NUMBERS: usize = 512;
 
 // x32's numbers begin here (`__X32_SYSCALL_BIT` of asm/unistd.h).
@@ -25,10 +26,10 @@ pub(crate) fn parts(alloc: Global, target: TargetArch) -> Result<Vec<Part>, Allo
 {
     // Its table has no number from the end on.
     let _table = SyscallTable::new(target);
-    let places = places_of(target);
+    let named = are_named(target);
     let (mut parts, mut least) = (Vec::new(alloc), 0);
     for number in 0..END {
-        if is_named(&places, target, number) {
+        if named[number as usize] {
             if least < number {
                 parts.push(Part::Unnamed {
                     least,
@@ -50,28 +51,18 @@ pub(crate) fn parts(alloc: Global, target: TargetArch) -> Result<Vec<Part>, Allo
     Ok(parts)
 }
 
-// Where each number stands in the table.
-fn places_of(target: TargetArch) -> [usize; NUMBERS] {
-    let mut places = [0; NUMBERS];
-    for (place, (_, number)) in SyscallTable::new(target).pairs().iter().enumerate() {
-        if let Ok(number) = usize::try_from(*number) {
-            places[number % NUMBERS] = place;
-        }
-    }
-    places
-}
-
-// Whether a number has a name. The table is gone over only if the number doesn't stand at its place.
-fn is_named(places: &[usize; NUMBERS], target: TargetArch, number: u32) -> bool
-    ensures { IsTrue result ↔ HasName (table_of target) number }
+// Whether each of so many numbers has a name.
+fn are_named(target: TargetArch) -> [bool; NUMBERS]
+    ensures { (n : ℕ) → n < NUMBERS → slice_index_or result n false ≡ is_some (spec.name_of (table_of target) n) }
 {
-    let table = SyscallTable::new(target);
-    if let Some((name, _)) = table.pairs().get(places[number as usize % NUMBERS])
-        && table.get_syscall_nr(name) == Some(i64::from(number))
-    {
-        return true;
+    let mut named = [false; NUMBERS];
+    for pair in SyscallTable::new(target).pairs() {
+        let Ok(number) = usize::try_from(pair.1) else {
+            continue;
+        };
+        named[number] = true;
     }
-    name_of(target, number).is_some()
+    named
 }
 
 // The first name of a number, in byte order.

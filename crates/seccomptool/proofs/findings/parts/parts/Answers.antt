@@ -1,12 +1,13 @@
-use Rattle.std.proofs.Common.{◌≡◌, ◌+◌, ◌-◌, ◌≤◌, ℕ, inl, inr, refl, subst, sym, ◌∙◌, arith}
-use Rattle.std.proofs.lemmas.Bool.{cases_eq, cases_lt, true≢false}
+use Rattle.std.proofs.Common.{◌≡◌, ◌+◌, ◌-◌, ◌≤◌, ℕ, false, inl, inr, refl, subst, sym, arith}
+use Rattle.std.specs.Prelude.{slice_index_or}
+use Rattle.std.proofs.lemmas.Bool.{cases_eq, cases_lt}
 use Rattle.seccompiler.specs.Architecture.{table_of}
 use Rattle.seccompiler.specs.SyscallTable.{IsCallTable}
 use Rattle.seccomptool.specs.Findings.{ArePartsBelow, HasName, LacksName, name_of, no_part, then_gap, then_named}
-use Rattle.seccomptool.proofs.findings.Names.{gap_more, lacks, none_above}
+use Rattle.seccomptool.proofs.findings.Names.{gap_more, is_known, none_above}
 use Rattle.seccomptool.proofs.findings.parts.parts.Goals as goal
-use Rattle.seccomptool.proofs.findings.parts.parts.Goals.{then-is_named+in_ok-push-2, then-least-number+in_ok-push}
-use Rattle.seccomptool.proofs.findings.parts.parts.Goals.{else-is_named, else-least-number}
+use Rattle.seccomptool.proofs.findings.parts.parts.Goals.{then-named-number+in_ok-push-2, then-least-number+in_ok-push}
+use Rattle.seccomptool.proofs.findings.parts.parts.Goals.{else-named-number, else-least-number}
 
 pub loop-number-init : goal.loop-number-init
 loop-number-init c = record {
@@ -20,9 +21,11 @@ pub loop-number-preserved : goal.loop-number-preserved
 loop-number-preserved c =
     let l = c.loop-number in
     let table = table_of c.args.target in
-    elim c.if-is_named.branch [
-      | then-is_named+in_ok-push-2 w ↦
-          let named = c.is_named.ensures.0 w.if-is_named.true in
+    let known = is_known (slice_index_or c.are_named-named.result l.number false) (name_of table l.number)
+    (c.are_named-named.ensures l.number (omega arith)) in
+    elim c.if-named-number.branch [
+      | then-named-number+in_ok-push-2 w ↦
+          let named = known.0 w.if-named-number.true in
           let same : l.number ≡ l.number + 1 - 1 = omega arith in
           let front : ArePartsBelow table w.if-least-number.parts.items l.number = elim w.if-least-number.branch [
             | then-least-number+in_ok-push v ↦
@@ -38,8 +41,8 @@ loop-number-preserved c =
             begins = inr (inl (subst (HasName table) same named));
             unnamed = λ n from to. absurd (omega (arith, from, to));
           })
-      | else-is_named w ↦
-          let lacks = lacks (name_of table l.number) (λ has. true≢false (sym (c.is_named.ensures.1 has) ∙ w.if-is_named.false)) in
+      | else-named-number w ↦
+          let lacks = known.1 w.if-named-number.false in
           rw (w.least-is, w.parts-is) (record {
             few = omega (arith, l.invariant.few);
             below = l.invariant.below;

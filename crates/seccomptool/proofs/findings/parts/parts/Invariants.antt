@@ -8,7 +8,7 @@ use Rattle.seccomptool.proofs.findings.parts.parts.Given as goal
 abbrev pub invariant-loop-number : goal.invariant-loop-number
 invariant-loop-number l = record {
   few : l.least ≤ l.number;
-  below : ArePartsBelow (table_of l.target) l.parts.items l.least;
-  begins : (l.least ≡ 0) ⊎ (HasName (table_of l.target) (l.least - 1) ⊎ (l.least ≡ 2 ^ 30));
-  unnamed : (n : ℕ) → l.least ≤ n → n < l.number → LacksName (table_of l.target) n;
+  below : ArePartsBelow (table_of l.fn.target) l.parts.items l.least;
+  begins : (l.least ≡ 0) ⊎ (HasName (table_of l.fn.target) (l.least - 1) ⊎ (l.least ≡ 2 ^ 30));
+  unnamed : (n : ℕ) → l.least ≤ n → n < l.number → LacksName (table_of l.fn.target) n;
 }

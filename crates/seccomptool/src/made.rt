@@ -22,7 +22,7 @@ use crate::progress::Watch;
 use crate::record::{KnownCall, called_record, calls_text, known_calls};
 use crate::run::program::program_of;
 use crate::show::{programs_in, push_program, push_programs};
-use crate::sides::{Side, ruled_by};
+use crate::sides::{Side, ruled_by, side_of};
 use crate::stats::{measure_of, push_measure, push_stats, stats_of};
 use crate::text::Text;
 use crate::words::{Asked, Inputs};
@@ -292,16 +292,8 @@ pub(crate) fn diff_made(
     ensures cause { IfErr result (IsUncompared asked.now old.now new.now) }
 {
     let terms = asked.terms;
-    let old = Side {
-        kind: subject_of(alloc, &asked.reading, old)?,
-        filter: asked.old,
-        given: old,
-    };
-    let new = Side {
-        kind: subject_of(alloc, &asked.reading, new)?,
-        filter: asked.new,
-        given: new,
-    };
+    let old = side_of(alloc, &asked.reading, asked.old, old)?;
+    let new = side_of(alloc, &asked.reading, asked.new, new)?;
     let found = diff_of(alloc, terms, old, new, progress);
     progress.end();
     let found = found?;

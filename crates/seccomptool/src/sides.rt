@@ -5,20 +5,21 @@ ghost use Rattle.seccomp_compare.specs.Machine.{IsChecked};
 ghost use Rattle.seccomp_tree.specs.Layouts.{IsFittingRefusal};
 ghost use Rattle.seccomptool.specs.Causes.{IsUnruled};
 ghost use Rattle.seccomptool.specs.Chosen.{text_of};
+ghost use Rattle.seccomptool.specs.Commands.{IsSideOf};
 ghost use Rattle.seccomptool.specs.Sides.{IsFilterFor, IsProgramFor};
 ghost use Rattle.seccomptool.specs.Rulings.{StandsFor, of_filter};
 ghost use Rattle.seccompiler.specs.declared.backend.TargetArch.{TargetArch};
 
 use crate::chosen::{chosen_of, refuse_name};
 use crate::error::ToolError;
-use crate::kind::Subject;
+use crate::kind::{Reading, Subject, subject_of};
 use crate::profile::compiled_of;
 use crate::run::program::program_of;
 use seccomp_tree::fitting_bpf;
 use seccompiler::{
     BackendError, BpfProgram, BpfProgramRef, JsonCompiler, SeccompFilter, TargetArch,
 };
-use std::alloc::Global;
+use std::alloc::{AllocError, Global};
 
 /// A side of a comparison.
 #[derive(Clone, Copy)]
@@ -29,6 +30,23 @@ pub struct Side<'a> {
     pub filter: Option<&'a str>,
     /// Its bytes.
     pub given: &'a [u8],
+}
+
+/// The side that is given in these bytes, and of which this filter is asked for.
+pub(crate) fn side_of<'a>(
+    alloc: Global,
+    reading: &'a Reading,
+    filter: Option<&'a str>,
+    given: &'a [u8],
+) -> Result<Side<'a>, AllocError>
+    ensures { IfOk result (IsSideOf reading.now filter.entry given.now) }
+{
+    let kind = subject_of(alloc, reading, given)?;
+    Ok(Side {
+        kind,
+        filter,
+        given,
+    })
 }
 
 /// What a side rules by.

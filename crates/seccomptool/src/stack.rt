@@ -10,10 +10,9 @@ ghost use Rattle.seccomptool.specs.Explain.{IsOfStack};
 use crate::compile::program_text;
 use crate::error::ToolError;
 use crate::explain::{Explained, Explanation, Why};
-use crate::kind::subject_of;
 use crate::made::Made;
 use crate::record::number_for;
-use crate::sides::{Side, ruled_by};
+use crate::sides::{ruled_by, side_of};
 use crate::words::Asked;
 use seccomp_stack::{Decision, run, stack};
 use seccompiler::{BpfProgram, TargetArch};
@@ -66,11 +65,7 @@ fn program_of(alloc: Global, asked: &Asked<'_>, layer: &Layer<'_>) -> Result<Bpf
     ensures checked { IfOk result (λ p. IsChecked p.items) }
     ensures cause { IfErr result (IsUnlayered asked.now layer.now) }
 {
-    let side = Side {
-        kind: subject_of(alloc, &asked.reading, &layer.text)?,
-        filter: layer.filter,
-        given: &layer.text,
-    };
+    let side = side_of(alloc, &asked.reading, layer.filter, &layer.text)?;
     match ruled_by(alloc, asked.arch, side) {
         Ok(ruled) => Ok(ruled.program),
         Err(error) => Err(ToolError::at_path(alloc, layer.path, error)),

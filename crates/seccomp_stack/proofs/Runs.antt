@@ -1,12 +1,12 @@
 -- Pieces of a program: where their instructions stand, and what they do there.
 use Rattle.std.proofs.Common.{◌≡◌, ◌≢◌, ℕ, zero, suc, ◌+◌, ◌*◌, ◌<◌, List, [], ◌∷◌, ◌++◌, length, Some, refl, ap, ◌∙◌, subst, arith}
 use Rattle.std.proofs.Common.{⊎_elim, ◌⊎◌, inl, inr, map}
-use Rattle.std.specs.Prelude.{slice_get}
+use Rattle.std.specs.Prelude.{option_map, slice_get}
 use Rattle.std.specs.List.{flat_map}
 use Rattle.std.proofs.lemmas.Bool.{cases_eq}
 use Rattle.std.proofs.lemmas.Bool.Decides.{nat_tests}
 use Rattle.std.proofs.lemmas.List.{length-map}
-use Rattle.std.proofs.lemmas.Option.{same_Some}
+use Rattle.std.proofs.lemmas.Option.{slice_get-map}
 use Rattle.seccompiler.specs.declared.bpf.sock_filter.{sock_filter}
 use Rattle.seccompiler.specs.Code.{give}
 use Rattle.seccompiler.specs.Machine as of_seven
@@ -93,9 +93,7 @@ does_shift i r base place a place' a' (has_no_bits code test to same) = has_no_b
 -- an instruction of a list that a function is applied to
 get_map : (f : sock_filter → sock_filter) (xs : List sock_filter) (k : ℕ) (i : sock_filter) → slice_get xs k ≡ Some i
     → slice_get (map f xs) k ≡ Some (f i)
-get_map f [] k i e = absurd (cc)
-get_map f (x ∷ xs) zero i e = ap (λ (y : sock_filter). Some (f y)) (same_Some x i e)
-get_map f (x ∷ xs) (suc k) i e = get_map f xs k i e
+get_map f xs k i e = slice_get-map f xs k ∙ ap (option_map f) e
 
 kept : (word : ℕ) (i : sock_filter) → i.code ≢ 0x06 → in_copy word i ≡ i
 kept word i other = grind (arith, nat_tests)

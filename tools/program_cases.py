@@ -28,8 +28,6 @@ FILES = {
     "index.json": reads({"args": [{**READ, "index": 6}]}),
     "equal-actions.json": {"a": {**LOGS, "match_action": "log"}},
     "too-large.json": reads({"args": [READ] * 5000}),
-    "widened.json": {"a": {**LOGS, "filter": [
-        {"syscall": "read", "args": [READ]}, {"syscall": "close"}, {"syscall": "read"}]}},
     "63-bytes": bytes(63),
     "65-bytes": bytes(65),
 }
@@ -68,37 +66,16 @@ CASES = [
     ("run x86_64 names.json \u00b5 < examples/records.bin", 0, LINES, ""),
     ("run x86_64 names.json \"$(printf 'a\\n\\\\')\" < examples/records.bin", 0, LINES, ""),
     ("run x86_64 logs.json a < empty", 0, "", ""),
-    # Records that end inside a record: the lines of the whole ones come first.
-    ("probe x86_64 72 1 0 < 65-bytes", 1, "80000000 3\n",
-     "The input ends inside a record, after 1 bytes of it.\n"),
+    # Records that end inside a record.
     ("run x86_64 logs.json a < 63-bytes", 1, "",
      "The input ends inside a record, after 63 bytes of it.\n"),
-    # Words that ask for no filter; the first fault is told.
-    ("probe x8664 -1 6 0 < empty", 1, "", "Backend error: Invalid target arch: x8664.\n"),
-    ("probe x86_64 -1 6 0 < empty", 1, "", "Backend error: " + INDEX),
-    ("probe x86_64 -1 0 0 < 63-bytes", 1, "", "Backend error: Invalid syscall number: -1.\n"),
-    ("list x8664 < no-json.json", 1, "", "Backend error: Invalid target arch: x8664.\n"),
-    ("run x8664 logs.json b < 63-bytes", 1, "", "Backend error: Invalid target arch: x8664.\n"),
     # Policies that are refused, and names that no filter has.
     # Of JSON that can't be read the whole text, which ends with what serde_json of the kit says. The first is what that of
     # Rust says too; the others have its places, and fewer words.
     ("list x86_64 < large-number.json", 1, "", FRONTEND + "Error parsing Json: number out of range at line 1 column 5\n"),
     ("list x86_64 < empty", 1, "", FRONTEND + "Error parsing Json: EOF while parsing at line 1 column 0\n"),
     ("list x86_64 < comma.json", 1, "", FRONTEND + "Error parsing Json: invalid JSON at line 1 column 4\n"),
-    ("list x86_64 < no-json.json", 1, "", FRONTEND + "Error parsing Json: .."),
-    ("list x86_64 < repeated.json", 1, "", FRONTEND + "Repeated key in Json.\n"),
-    ("list x86_64 < list.json", 1, "", FRONTEND + "Json is not an object of filters.\n"),
-    ("list x86_64 < no-filter.json", 1, "", FRONTEND + "Json filter has a wrong shape: a.\n"),
-    ("list x86_64 < unknown-call.json", 1, "",
-     FRONTEND + "Invalid syscall name: nosyscall for given arch: x86_64.\n"),
-    ("list x86_64 < no-conditions.json", 1, "",
-     FRONTEND + "The condition vector of a rule cannot be empty.\n"),
-    ("list x86_64 < index.json", 1, "", FRONTEND + INDEX),
-    ("list x86_64 < equal-actions.json", 1, "",
-     FRONTEND + "`match_action` and `mismatch_action` are equal.\n"),
-    ("list x86_64 < too-large.json", 1, "", LARGE),
     ("run x86_64 too-large.json b < 63-bytes", 1, "", LARGE),
-    ("run x86_64 logs.json b < 63-bytes", 1, "", "No filter has this name: b.\n"),
     ("run x86_64 no-filters.json '' < examples/records.bin", 1, "",
      "No filter has this name: .\n"),
     # Files and inputs that can't be opened or read.
@@ -120,15 +97,8 @@ CASES = [
     ("run x86_64 logs.json a < examples/records.bin >&-", 1, "", UNWRITTEN),
     ("run x86_64 logs.json b < empty 2>&-", 1, "", ""),
     ("run x86_64 logs.json b < empty 2> /dev/full", 1, "", ""),
-    # Words that are no command.
-    ("< empty", 2, "", USAGE),
-    ("probe x86_64 72 1 < empty", 2, "", USAGE),
-    ("probe x86_64 +1 0 0 < empty", 2, "", USAGE),
-    ("probe x86_64 72 256 0 < empty", 2, "", USAGE),
-    ("list < empty", 2, "", USAGE),
-    ("list x86_64 x86_64 < empty", 2, "", USAGE),
+    # Words that are no command, beside those of tools/word_cases.py.
     ("list \"$(printf 'x86\\377')\" < empty", 2, "", USAGE),
-    ("run x86_64 logs.json < empty", 2, "", USAGE),
     ("--help < empty", 2, "", USAGE),
     ("list 2> /dev/full", 2, "", ""),
 ]

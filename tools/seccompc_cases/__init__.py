@@ -5,9 +5,7 @@ Expected values come from the definitions in crates/seccompiler/specs and crates
 kernel's headers, and never from the program's output.
 """
 
-from . import filters, lists, numbers, probes, runs, shapes, short, texts
+from . import filters, numbers, probes, runs, shapes, short, texts
 
-MODULES = (lists, probes, runs, texts, numbers, shapes, filters, short)
-
-FILES = {name: content for module in MODULES for name, content in getattr(module, "FILES", {}).items()}
-CASES = [case for module in MODULES for case in module.CASES]
+FILES = runs.FILES
+CASES = [case for module in (probes, runs, texts, numbers, shapes, filters, short) for case in module.CASES]

@@ -1,30 +1,17 @@
 """Entries of policies, and the programs of the filters that they make; which of several faults is told."""
 
-from program_cases import INDEX
-from seccomptool_cases.forms import writes
-from seccomptool_cases.records import AARCH64, X86_64, record_of
+import re
 
-from .instructions import (
-    ALLOW, ERRNO, KILL_PROCESS, jump_at_least, jump_equal, jump_greater, load, mask, program
-)
+from program_cases import INDEX
+from seccomptool_cases.forms import NO_ARCHITECTURE, Failing, refuses, writes
+from seccomptool_cases.records import AARCH64
+
+from .instructions import ERRNO, KILL_PROCESS, jump_at_least, jump_equal, jump_greater, listing, load, mask, program
+from .policies import COMPLEX
 from .policy_texts import (
-    CODE_OF_EQUALS_5, COMPARES, EQUAL_ACTIONS, NO_CONDITIONS, READS, UNKNOWN, filter_of, listed, policy_of,
+    CODE_OF_EQUALS_5, COMPARES, EMPTY, EQUAL_ACTIONS, NO_CONDITIONS, READS, TRAPS, UNKNOWN, filter_of, listed, policy_of,
     told, too_large, under_a, unknown
 )
-
-# Seven calls without arguments and two with, refused by error number 1000.
-MAIN_THREAD = """{"main_thread":{"mismatch_action":{"errno":1000},"match_action":"allow","filter":[
-    {"syscall":"rt_sigprocmask"},{"syscall":"sigaltstack"},{"syscall":"munmap"},{"syscall":"exit"},
-    {"syscall":"rt_sigreturn"},{"syscall":"futex"},{"syscall":"getpid"},
-    {"syscall":"ioctl","args":[
-        {"index":2,"type":"dword","op":"le","val":14},{"index":2,"type":"dword","op":"ne","val":13}]},
-    {"syscall":"ioctl","args":[
-        {"index":2,"type":"dword","op":"gt","val":20},{"index":2,"type":"dword","op":"lt","val":40}]},
-    {"syscall":"ioctl","args":[
-        {"index":0,"type":"dword","op":"eq","val":1},{"index":2,"type":"dword","op":"eq","val":15}]},
-    {"syscall":"ioctl","args":[{"index":2,"type":"qword","op":"eq","val":4294967336}]},
-    {"syscall":"madvise","args":[
-        {"index":0,"type":"dword","op":"eq","val":0},{"index":1,"type":"dword","op":"eq","val":0}]}]}}"""
 
 OF_IOCTL = [
     [load(32), jump_equal(13, 3, 0), load(32), jump_greater(14, 1, 0)],
@@ -45,25 +32,6 @@ ON_AARCH64 = program(
     (29, *OF_IOCTL), (93,), (98,), (132,), (135,), (139,), (172,), (215,), (233, OF_MADVISE),
     mismatched=ERRNO + 1000, architecture=AARCH64,
 )
-
-# Calls of x86_64 under that policy, each with its first arguments, and the words and steps. It takes 3 steps to the
-# number, 2 past a chain of another number and 5 past that of ioctl; 2 into the call's chain and its first rule, those
-# of the conditions that are asked, a jump into each further rule, and the return.
-CALLS = [
-    ((16, 0, 0, 12), ALLOW, 16),
-    ((16, 1, 0, 15), ALLOW, 26),
-    ((16, 0, 0, 39), ALLOW, 21),
-    ((16, 0, 0, 4294967336), ALLOW, 27),
-    ((28,), ALLOW, 21),
-    ((39,), ALLOW, 19),
-    ((16, 0, 0, 13), ERRNO + 1000, 25),
-    ((16, 0, 0, 20), ERRNO + 1000, 27),
-    ((16, 0, 0, 4294967337), ERRNO + 1000, 27),
-    ((28, 0, 1), ERRNO + 1000, 19),
-    ((102,), ERRNO + 1000, 25),
-]
-RECORDS = b"".join(record_of(number, X86_64, *arguments) for (number, *arguments), _, _ in CALLS)
-LINES = "".join(f"{word:08x} {steps}\n" for _, word, steps in CALLS)
 
 # Two calls, one with two rules and one with none, as the Rust crate's README writes them.
 TWO_CALLS = """{"main_thread":{"mismatch_action":"kill_process","match_action":"allow","filter":[
@@ -91,15 +59,7 @@ COMMENTED = """{"a":{"mismatch_action":"trap","match_action":"allow","filter":[
     {"syscall":"ioctl","comment":"masked","args":[
         {"index":3,"type":"dword","op":{"masked_eq":100},"val":65,"comment":"one"}]}]}}"""
 FINE = '{"index":3,"type":"qword","op":"ge","val":65}'
-UNCOMMENTED = policy_of(
-    '{"syscall":"read"},'
-    '{"syscall":"futex","args":[{"index":2,"type":"dword","op":"le","val":65},'
-    '{"index":1,"type":"qword","op":"ne","val":80}]},'
-    '{"syscall":"futex","args":[{"index":3,"type":"qword","op":"gt","val":65},'
-    '{"index":1,"type":"qword","op":"lt","val":80}]},'
-    '{"syscall":"futex","args":[' + FINE + "]},"
-    '{"syscall":"ioctl","args":[{"index":3,"type":"dword","op":{"masked_eq":100},"val":65}]}'
-)
+UNCOMMENTED = re.sub(r',"comment":"[^"]*"', "", COMMENTED)
 OF_THREE_CALLS = program(
     (0,),
     # Of the mask, 0x64, and of 65, 0x41, the bit 0x40 is common.
@@ -133,6 +93,11 @@ def large(count):
     return filter_of(",".join([COMPARES] * count))
 
 
+def under_names(*names):
+    """Returns the policy whose filters of these names have no entries."""
+    return "{" + ",".join(f'"{name}":{EMPTY}' for name in names) + "}"
+
+
 def two(of_a, of_b):
     """Returns the policy of two filters, of which the greater name stands first."""
     return '{"b":' + of_b + ',"a":' + of_a + "}"
@@ -155,11 +120,9 @@ FAULTS = [
     too_large(under_a(large(818)), 4097),
 ]
 
-FILES = {"main-thread.json": MAIN_THREAD}
 CASES = [
-    listed(MAIN_THREAD, ON_X86_64, "main_thread"),
-    writes("run x86_64 main-thread.json main_thread", RECORDS, LINES),
-    listed(MAIN_THREAD, ON_AARCH64, "main_thread", "aarch64"),
+    listed(COMPLEX, ON_X86_64, "main_thread"),
+    listed(COMPLEX, ON_AARCH64, "main_thread", "aarch64"),
     listed(TWO_CALLS, OF_TWO_CALLS, "main_thread"),
     # Comments change nothing.
     listed(COMMENTED, OF_THREE_CALLS),
@@ -170,4 +133,8 @@ CASES = [
     # The longest program of such entries has 4092 instructions.
     listed(under_a(large(817)), program((0, *[CODE_OF_EQUALS_5] * 817))),
     *FAULTS,
+    # The names of filters in byte order.
+    writes("list x86_64", under_names("a", "B", ""), "".join(listing(it, TRAPS) for it in ("", "B", "a"))),
+    # The architecture comes before the reader's fault.
+    refuses("list x8664", Failing(""), NO_ARCHITECTURE),
 ]

@@ -28,7 +28,6 @@ FAULTS = [
     ("AARCH64", 4294967296, 0, "Backend error: Invalid syscall number: 4294967296.\n"),
 ]
 
-FILES = {}
 CASES = [
     # The program of a probe has 14 instructions.
     writes("list x86_64", AS_POLICY, "filter 14 a\n.."),

@@ -14,8 +14,10 @@ THREE = """{
 
 FILES = {"run-complex.json": COMPLEX, "run-logs.json": LOGS, "run-three.json": THREE}
 
-# Calls under the complex policy, each by its number and its first three arguments, and their lines.
-LINES = [
+# Calls under the complex policy, each by its number and its first three arguments, and their lines. It takes 3 steps to the
+# number, 2 past a chain of another number and 5 past that of ioctl; 2 into the call's chain and its first rule, those of the
+# conditions that are asked, a jump into each further rule, and the return.
+CALLS = [
     (16, (0, 0, 12), "7fff0000 16\n"),
     (16, (1, 0, 15), "7fff0000 26\n"),
     (16, (0, 0, 39), "7fff0000 21\n"),
@@ -28,13 +30,14 @@ LINES = [
     (28, (0, 1, 0), "000503e8 19\n"),
     (102, (0, 0, 0), "000503e8 25\n"),
 ]
+RECORDS = b"".join(record_of(number, X86_64, *arguments) for number, arguments, _ in CALLS)
+LINES = "".join(line for _, _, line in CALLS)
 
 CALL_1 = record_of(1, X86_64)
 
 CASES = [
     # `run` traces the filter, and that of the name.
-    *[writes("run x86_64 run-complex.json main_thread", record_of(number, X86_64, *arguments), line)
-      for number, arguments, line in LINES],
+    writes("run x86_64 run-complex.json main_thread", RECORDS, LINES),
     *[writes(f"run x86_64 run-three.json {name}", CALL_1, line)
       for name, line in (("a", "00030000 3\n"), ("b", LOGGED), ("c", "00030000 3\n"))],
     # `run` tells of a rest after the lines.
@@ -42,7 +45,6 @@ CASES = [
     # `run` tells the first fault; that of the records' reader is the last.
     refuses("run x8664 list.json b", Failing(""), NO_ARCHITECTURE),
     refuses("run x86_64 list.json b", Failing(""), NO_OBJECT),
-    refuses("run x86_64 no-filters.json b", Failing(""), NO_FILTER),
     refuses("run x86_64 run-logs.json b", Failing(""), NO_FILTER),
     # `run` tells that reading the records fails.
     refuses("run x86_64 run-logs.json a", Failing(bytes(64)), UNREAD_RECORDS),

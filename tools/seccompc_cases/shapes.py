@@ -10,8 +10,8 @@ from .policy_texts import (
     EMPTY, EQUAL_ACTIONS, NO_CONDITIONS, NO_OBJECT, READ_ALWAYS, READS, listed, policy_of, reads, shape, told, under_a
 )
 
-# Values that are no objects, beside the list of tools/program_cases.py.
-NO_OBJECTS = ["null", "1", '"a"', "true"]
+# Values that are no objects.
+NO_OBJECTS = ["null", "1", '"a"', "true", "[]"]
 
 # Texts with filters of wrong shape, and the least name of these.
 LEAST = [

@@ -9,7 +9,7 @@ from seccomptool_cases.records import AARCH64, X86_64, record_of
 
 from .policies import LOGS, LOGS_LISTED, UNREAD_RECORDS
 from .probes import ALLOWED, LINE, PROBE
-from .runs import LINES
+from .runs import LINES, RECORDS as CALLED
 
 INPUT, OUTPUT, FILE = 0, 1, 3
 OUT_OF_MEMORY = "Out of memory.\n"
@@ -43,8 +43,7 @@ RECORDS = ALLOWED + b"".join([
 CASES = [
     # Little is read at once: records, the policy in FILE, the policy on standard input.
     *[slow(PROBE, RECORDS, PROBED, INPUT, at_once) for at_once in (1, 63, 65)],
-    *[slow("run x86_64 run-complex.json main_thread", record_of(number, X86_64, *arguments), line, FILE, 1)
-      for number, arguments, line in LINES],
+    slow("run x86_64 run-complex.json main_thread", CALLED, LINES, FILE, 1),
     slow("list x86_64", LOGS, LOGS_LISTED, INPUT, 1),
     # Reading fails, or wants memory, after so many bytes.
     *[case for length in (0, 1, 63, 64) for case in unread(PROBE, ALLOWED, UNREAD_RECORDS, INPUT, 64, length)],

@@ -12,6 +12,7 @@ from .policy_texts import (
 FRONTS = [POLICY[:length] for length in range(1, len(POLICY))]
 NO_JSON = [
     "hjkln",
+    "{a}",
     POLICY + " x",
     "{}{}",
     b'{"\xff":' + EMPTY.encode() + b"}",
@@ -45,6 +46,7 @@ REPEATS = [
     r'{"\u0061":' + EMPTY + ',"a":' + EMPTY + "}",
     # If no filter is.
     '[{"a":1,"a":1}]',
+    '{"a":{"x":1,"x":1}}',
     '{"a":' + EMPTY + ',"a":3}',
 ]
 

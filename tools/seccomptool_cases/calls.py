@@ -1,14 +1,13 @@
 """What `check` has to warn of by the names of calls: those that a filter has entries of, and those that it doesn't have.
 
-Of each code there is a table of filters that have it and of filters that just don't. More filters come by chance, and
-their lines are those of warnings.py.
+The lines are those of warnings.py, but for some filters whose codes stand here. More filters come by chance.
 """
 
 import json
 import random
 
 from .forms import writes
-from .warnings import ALLOWED, EXITS, NOT_ALL, PERMITS, condition, line, lines_of, warned
+from .warnings import ALLOWED, EXITS, NOT_ALL, PERMITS, SIBLINGS, WAITING, condition, line, lines_of, warned
 
 # What an entry may ask of its call.
 ASKED = [condition("dword", "eq", 7)]
@@ -61,80 +60,37 @@ def let_through(place, call):
     return (f"filter[{place}] ({call})", "sibling-allowed")
 
 
-PASSED_BY = [("mismatch_action (clone3)", "clone-by-clone3")]
-
-KILLS_EXIT = [
-    ("kill_process", "allow", [], killed("exit", "exit_group", "rt_sigreturn")),
-    ("kill_thread", "log", ["execve", "rt_sigprocmask"], killed("exit", "exit_group", "rt_sigreturn")),
-    ("kill_process", "allow", ["rt_sigreturn", "exit"], killed("exit_group")),
-    ("kill_thread", "allow", ["exit_group", "exit"], killed("rt_sigreturn")),
+# Filters that have a code, and one that doesn't.
+TOLD = [
     ("kill_process", "trap", ["exit_group", "rt_sigreturn"], [*killed("exit"), *at("kills-exit", 0, 1)]),
-    ("kill_process", "allow", ["exit_group", "rt_sigreturn", "exit"], []),
-    # An entry with args names its call too.
-    ("kill_process", "allow", ["exit_group", "rt_sigreturn", asking("exit")], []),
-    # If both kill, each of the calls is killed by one of them.
-    ("kill_process", "kill_thread", ["exit"], [*killed("exit_group", "rt_sigreturn"), *at("kills-exit", 0)]),
-    ("trap", "allow", [], killed("exit", "exit_group", "rt_sigreturn")),
-    ({"errno": 1}, "allow", ["read", "exit"], killed("exit_group", "rt_sigreturn")),
-    ({"trace": 1}, "allow", ["exit_group", "rt_sigreturn", "exit"], [("mismatch_action", "trace-without-tracer")]),
-    ("log", "allow", [], []),
-    ("allow", "kill_process", [], []),
-    ("allow", "kill_process", ["read", "exit"], at("kills-exit", 1)),
-    ("log", "kill_thread", ["rt_sigreturn", "exit_group", "exit", "exit"], at("kills-exit", 0, 1, 2, 3)),
-    ("allow", "kill_process", [asking("exit_group"), "rt_sigaction"], []),
-    ("allow", "trap", ["exit", "exit_group", "rt_sigreturn"], at("kills-exit", 0, 1, 2)),
-    ("allow", {"errno": 1}, ["exit_group", asking("exit")], at("kills-exit", 0)),
-    ("allow", "log", ["exit", "exit_group", "rt_sigreturn"], []),
-    ("kill_process", "allow", ["exit", "exit_group", "rt_sigreturn", "exit"], []),
-]
-
-NO_EXECVE = [
     ("trap", "allow", ["set_tid_address", *EXITS], [("mismatch_action (execve)", "no-execve")]),
-    ({"errno": 1}, "log", [asking("set_tid_address"), *EXITS], [("mismatch_action (execve)", "no-execve")]),
-    ("trap", "allow", ["set_tid_address", "execve", *EXITS], []),
-    ("trap", "allow", ["set_tid_address", "execveat", *EXITS], []),
-    ("trap", "allow", ["set_tid_address", asking("execve"), *EXITS], [("filter[1].args[0]", "pointer-compared")]),
-    # A filter that a running program installs doesn't list the call by which programs start.
-    ("trap", "allow", ["read", *EXITS], []),
-    ("allow", {"errno": 1}, ["set_tid_address"], []),
-    ("log", "allow", ["set_tid_address"], []),
-    ("trap", "kill_process", ["set_tid_address"], killed(*EXITS)),
-]
-
-NO_RESTART = [
-    *(("trap", "allow", [it, *EXITS], [("mismatch_action (restart_syscall)", "no-restart")])
-      for it in ("nanosleep", "clock_nanosleep", "poll", "futex")),
     ({"errno": 1}, "log", [asking("futex"), *EXITS], [("mismatch_action (restart_syscall)", "no-restart")]),
-    ("trap", "allow", ["nanosleep", "restart_syscall", *EXITS], []),
-    ("trap", "allow", ["poll", asking("restart_syscall"), *EXITS], []),
-    # Linux goes on with this one by itself.
-    ("trap", "allow", ["ppoll", *EXITS], []),
-    ("allow", {"errno": 1}, ["nanosleep"], []),
-    ("log", "allow", ["nanosleep"], []),
-    ("trap", "kill_process", ["nanosleep"], killed(*EXITS)),
+    ("allow", {"errno": 1}, ["clone"], [("mismatch_action (clone3)", "clone-by-clone3"), let_through(0, "fork")]),
+    ("trap", "allow", ["clone3", *EXITS], at("clone-by-clone3", 0)),
+    ("allow", {"errno": 1}, ["ptrace", asking("ptrace")], [let_through(0, "process_vm_writev"), *at("crate-differs", 0)]),
+    ("trap", "allow", ["clone", "read", *EXITS], []),
 ]
 
-CLONE_BY_CLONE3 = [
-    ("allow", {"errno": 1}, ["clone"], [*PASSED_BY, let_through(0, "fork")]),
-    ("allow", {"errno": 1}, ["clone", "fork", "vfork"], [*PASSED_BY, let_through(1, "clone3")]),
-    ("log", "kill_process", ["read", asking("clone")], [*PASSED_BY, ("filter[1].args[0]", "flag-evades")]),
-    ("allow", {"errno": 1}, ["clone", "clone3"], [let_through(0, "fork")]),
-    ("allow", {"errno": 1}, ["clone", "clone3", "fork", "vfork"], []),
-    # An entry with args names clone3 too.
-    ("allow", {"errno": 1}, ["clone", asking("clone3")], [let_through(0, "fork")]),
-    ("allow", {"errno": 1}, ["clone3"], []),
-    ("allow", {"errno": 1}, ["fork", "vfork"], [let_through(0, "clone")]),
-    # If the calls that an entry names are let through as well, or none is, clone isn't denied alone.
-    ("allow", "log", ["clone"], []),
-    ("trap", {"errno": 1}, ["clone"], killed(*EXITS)),
-    ("trap", "allow", ["clone3", *EXITS], at("clone-by-clone3", 0)),
-    ({"errno": 1}, "log", ["read", asking("clone"), "clone3", "clone3", *EXITS], at("clone-by-clone3", 2, 3)),
-    ("trap", "allow", ["clone3", "clone", *EXITS], []),
-    ("trap", "allow", ["clone", asking("clone3"), *EXITS], []),
-    ("trap", "allow", [asking("clone"), asking("clone3"), *EXITS], []),
-    ("trap", "allow", ["clone", "read", *EXITS], []),
-    ("log", "allow", ["clone3"], []),
-    ("trap", "kill_process", ["clone3"], killed(*EXITS)),
+# Pairs of actions, and lists of entries that a filter of each pair has: of each code some by which the filter has it, if its actions do,
+# and some that just don't. An entry with args names its call too.
+PAIRS = [
+    ("kill_process", "allow"), ("kill_thread", "log"), ({"errno": 1}, "allow"), ({"trace": 1}, "allow"), ("log", "allow"), ("allow", "log"),
+    ("allow", "kill_process"), ("log", "kill_thread"), ("allow", {"errno": 1}), ("allow", "trap"), ("kill_process", "kill_thread"),
+]
+LISTS = [
+    [], ["execve", "rt_sigprocmask"], ["rt_sigreturn", "exit"], ["exit_group", "exit", "exit"], ["exit_group", "rt_sigreturn", asking("exit")],
+    [asking("exit_group"), "rt_sigaction"], ["exit_group", asking("exit")], [*EXITS],
+    # A filter that a running program installs doesn't list the call by which programs start.
+    ["set_tid_address"], [asking("set_tid_address")], *(["set_tid_address", it] for it in ("execve", "execveat", asking("execve"))), ["read"],
+    # Linux goes on with `ppoll` by itself.
+    *([it] for it in (*WAITING, asking("futex"), "ppoll")), ["nanosleep", "restart_syscall"], ["poll", asking("restart_syscall")],
+    ["read", asking("clone")], ["clone", "clone3"], ["clone", asking("clone3")], ["clone3"], ["read", asking("clone"), "clone3", "clone3"],
+    [asking("clone"), asking("clone3")], [asking("clone"), "clone", "clone3"], [asking("clone3"), "clone3"],
+    *([name, *others[:count]] for name, others in SIBLINGS.items() for count in range(len(others) + 1)),
+    ["openat2", "openat", "open"], ["kill", "pidfd_send_signal", asking("tgkill"), "tkill", asking("rt_sigqueueinfo")], [asking("kill")],
+    ["kill", "tgkill", "kill"], ["execveat"], ["mprotect", "unshare", "socket", "connect"], ["unshare", "clone", "clone3", "fork", "vfork"],
+    ["read", asking("read")], [asking("read"), "write", "read", "read"], [{"syscall": "read", "args": None}, asking("read")], ["read", "read"],
+    [asking("read"), asking("read")], ["read", asking("readv"), asking("write")], ["exit", asking("exit")],
 ]
 
 # The filter that is usually put beside another one, and one that lets clone3 through.
@@ -142,7 +98,7 @@ HIDES = ("allow", {"errno": 38}, ["clone3"])
 LETS = ({"errno": 1}, "allow", [asking("clone"), "clone3", *EXITS])
 OPEN = [("b.mismatch_action", "allows-by-default")]
 
-PAIRS = [
+TOGETHER = [
     # Neither has a warning.
     (LETS, HIDES, []),
     (("trap", "allow", ["clone3", *EXITS]), HIDES, []),
@@ -162,57 +118,12 @@ PAIRS = [
     (LETS, ("kill_process", {"errno": 38}, ["clone3", *EXITS]), [(f"b.filter[{it}]", "kills-exit") for it in (1, 2, 3)]),
 ]
 
-SIBLING_ALLOWED = [
-    ("allow", {"errno": 1}, ["open"], [let_through(0, "openat")]),
-    ("log", "kill_process", ["read", "open", "openat"], [let_through(1, "openat2"), let_through(2, "openat2")]),
-    ("allow", {"errno": 1}, ["openat"], [let_through(0, "open")]),
-    ("allow", {"errno": 1}, ["openat", "openat2"], [let_through(0, "open")]),
-    ("allow", {"errno": 1}, ["openat2", "openat", "open"], [let_through(1, "creat"), let_through(2, "creat")]),
-    ("allow", {"errno": 1}, ["openat2", "openat", "open", "creat"], [let_through(it, "io_uring_setup") for it in (1, 2, 3)]),
-    ("allow", {"errno": 1}, ["io_uring_setup", "openat2", "openat", "open", "creat"], []),
-    *(("allow", {"errno": 1}, [name], [let_through(0, other)]) for name, other in (
-        ("unlink", "unlinkat"), ("rmdir", "unlinkat"), ("rename", "renameat"), ("mkdir", "mkdirat"), ("mknod", "mknodat"), ("link", "linkat"),
-        ("symlink", "symlinkat"), ("chmod", "fchmodat"), ("chown", "fchownat"), ("creat", "open"), ("fork", "vfork"))),
-    ("allow", {"errno": 1}, ["kill", "tgkill", "pidfd_send_signal"], [let_through(0, "tkill")]),
-    ("allow", {"errno": 1}, ["kill", "tgkill", "tkill", "pidfd_send_signal"], [let_through(0, "rt_sigqueueinfo")]),
-    ("allow", {"errno": 1}, ["rename", "renameat"], [let_through(0, "renameat2")]),
-    ("allow", {"errno": 1}, ["chmod", "fchmodat"], [let_through(0, "fchmodat2")]),
-    # An entry with args names its call too, and denies only some of its calls.
-    ("allow", {"errno": 1}, ["kill", "pidfd_send_signal", asking("tgkill"), "tkill", asking("rt_sigqueueinfo")], []),
-    ("allow", {"errno": 1}, [asking("kill")], []),
-    ("allow", "trap", ["kill", "tgkill", "kill"], [let_through(0, "tkill"), let_through(2, "tkill")]),
-    ("allow", {"errno": 1}, ["execve"], [let_through(0, "execveat")]),
-    ("allow", {"errno": 1}, ["execveat"], []),
-    ("allow", {"errno": 1}, ["mount"], [let_through(0, "move_mount")]),
-    ("allow", {"errno": 1}, ["mount", "move_mount"], [let_through(0, "fsmount")]),
-    ("allow", {"errno": 1}, ["mount", "move_mount", "fsmount"], []),
-    ("allow", {"errno": 1}, ["ptrace"], [let_through(0, "process_vm_writev")]),
-    ("allow", {"errno": 1}, ["mprotect", "unshare", "socket", "connect"], [
-        let_through(0, "pkey_mprotect"), let_through(1, "clone"), let_through(2, "io_uring_setup"), let_through(3, "io_uring_setup")]),
-    ("allow", {"errno": 1}, ["unshare", "clone"], [*PASSED_BY, let_through(0, "clone3"), let_through(1, "fork")]),
-    ("allow", {"errno": 1}, ["unshare", "clone", "clone3", "fork", "vfork"], []),
-    # Nothing is let through that isn't listed, or what is listed isn't denied.
-    ("trap", "allow", ["open", *EXITS], []),
-    ("trap", {"errno": 1}, ["open"], killed(*EXITS)),
-    ("allow", "log", ["open"], []),
-    # It comes before what else is so of an entry beside others.
-    ("allow", {"errno": 1}, ["ptrace", asking("ptrace")], [
-        let_through(0, "process_vm_writev"), *at("crate-differs", 0)]),
-]
 
-CRATE_DIFFERS = [
-    ("trap", "allow", ["read", asking("read"), *EXITS], at("crate-differs", 0)),
-    ("allow", {"errno": 1}, [asking("read"), "write", "read", "read"], at("crate-differs", 2, 3)),
-    ("trap", "kill_process", ["read", asking("write"), asking("read"), "write"], [*killed(*EXITS), *at("crate-differs", 0, 3)]),
-    ("trap", "allow", [{"syscall": "read", "args": None}, asking("read"), *EXITS], at("crate-differs", 0)),
-    ("trap", "allow", ["read", "read", *EXITS], []),
-    ("trap", "allow", [asking("read"), asking("read"), *EXITS], []),
-    ("trap", "allow", ["read", asking("readv"), asking("write"), *EXITS], []),
-    # Beside it an entry may have the other codes of entries, in their order.
-    ("allow", "kill_process", ["exit", asking("exit")], [*at("kills-exit", 0), *at("crate-differs", 0)]),
-    ("trap", "allow", [asking("clone3"), "clone3", *EXITS], [*at("clone-by-clone3", 1), *at("crate-differs", 1)]),
-    ("trap", "allow", [asking("clone"), "clone", "clone3", *EXITS], at("crate-differs", 1)),
-]
+def of_each_pair(entries):
+    """Returns the text of a policy whose filters have these entries, if an entry may be a name, under each pair of actions."""
+    entries = [entry(it) if isinstance(it, str) else it for it in entries]
+    return json.dumps({f"f{number}": {"mismatch_action": mismatch, "match_action": match, "filter": entries}
+                       for number, (mismatch, match) in enumerate(PAIRS)})
 
 
 def some_filter(chance):
@@ -231,7 +142,7 @@ def policies_by_chance():
 
 
 CASES = [
-    *(it for row in (*KILLS_EXIT, *NO_EXECVE, *NO_RESTART, *CLONE_BY_CLONE3, *SIBLING_ALLOWED, *CRATE_DIFFERS) for it in of_calls(*row)),
-    *(it for row in PAIRS for it in of_pair(*row)),
-    *(writes(f"check {ALLOWED}", it, lines_of(it)) for it in policies_by_chance()),
+    *(it for row in TOLD for it in of_calls(*row)),
+    *(it for row in TOGETHER for it in of_pair(*row)),
+    *(writes(f"check {ALLOWED}", it, lines_of(it)) for it in (*map(of_each_pair, LISTS), *policies_by_chance())),
 ]

@@ -132,21 +132,20 @@ REDUNDANT = [
 ]
 
 
-def meets(args, arguments):
-    """Returns whether all conditions of an entry hold for these arguments."""
-    return all(holds(it, arguments[it["index"]]) for it in args)
+def met_by(entry):
+    """Returns the arguments 0 and 1 for which all conditions of an entry hold."""
+    args = entry.get("args", [])
+    return {*itertools.product(*([value for value in TRIED if all(holds(it, value) for it in args if it["index"] == index)] for index in (0, 1)))}
 
 
 def codes_of(entries):
     """Returns the warnings of a filter's entries, each a place and a code, by trying arguments 0 and 1."""
-    calls = list(itertools.product(TRIED, TRIED))
     found = []
     for place, own in enumerate(entries):
-        others = [it for at, it in enumerate(entries) if at != place and it["syscall"] == own["syscall"]]
-        met = [it for it in calls if meets(own.get("args", []), it)]
-        if not met:
+        others = [met_by(it) for at, it in enumerate(entries) if at != place and it["syscall"] == own["syscall"]]
+        if not met_by(own):
             found += unreachable(place)
-        elif all(any(meets(other.get("args", []), it) for other in others) for it in met):
+        elif met_by(own) <= set().union(*others):
             found += redundant(place)
     return found
 

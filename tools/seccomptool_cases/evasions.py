@@ -80,12 +80,10 @@ def bits_of(code, name, it):
     return [0 if (edge_of(it) == flag != 0x80000 if mask is None else mask == flag) else flag for flag in flags]
 
 
-def is_let_through(filter_, call):
-    """Returns whether a filter lets a call through, a name and its arguments."""
+def is_let_through(actions, entries, call):
+    """Returns whether a filter lets a call through, a name and its arguments: by the conditions of its entries of each name."""
     name, arguments = call
-    met = any(entry["syscall"] == name and all(holds(it, arguments[it["index"]]) for it in entry.get("args") or [])
-              for entry in filter_["filter"])
-    return actions_of(filter_)[met] in PERMITS
+    return actions[any(all(holds(it, arguments[it["index"]]) for it in args) for args in entries.get(name, ()))] in PERMITS
 
 
 def with_argument(arguments, index, value):
@@ -120,13 +118,14 @@ def shown(calls):
 def evasions_of(filter_):
     """Returns the evasions of a filter, by the place of their entry, that of their condition, and their code: pairs of calls that differ
     by the condition, of which the filter denies the first and lets the second through. The architecture is x86_64."""
-    found = {}
-    permits = actions_of(filter_)[1] in PERMITS
+    found, entries, actions = {}, {}, actions_of(filter_)
+    for rule in filter_["filter"]:
+        entries.setdefault(rule["syscall"], []).append(rule.get("args") or [])
     for entry, rule in enumerate(filter_["filter"]):
         conditions = rule.get("args") or []
         for place, it in enumerate(conditions):
             for code in EVASIONS:
-                for calls in pairs_of(code, rule["syscall"], conditions, it, permits):
-                    if decides(code, it, calls) and [is_let_through(filter_, call) for call in calls] == [False, True]:
+                for calls in pairs_of(code, rule["syscall"], conditions, it, actions[1] in PERMITS):
+                    if decides(code, it, calls) and [is_let_through(actions, entries, call) for call in calls] == [False, True]:
                         found.setdefault((entry, place, code), []).append(shown(calls))
     return found

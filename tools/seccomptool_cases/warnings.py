@@ -1,17 +1,19 @@
 """The warnings that `check` has to print if a policy may not say what its author means.
 
-Of each code there is a table of filters that have it and of filters that just don't. The lines of any other policy are
-found by trying its conditions on values, and not by their operators: conditions.py has many. calls.py has the tables of
-codes that are about calls by their names, and entries.py those of codes that are about entries beside others, which are
-allowed here.
+The lines of a policy are found by trying its conditions on values, and not by their operators. Here are conditions on each
+argument of each call, and tables of filters that have a code and of filters that just don't; conditions.py has each operator
+on each border, and many by chance. calls.py is about the codes of calls by their names, and entries.py about those of
+entries beside others, which are allowed here.
 """
 
+import functools
+import itertools
 import json
 import pathlib
 import random
 import re
 
-from .evasions import EVASIONS, LOW, PERMITS, WHOLE, actions_of, evasions_of, holds, mask_of
+from .evasions import EVASIONS, FLAGS, LOW, PERMITS, WHOLE, actions_of, evasions_of, holds, mask_of
 from .forms import OUTPUT, FULL, Case, grouped, rejects, writes
 
 # What is so, and what to write instead.
@@ -139,14 +141,6 @@ def of_both(mismatch, match, codes):
     return warned({"a": filter_of([], mismatch, match)}, *lines, allowed=f"{OF_PARTS} --allow trace-without-tracer")
 
 
-def of_argument(name, index, length, operator, value, codes, mismatch="allow", match="trap"):
-    """Returns the cases of a condition on an argument of this call that has these codes."""
-    filters = {"a": filter_of([condition(length, operator, value, index)], mismatch, match)}
-    filters["a"]["filter"][0]["syscall"] = name
-    allowed = f"{OF_PARTS} {NOT_ALL} --allow allows-by-default --allow clone-by-clone3 --allow high-half-evades"
-    return warned(filters, *(line("a.filter[0].args[0]", it) for it in codes), allowed=allowed)
-
-
 def of_condition(length, operator, value, codes, mismatch="trap", match="allow"):
     """Returns the cases of a condition that has these codes, after one and in an entry that have none."""
     plain = condition("dword", "eq", 7)
@@ -193,158 +187,12 @@ DENYING = [
     ("kill_process", {"trace": 1}, []),
 ]
 
-# Conditions on arguments of calls, and their codes: in a filter that denies what it lists, if no actions are given.
-O_CLOEXEC, SOCK_RAW, SIGCHLD, CLONE_NEWUSER, CLONE_FILES, PROT_EXEC, MS_BIND = 0x80000, 3, 17, 0x10000000, 0x400, 4, 0x1000
-ALLOWING = ("trap", "allow")
-ARGUMENTS = [
-    ("socket", 1, "dword", "eq", SOCK_RAW, ["flag-evades"]),
-    ("socket", 1, "dword", "eq", SOCK_RAW | O_CLOEXEC, ["flag-evades"]),
-    ("socket", 1, "dword", masked(15), SOCK_RAW, []),
-    ("socket", 1, "dword", masked(LOW), SOCK_RAW, ["flag-evades"]),
-    ("socket", 1, "qword", "le", SOCK_RAW, ["flag-evades"]),
-    ("socket", 1, "dword", "ge", SOCK_RAW, []),
-    ("socket", 0, "dword", "eq", 16, []),
-    ("socket", 1, "dword", "eq", SOCK_RAW, [], *ALLOWING),
-    ("socket", 1, "dword", "ne", SOCK_RAW, ["flag-evades"], *ALLOWING),
-    ("socket", 1, "dword", "eq", SOCK_RAW, [], "allow", "log"),
-    ("socket", 1, "qword", "eq", WHOLE, ["flag-evades"]),
-    ("open", 1, "dword", "eq", 2, ["flag-evades"]),
-    ("openat", 2, "dword", "eq", 2, ["flag-evades"]),
-    ("openat", 3, "dword", "eq", 2, []),
-    ("accept4", 3, "dword", "eq", 0x800, ["flag-evades"]),
-    ("open_by_handle_at", 2, "dword", "eq", 2, ["flag-evades"]),
-    ("pipe2", 1, "dword", "eq", 0, ["flag-evades"]),
-    ("dup3", 2, "dword", "eq", 0, ["flag-evades"]),
-    ("eventfd2", 1, "dword", "eq", 0, ["flag-evades"]),
-    ("signalfd4", 3, "dword", "eq", 0, ["flag-evades"]),
-    ("timerfd_create", 1, "dword", "eq", 0, ["flag-evades"]),
-    ("epoll_create1", 0, "dword", "eq", 0, ["flag-evades"]),
-    ("inotify_init1", 0, "dword", "eq", 0, ["flag-evades"]),
-    ("userfaultfd", 0, "dword", "eq", 0, ["flag-evades"]),
-    ("memfd_create", 1, "dword", "eq", 2, ["flag-evades"]),
-    ("memfd_create", 1, "dword", "eq", 3, ["flag-evades"]),
-    ("memfd_create", 1, "dword", "eq", 1, []),
-    ("memfd_create", 2, "dword", "eq", 2, []),
-    ("clone", 0, "dword", "eq", CLONE_NEWUSER | SIGCHLD, ["flag-evades"]),
-    ("clone", 0, "dword", masked(CLONE_NEWUSER), CLONE_NEWUSER, []),
-    ("unshare", 0, "dword", "eq", CLONE_FILES, []),
-    ("mount", 3, "dword", "eq", MS_BIND, ["flag-evades"]),
-    ("mmap", 2, "dword", "eq", PROT_EXEC, ["flag-evades"]),
-    ("mprotect", 2, "dword", "eq", PROT_EXEC | 1, ["flag-evades"]),
-    ("mprotect", 2, "dword", "lt", 3, ["flag-evades"]),
-    ("mprotect", 2, "dword", "le", 2, ["flag-evades"]),
-    ("open", 1, "dword", "eq", O_CLOEXEC, ["flag-evades"]),
-    ("open", 1, "dword", masked(O_CLOEXEC), 0, []),
-    ("open", 1, "dword", masked(O_CLOEXEC | 3), 1, ["flag-evades"]),
-    ("open", 1, "dword", "ge", 3, ["flag-evades"], *ALLOWING),
-    ("open", 1, "dword", "gt", 2, ["flag-evades"], *ALLOWING),
-    ("open", 1, "dword", "le", 2, [], *ALLOWING),
-    ("pkey_mprotect", 2, "dword", "eq", PROT_EXEC, ["flag-evades"]),
-    ("mmap", 3, "dword", "eq", PROT_EXEC, []),
-    ("open", 0, "qword", "eq", 0x1000, ["pointer-compared"]),
-    ("open", 0, "qword", "eq", 0, []),
-    ("openat", 0, "qword", "eq", 0x1000, []),
-    ("openat", 1, "qword", "ne", 0x1000, ["pointer-compared"]),
-    ("execve", 2, "qword", masked(1), 1, ["pointer-compared"]),
-    ("execveat", 3, "qword", "gt", 1, ["pointer-compared"]),
-    ("execveat", 4, "qword", "gt", 1, []),
-    ("accept", 2, "qword", "gt", 1, ["pointer-compared"]),
-    ("accept4", 3, "qword", "gt", 1, []),
-    ("statx", 4, "qword", "eq", 1, ["pointer-compared"]),
-    ("statx", 2, "qword", "eq", 1, []),
-    ("fanotify_mark", 4, "qword", "eq", 1, ["pointer-compared"]),
-    ("recvfrom", 5, "qword", "ne", 1, ["pointer-compared"]),
-    ("symlinkat", 0, "qword", "eq", 1, ["pointer-compared"]),
-    ("symlinkat", 1, "qword", "eq", 1, []),
-    ("truncate", 0, "qword", "eq", 1, ["pointer-compared"]),
-    ("truncate", 1, "qword", "gt", 1, []),
-    ("ftruncate", 1, "qword", "gt", 1, []),
-    ("sendto", 4, "qword", "ne", 0, [], *ALLOWING),
-    ("sendto", 4, "qword", "ne", 1, ["pointer-compared"], *ALLOWING),
-    ("kill", 0, "dword", "gt", 1, ["signed-compared"]),
-    ("kill", 0, "dword", "eq", 1, []),
-    ("kill", 1, "dword", "gt", 1, []),
-    ("lseek", 1, "qword", "ge", 1, ["signed-compared"]),
-    ("setpriority", 2, "dword", "lt", 5, ["signed-compared"]),
-    ("epoll_wait", 3, "dword", "le", 5, ["signed-compared"], *ALLOWING),
-    ("epoll_wait", 3, "dword", "ne", 5, []),
-    ("poll", 2, "dword", masked(7), 5, []),
-]
-
-# Conditions, and their codes, in a filter that denies by default.
-CONDITIONS = [
-    ("dword", "eq", LOW, []),
-    ("dword", "eq", LOW + 1, ["high-half-ignored"]),
-    ("dword", "ne", WHOLE, ["high-half-ignored"]),
-    ("qword", "eq", LOW + 1, []),
-    ("dword", masked(3), 4, ["value-outside-mask"]),
-    ("dword", masked(7), 4, []),
-    ("dword", masked(7), LOW + 5, ["high-half-ignored", "value-outside-mask"]),
-    ("dword", masked(WHOLE), LOW + 1, ["high-half-ignored", "value-outside-mask"]),
-    ("qword", masked(WHOLE), LOW + 1, []),
-    ("qword", masked(LOW), LOW + 1, ["value-outside-mask"]),
-    ("qword", masked(LOW + 1), LOW + 1, []),
-    ("dword", "ge", 0, ["always-holds"]),
-    ("dword", "ge", 1, []),
-    ("dword", "ge", LOW + 1, ["high-half-ignored", "always-holds"]),
-    ("qword", "ge", LOW + 1, []),
-    ("dword", "le", LOW, ["always-holds"]),
-    ("dword", "le", LOW - 1, []),
-    ("qword", "le", LOW, []),
-    ("qword", "le", WHOLE, ["always-holds"]),
-    ("dword", masked(0), 0, ["always-holds"]),
-    ("dword", masked(LOW + 1), 0, ["always-holds"]),
-    ("dword", masked(0), 1, ["value-outside-mask", "always-holds"]),
-    ("qword", masked(LOW + 1), 0, []),
-    ("dword", masked(1), 0, []),
-    ("dword", "lt", 0, ["never-holds"]),
-    ("dword", "lt", 1, []),
-    ("dword", "lt", LOW + 1, ["high-half-ignored", "never-holds"]),
-    ("qword", "lt", 0, ["never-holds"]),
-    ("dword", "gt", LOW, ["never-holds"]),
-    ("dword", "gt", LOW - 1, []),
-    ("qword", "gt", LOW, ["high-half-evades"]),
-    ("qword", "gt", WHOLE, ["never-holds"]),
-    ("qword", "gt", WHOLE - 1, []),
-    ("dword", "gt", 2**33 - 1, ["high-half-ignored", "never-holds"]),
-]
-
-# Conditions that a high half passes by, if a filter denies what it lists, and conditions that it doesn't.
-EVADED = [
-    ("qword", "eq", 0x5412, ["high-half-evades"]),
-    ("qword", "eq", LOW, ["high-half-evades"]),
-    ("qword", "eq", LOW + 1, []),
-    ("dword", "eq", 0x5412, []),
-    ("qword", "ne", 0x5412, []),
-    ("qword", "ge", 0x5412, []),
-    ("qword", masked(WHOLE), 0x5412, ["high-half-evades"]),
-    ("qword", masked(LOW + 1), 0, ["high-half-evades"]),
-    ("qword", masked(LOW), 0x5412, []),
-    ("qword", masked(WHOLE), LOW + 1, []),
-    ("qword", masked(2**33 + 1), 2**32 + 1, ["value-outside-mask", "high-half-evades"]),
-    ("qword", "le", 16, ["high-half-evades"]),
-    ("qword", "le", LOW + 1, []),
-    ("dword", "le", 16, []),
-    ("qword", "lt", 1, ["high-half-evades"]),
-    ("qword", "lt", LOW, ["high-half-evades"]),
-    ("qword", "lt", LOW + 1, []),
-    ("qword", "gt", 16, []),
-]
-
-# The same, if a filter allows what it lists.
-EVADED_LIST = [
-    ("qword", "ne", 0x5412, ["high-half-evades"]),
-    ("qword", "ne", LOW + 1, []),
-    ("dword", "ne", 0x5412, []),
-    ("qword", "gt", LOW, ["high-half-evades"]),
-    ("qword", "gt", LOW + 1, []),
-    ("qword", "ge", 1, ["high-half-evades"]),
-    ("qword", "ge", LOW + 1, []),
-    ("dword", "ge", 1, []),
-    ("qword", "eq", 0x5412, []),
-    ("qword", "le", 16, []),
-    ("qword", "lt", 16, []),
-    ("qword", masked(WHOLE), 0x5412, []),
+# Conditions that a filter has on an argument of each call: on addresses, on signed numbers, and on flags that change nothing.
+O_CLOEXEC, SIGCHLD = 0x80000, 17
+ASKED = [
+    *(("qword", "eq", it) for it in (0, 0x1000)), *(("dword", "eq", it) for it in (1, 3, 0x400, O_CLOEXEC, O_CLOEXEC | 3)),
+    *(("dword", masked(mask), value) for mask, value in ((LOW, 3), (O_CLOEXEC, 0), (O_CLOEXEC | 3, 1))), ("qword", masked(1), 1),
+    ("qword", "ne", 1), ("qword", "le", 3), ("dword", "lt", 3), ("dword", "ge", 3), ("qword", "gt", 1),
 ]
 
 # Entries of a call, each with its conditions, and the codes of evasions that they have: the whole filter decides both calls.
@@ -512,15 +360,23 @@ SIGNED = {
 }
 
 
+@functools.cache
+def outcomes(size, operator, value):
+    """Returns which of true and false a condition is for arguments; a number is the mask of `masked_eq`."""
+    it = condition(size, operator if isinstance(operator, str) else masked(operator), value)
+    return {holds(it, argument) for argument in tries(it)}
+
+
 def codes_of(name, it, evaded):
     """Returns the codes that a condition on an argument of a call has, with these codes of evasions, in their order."""
     mask = mask_of(it["op"])
     cut = LOW if it["type"] == "dword" else WHOLE
+    holding = outcomes(it["type"], it["op"] if mask is None else mask, it["val"])
     found = {
         "high-half-ignored": it["type"] == "dword" and it["val"] != it["val"] & LOW,
         "value-outside-mask": mask is not None and it["val"] & ~(mask & cut) != 0,
-        "always-holds": all(holds(it, argument) for argument in tries(it)),
-        "never-holds": not any(holds(it, argument) for argument in tries(it)),
+        "always-holds": holding == {True},
+        "never-holds": holding == {False},
         **{code: code in evaded for code in EVASIONS},
         "pointer-compared": it["val"] != 0 and name in POINTERS.get(it["index"], ()),
         "signed-compared": it["op"] in ("ge", "gt", "le", "lt") and name in SIGNED.get(it["index"], ()),
@@ -669,15 +525,21 @@ def lines_of(policy):
     return grouped("".join(it for name in names for it in lines_of_filter(name, filters[name], settled_in(all_filters, filters[name]))))
 
 
+def of_each_call():
+    """Returns the texts of policies whose filters ask the same of an argument of each call of which one is known, and deny or allow by that."""
+    known = {name for table in (POINTERS, SIGNED, *FLAGS.values()) for calls in table.values() for name in calls}
+    for index, it in itertools.product(range(6), ASKED):
+        entries = [{"syscall": name, "args": [condition(*it, index)]} for name in sorted(known)]
+        yield json.dumps({name: {"mismatch_action": mismatch, "match_action": match, "filter": entries}
+                          for name, mismatch, match in (("a", "allow", "trap"), ("b", {"errno": 1}, "log"))})
+
+
 FAULTY = json.dumps({"a": filter_of([condition("dword", "lt", 0)], {"errno": 0}, {"errno": 0})})
 
 CASES = [
     *(it for action, codes in ACTIONS for it in of_action(action, codes)),
     *(it for row in DENYING for it in of_both(*row)),
-    *(it for row in ARGUMENTS for it in of_argument(*row)),
-    *(it for row in CONDITIONS for it in of_condition(*row)),
-    *(it for row in EVADED for it in of_condition(*row, "allow", {"errno": 1})),
-    *(it for row in EVADED_LIST for it in of_condition(*row, {"errno": 1}, "allow")),
+    *(writes(f"check {ALLOWED}", it, lines_of(it)) for it in of_each_call()),
     *DEFAULTS,
     *(it for row in BESIDE_OTHERS for it in of_entries(*row)),
     *(it for row in DETOURED for it in of_detours(*row)),

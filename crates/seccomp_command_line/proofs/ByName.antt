@@ -1,18 +1,15 @@
--- Look-ups by name in lists of values in order of their names: what is found, the names themselves, and what is in
--- front of a name.
-use Rattle.std.proofs.Common.{◌≡◌, ℕ, suc, List, [], ◌∷◌, ◌++◌, cond, Some, None, String, Global, Less, All, Contains, string_bytes}
-use Rattle.std.proofs.Common.{string_cmp, string_eq, nat_cmp, bytes_eq, map, IfSome, refl, sym, ap, ◌∙◌, subst, inl, inr, arith}
+-- Look-ups by name in lists of values in order of their names: what is found, and the names themselves.
+use Rattle.std.proofs.Common.{◌≡◌, ℕ, suc, List, [], ◌∷◌, Some, String, Global, Less, All, Contains, string_bytes}
+use Rattle.std.proofs.Common.{string_cmp, string_eq, nat_cmp, bytes_eq, map, refl, sym, subst, inl, inr, arith}
 use Rattle.std.specs.BTreeMap.{is_at}
 use Rattle.std.specs.Cmp.Lexicographic.{slice_cmp}
 use Rattle.std.specs.List.{AllByRecursion, IsDistinct}
 use Rattle.std.specs.List.Sorted.{IsStrictlySortedBy}
 use Rattle.std.specs.Map.{keys_of, lookup}
-use Rattle.std.specs.String.{string_eq_equiv, string_cmp_total}
+use Rattle.std.specs.String.{string_eq_equiv}
 use Rattle.std.proofs.lemmas.Bool.{cases_Bool}
 use Rattle.std.proofs.lemmas.List.Elements.{All-weaker, All-contains_itself}
-use Rattle.std.proofs.lemmas.Map.{lookup-none}
-use Rattle.std.proofs.lemmas.Map.Entries.{place_from_lookup, none_below_head, All-lookup}
-use Rattle.std.proofs.lemmas.Map.Keys.{IsDistinct-from_sorted, sorted_tail}
+use Rattle.std.proofs.lemmas.Map.Keys.{IsDistinct-from_sorted}
 use Rattle.std.proofs.lemmas.Map.Text.{is_eq-slice_cmp, is_text, text_cmp}
 use Rattle.std.proofs.lemmas.Map.Views.{lookup-from_Contains}
 use Rattle.std.proofs.lemmas.Slice.Eq.{bytes_eq-Decides}
@@ -65,37 +62,3 @@ module _ {X : Type 0} where
   unfolding IsStrictlySortedBy
   names_ordered [] order = tt
   names_ordered (e ∷ entries) order = (above_all e.0 entries order.0, names_ordered entries order.1)
-
-  -- ---- in front of a name
-
-  -- What is found is under a key of that name.
-  key_of : (q : List ℕ) (entries : List (String Global × X)) (x : X) → lookup (is_text q) entries ≡ Some x
-      → (key : String Global) × (string_bytes key ≡ q)
-  key_of q entries x there = let place = place_from_lookup (is_text q) entries x there in
-      (place.1, sym ((bytes_eq-Decides q (string_bytes place.1)).0 place.3))
-
-  -- What is not found after others is found in front of them.
-  in_front : (q : List ℕ) (front back : List (String Global × X)) → lookup (is_text q) back ≡ None
-      → lookup (is_text q) (front ++ back) ≡ lookup (is_text q) front
-  in_front q [] back none = none
-  in_front q (e ∷ front) back none = ap (cond (bytes_eq q (string_bytes e.0)) (Some e.1)) (in_front q front back none)
-
-  behind : (front back : List (String Global × X)) → IsStrictlySortedBy string_cmp (keys_of (front ++ back))
-      → IsStrictlySortedBy string_cmp (keys_of back)
-  behind [] back order = order
-  behind (e ∷ front) back order = behind front back (sorted_tail string_cmp e.0 (keys_of (front ++ back)) order)
-
-  -- In order, what is found under a name below another comes in front of that one, and is as all are there.
-  pub holds_below : (P : X → Type 0) (front : List (String Global × X)) (e : String Global × X) (back : List (String Global × X))
-      → IsStrictlySortedBy string_cmp (keys_of (front ++ e ∷ back))
-      → All (λ f. P f.1) front → (q : List ℕ) (x : X) → lookup (is_text q) (front ++ e ∷ back) ≡ Some x
-      → slice_cmp nat_cmp q (string_bytes e.0) ≡ Less → P x
-  holds_below P front e back order all q x there less =
-      let key = key_of q (front ++ e ∷ back) x there in
-      let below : string_cmp key.0 e.0 ≡ Less = subst (λ r. slice_cmp nat_cmp r (string_bytes e.0) ≡ Less) (sym key.1) less in
-      let none = sym (by_text (string_bytes key.0) (e ∷ back))
-      ∙ lookup-none (is_at (string_cmp key.0)) (e ∷ back)
-      (none_below_head string_cmp_total key.0 e back (behind front (e ∷ back) order) below) in
-      let found : lookup (is_text q) front ≡ Some x =
-      sym (in_front q front (e ∷ back) (subst (λ r. lookup (is_text r) (e ∷ back) ≡ None) key.1 none)) ∙ there in
-      subst (λ o. IfSome o P) found (All-lookup P (is_text q) front all)

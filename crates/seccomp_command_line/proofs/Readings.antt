@@ -1,5 +1,5 @@
 -- What holds of what was read: of its bytes, and of the value that they are of.
-use Rattle.std.proofs.Common.{◌≡◌, ℕ, List, [], Option, Some, None, IfSome, refl, ◌∙◌}
+use Rattle.std.proofs.Common.{ℕ, List, [], Option, Some, None, refl}
 use Rattle.serde_json.specs.Data.{Data}
 use Rattle.seccompiler.specs.JsonAnswers.{OfValue}
 use Rattle.seccompiler.specs.Reads.{Reads}
@@ -10,12 +10,6 @@ use Rattle.seccomp_command_line.specs.Policies.{OfPolicy}
 pub reads_some : (known : Option (List ℕ)) (P : List ℕ → Type 0) → ((bytes : List ℕ) → P bytes) → Reads known P
 reads_some None P all = ([], tt, all [])
 reads_some (Some bytes) P all = (bytes, refl, all bytes)
-
--- What holds of the bytes that were read holds of the reader's.
-pub reads_on : (known : Option (List ℕ)) (items : List ℕ) (P : List ℕ → Type 0) → IfSome known (λ k. items ≡ k) → Reads (Some items) P
-    → Reads known P
-reads_on None items P own h = (h.0, tt, h.2)
-reads_on (Some k) items P own h = (h.0, h.1 ∙ own, h.2)
 
 -- What holds of the value that was read holds of what is read.
 pub of_value : (known : Option (List ℕ)) (P Q : Data → Type 0) (h : Reads known (λ text. OfValue text P)) → Q h.2.0

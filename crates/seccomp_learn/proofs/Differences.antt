@@ -1,7 +1,8 @@
 -- For `limits`: the kept arguments that are left, and the observations that differ, as these are gone through.
 use Rattle.std.proofs.Common.{◌≡◌, ◌<◌, ◌+◌, ◌⊎◌, inl, inr, ℕ, List, [], ◌∷◌, ◌++◌, All, AllPairs, length, get_or, refl, take, subst, sym}
 use Rattle.std.specs.Prelude.{Any, Contains}
-use Rattle.std.proofs.lemmas.List.Elements.{All-more, All-push, All-weaker, Contains-append_left, Contains-get_or, Contains-push}
+use Rattle.std.proofs.lemmas.List.Elements.{All-contains, All-more, All-push, All-same, All-weaker}
+use Rattle.std.proofs.lemmas.List.Elements.{Contains-append_left, Contains-get_or, Contains-push}
 use Rattle.std.proofs.lemmas.List.Quantifiers.{all_pairs_push}
 use Rattle.seccomp_learn.specs.Observed.{HasFewValues, HasMoreValues, IsSeenAlike, IsSeenApart}
 use Rattle.seccomp_learn.proofs.Quantified.{any_push}
@@ -36,14 +37,14 @@ module _ (limit : ℕ) (kept : List Kept) (observed : List Observation) where
       → HasFewValues limit kept observed (get_or kept i d).number
       → All (λ each. HasFewValues limit kept observed each.number) new
   few_more left new i d is so_far few =
-      subst (All (λ each. HasFewValues limit kept observed each.number)) (sym is)
-      (All-push (λ each. HasFewValues limit kept observed each.number) left (get_or kept i d) so_far few)
+      let of = λ (each : Kept). HasFewValues limit kept observed each.number in
+      All-same of new _ is (All-push of left (get_or kept i d) so_far few)
 
--- What is left is among what was kept.
-pub among_more : (kept left new : List Kept) (i : ℕ) (d : Kept) → i < length kept → new ≡ left ++ get_or kept i d ∷ []
-    → All (Contains kept) left → All (Contains kept) new
-among_more kept left new i d within is so_far =
-    subst (All (Contains kept)) (sym is) (All-push (Contains kept) left (get_or kept i d) so_far (Contains-get_or kept i d within))
+-- What is left is among what there was.
+pub among_more : {X : Type 0} (all left new : List X) (i : ℕ) (d : X) → i < length all → new ≡ left ++ get_or all i d ∷ []
+    → All (Contains all) left → All (Contains all) new
+among_more all left new i d within is so_far =
+    All-same (Contains all) new _ is (All-push (Contains all) left (get_or all i d) so_far (Contains-get_or all i d within))
 
 module _ (kept : List Kept) (observed : List Observation) (number : ℕ) where
   -- An observation of the call.
@@ -55,8 +56,7 @@ module _ (kept : List Kept) (observed : List Observation) (number : ℕ) where
       → new ≡ different ++ get_or observed i d ∷ [] → (get_or observed i d).number ≡ number → All IsOfCall different
       → All IsOfCall new
   different_more different new i d within is of_call so_far =
-      subst (All IsOfCall) (sym is)
-      (All-push IsOfCall different (get_or observed i d) so_far (Contains-get_or observed i d within, of_call))
+      All-same IsOfCall new _ is (All-push IsOfCall different (get_or observed i d) so_far (Contains-get_or observed i d within, of_call))
 
   pub apart_more : (different others new : List Observation) (o : Observation) → new ≡ different ++ o ∷ [] → others ≡ different
       → AllPairs (IsSeenApart kept) different → All (λ other. IsSeenApart kept other o) others → AllPairs (IsSeenApart kept) new
@@ -90,11 +90,6 @@ module _ (kept : List Kept) (own : List Observation) where
   abbrev IsLike : List Observation → Observation → Type 0
   IsLike different o = Any (λ other. IsSeenAlike kept other o) different
 
-  pub kept_more : (different new : List Observation) (i : ℕ) (d : Observation) → i < length own
-      → new ≡ different ++ get_or own i d ∷ [] → All (Contains own) different → All (Contains own) new
-  kept_more different new i d within is so_far =
-      subst (All (Contains own)) (sym is) (All-push (Contains own) different (get_or own i d) so_far (Contains-get_or own i d within))
-
   like_itself : (o : Observation) → IsSeenAlike kept o o
   like_itself o = λ k d within same. refl
 
@@ -118,17 +113,13 @@ module _ (kept : List Kept) (own : List Observation) where
       All-more (IsLike different) own i d within so_far
       (subst (λ (all : List Observation). Any (λ other. IsSeenAlike kept other (get_or own i d)) all) same like)
 
--- What holds of each element holds of each that is among them.
-contained : {X : Type 0} (P : X → Type 0) (xs : List X) → All P xs → (x : X) → Contains xs x → P x
-contained P xs all x (k, within, is) = subst P is (all k x within)
-
 -- What is among a call's own observations is of the call.
 pub own_all : (observed : List Observation) (number : ℕ) (own different : List Observation) → All (Contains own) different
     → All (λ (o : Observation). Contains observed o × (o.number ≡ number)) own
     → All (λ (o : Observation). Contains observed o × (o.number ≡ number)) different
 own_all observed number own different among of_call =
     All-weaker (Contains own) (λ (o : Observation). Contains observed o × (o.number ≡ number))
-    (λ o there. contained (λ (o : Observation). Contains observed o × (o.number ≡ number)) own of_call o there) different among
+    (λ o. All-contains (λ (o : Observation). Contains observed o × (o.number ≡ number)) own o of_call) different among
 
 -- What each of a call's own observations is like, each observation of the call is.
 pub alike_all : (kept : List Kept) (observed : List Observation) (number : ℕ) (own different : List Observation)
@@ -138,5 +129,5 @@ pub alike_all : (kept : List Kept) (observed : List Observation) (number : ℕ) 
 alike_all kept observed number own different there alike =
     All-weaker (λ (o : Observation). o.number ≡ number → Contains own o)
     (λ (o : Observation). o.number ≡ number → Any (λ other. IsSeenAlike kept other o) different)
-    (λ o within is. contained (λ (o : Observation). Any (λ other. IsSeenAlike kept other o) different) own alike o (within is))
+    (λ o within is. All-contains (λ (o : Observation). Any (λ other. IsSeenAlike kept other o) different) own o alike (within is))
     observed there

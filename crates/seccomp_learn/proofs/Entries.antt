@@ -42,13 +42,7 @@ either_same same = (
 pub turned : {A B : Type 0} → (A ↔ B) → B ↔ A
 turned same = (same.1, same.0)
 
--- An entry that adds no record may be left out.
-pub also_covered : (rules : List JsonRule) (rule : JsonRule)
-    → ((arch : TargetArch) (r : List ℕ) → MeetsEntry arch r rule → MeetsSome arch r rules) → MeetAlso rule rules rules
-also_covered rules rule covered = record {
-  also = λ arch r. (λ before. inl before, λ e. elim e [ inl before ↦ before | inr here ↦ covered arch r here ]);
-}
-
+-- One more entry adds the records that meet it.
 pub also_pushed : (rules : List JsonRule) (rule : JsonRule) → MeetAlso rule rules (rules ++ rule ∷ [])
 also_pushed rules rule = record { also = λ arch r. any_push (MeetsEntry arch r) rules rule }
 

@@ -4,7 +4,7 @@ use Rattle.std.specs.Prelude.{Any}
 use Rattle.std.specs.Borrow.{Bor}
 use Rattle.std.proofs.lemmas.Slice.Eq.{bytes_eq-Decides}
 use Rattle.seccompiler.specs.SyscallTable.{Pair, number_of, pairs_of}
-use Rattle.seccomp_learn.proofs.Quantified.{any_head, any_tail}
+use Rattle.seccompiler.proofs.Searches.{any_head, any_tail}
 
 -- The pair has this name and this number.
 abbrev IsPair : List ℕ → ℤ → Bor (List ℕ) × ℤ → Type 0

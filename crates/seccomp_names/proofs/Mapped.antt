@@ -1,5 +1,5 @@
 -- For `called_in` and `name_in`: one element of a list, and what a function makes of all of them.
-use Rattle.std.proofs.Common.{◌≡◌, ℕ, zero, suc, ◌+◌, ◌<◌, List, [], ◌∷◌, length, get_or, refl, arith}
+use Rattle.std.proofs.Common.{ℕ, zero, suc, ◌<◌, List, [], ◌∷◌, length, get_or, refl, arith}
 use Rattle.std.specs.Prelude.{Any, Contains, map}
 
 -- What holds of what f makes of one element holds of some of what it makes of all.

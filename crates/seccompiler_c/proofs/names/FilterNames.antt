@@ -1,14 +1,11 @@
 -- For `name_of`: the names of a text's filters are the keys of their map, and why there are none.
-use Rattle.std.proofs.Common.{◌≡◌, ℕ, suc, List, [], ◌∷◌, Option, Some, None, String, Global, Less, Contains, string_bytes, string_cmp}
-use Rattle.std.proofs.Common.{nat_cmp, bytes_eq, false, map, refl, sym, ◌∙◌, inl, inr, arith}
-use Rattle.std.specs.BTreeMap.{is_at}
-use Rattle.std.specs.Cmp.Lexicographic.{slice_cmp}
-use Rattle.std.specs.List.{AllByRecursion}
+use Rattle.std.proofs.Common.{◌≡◌, ℕ, List, [], ◌∷◌, Option, Some, None, String, Global, Contains, string_bytes, string_cmp}
+use Rattle.std.proofs.Common.{bytes_eq, false, map, refl, sym, ap, subst, ◌∙◌, inl, inr, arith}
 use Rattle.std.specs.List.Sorted.{IsStrictlySortedBy}
 use Rattle.std.specs.Map.{keys_of, lookup}
 use Rattle.std.proofs.lemmas.Bool.{cases_Bool, false≢true}
 use Rattle.std.proofs.lemmas.Map.Made.{Contains-tail}
-use Rattle.std.proofs.lemmas.Map.Text.{is_eq-slice_cmp, is_text, text_cmp}
+use Rattle.std.proofs.lemmas.Map.Text.{is_text}
 use Rattle.std.proofs.lemmas.Slice.Eq.{bytes_eq-Decides}
 use Rattle.serde_json.specs.Data.{Data}
 use Rattle.serde_json.specs.Find.{get}
@@ -19,28 +16,20 @@ use Rattle.seccompiler.specs.declared.backend.TargetArch.{TargetArch}
 use Rattle.seccompiler.specs.declared.json.error.JsonFrontendError.{JsonFrontendError}
 use Rattle.seccompiler.specs.declared.json.error.JsonFrontendError.TheVariants as frontend
 use Rattle.seccompiler.specs.declared.json.types.JsonFilterMap.{JsonFilterMap}
+use Rattle.seccomp_command_line.proofs.ByName.{by_text, found_name, names_ordered}
 use Rattle.seccompiler_c.specs.Names.{AreNames, IsUnnamed}
 use Rattle.seccompiler_c.specs.Policies.{from_frontend}
 
 -- The names of entries.
 abbrev names_of : {X : Type 0} → List (String Global × X) → List (List ℕ)
-names_of entries = map string_bytes (keys_of entries)
+names_of entries = map (λ e. string_bytes e.0) entries
+
+-- They are those of the keys.
+names_are : {X : Type 0} (entries : List (String Global × X)) → names_of entries ≡ map string_bytes (keys_of entries)
+names_are [] = refl
+names_are (e ∷ entries) = ap (λ names. string_bytes e.0 ∷ names) (names_are entries)
 
 module _ {X : Type 0} where
-  -- An ordered map finds a name as a list does.
-  by_text : (q : List ℕ) (entries : List (String Global × X)) → lookup (is_at (text_cmp q)) entries ≡ lookup (is_text q) entries
-  by_text q [] = refl
-  by_text q (e ∷ entries) = rw (is_eq-slice_cmp q (string_bytes e.0), by_text q entries) refl
-
-  -- A name that is found is there.
-  found_name : (q : List ℕ) (x : X) (entries : List (String Global × X)) → lookup (is_text q) entries ≡ Some x
-      → Contains (names_of entries) q
-  found_name q x [] there = cc
-  found_name q x (e ∷ entries) there = elim (cases_Bool (bytes_eq q (string_bytes e.0))) [
-    | inl t ↦ (0, omega arith, sym ((bytes_eq-Decides q (string_bytes e.0)).0 t))
-    | inr f ↦ let behind = found_name q x entries (rw f at there) in (suc behind.0, omega (arith, behind.1), behind.2)
-  ]
-
   -- What is found after an entry of another name is found.
   found_behind : (q : List ℕ) (e : String Global × X) (entries : List (String Global × X)) → bytes_eq q (string_bytes e.0) ≡ false
       → (x : X) × (lookup (is_text q) entries ≡ Some x) → (x : X) × (lookup (is_text q) (e ∷ entries) ≡ Some x)
@@ -57,18 +46,6 @@ module _ {X : Type 0} where
         found_behind q e entries f (there_found q entries (Contains-tail (string_bytes e.0) (names_of entries) q other there))
   ]
 
--- Names of keys in order are in byte order.
-above_all : (first : String Global) (keys : List (String Global)) → AllByRecursion (λ y. string_cmp first y ≡ Less) keys
-    → AllByRecursion (λ y. slice_cmp nat_cmp (string_bytes first) y ≡ Less) (map string_bytes keys)
-above_all first [] all = tt
-above_all first (k ∷ keys) all = (all.0, above_all first keys all.1)
-
-names_ordered : (keys : List (String Global)) → IsStrictlySortedBy string_cmp keys
-    → IsStrictlySortedBy (slice_cmp nat_cmp) (map string_bytes keys)
-unfolding IsStrictlySortedBy
-names_ordered [] order = tt
-names_ordered (k ∷ keys) order = (above_all k keys order.0, names_ordered keys order.1)
-
 module _ (d : Data) (filters : JsonFilterMap) (are : AreFilters d filters) where
   -- What is under a name of the map has a value there.
   has_value : (name : List ℕ) → Contains (names_of filters.0.entries) name → (o : Option Data) → get name d ≡ o
@@ -80,15 +57,15 @@ module _ (d : Data) (filters : JsonFilterMap) (are : AreFilters d filters) where
 
   -- The names of the map are those of the value.
   pub are_names : IsStrictlySortedBy string_cmp (keys_of filters.0.entries) → AreNames d (map string_bytes (keys_of filters.0.entries))
-  are_names order = record {
+  are_names order = subst (AreNames d) (names_are filters.0.entries) (record {
     filters = record { is_object = are.is_object; each = λ name value has. let own = are.each name value has in (own.found, own.own) };
-    ascending = names_ordered (keys_of filters.0.entries) order;
+    ascending = names_ordered filters.0.entries order;
     each = λ name. (
       λ there. has_value name there (get name d) refl,
       λ has. let own = are.each name has.0 has.1 in
           found_name name own.found filters.0.entries (sym (by_text name filters.0.entries) ∙ own.there),
     );
-  }
+  })
 
 -- What the front end refuses of a text before it looks for policies is that it is none of filters, or lack of memory.
 pub shape_refused : (text : List ℕ) (index : ℕ) (e : JsonFrontendError) → ((target : TargetArch) → TellsFrontendFault target text e)

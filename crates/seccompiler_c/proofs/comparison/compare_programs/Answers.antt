@@ -1,5 +1,4 @@
 use Rattle.std.proofs.Common.{◌≡◌, ℕ, List, Result, Option, IfOk, MatchOption, subst, sym, rules}
-use Rattle.seccompiler.specs.declared.bpf.sock_filter.{sock_filter}
 use Rattle.seccomp_compare.specs.declared.Relation.{Relation}
 use Rattle.seccomp_compare.specs.Compare.{AnswersRelated, AnswersUnrelated}
 use Rattle.seccomp_compare.specs.Machine.{IsChecked}

@@ -4,7 +4,7 @@ ghost use Rattle.std.specs.Prelude.{◌≡◌, All, IfErr, IfOk, OnOk, Some};
 ghost use Rattle.serde_json.specs.Data.{Data, Items, array, object};
 ghost use Rattle.serde_json.specs.Find.{get_item};
 ghost use Rattle.serde_json.specs.View.{view, items_view, members_view};
-ghost use Rattle.seccompiler.specs.JsonShape.{Has, IsObject};
+ghost use Rattle.seccompiler.specs.JsonShape.{Has};
 ghost use Rattle.seccomp_check.specs.Faults.{IsFaultOf, Tells};
 ghost use Rattle.seccomp_check.specs.Parts.{part_in, part_under};
 ghost use Rattle.seccomp_check.specs.declared.fault.Cause.{Cause};
@@ -100,18 +100,6 @@ fn check_argument(alloc: Global, value: &Value) -> Result<(), Finding>
     }
 }
 
-// Adds the faults of a condition's members.
-fn add_condition(found: &mut Vec<Fault>, alloc: Global, value: &Value) -> Result<(), AllocError>
-    ensures { IsObject (view value.now) → All (IsFaultOf (parts.Object kind.Condition) (view value.now)) found.old.items → OnOk result (All (IsFaultOf (parts.Object kind.Condition) (view value.now)) found.new.items) }
-{
-    add(found, check_inner(alloc, "comment", Part::Comment, value))?;
-    add(found, check_part(alloc, "index", Part::Index, value))?;
-    add(found, check_argument(alloc, value))?;
-    add(found, check_part(alloc, "type", Part::Length, value))?;
-    add(found, check_part(alloc, "op", Part::Operator, value))?;
-    add(found, check_part(alloc, "val", Part::Number, value))
-}
-
 // The faults of a condition.
 fn all_of_condition(alloc: Global, value: &Value) -> Result<Vec<Fault>, AllocError>
     ensures { IfOk result (λ all. All (IsFaultOf (parts.Object kind.Condition) (view value.now)) all.items) }
@@ -120,7 +108,15 @@ fn all_of_condition(alloc: Global, value: &Value) -> Result<Vec<Fault>, AllocErr
     let Value::Object(_) = value else {
         return Ok(found);
     };
-    add_condition(&mut found, alloc, value)?;
+    add(
+        &mut found,
+        check_inner(alloc, "comment", Part::Comment, value),
+    )?;
+    add(&mut found, check_part(alloc, "index", Part::Index, value))?;
+    add(&mut found, check_argument(alloc, value))?;
+    add(&mut found, check_part(alloc, "type", Part::Length, value))?;
+    add(&mut found, check_part(alloc, "op", Part::Operator, value))?;
+    add(&mut found, check_part(alloc, "val", Part::Number, value))?;
     Ok(found)
 }
 
@@ -174,26 +170,6 @@ fn check_call(
     }
 }
 
-// Adds the faults of an entry's members, but for those of its conditions.
-fn add_entry(
-    found: &mut Vec<Fault>,
-    alloc: Global,
-    target: TargetArch,
-    suggests: bool,
-    value: &Value,
-) -> Result<(), AllocError>
-    ensures { IsObject (view value.now) → All (IsFaultOf (parts.Object kind.Entry) (view value.now)) found.old.items → OnOk result (All (IsFaultOf (parts.Object kind.Entry) (view value.now)) found.new.items) }
-{
-    add(found, check_inner(alloc, "comment", Part::Comment, value))?;
-    add(found, check_part(alloc, "syscall", Part::Name, value))?;
-    add(found, check_call(alloc, target, suggests, value))?;
-    add(found, check_inner(alloc, "args", Part::Conditions, value))?;
-    add(
-        found,
-        check_key(alloc, "args", Expected::SomeConditions, value),
-    )
-}
-
 // Adds the faults of an entry's conditions.
 fn add_conditions(found: &mut Vec<Fault>, alloc: Global, value: &Value) -> Result<(), AllocError>
     ensures { All (IsFaultOf (parts.Object kind.Entry) (view value.now)) found.old.items → OnOk result (All (IsFaultOf (parts.Object kind.Entry) (view value.now)) found.new.items) }
@@ -220,7 +196,20 @@ fn all_of_entry(
     let Value::Object(_) = value else {
         return Ok(found);
     };
-    add_entry(&mut found, alloc, target, suggests, value)?;
+    add(
+        &mut found,
+        check_inner(alloc, "comment", Part::Comment, value),
+    )?;
+    add(&mut found, check_part(alloc, "syscall", Part::Name, value))?;
+    add(&mut found, check_call(alloc, target, suggests, value))?;
+    add(
+        &mut found,
+        check_inner(alloc, "args", Part::Conditions, value),
+    )?;
+    add(
+        &mut found,
+        check_key(alloc, "args", Expected::SomeConditions, value),
+    )?;
     add_conditions(&mut found, alloc, value)?;
     Ok(found)
 }
@@ -241,22 +230,6 @@ fn all_of_entries(
         add_under_item(&mut found, place, inner)?;
     }
     Ok(found)
-}
-
-// Adds the faults of a filter's members, but for those of its entries.
-fn add_filter(found: &mut Vec<Fault>, alloc: Global, value: &Value) -> Result<(), AllocError>
-    ensures { IsObject (view value.now) → All (IsFaultOf (parts.Object kind.Filter) (view value.now)) found.old.items → OnOk result (All (IsFaultOf (parts.Object kind.Filter) (view value.now)) found.new.items) }
-{
-    add(
-        found,
-        check_action(alloc, "mismatch_action", "default_action", value),
-    )?;
-    add(
-        found,
-        check_action(alloc, "match_action", "filter_action", value),
-    )?;
-    add(found, check_actions(alloc, value))?;
-    add(found, check_part(alloc, "filter", Part::Entries, value))
 }
 
 // Adds the faults of a filter's entries.
@@ -291,7 +264,19 @@ fn all_of_filter(
     let Value::Object(_) = value else {
         return Ok(found);
     };
-    add_filter(&mut found, alloc, value)?;
+    add(
+        &mut found,
+        check_action(alloc, "mismatch_action", "default_action", value),
+    )?;
+    add(
+        &mut found,
+        check_action(alloc, "match_action", "filter_action", value),
+    )?;
+    add(&mut found, check_actions(alloc, value))?;
+    add(
+        &mut found,
+        check_part(alloc, "filter", Part::Entries, value),
+    )?;
     add_entries(&mut found, alloc, target, most, value)?;
     Ok(found)
 }

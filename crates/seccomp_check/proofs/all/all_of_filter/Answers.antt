@@ -1,10 +1,22 @@
-use Rattle.seccompiler.specs.JsonShape.{IsObject}
+use Rattle.std.proofs.Common.{refl, lit<}
 use Rattle.serde_json.specs.View.{view, members_view}
 use Rattle.serde_json.proofs.Views.{view-Object}
+use Rattle.seccompiler.specs.JsonShape.{IsObject}
+use Rattle.seccomp_check.specs.declared.fault.Cause.TheVariants as cause
+use Rattle.seccomp_check.specs.declared.part.Kind.TheVariants as kind
+use Rattle.seccomp_check.specs.declared.part.Part.TheVariants as parts
 use Rattle.seccomp_check.proofs.all.all_of_filter.Goals as goal
 
 pub returns : goal.returns
 returns c =
     let members = c.in-Object.field-0 in
     let is : IsObject (view c.args.value.now) = (members_view members.entries, rw c.in-Object.is (view-Object members)) in
-    c.in_ok-add_entries.ensures (c.in_ok-add_filter.ensures is c.in_ok-found.ensures)
+    let own = kind.Filter in
+    let part = parts.Object own in
+    let d = view c.args.value.now in
+    let all-0 = c.in_ok-found.ensures in
+    let all-1 = c.in_ok-add.ensures cause.Shape part d all-0 (c.check_action.ensures.found (0, lit< tt, refl) is refl refl) in
+    let all-2 = c.in_ok-add-2.ensures cause.Shape part d all-1 (c.check_action-2.ensures.found (1, lit< tt, refl) is refl refl) in
+    let all-3 = c.in_ok-add-3.ensures cause.Actions part d all-2 (c.check_actions.ensures.found) in
+    c.in_ok-add_entries.ensures
+    (c.in_ok-add-4.ensures cause.Shape part d all-3 (c.check_part.ensures.found own (0, lit< tt, refl) refl refl is))

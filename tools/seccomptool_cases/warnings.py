@@ -525,11 +525,17 @@ def lines_of(policy):
     return grouped("".join(it for name in names for it in lines_of_filter(name, filters[name], settled_in(all_filters, filters[name]))))
 
 
+def names_in(*tables):
+    """Returns the calls that tables have by the index of an argument."""
+    return {name for table in tables for calls in table.values() for name in calls}
+
+
 def of_each_call():
-    """Returns the texts of policies whose filters ask the same of an argument of each call of which one is known, and deny or allow by that."""
-    known = {name for table in (POINTERS, SIGNED, *FLAGS.values()) for calls in table.values() for name in calls}
+    """Returns the texts of policies whose filters ask the same of an argument of each call that has a known one, and deny or allow by that.
+    Calls that only have addresses are asked for 0 and another one."""
     for index, it in itertools.product(range(6), ASKED):
-        entries = [{"syscall": name, "args": [condition(*it, index)]} for name in sorted(known)]
+        names = names_in(SIGNED, *FLAGS.values(), *[POINTERS] * (it[2] in (0, 0x1000)))
+        entries = [{"syscall": name, "args": [condition(*it, index)]} for name in sorted(names)]
         yield json.dumps({name: {"mismatch_action": mismatch, "match_action": match, "filter": entries}
                           for name, mismatch, match in (("a", "allow", "trap"), ("b", {"errno": 1}, "log"))})
 

@@ -1,11 +1,10 @@
 -- For `policies_in` and `compiled_filters`: policies under the names of their filters, and their programs.
-use Rattle.std.proofs.Common.{◌≡◌, ℕ, List, [], ◌∷◌, true, false, cond, Option, Some, None, All, String, Global, Less, string_bytes}
-use Rattle.std.proofs.Common.{string_cmp, bytes_eq, refl, sym, ◌∙◌}
+use Rattle.std.proofs.Common.{◌≡◌, ℕ, List, [], ◌∷◌, Option, All, String, Global, Less, string_bytes}
+use Rattle.std.proofs.Common.{string_cmp, sym, ◌∙◌}
 use Rattle.std.specs.BTreeMap.{BTreeMap, get_by_text}
 use Rattle.std.specs.List.{AllByRecursion, AllZip}
 use Rattle.std.specs.List.Sorted.{IsStrictlySortedBy}
 use Rattle.std.specs.Map.{keys_of, lookup}
-use Rattle.std.specs.Option.{MatchOption}
 use Rattle.std.proofs.lemmas.List.Elements.{All-nil, All-cons}
 use Rattle.std.proofs.lemmas.Map.Text.{is_text}
 use Rattle.serde_json.specs.Data.{Data}
@@ -18,6 +17,7 @@ use Rattle.seccompiler.specs.JsonPolicyOf.{IsPolicyOf}
 use Rattle.seccompiler.specs.JsonSteps.{AreFilters}
 use Rattle.seccompiler.specs.JsonTypes.{JsonFilter}
 use Rattle.seccompiler.specs.Policy.{Filter}
+use Rattle.seccompiler.proofs.ByName.{made_under}
 use Rattle.seccomp_check.specs.Checks.{IsFaultless, AreAllCompiled}
 use Rattle.seccomp_command_line.proofs.ByName.{by_text}
 use Rattle.seccomp_command_line.proofs.Found.{all_listed}
@@ -58,19 +58,6 @@ module _ (target : TargetArch) where
   made_in_order [] (y ∷ ys) h order = absurd h
   made_in_order (x ∷ xs) (y ∷ ys) h order = (above x.0 y.0 h.0.0 xs ys h.1 order.0, made_in_order xs ys h.1 order.1)
 
-  -- Under a name there is the policy of the filter that is found; where none is found, there is nothing.
-  made_under : (xs : Filters) (ys : Policies) → AllZip IsMade xs ys → (q : List ℕ)
-      → MatchOption (lookup (is_text q) xs) (lookup (is_text q) ys ≡ None)
-      (λ x. (y : Filter) × (lookup (is_text q) ys ≡ Some y) × IsPolicyOf target x y)
-  made_under [] [] h q = refl
-  made_under [] (b ∷ ys) h q = absurd h
-  made_under (a ∷ xs) [] h q = absurd h
-  made_under (a ∷ xs) (b ∷ ys) h q =
-      rw h.0.0 (elim (bytes_eq q (string_bytes a.0)) as
-      (λ t. MatchOption (cond t (Some a.1) (lookup (is_text q) xs)) (cond t (Some b.1) (lookup (is_text q) ys) ≡ None)
-      (λ x. (y : Filter) × (cond t (Some b.1) (lookup (is_text q) ys) ≡ Some y) × IsPolicyOf target x y))
-      [ true ↦ (b.1, refl, h.0.1) | false ↦ made_under xs ys h.1 q ])
-
   -- The policies of a value's filters are the value's.
   pub are_policies : (filters : JsonFilterMap) (made : Policies) → AllZip IsMade filters.0.entries made → (find : List ℕ → Option Filter)
       → ((name : List ℕ) → find name ≡ lookup (is_text name) made) → (d : Data) → AreFilters d filters → ArePoliciesOf target find d
@@ -78,11 +65,11 @@ module _ (target : TargetArch) where
     is_object = are.is_object;
     each = λ name value there.
         let known = are.each name value there in
-        let own = made_under filters.0.entries made h name in
+        let own = made_under (IsPolicyOf target) filters.0.entries made h name in
         let own = rw (sym (by_text name filters.0.entries) ∙ known.there) at own in
         record { found = own.0; there = same name ∙ own.1; own = (known.found, known.own, own.2) };
     no_other = λ name none.
-        let own = made_under filters.0.entries made h name in
+        let own = made_under (IsPolicyOf target) filters.0.entries made h name in
         same name ∙ rw (sym (by_text name filters.0.entries) ∙ are.no_other name none) at own;
   }
 

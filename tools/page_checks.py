@@ -327,8 +327,6 @@ def compare_pages(results):
     compare_proofs(results)
 
 
-
-
 def main():
     results = Results()
     compare_pages(results)

@@ -12,7 +12,7 @@ from program_cases import FRONTEND
 from running import TOP
 
 from .forms import CLOSED, FOLDER, FULL, INPUT, MISSING, NO_OBJECT, OUTPUT, RESET, TOOL, Case, Failing, rejects, writes
-from .records import AARCH64, RISCV64, X86_64, numbers_on, record_of
+from .records import AARCH64, RISCV64, X86_64, record_of
 
 # A program's calls by strace: arguments are numbers, names, and texts that look like the end of a call.
 NAMED = r"""execve("/usr/bin/cat", ["cat", "a, b)"], 0x7ffd0 /* 20 vars */) = 0

@@ -7,7 +7,7 @@ from .forms import (
     fails_to_read_and_write, rejects, rejects_in_both, writes
 )
 from .programs import (
-    ALLOW, ERRNO_1, JUMP, JUMP_AT_LEAST, JUMP_EQUAL, JUMP_GREATER, LOAD, MASK, OF_BIT, OF_READ, UNFIT, program, returns
+    ALLOW, ERRNO_1, JUMP, JUMP_AT_LEAST, JUMP_EQUAL, JUMP_GREATER, LOAD, MASK, OF_READ, UNFIT, program, returns
 )
 
 # Two filters without entries; the second one's name has a byte that steers a terminal.

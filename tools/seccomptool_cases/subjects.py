@@ -2,12 +2,11 @@
 
 import json
 
-
 from .compiled_profiles import entry, profile
 from .diff import READS
 from .forms import INPUT, LOGS, TOOL, Case, rejects, writes
 from .program_diffs import OTHERS_SAME, guarded
-from .programs import ALLOW, JUMP_EQUAL, returns
+from .programs import returns
 
 LOG = 0x7FFC0000
 

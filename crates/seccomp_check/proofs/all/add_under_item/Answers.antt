@@ -17,6 +17,3 @@ loop-fault-preserved c = λ outer part items inner within at each old.
       c.in_ok-add.ensures first.0 outer (array items) so_far.1
           (c.under_item.ensures.led first.0 outer part items inner within at first.1),
     )
-
-pub returns : goal.returns
-returns c = λ outer part items inner within at each old. (c.loop-fault.invariant outer part items inner within at each old).1

@@ -1,11 +1,7 @@
-use Rattle.std.proofs.Common.{All, sym, subst}
+use Rattle.std.proofs.Common.{All, subst}
 use Rattle.std.proofs.lemmas.List.Elements.{All-head, All-tail}
 use Rattle.seccomp_check.specs.Faults.{IsFaultOf}
 use Rattle.seccomp_check.proofs.all.add_under_key.Goals as goal
-
-pub loop-fault-init : goal.loop-fault-init
-loop-fault-init c = λ outer part d inner under has each old.
-    (subst (All (IsFaultOf part inner)) (sym c.into_iter-fault-iterator.ensures.into_iter_gives.0) each, old)
 
 pub loop-fault-preserved : goal.loop-fault-preserved
 loop-fault-preserved c = λ outer part d inner under has each old.
@@ -15,6 +11,3 @@ loop-fault-preserved c = λ outer part d inner under has each old.
       All-tail (IsFaultOf part inner) c.in-Some.fault _ left,
       c.in_ok-add.ensures first.0 outer d so_far.1 (c.under_key.ensures.led first.0 outer part d inner under has first.1),
     )
-
-pub returns : goal.returns
-returns c = λ outer part d inner under has each old. (c.loop-fault.invariant outer part d inner under has each old).1

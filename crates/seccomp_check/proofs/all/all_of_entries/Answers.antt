@@ -1,18 +1,10 @@
-use Rattle.std.proofs.Common.{◌≡◌, Some, All, refl, sym, subst}
-use Rattle.std.proofs.lemmas.List.Elements.{All-nil}
-use Rattle.serde_json.specs.Data.{array}
+use Rattle.std.proofs.Common.{◌≡◌, Some, refl, subst}
 use Rattle.serde_json.specs.Find.{get_item}
 use Rattle.serde_json.specs.View.{view, items_view}
-use Rattle.seccomp_check.specs.Faults.{IsFaultOf}
 use Rattle.seccomp_check.specs.declared.part.Kind.TheVariants as kind
 use Rattle.seccomp_check.specs.declared.part.Part.TheVariants as parts
 use Rattle.seccomp_check.proofs.Values.{item_there}
 use Rattle.seccomp_check.proofs.all.all_of_entries.Goals as goal
-
-pub loop-place-init : goal.loop-place-init
-loop-place-init c =
-    let of = IsFaultOf parts.Entries (array (items_view c.args.items.now.items)) in
-    subst (All of) (sym c.new-found.ensures.items) (All-nil of)
 
 pub loop-place-preserved : goal.loop-place-preserved
 loop-place-preserved c =

@@ -1,21 +1,14 @@
-use Rattle.std.proofs.Common.{◌≡◌, ◌∷◌, ◌++◌, [], Some, All, string_cmp, refl, sym, ap, ◌∙◌, subst, append_assoc, rules}
+use Rattle.std.proofs.Common.{◌≡◌, ◌∷◌, ◌++◌, [], Some, string_cmp, refl, sym, ap, ◌∙◌, subst, append_assoc}
 use Rattle.std.specs.List.Sorted.{IsStrictlySortedBy}
 use Rattle.std.specs.Map.{keys_of}
-use Rattle.std.proofs.lemmas.List.Elements.{All-nil}
 use Rattle.serde_json.specs.Data.{object}
 use Rattle.serde_json.specs.Find.{get_member}
 use Rattle.serde_json.specs.View.{view, members_view}
 use Rattle.serde_json.proofs.Views.{Entry}
-use Rattle.seccomp_check.specs.Faults.{IsFaultOf}
 use Rattle.seccomp_check.specs.declared.part.Kind.TheVariants as kind
 use Rattle.seccomp_check.specs.declared.part.Part.TheVariants as parts
 use Rattle.seccomp_check.proofs.Values.{member_there}
 use Rattle.seccomp_check.proofs.all.all_of_filters.Goals as goal
-
-pub loop-name-init : goal.loop-name-init
-loop-name-init c =
-    let of = IsFaultOf parts.Policy (object (members_view c.args.members.now.entries)) in
-    ([], search rules, subst (All of) (sym c.new-found.ensures.items) (All-nil of))
 
 pub loop-name-preserved : goal.loop-name-preserved
 loop-name-preserved c =

@@ -1,21 +1,14 @@
-use Rattle.std.proofs.Common.{◌≡◌, ◌∷◌, ◌++◌, [], All, string_cmp, sym, ap, ◌∙◌, subst, append_assoc, rules}
+use Rattle.std.proofs.Common.{◌≡◌, ◌∷◌, ◌++◌, [], string_cmp, sym, ap, ◌∙◌, subst, append_assoc}
 use Rattle.std.specs.List.Sorted.{IsStrictlySortedBy}
 use Rattle.std.specs.Map.{keys_of}
-use Rattle.std.proofs.lemmas.List.Elements.{All-nil}
 use Rattle.serde_json.specs.Data.{Data, object}
 use Rattle.serde_json.specs.View.{view, members_view}
 use Rattle.serde_json.proofs.Views.{Entry}
 use Rattle.seccompiler.specs.JsonShape.{Has}
-use Rattle.seccomp_check.specs.Faults.{IsFaultOf}
 use Rattle.seccomp_check.specs.declared.fault.Cause.TheVariants as cause
 use Rattle.seccomp_check.specs.declared.part.Part.TheVariants as parts
 use Rattle.seccomp_check.proofs.Values.{member_there}
 use Rattle.seccomp_check.proofs.all.all_of_keys.Goals as goal
-
-pub loop-name-init : goal.loop-name-init
-loop-name-init c =
-    let of = IsFaultOf (parts.Object c.args.kind) (object (members_view c.args.members.now.entries)) in
-    ([], search rules, subst (All of) (sym c.new-found.ensures.items) (All-nil of))
 
 pub loop-name-preserved : goal.loop-name-preserved
 loop-name-preserved c =

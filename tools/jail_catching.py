@@ -11,6 +11,7 @@ import os
 import pathlib
 import random
 import shutil
+import socket
 import struct
 import subprocess
 import sys
@@ -232,6 +233,31 @@ def try_refused(results, folder, runtime):
     results.compare(f"{pathlib.Path(runtime).name}: containers start with some profiles", True, len(set(starts)) == 2)
 
 
+# What profiles have beside the default action to allow and an entry of calls that a supervisor decides; its calls; and whether runc
+# starts a container with it. crun does with each.
+NOTIFIED = [
+    ({"listenerPath": "SOCKET"}, ["mkdirat"], True), ({"listenerPath": "SOCKET"}, ["mkdirat", "write"], False), ({}, ["mkdirat"], False),
+    ({"listenerPath": "SOCKET", "defaultAction": "SCMP_ACT_NOTIFY"}, ["mkdirat"], False),
+]
+
+
+def try_notified(results, folder, runtime):
+    """Starts containers whose calls a supervisor decides: `check` warns exactly of those with which runc starts none."""
+    name = pathlib.Path(runtime).name
+    with socket.socket(socket.AF_UNIX) as listener:
+        listener.bind(str(folder / f"{name}.sock"))
+        listener.listen(len(NOTIFIED))
+        for more, calls, starts in NOTIFIED:
+            given = {key: str(folder / f"{name}.sock") if it == "SOCKET" else it for key, it in more.items()}
+            profile = {"defaultAction": "SCMP_ACT_ALLOW", "architectures": ["SCMP_ARCH_X86_64"],
+                       "syscalls": [{"names": calls, "action": "SCMP_ACT_NOTIFY"}], **given}
+            words = contained(folder, runtime, profile)
+            out, err, code = run([TOOL, "check", "config.json"], folder)
+            results.compare(f"check {more} {calls}", (not starts, "", 0), ("[runtimes-differ]" in out, err, code))
+            if name == "runc" or "defaultAction" not in more:
+                results.compare(f"{name}: {more} {calls}", starts or name == "crun", run(words, folder)[2] == 0)
+
+
 def try_runtimes(results, program, folder):
     """Runs a container by each runtime that is installed."""
     (folder / "root").mkdir()
@@ -248,6 +274,7 @@ def try_runtimes(results, program, folder):
             for _, architectures in (it for it in NUMBERS if it[0] == name):
                 try_runtime(results, program, folder, runtime, architectures)
             try_refused(results, folder, runtime)
+            try_notified(results, folder, runtime)
         else:
             print(f"{name} runs no container here, so no program of its containers is caught: {(err or out).strip()}")
 

@@ -86,6 +86,9 @@ OF_WHOLE = [
 OF_FLAGS = (INPUT + "flags to set when the program is installed (3): "
             "SECCOMP_FILTER_FLAG_TSYNC, SECCOMP_FILTER_FLAG_LOG, SECCOMP_FILTER_FLAG_SPEC_ALLOW\n")
 
+# What is told of a program that asks a supervisor.
+ASKS = INPUT + "calls that a supervisor decides fail with errno 38 (ENOSYS), unless one listens\n"
+
 # Each action of a profile, with its number if it has one, and that of the program.
 ACTIONS = [
     ("SCMP_ACT_ERRNO", None, "errno 1"), ("SCMP_ACT_ERRNO", 0, "errno 0"), ("SCMP_ACT_ERRNO", 65535, "errno 65535"),
@@ -211,6 +214,13 @@ CASES = [
              "(2): SECCOMP_FILTER_FLAG_LOG, SECCOMP_FILTER_FLAG_LOG", READ),
     *flagged("", '{"defaultAction": "SCMP_ACT_ALLOW", "flags": ["SECCOMP_FILTER_FLAG_SPEC_ALLOW"]}',
              "(1): SECCOMP_FILTER_FLAG_SPEC_ALLOW", READ),
+    *flagged("", profile(entry("read"), flags=["SECCOMP_FILTER_FLAG_WAIT_KILLABLE_RECV"]), "(1): SECCOMP_FILTER_FLAG_WAIT_KILLABLE_RECV", READ),
+    # What a supervisor decides: told if the program asks one.
+    *compiles("", profile(entry("read", "SCMP_ACT_NOTIFY")), ("read", "user_notif"), OTHER, told=ASKS),
+    *compiles("--oci", profile(entry("read"), default="SCMP_ACT_NOTIFY", listenerPath="/run/agent.sock"), READ, ("write", "user_notif"), told=ASKS),
+    *compiles("-q", profile(entry("read", "SCMP_ACT_NOTIFY")), ("read", "user_notif"), OTHER),
+    *compiles("", profile(entry("read"), entry("write", "SCMP_ACT_NOTIFY", includes={"caps": ["CAP_KILL"]})), READ, OTHER),
+    *compiles("", profile(entry("read"), entry("read", "SCMP_ACT_NOTIFY", args=[when(0, "EQ", 5)])), READ, OTHER),
     *compiles("./log-profile.json", "", READ, OTHER, told=TOOL + f"./log-profile.json: {FLAGS} (1): SECCOMP_FILTER_FLAG_LOG\n"),
     *compiles("flags-profile.json", "", READ, OTHER,
               told=TOOL + f"flags-profile.json: {counted(1)}\n"

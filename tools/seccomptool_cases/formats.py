@@ -232,7 +232,7 @@ OF_PROFILES = [
               '{"index":\u20206,"value":1,"op":"SCMP_CMP_EQ"}]}]}', (0, wrong("not-a-profile", "expected 0 to 5, found 6", "syscalls[0].args[0].index"))),
     *cases_of('{"defaultAction":\u2020"ALLOW"}', (0, wrong(
         "not-a-profile", "expected SCMP_ACT_ALLOW, SCMP_ACT_ERRNO, SCMP_ACT_KILL, SCMP_ACT_KILL_PROCESS, SCMP_ACT_KILL_THREAD, SCMP_ACT_LOG, "
-        'SCMP_ACT_TRACE or SCMP_ACT_TRAP, found "ALLOW"', "defaultAction"))),
+        'SCMP_ACT_NOTIFY, SCMP_ACT_TRACE or SCMP_ACT_TRAP, found "ALLOW"', "defaultAction"))),
     *cases_of(" \u2020[]", (0, wrong("not-a-profile", "expected an object, found an array")), words=" --oci"),
     *cases_of("[\u2020}", (0, wrong("not-json", PARSING + 'a value or "]", found "}"')), words=" --oci"),
     *cases_of(json.dumps(profile(entry("read", args=LARGE))), (None, wrong("program-too-large", TOO_LONG.rstrip()))),

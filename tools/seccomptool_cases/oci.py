@@ -18,7 +18,7 @@ from .records import called
 
 # The actions of profiles by their names in a policy; those of the first two have a number.
 ACTIONS = {"ERRNO": "errno", "TRACE": "trace", "KILL": "kill_thread", "KILL_THREAD": "kill_thread", "KILL_PROCESS": "kill_process",
-           "LOG": "log", "ALLOW": "allow", "TRAP": "trap"}
+           "LOG": "log", "ALLOW": "allow", "TRAP": "trap", "NOTIFY": "user_notif"}
 GO_NAMES = {"x86_64": "amd64", "aarch64": "arm64", "riscv64": "riscv64"}
 X32 = 0x40000000  # the first number of x32
 AUDIT_ARCH = {"x86_64": 0xC000003E, "aarch64": 0xC00000B7, "riscv64": 0xC00000F3}

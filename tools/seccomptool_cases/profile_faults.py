@@ -11,9 +11,10 @@ from .compiled_profiles import configured, entry, profile, when
 
 # What may stand under a key or at a place.
 ACTION = ("SCMP_ACT_ALLOW, SCMP_ACT_ERRNO, SCMP_ACT_KILL, SCMP_ACT_KILL_PROCESS, SCMP_ACT_KILL_THREAD, SCMP_ACT_LOG, "
-          "SCMP_ACT_TRACE or SCMP_ACT_TRAP")
+          "SCMP_ACT_NOTIFY, SCMP_ACT_TRACE or SCMP_ACT_TRAP")
 OPERATOR = "SCMP_CMP_EQ, SCMP_CMP_GE, SCMP_CMP_GT, SCMP_CMP_LE, SCMP_CMP_LT, SCMP_CMP_MASKED_EQ or SCMP_CMP_NE"
-FLAG = "SECCOMP_FILTER_FLAG_LOG, SECCOMP_FILTER_FLAG_SPEC_ALLOW or SECCOMP_FILTER_FLAG_TSYNC"
+FLAG = ("SECCOMP_FILTER_FLAG_LOG, SECCOMP_FILTER_FLAG_SPEC_ALLOW, SECCOMP_FILTER_FLAG_TSYNC or "
+        "SECCOMP_FILTER_FLAG_WAIT_KILLABLE_RECV")
 OBJECT, LIST, TEXT, TEXT_OR_NULL = "an object", "null or an array", "a string", "null or a string"
 INDEX, ACTION_NUMBER = "0 to 5", "null or 0 to 65535"
 NUMBER, NUMBER_OR_NULL = "0 to 18446744073709551615", "null or 0 to 18446744073709551615"
@@ -22,9 +23,9 @@ ERROR_NAME = 'null or an errno by name or number, such as "EPERM" or "1"'
 
 # Of each of these, values that may not stand there.
 OTHERS = {
-    ACTION: ["SCMP_ACT_NOTIFY", "SCMP_ACT_DENY", "allow", "scmp_act_allow", "SCMP_ACT_ALLOW ", "", None, True, 5, [], {}],
+    ACTION: ["SCMP_ACT_USER_NOTIF", "SCMP_ACT_DENY", "allow", "scmp_act_allow", "SCMP_ACT_ALLOW ", "", None, True, 5, [], {}],
     OPERATOR: ["SCMP_CMP_EQUAL", "EQ", "scmp_cmp_eq", "", None, False, 5, ["SCMP_CMP_EQ"], {}],
-    FLAG: ["SECCOMP_FILTER_FLAG_NEW_LISTENER", "SECCOMP_FILTER_FLAG_WAIT_KILLABLE_RECV", "", None, 1, [], {}],
+    FLAG: ["SECCOMP_FILTER_FLAG_NEW_LISTENER", "SECCOMP_FILTER_FLAG_TSYNC_ESRCH", "", None, 1, [], {}],
     OBJECT: [None, "read", 5, True, [], [{}]],
     LIST: ["read", "", 5, True, {}, {"0": "read"}],
     TEXT: [None, False, 5, ["read"], {}],
@@ -53,7 +54,7 @@ CONDITION_KEYS = "index, value, valueTwo or op"
 CRITERIA_KEYS = "caps, arches or minKernel"
 
 # The actions that have no number.
-PLAIN = [f"SCMP_ACT_{it}" for it in ("ALLOW", "KILL", "KILL_PROCESS", "KILL_THREAD", "LOG", "TRAP")]
+PLAIN = [f"SCMP_ACT_{it}" for it in ("ALLOW", "KILL", "KILL_PROCESS", "KILL_THREAD", "LOG", "NOTIFY", "TRAP")]
 
 ARGUMENT = when(0, "EQ", 5)
 
@@ -210,7 +211,7 @@ WRITTEN = [
     *[('{"defaultAction": "SCMP_ACT_LOG", "syscalls": [{"action": "SCMP_ACT_LOG", "args": [{"index": 0, "value": 0, "%s": %s}]}]}'
        % (key, TOO_GREAT), f"syscalls[0].args[0].{key}: expected {form}, found {SHOWN_TOO_GREAT}")
       for key, form in (("value", NUMBER), ("valueTwo", NUMBER_OR_NULL))],
-    ('{"defaultAction": "SCMP_ACT_\\u004eOTIFY"}', f'defaultAction: expected {ACTION}, found "SCMP_ACT_NOTIFY"\n'),
+    ('{"defaultAction": "SCMP_ACT_\\u0044ENY"}', f'defaultAction: expected {ACTION}, found "SCMP_ACT_DENY"\n'),
     ('{"defaultAction": "a\\n\\"\\\\\\u00b5"}', f'defaultAction: expected {ACTION}, found "a\\n\\"\\\\\u00b5"\n'),
     # Of a key that stands twice the last one counts.
     ('{"defaultAction": "SCMP_ACT_LOG", "flags": [], "flags": 5}', "flags: expected null or an array, found 5\n"),

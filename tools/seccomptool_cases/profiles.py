@@ -10,7 +10,7 @@ from .compiled_profiles import entry, profile, when
 from .records import numbers_on
 
 # The actions of filters from the strictest on (seccomp(2)).
-STRICTEST_FIRST = ("kill_process", "kill_thread", "trap", "errno", "trace", "log", "allow")
+STRICTEST_FIRST = ("kill_process", "kill_thread", "trap", "errno", "user_notif", "trace", "log", "allow")
 ENOSYS = {"defaultErrnoRet": 38}
 LOW, WHOLE = 2**32 - 1, 2**64 - 1
 
@@ -79,6 +79,15 @@ PROFILES = [
     ("and so of two traces", "",
      profile(entry("open", "SCMP_ACT_TRACE", errnoRet=2), entry("open", "SCMP_ACT_TRACE", errnoRet=1), **ENOSYS),
      [("open", (), "trace 2"), ("read", (), "errno 38")]),
+    ("a supervisor is asked if no stricter entry's conditions are met", "",
+     profile(entry("read", "SCMP_ACT_TRACE", args=[when(0, "GE", 3)]), entry("read", "SCMP_ACT_NOTIFY", args=[when(0, "GE", 4)]),
+             entry("read", "SCMP_ACT_ERRNO", **ON_5), entry("open", "SCMP_ACT_NOTIFY"), entry("open", "SCMP_ACT_KILL"), **ENOSYS),
+     [("read", (5,), "errno 1"), ("read", (6,), "user_notif"), ("read", (4,), "user_notif"), ("read", (3,), "trace 1"),
+      ("read", (2,), "errno 38"), ("open", (), "user_notif")]),
+    ("it is asked of calls without an entry, too", "", profile(entry("read"), default="SCMP_ACT_NOTIFY"),
+     [("read", (), "allow"), ("write", (), "user_notif"), (4000, (), "user_notif"), (0x40000000, (), "kill_thread"), (LOW, (), "user_notif")]),
+    ("runc answers what is above by ENOSYS then", "--runtime runc", profile(entry("close"), default="SCMP_ACT_NOTIFY"),
+     [("close", (), "allow"), ("read", (), "user_notif"), ("stat", (), "errno 38"), (4000, (), "errno 38")]),
     ("the default action is the strictest", "",
      profile(entry("read"), entry("write", "SCMP_ACT_ERRNO"), entry("open", "SCMP_ACT_LOG"), default="SCMP_ACT_KILL_PROCESS"),
      [("read", (), "allow"), ("write", (), "errno 1"), ("open", (), "log"), ("close", (), "kill_process"), (4000, (), "kill_process")]),

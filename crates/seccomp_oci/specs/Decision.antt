@@ -1,7 +1,8 @@
 -- When an entry of a profile applies, and what a profile decides.
 use Rattle.std.specs.Prelude.{◌≡◌, ◌≢◌, ◌<◌, ◌≤◌, ℕ, pos, ◌⊎◌, List, [], ◌∷◌, Option, Some, None, All, Any, Contains, IfSome}
 use Rattle.std.specs.Prelude.{bit_and, codes, ⊤, ◌↔◌, Bool, true, false, IsTrue, length, nat_eq, nat_le, slice_index_or, suc, if◌then◌else◌}
-use Rattle.seccompiler.specs.declared.backend.SeccompAction.{SeccompAction}
+use Rattle.seccomp_entries.specs.declared.entry.Action.{Action}
+use Rattle.seccomp_entries.specs.declared.entry.Action.TheVariants.{Notify, Own}
 use Rattle.seccompiler.specs.declared.backend.SeccompAction.TheVariants.{Allow, Errno, KillThread, KillProcess, Log, Trace, Trap}
 use Rattle.seccompiler.specs.declared.backend.TargetArch.{TargetArch}
 use Rattle.seccompiler.specs.declared.backend.TargetArch.TheVariants.{x86_64, aarch64, riscv64}
@@ -94,23 +95,24 @@ IsNameOf arch n name = number_of (table_of arch) name ≡ Some (pos n)
 
 -- The entry concerns the calls of this number, in a container: it applies there, it names the call, and its action isn't the
 -- default one. A runtime passes over an entry that says what holds without it.
-pub record Concerns (arch : TargetArch) (container : Container) (default : SeccompAction) (n : ℕ) (e : Entry) : Type 0 where
+pub record Concerns (arch : TargetArch) (container : Container) (default : Action) (n : ℕ) (e : Entry) : Type 0 where
   pub applies : Applies arch container e
   pub named : Any (IsNameOf arch n) e.names
   pub other : e.action ≢ default
 
 -- How much an action permits (seccomp(2)): the strictest has the least number.
-abbrev pub strictness : SeccompAction → ℕ
-strictness KillProcess = 0
-strictness KillThread = 1
-strictness Trap = 2
-strictness (Errno n) = 3
-strictness (Trace n) = 4
-strictness Log = 5
-strictness Allow = 6
+abbrev pub strictness : Action → ℕ
+strictness (Own KillProcess) = 0
+strictness (Own KillThread) = 1
+strictness (Own Trap) = 2
+strictness (Own (Errno n)) = 3
+strictness Notify = 4
+strictness (Own (Trace n)) = 5
+strictness (Own Log) = 6
+strictness (Own Allow) = 7
 
 -- How soon an entry is asked: one without conditions before all others, and of the others the strictest first.
-abbrev pub rank_by : List Argument → SeccompAction → ℕ
+abbrev pub rank_by : List Argument → Action → ℕ
 rank_by [] action = 0
 rank_by (a ∷ args) action = suc (strictness action)
 
@@ -118,7 +120,7 @@ abbrev pub rank : Entry → ℕ
 rank e = rank_by (tested e.args) e.action
 
 -- The entry concerns the record's call, and the record meets its conditions.
-abbrev pub Matches : TargetArch → Container → SeccompAction → List ℕ → Entry → Type 0
+abbrev pub Matches : TargetArch → Container → Action → List ℕ → Entry → Type 0
 Matches arch container default r e = Concerns arch container default (word_at r 0) e × AreMet r (tested e.args)
 
 -- Of the first n that have a property, the one at this place has the least rank, and is the first that has this rank.
@@ -137,20 +139,20 @@ NoneOf {X = X} P xs n = (k : ℕ) (y : X) → k < n → y ≡ slice_index_or xs 
 
 -- The default action of a number. On x86_64 the thread is killed that makes a call by a number of x32, which has bit 30
 -- (asm/unistd.h); libseccomp takes the greatest number for none of these. Errno 38 (ENOSYS) answers numbers above all that are named.
-abbrev pub default_of : TargetArch → SeccompAction → Bool → ℕ → SeccompAction
-default_of x86_64 default above n = if nat_le 0x40000000 n then (if nat_le 0xffffffff n then default else KillThread)
-    else (if above then Errno 38 else default)
-default_of arch default above n = if above then Errno 38 else default
+abbrev pub default_of : TargetArch → Action → Bool → ℕ → Action
+default_of x86_64 default above n = if nat_le 0x40000000 n then (if nat_le 0xffffffff n then default else Own KillThread)
+    else (if above then Own (Errno 38) else default)
+default_of arch default above n = if above then Own (Errno 38) else default
 
 -- An entry that applies names the call of this number.
 abbrev pub IsNamed : TargetArch → Container → List Entry → ℕ → Type 0
 IsNamed arch container entries n = Any (λ (e : Entry). Applies arch container e × Any (IsNameOf arch n) e.names) entries
 
 -- The action lets a call be made, if only for a tracer.
-abbrev pub lets : SeccompAction → Bool
-lets Allow = true
-lets Log = true
-lets (Trace n) = true
+abbrev pub lets : Action → Bool
+lets (Own Allow) = true
+lets (Own Log) = true
+lets (Own (Trace n)) = true
 lets action = false
 
 -- runc answers the calls of this number with ENOSYS: the number is above all that are named, of which one isn't 0, and the default
@@ -161,7 +163,7 @@ pub record IsAbove (arch : TargetArch) (container : Container) (p : Profile) (n 
   pub some : (m : ℕ) × (0 < m) × IsNamed arch container p.entries m
   pub above : (m : ℕ) → IsNamed arch container p.entries m → m < n
 
-pub record IsDefault (arch : TargetArch) (container : Container) (p : Profile) (n : ℕ) (action : SeccompAction) : Type 0 where
+pub record IsDefault (arch : TargetArch) (container : Container) (p : Profile) (n : ℕ) (action : Action) : Type 0 where
   pub above : Bool
   pub is_above : IsTrue above ↔ IsAbove arch container p n
   pub is : action ≡ default_of arch p.default above n
@@ -169,7 +171,7 @@ pub record IsDefault (arch : TargetArch) (container : Container) (p : Profile) (
 -- ---- what a profile decides
 
 -- The entry at this place decides the record, as this action: of those that match it is asked first.
-pub record IsByEntry (arch : TargetArch) (container : Container) (p : Profile) (r : List ℕ) (action : SeccompAction) (place : ℕ)
+pub record IsByEntry (arch : TargetArch) (container : Container) (p : Profile) (r : List ℕ) (action : Action) (place : ℕ)
     : Type 0 where
   pub entry : Entry
   pub first : IsFirstLeast rank (Matches arch container p.default r) p.entries (length p.entries) place entry
@@ -178,7 +180,7 @@ pub record IsByEntry (arch : TargetArch) (container : Container) (p : Profile) (
 -- What a profile decides of a call record of the architecture, in a container. Of the entries that match the first without
 -- conditions decides, whatever stands beside it. Else it is the first of the strictest; if they name several actions, the
 -- profile leaves the answer open. If none matches, it is the default action.
-pub data IsProfileDecision (arch : TargetArch) (container : Container) (p : Profile) (r : List ℕ) (action : SeccompAction) : Type 0 where
+pub data IsProfileDecision (arch : TargetArch) (container : Container) (p : Profile) (r : List ℕ) (action : Action) : Type 0 where
   by_entry : (place : ℕ) → IsByEntry arch container p r action place → IsProfileDecision arch container p r action
   by_default : NoneOf (Matches arch container p.default r) p.entries (length p.entries)
       → IsDefault arch container p (word_at r 0) action → IsProfileDecision arch container p r action

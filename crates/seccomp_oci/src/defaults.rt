@@ -1,7 +1,7 @@
 // What a profile decides where no entry matches.
 
 ghost use Rattle.std.specs.Prelude.{◌≡◌, ◌↔◌, ◌<◌, ◌≤◌, ◌⊎◌, ℕ, Any, IfOk, IfSome, IsTrue, map, string_bytes};
-ghost use Rattle.seccompiler.specs.Policy.{word_of};
+ghost use Rattle.seccomp_entries.specs.Entries.{value_of};
 ghost use Rattle.seccomp_tree.specs.Decided.{AscendFromZero, default_for};
 ghost use Rattle.seccomp_oci.specs.Decision.{Applies, IsAbove, IsDefault, IsNameOf, IsNamed, default_of, lets};
 ghost use Rattle.seccomp_profiles.specs.declared.types.Runtime.TheVariants.{Runc};
@@ -9,6 +9,7 @@ ghost use Rattle.seccomp_oci.specs.Defaults.{IsGreatest, is_above};
 
 use crate::concerns::number_of;
 use crate::scope::applies;
+use seccomp_entries::Action;
 use seccomp_profiles::{Container, Entry, Profile, Runtime};
 use seccomp_tree::DefaultValue;
 use seccompiler::{SeccompAction, TargetArch};
@@ -22,7 +23,7 @@ pub(crate) fn defaults_of(
     profile: &Profile,
 ) -> Result<Vec<DefaultValue>, AllocError>
     ensures ascend { IfOk result (λ defaults. AscendFromZero defaults.items) }
-    ensures values { IfOk result (λ defaults. (n : ℕ) → (action : _) × IsDefault arch container.now profile.now n action × (default_for defaults.items n ≡ word_of action)) }
+    ensures values { IfOk result (λ defaults. (n : ℕ) → (action : _) × IsDefault arch container.now profile.now n action × (default_for defaults.items n ≡ value_of action)) }
 {
     let greatest = named_in(arch, container, profile);
     values_of(alloc, arch, profile.default, greatest)
@@ -32,28 +33,31 @@ pub(crate) fn defaults_of(
 fn values_of(
     alloc: Global,
     arch: TargetArch,
-    default: SeccompAction,
+    default: Action,
     greatest: Option<u32>,
 ) -> Result<Vec<DefaultValue>, AllocError>
     requires { IfSome greatest (λ g. g < 463) }
     ensures ascend { IfOk result (λ defaults. AscendFromZero defaults.items) }
-    ensures values { IfOk result (λ defaults. (n : ℕ) → default_for defaults.items n ≡ word_of (default_of arch default (is_above greatest n) n)) }
+    ensures values { IfOk result (λ defaults. (n : ℕ) → default_for defaults.items n ≡ value_of (default_of arch default (is_above greatest n) n)) }
 {
     let own = from(0, default);
     let mut values = match greatest {
-        Some(greatest) => vec![in alloc; own, from(greatest + 1, SeccompAction::Errno(38))]?,
+        Some(greatest) => vec![in alloc;
+            own,
+            from(greatest + 1, Action::Own(SeccompAction::Errno(38))),
+        ]?,
         None => vec![in alloc; own]?,
     };
     if let TargetArch::x86_64 = arch {
-        values.push(from(0x4000_0000, SeccompAction::KillThread))?;
+        values.push(from(0x4000_0000, Action::Own(SeccompAction::KillThread)))?;
         values.push(from(0xffff_ffff, default))?;
     }
     Ok(values)
 }
 
 // This action from a number on.
-fn from(start: u32, action: SeccompAction) -> DefaultValue
-    ensures { result ≡ record { start = start; value = word_of action } }
+fn from(start: u32, action: Action) -> DefaultValue
+    ensures { result ≡ record { start = start; value = value_of action } }
 {
     let value = action.into();
     DefaultValue { start, value }
@@ -87,12 +91,12 @@ fn is_runc(container: &Container) -> bool
 }
 
 // Whether an action lets a call be made.
-fn lets(action: SeccompAction) -> bool
+fn lets(action: Action) -> bool
     ensures { result ≡ lets action }
 {
     matches!(
         action,
-        SeccompAction::Allow | SeccompAction::Log | SeccompAction::Trace(_)
+        Action::Own(SeccompAction::Allow | SeccompAction::Log | SeccompAction::Trace(_))
     )
 }
 

@@ -2,7 +2,7 @@
 -- docs/OCI.md).
 use Rattle.std.specs.Prelude.{◌≡◌, ◌≢◌, ◌<◌, ◌≤◌, ◌+◌, ◌⊎◌, ℕ, All, Bool, false, Contains, IsFalse, IsTrue, List, [], ◌∷◌, MatchOption}
 use Rattle.std.specs.Prelude.{Option, None, codes, length, slice_index_or, take}
-use Rattle.seccompiler.specs.declared.backend.SeccompAction.{SeccompAction}
+use Rattle.seccomp_entries.specs.declared.entry.Action.{Action}
 use Rattle.seccompiler.specs.declared.backend.TargetArch.{TargetArch}
 use Rattle.seccompiler.specs.declared.backend.TargetArch.TheVariants.{x86_64}
 use Rattle.seccomp_oci.specs.Decision.{Applies, IsNameOf}
@@ -18,17 +18,17 @@ abbrev pub IsOfSockets : ℕ → Type 0
 IsOfSockets n = ((41 ≤ n) × (n ≤ 55)) ⊎ ((n ≡ 288) ⊎ ((n ≡ 299) ⊎ (n ≡ 307)))
 
 -- The entry gives all calls of this name an action, which isn't the default one.
-pub record Settles (container : Container) (default : SeccompAction) (name : List ℕ) (e : Entry) : Type 0 where
+pub record Settles (container : Container) (default : Action) (name : List ℕ) (e : Entry) : Type 0 where
   pub no_args : e.args ≡ []
   pub other : e.action ≢ default
   pub applies : Applies x86_64 container e
   pub named : Contains e.names name
 
-abbrev pub NoneSettles : Container → SeccompAction → (name : List ℕ) → List Entry → Type 0
+abbrev pub NoneSettles : Container → Action → (name : List ℕ) → List Entry → Type 0
 NoneSettles container default name entries = All (λ e. Settles container default name e → ⊥) entries
 
 -- The entry at this place is the first of these that does.
-pub record IsSettler (container : Container) (default : SeccompAction) (name : List ℕ) (entries : List Entry) (place : ℕ) : Type 0 where
+pub record IsSettler (container : Container) (default : Action) (name : List ℕ) (entries : List Entry) (place : ℕ) : Type 0 where
   pub entry : Entry
   pub within : place < length entries
   pub there : entry ≡ slice_index_or entries place entry

@@ -35,6 +35,9 @@ doubt_code (doubt.OpenOrder first second call) = code.OpenOrder
 doubt_code (doubt.LargeErrno place) = code.RefusedByLibseccomp
 doubt_code doubt.LargeDefaultErrno = code.RefusedByLibseccomp
 doubt_code (doubt.ManyConditions place) = code.RuntimesDiffer
+doubt_code doubt.NotifiesByDefault = code.RuntimesDiffer
+doubt_code (doubt.NoListener place) = code.RuntimesDiffer
+doubt_code (doubt.NotifiesWrite place) = code.RuntimesDiffer
 
 abbrev pub effect_code : Effect → Code
 effect_code Miscompiled = code.LibseccompMiscompiles

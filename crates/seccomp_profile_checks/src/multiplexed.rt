@@ -5,8 +5,9 @@ ghost use Rattle.seccompiler.specs.declared.backend.TargetArch.TheVariants.{x86_
 ghost use Rattle.seccomp_oci.specs.Decision.{Applies, IsNameOf};
 ghost use Rattle.seccomp_profile_checks.specs.Multiplexed.{IsOfIpc, IsOfSockets, IsSettled, IsSettledBy, IsSettler, IsX86Of, NoneSettles, Settles, StandsInFront, has_x86};
 
+use seccomp_entries::Action;
 use seccomp_oci::{Container, Entry, Profile, applies, has_text};
-use seccompiler::{SeccompAction, SyscallTable, TargetArch};
+use seccompiler::{SyscallTable, TargetArch};
 
 /// What is so of the calls of a number in libseccomp's program for x86.
 #[derive(Clone, Copy, Debug)]
@@ -95,7 +96,7 @@ fn settled_by(container: &Container, profile: &Profile, name: &str, number: u32)
 // The place of the first of these entries that settles the calls of this name.
 fn settler_of(
     container: &Container,
-    default: SeccompAction,
+    default: Action,
     name: &str,
     entries: &[Entry],
 ) -> Option<usize>
@@ -109,14 +110,14 @@ fn settler_of(
     None
 }
 
-fn settles(container: &Container, default: SeccompAction, name: &str, entry: &Entry) -> bool
+fn settles(container: &Container, default: Action, name: &str, entry: &Entry) -> bool
     ensures { IsTrue result ↔ Settles container.now default name.now entry.now }
 {
     gives_other(default, entry) && names_one(container, name, entry)
 }
 
 // Whether it gives all calls another action.
-fn gives_other(default: SeccompAction, entry: &Entry) -> bool
+fn gives_other(default: Action, entry: &Entry) -> bool
     ensures { IsTrue result ↔ ((entry.now.args ≡ []) × (entry.now.action ≢ default)) }
 {
     entry.args.is_empty() && entry.action != default

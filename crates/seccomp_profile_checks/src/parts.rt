@@ -2,11 +2,12 @@
 
 ghost use Rattle.std.specs.Prelude.{◌≡◌, ◌↔◌, ◌⊎◌, Contains, IfOk, IsFalse, IsTrue};
 ghost use Rattle.std.specs.List.{AllZip};
+ghost use Rattle.seccomp_entries.specs.declared.entry.Action.TheVariants.{Own};
 ghost use Rattle.seccompiler.specs.declared.backend.SeccompAction.TheVariants.{Allow};
 ghost use Rattle.seccomp_profile_checks.specs.Parts.{AreActionsOf, AreOfAction, AreParts, AreWithDefault, IsPartOfAction, IsPartOfDefault, origin_of};
 
 use crate::effective::copy_of;
-use seccomp_entries::Entry;
+use seccomp_entries::{Action, Entry};
 use seccomp_warnings::{Actions, Part};
 use seccompiler::{SeccompAction, TargetArch};
 use std::alloc::{AllocError, Global};
@@ -45,7 +46,7 @@ pub(crate) fn origin_of(entry: &Entry) -> Origin
 pub fn parts_of(
     alloc: Global,
     target: TargetArch,
-    default: SeccompAction,
+    default: Action,
     effective: Vec<Entry>,
 ) -> Result<Vec<Part>, AllocError>
     ensures { IfOk result (λ parts. AreParts target default effective.items parts.items) }
@@ -60,12 +61,12 @@ pub fn parts_of(
 fn with_default(
     own: Vec<Part>,
     target: TargetArch,
-    default: SeccompAction,
+    default: Action,
     effective: Vec<Entry>,
 ) -> Result<Vec<Part>, AllocError>
     ensures { IfOk result (λ parts. AreWithDefault target effective.items default own.items parts.items) }
 {
-    if is_same(default, SeccompAction::Allow) {
+    if is_same(default, Action::Own(SeccompAction::Allow)) {
         return Ok(own);
     }
     let mut parts = own;
@@ -74,28 +75,28 @@ fn with_default(
 }
 
 // Whether both are the same action.
-fn is_same(first: SeccompAction, second: SeccompAction) -> bool
+pub(crate) fn is_same(first: Action, second: Action) -> bool
     ensures { IsTrue result ↔ (first ≡ second) }
 {
     first == second
 }
 
 // Whether the action is one of these.
-fn is_among(actions: &[SeccompAction], action: SeccompAction) -> bool
+fn is_among(actions: &[Action], action: Action) -> bool
     ensures { IsTrue result ↔ Contains actions.now action }
 {
     actions.contains(&action)
 }
 
 // Whether the action is to allow, or is one of these.
-fn is_known(actions: &[SeccompAction], action: SeccompAction) -> bool
-    ensures { IsTrue result ↔ ((action ≡ Allow) ⊎ Contains actions.now action) }
+fn is_known(actions: &[Action], action: Action) -> bool
+    ensures { IsTrue result ↔ ((action ≡ Own Allow) ⊎ Contains actions.now action) }
 {
-    is_same(action, SeccompAction::Allow) || is_among(actions, action)
+    is_same(action, Action::Own(SeccompAction::Allow)) || is_among(actions, action)
 }
 
 // The actions of entries but for allow, each once.
-fn actions_of(alloc: Global, entries: &[Entry]) -> Result<Vec<SeccompAction>, AllocError>
+fn actions_of(alloc: Global, entries: &[Entry]) -> Result<Vec<Action>, AllocError>
     ensures { IfOk result (λ actions. AreActionsOf entries.now actions.items) }
 {
     let mut actions = Vec::new(alloc);
@@ -110,7 +111,7 @@ fn actions_of(alloc: Global, entries: &[Entry]) -> Result<Vec<SeccompAction>, Al
 }
 
 // The action of an entry.
-fn action_of(entry: &Entry) -> SeccompAction
+fn action_of(entry: &Entry) -> Action
     ensures { result ≡ entry.now.action }
 {
     entry.action
@@ -121,7 +122,7 @@ fn parts_of_actions(
     alloc: Global,
     target: TargetArch,
     effective: &[Entry],
-    actions: &[SeccompAction],
+    actions: &[Action],
 ) -> Result<Vec<Part>, AllocError>
     ensures { IfOk result (λ parts. AllZip (IsPartOfAction target effective.now) actions.now parts.items) }
 {
@@ -137,7 +138,7 @@ fn part_of_action(
     alloc: Global,
     target: TargetArch,
     effective: &[Entry],
-    action: SeccompAction,
+    action: Action,
 ) -> Result<Part, AllocError>
     ensures { IfOk result (IsPartOfAction target effective.now action) }
 {
@@ -145,7 +146,7 @@ fn part_of_action(
     Ok(Part {
         target_arch: target,
         actions: Actions {
-            mismatch: SeccompAction::Allow,
+            mismatch: Action::Own(SeccompAction::Allow),
             matching: action,
         },
         entries,
@@ -153,21 +154,21 @@ fn part_of_action(
 }
 
 // The part of the default action.
-fn default_part(target: TargetArch, default: SeccompAction, effective: Vec<Entry>) -> Part
+fn default_part(target: TargetArch, default: Action, effective: Vec<Entry>) -> Part
     ensures { IsPartOfDefault target effective.items default result }
 {
     Part {
         target_arch: target,
         actions: Actions {
             mismatch: default,
-            matching: SeccompAction::Allow,
+            matching: Action::Own(SeccompAction::Allow),
         },
         entries: effective,
     }
 }
 
 // Whether the entry has another action.
-fn is_other(entry: &Entry, action: SeccompAction) -> bool
+fn is_other(entry: &Entry, action: Action) -> bool
     ensures { IsFalse result ↔ (entry.now.action ≡ action) }
 {
     !is_same(entry.action, action)
@@ -177,7 +178,7 @@ fn is_other(entry: &Entry, action: SeccompAction) -> bool
 fn entries_of_action(
     alloc: Global,
     entries: &[Entry],
-    action: SeccompAction,
+    action: Action,
 ) -> Result<Vec<Entry>, AllocError>
     ensures { IfOk result (λ own. AreOfAction action entries.now own.items) }
 {

@@ -7,8 +7,9 @@ ghost use Rattle.seccompiler.specs.declared.backend.SeccompCmpOp.TheVariants.{Ma
 ghost use Rattle.seccomp_profile_checks.specs.Rejected.{AreOne, Begins, Counts, IsBefore, IsInFront, IsMultiplexed, IsOfX86, IsOther, IsOwn, IsOwnOrPast, IsPast, IsShorter, IsUnsettled, Rejects, RejectsAs, RejectsByAny, RejectsOnX86};
 
 use crate::multiplexed::{X86, is_of_ipc, is_of_sockets};
+use crate::parts::is_same;
 use seccomp_entries::Entry;
-use seccompiler::{SeccompAction, SeccompCmpOp, SeccompCondition};
+use seccompiler::{SeccompCmpOp, SeccompCondition};
 
 // How libseccomp reads conditions: the bits of numbers that count, and the first argument that does.
 #[derive(Clone, Copy)]
@@ -50,12 +51,6 @@ fn is_other_in_front(entry: &Entry, other: &Entry) -> bool
     ensures { IsTrue result ↔ (IsInFront other.now entry.now × (other.now.action ≢ entry.now.action)) }
 {
     is_in_front(other, entry) && !is_same(other.action, entry.action)
-}
-
-fn is_same(one: SeccompAction, other: SeccompAction) -> bool
-    ensures { IsTrue result ↔ (one ≡ other) }
-{
-    one == other
 }
 
 // Whether runtimes add the first before the second.

@@ -5,7 +5,7 @@ use Rattle.std.specs.Str.{bytes_eq}
 use Rattle.serde_json.specs.Data.{Data, null, string}
 use Rattle.serde_json.specs.Find.{get}
 use Rattle.seccompiler.specs.JsonShape.{IsWhole, Under}
-use Rattle.seccompiler.specs.declared.backend.SeccompAction.{SeccompAction}
+use Rattle.seccomp_entries.specs.declared.entry.Action.{Action}
 use Rattle.seccomp_names.specs.Errnos.{error_names}
 use Rattle.seccomp_profiles.specs.Shape.{IsAction}
 use Rattle.seccomp_profiles.specs.Version.{IsNumberText}
@@ -49,7 +49,7 @@ pub record IsBeside (d : Data) (number name : List ℕ) (o : Option ℕ) : Type 
   pub is : o ≡ either named own
 
 -- Under these keys of an object stand this action and what is beside it.
-pub record IsActionUnder (d : Data) (action number name : List ℕ) (a : SeccompAction) : Type 0 where
+pub record IsActionUnder (d : Data) (action number name : List ℕ) (a : Action) : Type 0 where
   pub beside : Option ℕ
   pub is_beside : IsBeside d number name beside
   pub is : Under d action (λ v. IsAction v beside a)

@@ -1,6 +1,6 @@
 -- Which JSON values are profiles and their entries (OCI runtime specification, `linux.seccomp`, and what Docker and Podman
 -- add to it). Nothing but the forms given here is one.
-use Rattle.std.specs.Prelude.{◌≡◌, ◌↔◌, ℕ, Bool, not, IsTrue, List, [], ◌∷◌, Option, Some, None, codes}
+use Rattle.std.specs.Prelude.{◌≡◌, ◌↔◌, ℕ, Bool, true, false, not, IsTrue, List, [], ◌∷◌, Option, Some, None, codes}
 use Rattle.std.specs.List.{filter, list_any}
 use Rattle.std.specs.Str.{bytes_eq}
 use Rattle.serde_json.specs.Data.{Data, null, string, object, Items, no_items, Members, member, no_members}
@@ -49,6 +49,11 @@ pub record IsEntry (d : Data) (e : Entry) : Type 0 where
   pub includes : AreCriteriaOr (get (codes "includes") d) e.includes
   pub excludes : AreCriteriaOr (get (codes "excludes") d) e.excludes
 
+-- A text stands there that isn't empty.
+abbrev pub is_filled : Option Data → Bool
+is_filled (Some (string (c ∷ text))) = true
+is_filled other = false
+
 -- The keys of an object, in its order.
 abbrev pub keys_of : Members → List (List ℕ)
 keys_of no_members = []
@@ -70,7 +75,7 @@ AreUnknownKeys d keys = ⊥
 
 -- The value is this profile: an object of `defaultAction` and, if it likes, `defaultErrnoRet`, `defaultErrno`, `flags` and `syscalls`.
 -- `architectures` and `archMap`, which concern other architectures, are lists, if they are there; that they list x86, or what no runtime
--- knows, counts. Other keys say nothing; the profile has those that are unknown.
+-- knows, counts. So does whether a supervisor listens. Other keys say nothing; the profile has those that are unknown.
 pub record IsProfile (d : Data) (p : Profile) : Type 0 where
   pub architectures : IsList (get (codes "architectures") d)
   pub arch_map : IsList (get (codes "archMap") d)
@@ -79,4 +84,5 @@ pub record IsProfile (d : Data) (p : Profile) : Type 0 where
   pub entries : IsListed IsEntry (get (codes "syscalls") d) p.entries
   pub lists_x86 : IsTrue p.lists_x86 ↔ ListsX86 d
   pub unknown_architecture : p.unknown_architecture ≡ unknown_architecture d
+  pub has_listener : p.has_listener ≡ is_filled (get (codes "listenerPath") d)
   pub unknown_keys : AreUnknownKeys d p.unknown_keys

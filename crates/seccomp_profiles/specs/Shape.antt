@@ -4,8 +4,9 @@ use Rattle.std.specs.Prelude.{◌≡◌, ℕ, ◌-◌, ◌^◌, ◌⊎◌, List,
 use Rattle.serde_json.specs.Data.{Data, null, string, array, Items, no_items}
 use Rattle.serde_json.specs.Find.{get}
 use Rattle.seccompiler.specs.JsonShape.{HasOnly, IsWhole, Under, OneByOne}
-use Rattle.seccompiler.specs.declared.backend.SeccompAction.{SeccompAction}
 use Rattle.seccompiler.specs.declared.backend.SeccompAction.TheVariants.{Allow, Errno, KillThread, KillProcess, Log, Trace, Trap}
+use Rattle.seccomp_entries.specs.declared.entry.Action.{Action}
+use Rattle.seccomp_entries.specs.declared.entry.Action.TheVariants.{Notify, Own}
 use Rattle.seccomp_profiles.specs.declared.types.Operator.{Operator}
 use Rattle.seccomp_profiles.specs.declared.types.Operator.TheVariants as operator
 use Rattle.seccomp_profiles.specs.declared.types.Flag.{Flag}
@@ -47,14 +48,15 @@ IsText d text = d ≡ string text
 
 -- The text, with this number beside it, is this action. The number of an action that has one is 1 (EPERM) if none is given, and an
 -- action that has none may have none beside it.
-abbrev pub IsAction : Data → Option ℕ → SeccompAction → Type 0
-IsAction d o Allow = (d ≡ string (codes "SCMP_ACT_ALLOW")) × (o ≡ None)
-IsAction d o (Errno n) = (d ≡ string (codes "SCMP_ACT_ERRNO")) × (n ≡ unwrap_or o 1)
-IsAction d o KillThread = ((d ≡ string (codes "SCMP_ACT_KILL")) ⊎ (d ≡ string (codes "SCMP_ACT_KILL_THREAD"))) × (o ≡ None)
-IsAction d o KillProcess = (d ≡ string (codes "SCMP_ACT_KILL_PROCESS")) × (o ≡ None)
-IsAction d o Log = (d ≡ string (codes "SCMP_ACT_LOG")) × (o ≡ None)
-IsAction d o (Trace n) = (d ≡ string (codes "SCMP_ACT_TRACE")) × (n ≡ unwrap_or o 1)
-IsAction d o Trap = (d ≡ string (codes "SCMP_ACT_TRAP")) × (o ≡ None)
+abbrev pub IsAction : Data → Option ℕ → Action → Type 0
+IsAction d o (Own Allow) = (d ≡ string (codes "SCMP_ACT_ALLOW")) × (o ≡ None)
+IsAction d o (Own (Errno n)) = (d ≡ string (codes "SCMP_ACT_ERRNO")) × (n ≡ unwrap_or o 1)
+IsAction d o (Own KillThread) = ((d ≡ string (codes "SCMP_ACT_KILL")) ⊎ (d ≡ string (codes "SCMP_ACT_KILL_THREAD"))) × (o ≡ None)
+IsAction d o (Own KillProcess) = (d ≡ string (codes "SCMP_ACT_KILL_PROCESS")) × (o ≡ None)
+IsAction d o Notify = (d ≡ string (codes "SCMP_ACT_NOTIFY")) × (o ≡ None)
+IsAction d o (Own Log) = (d ≡ string (codes "SCMP_ACT_LOG")) × (o ≡ None)
+IsAction d o (Own (Trace n)) = (d ≡ string (codes "SCMP_ACT_TRACE")) × (n ≡ unwrap_or o 1)
+IsAction d o (Own Trap) = (d ≡ string (codes "SCMP_ACT_TRAP")) × (o ≡ None)
 
 -- ---- conditions on arguments
 
@@ -83,3 +85,4 @@ abbrev pub IsFlag : Data → Flag → Type 0
 IsFlag d flag.Tsync = d ≡ string (codes "SECCOMP_FILTER_FLAG_TSYNC")
 IsFlag d flag.Log = d ≡ string (codes "SECCOMP_FILTER_FLAG_LOG")
 IsFlag d flag.SpecAllow = d ≡ string (codes "SECCOMP_FILTER_FLAG_SPEC_ALLOW")
+IsFlag d flag.WaitKillableRecv = d ≡ string (codes "SECCOMP_FILTER_FLAG_WAIT_KILLABLE_RECV")

@@ -1,6 +1,6 @@
 -- The parts of a profile that own memory, as contracts see them: records of lists.
 use Rattle.std.specs.Prelude.{ℕ, Bool, ◌≤◌, All, List, Option}
-use Rattle.seccompiler.specs.declared.backend.SeccompAction.{SeccompAction}
+use Rattle.seccomp_entries.specs.declared.entry.Action.{Action}
 use Rattle.seccomp_profiles.specs.declared.types.Argument.{Argument}
 use Rattle.seccomp_profiles.specs.declared.types.Flag.{Flag}
 use Rattle.seccomp_profiles.specs.declared.types.Kernel.{Kernel}
@@ -21,19 +21,20 @@ pub record Criteria : Type 0 where
 -- An entry: the bytes of its calls' names, its action, its conditions in order, what it includes and what it excludes.
 pub record Entry : Type 0 where
   pub names : List (List ℕ)
-  pub action : SeccompAction
+  pub action : Action
   pub args : List Argument
   pub includes : Criteria
   pub excludes : Criteria
 
 -- A profile: its default action, its flags and its entries, both in order, whether it lists x86, the place of
--- the first architecture that no runtime knows, and the keys that no profile has.
+-- the first architecture that no runtime knows, whether a supervisor listens, and the keys that no profile has.
 pub record Profile : Type 0 where
-  pub default : SeccompAction
+  pub default : Action
   pub flags : List Flag
   pub entries : List Entry
   pub lists_x86 : Bool
   pub unknown_architecture : Option ℕ
+  pub has_listener : Bool
   pub unknown_keys : List (List ℕ)
 
 -- Each condition is on an argument that a call has.

@@ -2,14 +2,14 @@
 
 ghost use Rattle.std.specs.Prelude.{ℕ, IfSome, IfNone, option_map};
 ghost use Rattle.serde_json.specs.View.{view};
-ghost use Rattle.seccompiler.specs.declared.backend.SeccompAction.{SeccompAction};
+ghost use Rattle.seccomp_entries.specs.declared.entry.Action.{Action};
 ghost use Rattle.seccomp_profiles.specs.Actions.{IsActionUnder, IsBeside, IsNamedOr, IsNamedText, IsNumberOr, NamesError};
 
 use crate::members::whole_of;
 use crate::parts::read_action;
 use crate::version::number_of;
+use seccomp_entries::Action;
 use seccomp_names::error_number;
-use seccompiler::SeccompAction;
 use serde_json::Value;
 
 // The errno that a text gives, by name or by number.
@@ -75,15 +75,10 @@ fn beside(value: &Value, number: &str, name: &str) -> Option<Option<u32>>
 }
 
 /// The action that stands under a key, with the number that stands beside it under the others, by itself or by name. `None`
-/// if none is there that can be carried. It takes no memory.
-pub(crate) fn action_under(
-    value: &Value,
-    action: &str,
-    number: &str,
-    name: &str,
-) -> Option<SeccompAction>
+/// if none is there. It takes no memory.
+pub(crate) fn action_under(value: &Value, action: &str, number: &str, name: &str) -> Option<Action>
     ensures found { IfSome result (IsActionUnder (view value.now) action.now number.now name.now) }
-    ensures none { IfNone result ((a : SeccompAction) → IsActionUnder (view value.now) action.now number.now name.now a → ⊥) }
+    ensures none { IfNone result ((a : Action) → IsActionUnder (view value.now) action.now number.now name.now a → ⊥) }
 {
     let beside = beside(value, number, name)?;
     read_action(value.get(action)?, beside)

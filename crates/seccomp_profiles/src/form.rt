@@ -31,7 +31,7 @@ pub(crate) fn form_of(form: Form, value: &Value) -> (bool, &'static str) {
         Form::Object | Form::Condition => (matches!(value, Value::Object(_)), "an object"),
         Form::Action => (
             read_action(value, None).is_some(),
-            "SCMP_ACT_ALLOW, SCMP_ACT_ERRNO, SCMP_ACT_KILL, SCMP_ACT_KILL_PROCESS, SCMP_ACT_KILL_THREAD, SCMP_ACT_LOG, SCMP_ACT_TRACE or SCMP_ACT_TRAP",
+            "SCMP_ACT_ALLOW, SCMP_ACT_ERRNO, SCMP_ACT_KILL, SCMP_ACT_KILL_PROCESS, SCMP_ACT_KILL_THREAD, SCMP_ACT_LOG, SCMP_ACT_NOTIFY, SCMP_ACT_TRACE or SCMP_ACT_TRAP",
         ),
         Form::ActionNumber => (
             whole_or(1, 65535, Some(value)).is_some(),
@@ -44,7 +44,7 @@ pub(crate) fn form_of(form: Form, value: &Value) -> (bool, &'static str) {
         Form::List => (items_of(Some(value)).is_some(), "null or an array"),
         Form::Flag => (
             read_flag(value).is_some(),
-            "SECCOMP_FILTER_FLAG_LOG, SECCOMP_FILTER_FLAG_SPEC_ALLOW or SECCOMP_FILTER_FLAG_TSYNC",
+            "SECCOMP_FILTER_FLAG_LOG, SECCOMP_FILTER_FLAG_SPEC_ALLOW, SECCOMP_FILTER_FLAG_TSYNC or SECCOMP_FILTER_FLAG_WAIT_KILLABLE_RECV",
         ),
         Form::Text => (matches!(value, Value::String(_)), "a string"),
         Form::TextOrNull => (

@@ -6,7 +6,7 @@
 ghost use Rattle.std.specs.Prelude.{◌≡◌, ℕ, codes, IfSome, IfNone};
 ghost use Rattle.serde_json.specs.Data.{string};
 ghost use Rattle.serde_json.specs.View.{view};
-ghost use Rattle.seccompiler.specs.declared.backend.SeccompAction.{SeccompAction};
+ghost use Rattle.seccomp_entries.specs.declared.entry.Action.{Action};
 ghost use Rattle.seccompiler.specs.JsonShape.{IsWhole};
 ghost use Rattle.seccomp_profiles.specs.declared.types.Operator.{Operator};
 ghost use Rattle.seccomp_profiles.specs.declared.types.Argument.{Argument};
@@ -15,49 +15,51 @@ ghost use Rattle.seccomp_profiles.specs.Shape.{IsAction, IsOperator, IsArgument,
 
 use crate::members::{is_object_of, whole_of, whole_or};
 use crate::types::{Argument, Flag, Operator};
+use seccomp_entries::Action;
 use seccompiler::SeccompAction;
 use serde_json::Value;
 
 // An action that has no number.
-fn read_plain_action(text: &str, number: Option<u32>) -> Option<SeccompAction>
+fn read_plain_action(text: &str, number: Option<u32>) -> Option<Action>
     requires plain { codes "SCMP_ACT_ERRNO" ≡ text.now → ⊥ }
     requires other { codes "SCMP_ACT_TRACE" ≡ text.now → ⊥ }
     ensures found { IfSome result (IsAction (string text.now) number) }
-    ensures none { IfNone result ((a : SeccompAction) → IsAction (string text.now) number a → ⊥) }
+    ensures none { IfNone result ((a : Action) → IsAction (string text.now) number a → ⊥) }
 {
     if number.is_some() {
         return None;
     }
     match text {
-        "SCMP_ACT_ALLOW" => Some(SeccompAction::Allow),
-        "SCMP_ACT_KILL" | "SCMP_ACT_KILL_THREAD" => Some(SeccompAction::KillThread),
-        "SCMP_ACT_KILL_PROCESS" => Some(SeccompAction::KillProcess),
-        "SCMP_ACT_LOG" => Some(SeccompAction::Log),
-        "SCMP_ACT_TRAP" => Some(SeccompAction::Trap),
+        "SCMP_ACT_ALLOW" => Some(Action::Own(SeccompAction::Allow)),
+        "SCMP_ACT_KILL" | "SCMP_ACT_KILL_THREAD" => Some(Action::Own(SeccompAction::KillThread)),
+        "SCMP_ACT_KILL_PROCESS" => Some(Action::Own(SeccompAction::KillProcess)),
+        "SCMP_ACT_LOG" => Some(Action::Own(SeccompAction::Log)),
+        "SCMP_ACT_NOTIFY" => Some(Action::Notify),
+        "SCMP_ACT_TRAP" => Some(Action::Own(SeccompAction::Trap)),
         _ => None,
     }
 }
 
-fn action_of_text(text: &str, number: Option<u32>) -> Option<SeccompAction>
+fn action_of_text(text: &str, number: Option<u32>) -> Option<Action>
     ensures found { IfSome result (IsAction (string text.now) number) }
-    ensures none { IfNone result ((a : SeccompAction) → IsAction (string text.now) number a → ⊥) }
+    ensures none { IfNone result ((a : Action) → IsAction (string text.now) number a → ⊥) }
 {
     if text == "SCMP_ACT_ERRNO" {
-        return Some(SeccompAction::Errno(number.unwrap_or(1)));
+        return Some(Action::Own(SeccompAction::Errno(number.unwrap_or(1))));
     }
     if text == "SCMP_ACT_TRACE" {
-        return Some(SeccompAction::Trace(number.unwrap_or(1)));
+        return Some(Action::Own(SeccompAction::Trace(number.unwrap_or(1))));
     }
     read_plain_action(text, number)
 }
 
-/// The action that a JSON value is, with this number beside it; `None` if it is none that can be carried.
+/// The action that a JSON value is, with this number beside it; `None` if it is none.
 ///
 /// `SCMP_ACT_ERRNO` and `SCMP_ACT_TRACE` take a number; if none is given, it is 1, which is `EPERM`. Beside any other action
-/// none may stand. `SCMP_ACT_KILL` is `SCMP_ACT_KILL_THREAD`, and `SCMP_ACT_NOTIFY` can't be carried. It takes no memory.
-pub(crate) fn read_action(value: &Value, number: Option<u32>) -> Option<SeccompAction>
+/// none may stand. `SCMP_ACT_KILL` is `SCMP_ACT_KILL_THREAD`. It takes no memory.
+pub(crate) fn read_action(value: &Value, number: Option<u32>) -> Option<Action>
     ensures found { IfSome result (IsAction (view value.now) number) }
-    ensures none { IfNone result ((a : SeccompAction) → IsAction (view value.now) number a → ⊥) }
+    ensures none { IfNone result ((a : Action) → IsAction (view value.now) number a → ⊥) }
 {
     action_of_text(value.as_str()?, number)
 }
@@ -125,6 +127,7 @@ fn flag_of_text(text: &str) -> Option<Flag>
         "SECCOMP_FILTER_FLAG_TSYNC" => Some(Flag::Tsync),
         "SECCOMP_FILTER_FLAG_LOG" => Some(Flag::Log),
         "SECCOMP_FILTER_FLAG_SPEC_ALLOW" => Some(Flag::SpecAllow),
+        "SECCOMP_FILTER_FLAG_WAIT_KILLABLE_RECV" => Some(Flag::WaitKillableRecv),
         _ => None,
     }
 }

@@ -5,7 +5,7 @@ ghost use Rattle.std.specs.List.{filter};
 ghost use Rattle.serde_json.specs.View.{members_view, view};
 ghost use Rattle.seccompiler.specs.JsonAnswers.{IsReadAs};
 ghost use Rattle.seccomp_profiles.specs.Types.{AllOnArguments};
-ghost use Rattle.seccomp_profiles.specs.ProfileShape.{IsList, IsProfile, is_unknown, keys_of};
+ghost use Rattle.seccomp_profiles.specs.ProfileShape.{IsList, IsProfile, is_filled, is_unknown, keys_of};
 ghost use Rattle.seccomp_profiles.specs.ProfileText.{IsProfileFault, IsProfileText, profile_in, seccomp_in};
 ghost use Rattle.seccomp_profiles.specs.Types.{Profile};
 
@@ -62,6 +62,16 @@ fn unknown_keys(alloc: Global, members: &Map<String, Value>) -> Result<Vec<Strin
     Ok(found)
 }
 
+// Whether a text stands there that isn't empty.
+fn is_filled(value: Option<&Value>) -> bool
+    ensures { result ≡ is_filled (option_map (λ v. view v.now) value.entry) }
+{
+    match value {
+        Some(Value::String(text)) => !text.is_empty(),
+        _ => false,
+    }
+}
+
 // The profile that a JSON value is, or `None` where it is none.
 fn read_profile(alloc: Global, value: &Value) -> Result<Option<Profile>, AllocError>
     ensures found { IfOk result (λ o. IfSome o (IsProfile (view value.now))) }
@@ -90,6 +100,7 @@ fn read_profile(alloc: Global, value: &Value) -> Result<Option<Profile>, AllocEr
         entries,
         lists_x86: lists_x86(value),
         unknown_architecture: unknown_architecture(value),
+        has_listener: is_filled(value.get("listenerPath")),
         unknown_keys: unknown_keys(alloc, members)?,
     }))
 }

@@ -1,6 +1,6 @@
 // A profile as types.
 
-use seccompiler::SeccompAction;
+use seccomp_entries::Action;
 use std::marker::Model;
 
 /// How an argument of a call is compared, both numbers unsigned and of 64 bits.
@@ -44,6 +44,8 @@ pub enum Flag {
     Log,
     /// `SECCOMP_FILTER_FLAG_SPEC_ALLOW`
     SpecAllow,
+    /// `SECCOMP_FILTER_FLAG_WAIT_KILLABLE_RECV`
+    WaitKillableRecv,
 }
 
 /// A version of the kernel, as `minKernel` has it.
@@ -116,7 +118,7 @@ pub struct Entry {
     /// The calls' names: `names`, or the one of the older `name`. Some may be no call's.
     pub names: Vec<String>,
     /// The action for these calls: `action`, with `errnoRet`.
-    pub action: SeccompAction,
+    pub action: Action,
     /// The conditions on the calls' arguments: `args`.
     pub args: Vec<Argument>,
     /// What has to be there for the entry to apply: `includes`.
@@ -140,7 +142,7 @@ impl Model for Entry {
 #[derive(Debug, Drop)]
 pub struct Profile {
     /// The action for calls that no entry is for: `defaultAction`, with `defaultErrnoRet`.
-    pub default: SeccompAction,
+    pub default: Action,
     /// The flags of `seccomp(2)`: `flags`.
     pub flags: Vec<Flag>,
     /// The entries, in the text's order: `syscalls`.
@@ -150,6 +152,8 @@ pub struct Profile {
     /// The place, from 0, of the first of its `architectures` that the OCI runtime specification doesn't have, so that no runtime starts a
     /// container.
     pub unknown_architecture: Option<usize>,
+    /// Whether it says where a supervisor listens, which [`Action::Notify`] asks: a text that isn't empty under `listenerPath`.
+    pub has_listener: bool,
     /// The keys of the object that no profile has, in the order of JSON's values. They say nothing.
     pub unknown_keys: Vec<String>,
 }
@@ -160,5 +164,5 @@ impl Model for Profile {
 
     ghost Value = { Profile };
 
-    ghost view = { λ p. record { default = p.default; flags = p.flags.items; entries = p.entries.items; lists_x86 = p.lists_x86; unknown_architecture = p.unknown_architecture; unknown_keys = map string_bytes p.unknown_keys.items } };
+    ghost view = { λ p. record { default = p.default; flags = p.flags.items; entries = p.entries.items; lists_x86 = p.lists_x86; unknown_architecture = p.unknown_architecture; has_listener = p.has_listener; unknown_keys = map string_bytes p.unknown_keys.items } };
 }

@@ -3,11 +3,11 @@ use Rattle.std.proofs.Common.{◌≡◌, ◌≢◌, ℕ, zero, suc, List, [], �
 use Rattle.std.specs.Prelude.{All, Any, slice_get, IsSomeAnd}
 use Rattle.std.proofs.lemmas.List.Elements.{All-cons, All-head, All-tail}
 use Rattle.std.proofs.lemmas.Option.{get_or_from_slice_get, slice_get_within}
-use Rattle.seccompiler.specs.declared.backend.SeccompAction.{SeccompAction}
+use Rattle.seccomp_entries.specs.declared.entry.Action.{Action}
 use Rattle.seccompiler.specs.declared.backend.TargetArch.{TargetArch}
 use Rattle.seccompiler.specs.Architecture.{audit_word}
 use Rattle.seccompiler.specs.Machine.{word_at}
-use Rattle.seccompiler.specs.Policy.{word_of}
+use Rattle.seccomp_entries.specs.Entries.{value_of}
 use Rattle.seccomp_tree.specs.Decided.{default_for}
 use Rattle.seccomp_entries.specs.Entries.{Entry, IsDecided, Lowered, Meets, NoneMeets, by_default, by_entry, other_architecture}
 use Rattle.seccomp_verdicts.specs.Verdicts.{AreTrue, IsCall, IsVerdict, IsVerdictAt, without}
@@ -32,22 +32,22 @@ all_at P es place e at all =
     subst P (get_or_from_slice_get es place e e at) (all place e (slice_get_within es place e at))
 
 -- The entry has this action.
-abbrev HasAction : SeccompAction → Entry → Type 0
+abbrev HasAction : Action → Entry → Type 0
 HasAction action e = e.action ≡ action
 
 -- What is decided of a call by entries of one action: by whether it meets some.
-decided : (l : Lowered) (action : SeccompAction) → All (HasAction action) l.entries → (r : List ℕ)
+decided : (l : Lowered) (action : Action) → All (HasAction action) l.entries → (r : List ℕ)
     → word_at r 4 ≡ audit_word l.target_arch → (w : ℕ) → IsDecided l r w
-    → (Any (Meets r) l.entries × (w ≡ word_of action)) ⊎ (NoneMeets l.entries r × (w ≡ default_for l.defaults (word_at r 0)))
+    → (Any (Meets r) l.entries × (w ≡ value_of action)) ⊎ (NoneMeets l.entries r × (w ≡ default_for l.defaults (word_at r 0)))
 decided l action all r here w (other_architecture apart kills) = absurd (apart here)
 decided l action all r here w (by_entry same index is word) =
     inl (
       any_own (Meets r) l.entries index is.entry is.there is.meets,
-      word ∙ ap word_of (all_at (HasAction action) l.entries index is.entry is.there all),
+      word ∙ ap value_of (all_at (HasAction action) l.entries index is.entry is.there all),
     )
 decided l action all r here w (by_default same none word) = inr (none, word)
 
-module _ (l : Lowered) (action : SeccompAction) (all : All (HasAction action) l.entries) (place : ℕ) where
+module _ (l : Lowered) (action : Action) (all : All (HasAction action) l.entries) (place : ℕ) where
   abbrev others : List Entry
   others = without place l.entries
 
@@ -85,10 +85,10 @@ module _ (l : Lowered) (action : SeccompAction) (all : All (HasAction action) l.
   says_at : (own : Entry) (v : Verdict) → slice_get l.entries place ≡ Some own → IsVerdict l.target_arch own others v
       → SaysOfDecisions l place v
   says_at own verdict.Needed at true_of =
-      subst (λ o. IsSomeAnd o (λ e. word_of e.action ≢ default_for l.defaults e.number → DecideOtherwise l (lowered_without place l)))
+      subst (λ o. IsSomeAnd o (λ e. value_of e.action ≢ default_for l.defaults e.number → DecideOtherwise l (lowered_without place l)))
       (sym at) differ
     where
-      differ : word_of own.action ≢ default_for l.defaults own.number → DecideOtherwise l (lowered_without place l)
+      differ : value_of own.action ≢ default_for l.defaults own.number → DecideOtherwise l (lowered_without place l)
       differ apart = (
         true_of.0,
         true_of.1.0,
@@ -98,7 +98,7 @@ module _ (l : Lowered) (action : SeccompAction) (all : All (HasAction action) l.
             elim (decided l action all r here w decision) [
               | inl meets ↦ elim (decided (lowered_without place l) action fewer r here v other) [
                 | inl too ↦ true_of.3 too.0
-                | inr none ↦ apart (ap word_of (all_at (HasAction action) l.entries place own at all) ∙ sym meets.1 ∙ same ∙ none.1
+                | inr none ↦ apart (ap value_of (all_at (HasAction action) l.entries place own at all) ∙ sym meets.1 ∙ same ∙ none.1
                     ∙ ap (default_for l.defaults) (sym true_of.2.own))
               ]
               | inr none ↦ none_is_any (Meets r) l.entries none.0 (any_own (Meets r) l.entries place own at true_of.2)

@@ -1,9 +1,9 @@
 -- What verdicts on entries say of what is decided with and without them.
 use Rattle.std.specs.Prelude.{◌≡◌, ◌≢◌, ℕ, List, All, Some, slice_get, IsSomeAnd, ⊤}
-use Rattle.seccompiler.specs.declared.backend.SeccompAction.{SeccompAction}
+use Rattle.seccomp_entries.specs.declared.entry.Action.{Action}
 use Rattle.seccompiler.specs.declared.backend.TargetArch.{TargetArch}
 use Rattle.seccompiler.specs.Machine.{IsRecord}
-use Rattle.seccompiler.specs.Policy.{word_of}
+use Rattle.seccomp_entries.specs.Entries.{value_of}
 use Rattle.seccomp_tree.specs.Decided.{default_for}
 use Rattle.seccomp_entries.specs.Entries.{Entry, IsDecided, Lowered}
 use Rattle.seccomp_verdicts.specs.Verdicts.{without}
@@ -26,7 +26,7 @@ DecideOtherwise l m = (r : List ℕ) × IsRecord r × ((w v : ℕ) → IsDecided
 -- needed, they decide some record differently, unless its action and the default of its number return the same word.
 abbrev pub SaysOfDecisions : Lowered → ℕ → Verdict → Type 0
 SaysOfDecisions l place verdict.Needed = IsSomeAnd (slice_get l.entries place)
-    (λ own. word_of own.action ≢ default_for l.defaults own.number → DecideOtherwise l (lowered_without place l))
+    (λ own. value_of own.action ≢ default_for l.defaults own.number → DecideOtherwise l (lowered_without place l))
 SaysOfDecisions l place verdict.Redundant = DecideAlike l (lowered_without place l)
 SaysOfDecisions l place verdict.Unreachable = DecideAlike l (lowered_without place l)
 SaysOfDecisions l place verdict.Undecided = ⊤
@@ -37,5 +37,5 @@ SayOfDecisions l verdicts = (place : ℕ) (v : Verdict) → slice_get verdicts p
 
 -- They say so of each list of these entries, if those have one action.
 abbrev pub SayOfEntries : TargetArch → List Entry → List Verdict → Type 0
-SayOfEntries arch entries verdicts = (l : Lowered) → l.target_arch ≡ arch → l.entries ≡ entries → (action : SeccompAction)
+SayOfEntries arch entries verdicts = (l : Lowered) → l.target_arch ≡ arch → l.entries ≡ entries → (action : Action)
     → All (λ (e : Entry). e.action ≡ action) entries → SayOfDecisions l verdicts

@@ -5,8 +5,7 @@ use Rattle.std.proofs.lemmas.Bool.{cases_lt, false≢true}
 use Rattle.std.proofs.lemmas.List.{take_all, get_or-take}
 use Rattle.std.proofs.lemmas.List.Elements.{All-same}
 use Rattle.std.proofs.lemmas.Option.{get_or_from_slice_get, slice_get_within}
-use Rattle.seccompiler.specs.Policy.{word_of}
-use Rattle.seccomp_entries.specs.Entries.{Entry, IsDecided, IsDecider, Lowered, Meets, by_default, by_entry, other_architecture}
+use Rattle.seccomp_entries.specs.Entries.{Entry, IsDecided, IsDecider, Lowered, Meets, by_default, by_entry, other_architecture, value_of}
 use Rattle.seccomp_warnings.specs.Evasions.{DeniesCall, IsPermitting, LetsThrough}
 
 -- What holds of the first items holds of the one at a place among them.
@@ -27,7 +26,7 @@ none_at P es i e there none =
 
 module _ (l : Lowered) (r : List ℕ) where
   -- One entry decides.
-  one_decider : (i k : ℕ) (a : IsDecider l.entries r i) (b : IsDecider l.entries r k) → word_of a.entry.action ≡ word_of b.entry.action
+  one_decider : (i k : ℕ) (a : IsDecider l.entries r i) (b : IsDecider l.entries r k) → value_of a.entry.action ≡ value_of b.entry.action
   one_decider i k a b = elim (cases_lt i k) [
     | inl less ↦ absurd (in_front (λ e. Meets r e → ⊥) l.entries i k a.entry less a.there b.before a.meets)
     | inr above ↦ elim (cases_lt k i) [
@@ -35,7 +34,7 @@ module _ (l : Lowered) (r : List ℕ) where
       | inr below ↦
           let same : i ≡ k = omega (arith, above, below) in
           let at_k = subst (λ n. slice_get l.entries n ≡ Some a.entry) same a.there in
-          ap (λ (e : Entry). word_of e.action)
+          ap (λ (e : Entry). value_of e.action)
           (sym (get_or_from_slice_get l.entries k a.entry a.entry at_k) ∙ get_or_from_slice_get l.entries k b.entry a.entry b.there)
     ]
   ]

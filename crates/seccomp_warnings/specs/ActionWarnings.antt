@@ -1,34 +1,39 @@
 -- What is so of an action that its author may not mean.
 use Rattle.std.specs.Prelude.{◌≡◌, ℕ, ◌<◌, ◌⊎◌}
-use Rattle.seccompiler.specs.declared.backend.SeccompAction.{SeccompAction}
+use Rattle.seccomp_entries.specs.declared.entry.Action.{Action}
+use Rattle.seccomp_entries.specs.declared.entry.Action.TheVariants.{Notify, Own}
 use Rattle.seccompiler.specs.declared.backend.SeccompAction.TheVariants.{Allow, Errno, Log, Trace}
-use Rattle.seccompiler.specs.Policy.{word_of}
+use Rattle.seccomp_entries.specs.Entries.{value_of}
 use Rattle.seccomp_warnings.specs.declared.code.Code.{Code}
 use Rattle.seccomp_warnings.specs.declared.code.Code.TheVariants as code
 use Rattle.seccomp_warnings.specs.declared.warning.Actions.{Actions}
 
 -- The action lets a call through (seccomp(2): SECCOMP_RET_ALLOW and SECCOMP_RET_LOG).
-abbrev pub Permits : SeccompAction → Type 0
-Permits action = (action ≡ Allow) ⊎ (action ≡ Log)
+abbrev pub Permits : Action → Type 0
+Permits action = (action ≡ Own Allow) ⊎ (action ≡ Own Log)
 
 -- The errno is above the greatest that Linux has (MAX_ERRNO of the kernel).
-abbrev pub IsErrnoTooLarge : SeccompAction → Type 0
-IsErrnoTooLarge (Errno n) = 4095 < n
+abbrev pub IsErrnoTooLarge : Action → Type 0
+IsErrnoTooLarge (Own (Errno n)) = 4095 < n
 IsErrnoTooLarge action = ⊥
 
 -- The action notifies a tracer.
-abbrev pub Traces : SeccompAction → Type 0
-Traces action = (n : ℕ) × (action ≡ Trace n)
+abbrev pub Traces : Action → Type 0
+Traces action = (n : ℕ) × (action ≡ Own (Trace n))
+
+-- The action leaves a call to a tracer or a supervisor.
+abbrev pub Asks : Action → Type 0
+Asks action = Traces action ⊎ (action ≡ Notify)
 
 -- The action denies a call, whoever is there.
-abbrev pub Denies : SeccompAction → Type 0
-Denies action = (Permits action → ⊥) × (Traces action → ⊥)
+abbrev pub Denies : Action → Type 0
+Denies action = (Permits action → ⊥) × (Asks action → ⊥)
 
 -- What a code says of an action is so. Of FakeSuccess and EndlessRetry: its return value is SECCOMP_RET_ERRNO with errno 0, or 4.
-abbrev pub IsSoOfAction : Code → SeccompAction → Type 0
-IsSoOfAction code.FakeSuccess action = word_of action ≡ 0x00050000
+abbrev pub IsSoOfAction : Code → Action → Type 0
+IsSoOfAction code.FakeSuccess action = value_of action ≡ 0x00050000
 IsSoOfAction code.ErrnoTooLarge action = IsErrnoTooLarge action
-IsSoOfAction code.EndlessRetry action = word_of action ≡ 0x00050004
+IsSoOfAction code.EndlessRetry action = value_of action ≡ 0x00050004
 IsSoOfAction code.TraceWithoutTracer action = Traces action
 IsSoOfAction code.AllowsByDefault action = Permits action
 IsSoOfAction other action = ⊥

@@ -3,6 +3,7 @@ use Rattle.std.specs.Prelude.{◌≡◌, ◌≢◌, ◌⊎◌, ◌↔◌, List, 
 use Rattle.std.specs.declared.alloc.Global.{Global}
 use Rattle.seccompiler.specs.JsonTypes.{JsonFilter, JsonRule}
 use Rattle.seccompiler.specs.Policy.{word_of}
+use Rattle.seccomp_entries.specs.declared.entry.Action.TheVariants.{Own}
 use Rattle.seccomp_warnings.specs.ActionWarnings.{Permits}
 use Rattle.seccomp_warnings.specs.declared.beside.Beside.{Beside}
 use Rattle.seccomp_warnings.specs.declared.code.Code.{Code}
@@ -30,7 +31,7 @@ HidesClone3 f = HidesByEntry f ⊎ HidesUnlisted f
 
 -- Each clone3 is answered so, and every other call is let through.
 abbrev pub HidesAlone : JsonFilter → Type 0
-HidesAlone f = HidesByEntry f × Permits f.mismatch_action × All NamesClone3 f.rules
+HidesAlone f = HidesByEntry f × Permits (Own f.mismatch_action) × All NamesClone3 f.rules
 
 -- The filter does more than this, or doesn't do it.
 abbrev pub DoesMore : JsonFilter → Type 0

@@ -2,10 +2,10 @@
 use Rattle.std.specs.Prelude.{ℕ, ℤ, pos, ◌&&◌, ◌||◌, Bool, List, [], ◌∷◌, Option, Some, None, codes, nat_eq}
 use Rattle.seccompiler.specs.Architecture.{table_of}
 use Rattle.seccompiler.specs.JsonPolicyOf.{is_number}
-use Rattle.seccompiler.specs.Policy.{Condition, word_of}
+use Rattle.seccompiler.specs.Policy.{Condition}
 use Rattle.seccompiler.specs.SyscallTable.{number_of}
 use Rattle.seccompiler.specs.declared.backend.TargetArch.{TargetArch}
-use Rattle.seccomp_entries.specs.Entries.{Entry}
+use Rattle.seccomp_entries.specs.Entries.{Entry, value_of}
 use Rattle.seccomp_warnings.specs.declared.detour.Detour as lent
 
 -- A call, and another one by which the same can be done.
@@ -65,7 +65,7 @@ is_permitting w = nat_eq w 0x7fff0000 || nat_eq w 0x7ffc0000
 
 -- Whether what is let through is the detour's call, by a condition on the argument that says what is asked.
 abbrev pub is_asked : Detour → TargetArch → Entry → Condition → Bool
-is_asked d arch e c = is_permitting (word_of e.action) && nat_eq c.arg_index d.index
+is_asked d arch e c = is_permitting (value_of e.action) && nat_eq c.arg_index d.index
     && is_number (pos e.number) (number_of (table_of arch) d.call)
 
 -- The number of a call, if the architecture has it.

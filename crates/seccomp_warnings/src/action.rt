@@ -1,10 +1,11 @@
 // What is so of an action.
 
 ghost use Rattle.std.specs.Prelude.{◌↔◌, IsTrue};
-ghost use Rattle.seccomp_warnings.specs.ActionWarnings.{Denies, IsSoOfAction, IsSoOfBoth, Permits};
+ghost use Rattle.seccomp_warnings.specs.ActionWarnings.{Asks, Denies, IsSoOfAction, IsSoOfBoth, Permits};
 
 use crate::code::Code;
 use crate::warning::Actions;
+use seccomp_entries::Action;
 use seccompiler::SeccompAction;
 
 // The greatest errno of Linux.
@@ -17,17 +18,30 @@ const ERRNO_0: u32 = 0x0005_0000;
 const ERRNO_EINTR: u32 = 0x0005_0004;
 
 // Whether the action lets a call through.
-pub(crate) fn permits(action: SeccompAction) -> bool
+pub(crate) fn permits(action: Action) -> bool
     ensures { IsTrue result ↔ Permits action }
 {
-    matches!(action, SeccompAction::Allow | SeccompAction::Log)
+    matches!(
+        action,
+        Action::Own(SeccompAction::Allow | SeccompAction::Log)
+    )
+}
+
+// Whether the action leaves a call to a tracer or a supervisor.
+fn asks(action: Action) -> bool
+    ensures { IsTrue result ↔ Asks action }
+{
+    matches!(
+        action,
+        Action::Own(SeccompAction::Trace(_)) | Action::Notify
+    )
 }
 
 // Whether the action denies a call, whoever is there.
-fn denies(action: SeccompAction) -> bool
+fn denies(action: Action) -> bool
     ensures { IsTrue result ↔ Denies action }
 {
-    !permits(action) && !matches!(action, SeccompAction::Trace(_))
+    !permits(action) && !asks(action)
 }
 
 // Whether what a code says is so of both actions together.
@@ -41,14 +55,14 @@ pub(crate) fn is_so_of_both(code: Code, actions: Actions) -> bool
 }
 
 // Whether what a code says is so of an action.
-pub(crate) fn is_so_of_action(code: Code, action: SeccompAction) -> bool
+pub(crate) fn is_so_of_action(code: Code, action: Action) -> bool
     ensures { IsTrue result ↔ IsSoOfAction code action }
 {
     match (code, action) {
         (Code::FakeSuccess, action) => u32::from(action) == ERRNO_0,
-        (Code::ErrnoTooLarge, SeccompAction::Errno(number)) => number > GREATEST_ERRNO,
+        (Code::ErrnoTooLarge, Action::Own(SeccompAction::Errno(number))) => number > GREATEST_ERRNO,
         (Code::EndlessRetry, action) => u32::from(action) == ERRNO_EINTR,
-        (Code::TraceWithoutTracer, SeccompAction::Trace(_)) => true,
+        (Code::TraceWithoutTracer, Action::Own(SeccompAction::Trace(_))) => true,
         (Code::AllowsByDefault, action) => permits(action),
         _ => false,
     }

@@ -6,6 +6,7 @@ ghost use Rattle.seccomp_warnings.specs.declared.code.Code.{Code as CodeValue};
 
 use crate::action::permits;
 use crate::code::Code;
+use seccomp_entries::Action;
 use seccompiler::{JsonFilter, JsonFilterMap, JsonRule};
 use std::alloc::{AllocError, Global};
 
@@ -81,7 +82,7 @@ fn hides_alone(filter: &JsonFilter) -> bool
     ensures { IsTrue result ↔ HidesAlone filter.now }
 {
     hides_by_entry(filter)
-        && permits(filter.mismatch_action)
+        && permits(Action::Own(filter.mismatch_action))
         && filter.rules.iter().all(names_clone3)
 }
 

@@ -113,10 +113,10 @@ fn is_denied_unlisted(part: &Part, name: &str) -> bool
 fn is_unstartable(part: &Part) -> bool
     ensures { IsTrue result ↔ IsUnstartable part.now }
 {
-    permits(part.actions.matching)
-        && names_call(part, "set_tid_address")
-        && is_denied_unlisted(part, "execve")
-        && !names_call(part, "execveat")
+    if !permits(part.actions.matching) || !names_call(part, "set_tid_address") {
+        return false;
+    }
+    is_denied_unlisted(part, "execve") && !names_call(part, "execveat")
 }
 
 // Whether a call is listed that Linux goes on with by restart_syscall, and that one is denied.

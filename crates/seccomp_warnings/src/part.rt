@@ -3,7 +3,7 @@
 ghost use Rattle.seccomp_warnings.specs.Parts.{IsPartOfPolicy};
 
 use crate::warning::Actions;
-use seccomp_entries::{Entry, Lowered};
+use seccomp_entries::{Action, Entry, Lowered};
 use seccompiler::{JsonFilter, TargetArch};
 use std::marker::Model;
 
@@ -33,8 +33,8 @@ pub(crate) fn part_by(target: TargetArch, filter: &JsonFilter, lowered: Lowered)
     Part {
         target_arch: target,
         actions: Actions {
-            mismatch: filter.mismatch_action,
-            matching: filter.match_action,
+            mismatch: Action::Own(filter.mismatch_action),
+            matching: Action::Own(filter.match_action),
         },
         entries: lowered.entries,
     }

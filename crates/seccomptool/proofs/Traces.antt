@@ -1,6 +1,6 @@
 -- For `observed_in`: the calls of traces, as these are gone through.
-use Rattle.std.proofs.Common.{◌≡◌, ◌<◌, ◌≤◌, ◌+◌, ◌∙◌, ℕ, List, [], ◌∷◌, ◌++◌, ap, append-nil, append_assoc, get_or, length, sym, take}
-use Rattle.std.proofs.lemmas.List.{take_all, take_more}
+use Rattle.std.proofs.Common.{◌≡◌, ◌<◌, ◌+◌, ◌∙◌, ℕ, List, [], ◌∷◌, ◌++◌, ap, append-nil, append_assoc, get_or, length, sym, take}
+use Rattle.std.proofs.lemmas.List.{take_more}
 use Rattle.seccomp_learn.specs.declared.observation.Observation.{Observation}
 use Rattle.seccomp_learn.specs.declared.trace.Trace.{Trace}
 use Rattle.seccomptool.specs.Learn.{read_in}
@@ -18,8 +18,3 @@ pub read_more : (traces : List Trace) (i : ℕ) (d : Trace) (all new : List Obse
 read_more traces i d all new within so_far is =
     is ∙ ap (λ (front : List Observation). front ++ (get_or traces i d).observed.items) so_far
     ∙ sym (read_push (take i traces) (get_or traces i d)) ∙ ap read_in (sym (take_more traces i d within))
-
--- The end of the traces.
-pub read_all : (traces : List Trace) (i : ℕ) (all : List Observation) → length traces ≤ i → all ≡ read_in (take i traces)
-    → all ≡ read_in traces
-read_all traces i all end so_far = so_far ∙ ap read_in (take_all i traces end)

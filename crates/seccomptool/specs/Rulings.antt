@@ -1,12 +1,13 @@
 -- What decides calls, a program that stands for it, and what is found of two that do.
 use Rattle.std.specs.Prelude.{◌≡◌, ℕ, List}
 use Rattle.std.specs.List.{filter}
-use Rattle.seccompiler.specs.declared.backend.SeccompAction.{SeccompAction}
 use Rattle.seccompiler.specs.declared.backend.TargetArch.{TargetArch}
 use Rattle.seccompiler.specs.declared.bpf.sock_filter.{sock_filter}
 use Rattle.seccompiler.specs.Architecture.{audit_word}
 use Rattle.seccompiler.specs.Machine.{IsRecord, word_at}
-use Rattle.seccompiler.specs.Policy.{Filter, IsDecision, word_of}
+use Rattle.seccompiler.specs.Policy.{Filter, IsDecision}
+use Rattle.seccomp_entries.specs.Entries.{value_of}
+use Rattle.seccomp_entries.specs.declared.entry.Action.{Action}
 use Rattle.seccomp_compare.specs.Machine.{Ends, IsChecked}
 use Rattle.seccomp_compare.specs.declared.Relation.{Relation}
 use Rattle.seccomp_oci.specs.Decision.{IsProfileDecision}
@@ -26,7 +27,7 @@ pub data Ruling : Type 0 where
 abbrev pub Decides : TargetArch → Ruling → List ℕ → ℕ → Type 0
 Decides target (of_filter f) r word = IsDecision f r word
 Decides target (of_profile container p) r word = word_at r 4 ≡ audit_word target
-    → (action : SeccompAction) × IsProfileDecision target container p r action × (word ≡ word_of action)
+    → (action : Action) × IsProfileDecision target container p r action × (word ≡ value_of action)
 Decides target (of_program p) r word = (steps : ℕ) × Ends p r steps word
 
 -- The program ends on the record with a word that is decided for it.

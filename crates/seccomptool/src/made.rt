@@ -17,7 +17,7 @@ use crate::findings::Verdict;
 use crate::json::{Object, written};
 use crate::kind::{Subject, subject_of};
 use crate::notes::push_counted;
-use crate::profile::{compiled_of, push_profile_notes, uncompiled};
+use crate::profile::{compiled_of, push_install_notes, push_left_out, uncompiled};
 use crate::progress::Watch;
 use crate::record::{KnownCall, called_record, calls_text, known_calls};
 use crate::run::program::program_of;
@@ -149,14 +149,8 @@ fn profile_made(
     let mut notes = Text::new(alloc);
     if !asked.quiet {
         let (listed, left_out) = (asked.reading.listed, &compiled.left_out);
-        push_profile_notes(
-            &mut notes,
-            arch,
-            path,
-            listed,
-            left_out,
-            &compiled.profile.flags,
-        );
+        push_left_out(&mut notes, arch, path, listed, left_out);
+        push_install_notes(&mut notes, path, &compiled);
     }
     let text = program_text(alloc, asked.format, "profile", &compiled.program);
     Made::of(text, Verdict::Same, notes)

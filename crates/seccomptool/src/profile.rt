@@ -10,8 +10,10 @@ use crate::error::ToolError;
 use crate::notes::note;
 use crate::text::Text;
 use seccomp_command_line::readable::TextKind;
+use seccomp_entries::Action;
 use seccomp_oci::{CompileError, CompiledProfile, Container, Flag, compile_profile};
 use seccompiler::TargetArch;
+use seccompiler::bpf::RETURN;
 use std::alloc::{AllocError, Global};
 use std::collections::BTreeSet;
 
@@ -34,15 +36,14 @@ pub(crate) fn compiled_of(
     }
 }
 
-/// Adds the notes on the profile of a path: how many names are left out, each counted once, and the names in the profile's order if
-/// they are to be listed; and which flags are to be set when the program is installed.
-pub(crate) fn push_profile_notes(
+/// Adds a note on the profile of a path: how many names are left out, each counted once, and the names in the profile's order if
+/// they are to be listed.
+pub(crate) fn push_left_out(
     notes: &mut Text,
     arch: TargetArch,
     path: &str,
     listed: bool,
     left_out: &[String],
-    flags: &[Flag],
 ) {
     let alloc = notes.alloc();
     let Ok((count, names)) = each_once(alloc, left_out) else {
@@ -56,6 +57,11 @@ pub(crate) fn push_profile_notes(
         };
         note(notes, path, told);
     }
+}
+
+/// Adds the notes on what whoever installs the program of a profile has to do: set its flags, and listen if it asks a supervisor.
+pub(crate) fn push_install_notes(notes: &mut Text, path: &str, compiled: &CompiledProfile) {
+    let (alloc, flags) = (notes.alloc(), &compiled.profile.flags);
     if !flags.is_empty() {
         let (mut told, mut front) = (Text::new(alloc), ": ");
         told.push_format(format!(in alloc;
@@ -68,10 +74,21 @@ pub(crate) fn push_profile_notes(
                 Flag::Tsync => "SECCOMP_FILTER_FLAG_TSYNC",
                 Flag::Log => "SECCOMP_FILTER_FLAG_LOG",
                 Flag::SpecAllow => "SECCOMP_FILTER_FLAG_SPEC_ALLOW",
+                Flag::WaitKillableRecv => "SECCOMP_FILTER_FLAG_WAIT_KILLABLE_RECV",
             });
             front = ", ";
         }
         note(notes, path, told.finish_string());
+    }
+    let notify = u32::from(Action::Notify);
+    if compiled
+        .program
+        .iter()
+        .any(|it| it.code == RETURN && it.k == notify)
+    {
+        let told =
+            "calls that a supervisor decides fail with errno 38 (ENOSYS), unless one listens";
+        note(notes, path, String::from_str(alloc, told));
     }
 }
 

@@ -3,7 +3,7 @@ use Rattle.std.proofs.Common.{◌≡◌, ◌≢◌, ◌<◌, ◌+◌, ◌⊎◌,
 use Rattle.std.specs.Prelude.{Contains}
 use Rattle.std.specs.List.{AllZip}
 use Rattle.std.proofs.lemmas.List.Elements.{All-append, All-nil, Contains-append_cases, Contains-append_left, Contains-append_right}
-use Rattle.seccompiler.specs.declared.backend.SeccompAction.{SeccompAction}
+use Rattle.seccomp_entries.specs.declared.entry.Action.{Action}
 use Rattle.seccompiler.specs.declared.backend.TargetArch.{TargetArch}
 use Rattle.seccompiler.specs.Policy.{Condition}
 use Rattle.seccomp_entries.specs.Entries as entries
@@ -16,7 +16,7 @@ use Rattle.seccomp_oci.proofs.Zipped.{zip_at, zip_length}
 use Rattle.seccomp_oci.proofs.lowered.Own.{own_rank, said_below, said_has, said_only, said_ordered}
 use Rattle.seccomp_oci.proofs.lowered.Pairs.{had_none, pairs_append, pairs_none}
 
-module _ (arch : TargetArch) (container : Container) (default : SeccompAction) (own : List Entry) where
+module _ (arch : TargetArch) (container : Container) (default : Action) (own : List Entry) where
   abbrev Are : ℕ → ℕ → List entries.Entry → Type 0
   Are = AreAskedTo arch container default own
 
@@ -107,7 +107,7 @@ module _ (arch : TargetArch) (container : Container) (default : SeccompAction) (
             own_rank arch container default own e is.0 ∙ ap rank same ∙ ranked
 
 -- What is said at a place has given its entries.
-pub next_said : (arch : TargetArch) (container : Container) (default : SeccompAction) (own : List Entry) (concerns : List Concern) (s i : ℕ)
+pub next_said : (arch : TargetArch) (container : Container) (default : Action) (own : List Entry) (concerns : List Concern) (s i : ℕ)
     (c : Concern) (old new : List entries.Entry) → AllZip (IsConcernOf arch container default) own concerns → i < length concerns
     → c ≡ get_or concerns i c → IsPushed i s c old new → AreAskedTo arch container default own s i old
     → AreAskedTo arch container default own s (i + 1) new

@@ -1,9 +1,9 @@
 -- For `lowered_profile`: a profile decides one thing.
 use Rattle.std.proofs.Common.{◌≡◌, ◌↔◌, ℕ, Bool, true, false, IsTrue, List, ap, refl, sym, ◌∙◌, length, arith}
-use Rattle.seccompiler.specs.declared.backend.SeccompAction.{SeccompAction}
+use Rattle.seccomp_entries.specs.declared.entry.Action.{Action}
 use Rattle.seccompiler.specs.declared.backend.TargetArch.{TargetArch}
 use Rattle.seccompiler.specs.Machine.{word_at}
-use Rattle.seccompiler.specs.Policy.{word_of}
+use Rattle.seccomp_entries.specs.Entries.{value_of}
 use Rattle.seccomp_oci.specs.Decision.{by_default, by_entry, default_of, IsByEntry, IsDefault, IsProfileDecision, Matches, NoneOf, rank}
 use Rattle.seccomp_oci.specs.ProfileDecisions.{IsProfileWord, other, own}
 use Rattle.seccomp_profiles.specs.Types.{Container, Entry, Profile}
@@ -17,15 +17,15 @@ one_answer false true is is_too = is.1 (is_too.0 refl)
 one_answer false false is is_too = refl
 
 module _ (arch : TargetArch) (container : Container) (p : Profile) (r : List ℕ) where
-  default_only : (n : ℕ) (a b : SeccompAction) → IsDefault arch container p n a → IsDefault arch container p n b → b ≡ a
+  default_only : (n : ℕ) (a b : Action) → IsDefault arch container p n a → IsDefault arch container p n b → b ≡ a
   default_only n a b one two =
       two.is ∙ ap (λ above. default_of arch p.default above n) (one_answer two.above one.above two.is_above one.is_above) ∙ sym one.is
 
-  not_none : (a : SeccompAction) (k : ℕ) → IsByEntry arch container p r a k
+  not_none : (a : Action) (k : ℕ) → IsByEntry arch container p r a k
       → NoneOf (Matches arch container p.default r) p.entries (length p.entries) → ⊥
   not_none a k is none = none k is.entry is.first.within is.first.there is.first.holds
 
-  decision_only : (a b : SeccompAction) → IsProfileDecision arch container p r a → IsProfileDecision arch container p r b → b ≡ a
+  decision_only : (a b : Action) → IsProfileDecision arch container p r a → IsProfileDecision arch container p r b → b ≡ a
   decision_only a b (by_entry j one) (by_entry k two) =
       let same = least_only rank (Matches arch container p.default r) p.entries (length p.entries) k j two.entry one.entry (omega arith)
       two.first one.first in
@@ -36,7 +36,7 @@ module _ (arch : TargetArch) (container : Container) (p : Profile) (r : List ℕ
 
   -- So it has one word.
   pub word_only : (w v : ℕ) → IsProfileWord arch container p r w → IsProfileWord arch container p r v → v ≡ w
-  word_only w v (own a here one is) (own b here_too two is_too) = is_too ∙ ap word_of (decision_only a b one two) ∙ sym is
+  word_only w v (own a here one is) (own b here_too two is_too) = is_too ∙ ap value_of (decision_only a b one two) ∙ sym is
   word_only w v (own a here one is) (other apart is_too) = absurd (apart here)
   word_only w v (other apart is) (own b here two is_too) = absurd (apart here)
   word_only w v (other apart is) (other apart_too is_too) = is_too ∙ sym is

@@ -7,7 +7,7 @@ use Rattle.std.proofs.lemmas.Bool.Decides.{nat_tests}
 use Rattle.std.proofs.lemmas.List.{get_or-map, get_or_default, length-map}
 use Rattle.std.proofs.lemmas.List.Elements.{All-contains}
 use Rattle.std.proofs.lemmas.List.Kept.{AllPairs-cons}
-use Rattle.seccompiler.specs.declared.backend.SeccompAction.{SeccompAction}
+use Rattle.seccomp_entries.specs.declared.entry.Action.{Action}
 use Rattle.seccompiler.specs.declared.backend.TargetArch.{TargetArch}
 use Rattle.seccompiler.specs.Policy.{Condition}
 use Rattle.seccomp_entries.specs.Entries as entries
@@ -24,7 +24,7 @@ use Rattle.seccomp_oci.proofs.lowered.Pairs.{pairs_tail, to_mapped}
 
 -- ---- of one number
 
-module _ (place : ℕ) (action : SeccompAction) (number : ℕ) where
+module _ (place : ℕ) (action : Action) (number : ℕ) where
   -- It is the entry of one of these lists.
   record IsFrom (is_alone : Bool) (index : ℕ) (lists : List (List Condition)) (e : entries.Entry) : Type 0 where
     pub nth : ℕ
@@ -182,14 +182,14 @@ module _ (place : ℕ) (action : SeccompAction) (number : ℕ) where
 -- ---- of all numbers
 
 -- What has the conditions of an entry and its action has its rank.
-pub ranked : (args : List Argument) (action : SeccompAction) (o : Option ℕ) (cs : List Condition) → AreConditionsOf args o cs
+pub ranked : (args : List Argument) (action : Action) (o : Option ℕ) (cs : List Condition) → AreConditionsOf args o cs
     → rank_in cs action ≡ rank_by args action
 ranked [] action o cs (together not) = refl
 ranked (a ∷ args) action o cs (together not) = refl
 ranked [] action o cs (alone share k a within there) = absurd share
 ranked (b ∷ args) action o cs (alone share k a within there) = refl
 
-module _ (arch : TargetArch) (container : Container) (default : SeccompAction) (own : List Entry) where
+module _ (arch : TargetArch) (container : Container) (default : Action) (own : List Entry) where
   pub own_rank : (e : entries.Entry) → (is : IsOwn arch container default own e) → rank_in e.conditions e.action ≡ rank is.entry
   own_rank e is =
       ranked (tested is.entry.args) e.action e.alternative e.conditions is.conditions ∙ ap (rank_by (tested is.entry.args)) is.action

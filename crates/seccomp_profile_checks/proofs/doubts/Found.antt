@@ -6,16 +6,18 @@ use Rattle.std.proofs.lemmas.Bool.{cond_both, false≢true}
 use Rattle.std.proofs.lemmas.Bool.Decides.{nat_tests}
 use Rattle.std.proofs.lemmas.List.Elements.{All-append, All-cons, All-contains_itself, All-head, All-nil, All-pop, All-tail}
 use Rattle.seccompiler.specs.declared.backend.TargetArch.{TargetArch}
+use Rattle.seccomp_entries.specs.declared.entry.Action.TheVariants.{Notify}
 use Rattle.seccomp_entries.specs.Entries.{Lowered}
 use Rattle.seccomp_entries.specs.Entries as entries
 use Rattle.seccomp_oci.specs.Lowered.{DecidesAs, IsLoweredProfile}
-use Rattle.seccomp_profile_checks.specs.Doubts.{AreBehind, AreDoubts, IsDoubt, IsLeftOpen, IsSettledFrom, IsSoAlone}
-use Rattle.seccomp_profile_checks.specs.Doubts.{asked_alone, behind_at, is_first, is_of_other, none, settled, unsettled}
+use Rattle.seccomp_profile_checks.specs.Doubts.{AreBehind, AreDoubts, IsDoubt, IsLargeErrno, IsLeftOpen, IsSettledFrom, IsSoAlone}
+use Rattle.seccomp_profile_checks.specs.Doubts.{NotifiesWrite, asked_alone, asked_of_default}
+use Rattle.seccomp_profile_checks.specs.Doubts.{behind_at, is_first, is_of_other, none, settled, unsettled}
 use Rattle.seccomp_profile_checks.specs.declared.doubts.Doubt.{Doubt}
 use Rattle.seccomp_profile_checks.specs.declared.doubts.Doubt.TheVariants as doubt
 use Rattle.seccomp_profiles.specs.Types.{Container, Profile}
 use Rattle.seccomp_warnings.specs.Picked.{ArePicked}
-use Rattle.seccomp_profile_checks.proofs.doubts.Own.{behind, large_errno, open_order}
+use Rattle.seccomp_profile_checks.proofs.doubts.Own.{behind, lowered_at, open_order}
 
 -- Of what is picked something holds that follows.
 picked_all : {X : Type 0} (P Q : X → Type 0) → ((x : X) → P x → Q x) → (asked picked : List X) → ArePicked P asked picked → All Q picked
@@ -35,9 +37,12 @@ module _ (arch : TargetArch) (container : Container) (p : Profile) (l : Lowered)
 
   alone_is_so : (d : Doubt) → IsSoAlone p l.entries d → So d
   alone_is_so (doubt.EqualsDefault place) so = so
-  alone_is_so (doubt.LargeErrno place) so = large_errno arch container p l is place so
+  alone_is_so (doubt.LargeErrno place) so = lowered_at arch container p l is (λ e. IsLargeErrno e.action) place so
   alone_is_so doubt.LargeDefaultErrno so = so
   alone_is_so (doubt.ManyConditions place) so = so
+  alone_is_so doubt.NotifiesByDefault so = so
+  alone_is_so (doubt.NoListener place) so = (so.0, lowered_at arch container p l is (λ e. e.action ≡ Notify) place so.1)
+  alone_is_so (doubt.NotifiesWrite place) so = lowered_at arch container p l is NotifiesWrite place so
   alone_is_so (doubt.Behind first second number) so = absurd so
   alone_is_so (doubt.OpenOrder first second call) so = absurd so
 
@@ -47,6 +52,9 @@ module _ (arch : TargetArch) (container : Container) (p : Profile) (l : Lowered)
   open_is_so (doubt.LargeErrno place) so = absurd so
   open_is_so doubt.LargeDefaultErrno so = absurd so
   open_is_so (doubt.ManyConditions place) so = absurd so
+  open_is_so doubt.NotifiesByDefault so = absurd so
+  open_is_so (doubt.NoListener place) so = absurd so
+  open_is_so (doubt.NotifiesWrite place) so = absurd so
   open_is_so (doubt.Behind first second number) so = absurd so
 
   open_are_so : (ds : List Doubt) → All (IsLeftOpen l.entries) ds → All So ds
@@ -75,6 +83,6 @@ module _ (arch : TargetArch) (container : Container) (p : Profile) (l : Lowered)
       let alone = picked_all (IsSoAlone p l.entries) So alone_is_so in
       subst (All So) (sym are.all_are) (All-append So ((are.default ++ are.alone) ++ are.behind) are.left_open
       (All-append So (are.default ++ are.alone) are.behind
-      (All-append So are.default are.alone (alone (doubt.LargeDefaultErrno ∷ []) are.default are.are_of_default)
+      (All-append So are.default are.alone (alone asked_of_default are.default are.are_of_default)
       (alone (asked_alone p) are.alone are.are_alone)) (behind_are_so l.entries are.behind (All-contains_itself l.entries) are.are_behind))
       (open_are_so are.left_open are.are_left_open))

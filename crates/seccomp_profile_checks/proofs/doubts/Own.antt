@@ -1,11 +1,11 @@
--- For `is_behind`, `is_open` and `has_large_errno`: what entries of a list say of the profile that they are of.
+-- For `profile_warnings_of`: what entries of a list say of the profile that they are of.
 use Rattle.std.proofs.Common.{◌≡◌, ◌≢◌, ℕ, zero, suc, List, [], ◌∷◌, Option, Some, None, get_or, take, refl, sym, subst, ap, ◌∙◌, arith}
 use Rattle.std.proofs.Common.{All, Contains}
 use Rattle.std.specs.Prelude.{Any, slice_get}
 use Rattle.std.specs.List.{AllPairs}
 use Rattle.std.proofs.lemmas.List.Elements.{All-cons, All-nil}
 use Rattle.std.proofs.lemmas.Option.{get_or_from_slice_get, slice_get_within}
-use Rattle.seccompiler.specs.declared.backend.SeccompAction.{SeccompAction}
+use Rattle.seccomp_entries.specs.declared.entry.Action.{Action}
 use Rattle.seccompiler.specs.declared.backend.TargetArch.{TargetArch}
 use Rattle.seccompiler.specs.Machine.{word_at}
 use Rattle.seccompiler.specs.Policy.{Condition, Holds, RuleHolds}
@@ -15,7 +15,7 @@ use Rattle.seccomp_oci.specs.Conditions.{AreConditionsOf, alone, together}
 use Rattle.seccomp_oci.specs.Decision.{Concerns, IsByEntry, tested}
 use Rattle.seccomp_oci.specs.Lowered.{AtEntry, DecidesAs, IsAskedBefore, IsLoweredProfile, IsOwn, rank_in}
 use Rattle.seccomp_oci.specs.Lowered.{by_condition, by_number, by_place, by_rank}
-use Rattle.seccomp_profile_checks.specs.Doubts.{HasLargeErrno, IsBehind, IsLargeErrno, IsOpen, IsOpenIn, IsOther, IsSettledFrom}
+use Rattle.seccomp_profile_checks.specs.Doubts.{AtConcerned, AtLowered, IsBehind, IsOpen, IsOpenIn, IsOther, IsSettledFrom}
 use Rattle.seccomp_profile_checks.specs.Doubts.{IsSettler, MeetsOtherwise, NoneSettles, Settles}
 use Rattle.seccomp_profiles.specs.declared.types.Argument.{Argument}
 use Rattle.seccomp_profiles.specs.Types.{Container, Entry, Profile}
@@ -31,7 +31,7 @@ not_alternative : (args : List Argument) (o : Option ℕ) (cs : List Condition) 
 not_alternative args o cs (together not) none k is = let never : ⊥ = cc in never
 not_alternative args o cs (alone shared j a within there) none k is = let never : ⊥ = cc in never
 
-none_ranked : (cs : List Condition) (action : SeccompAction) → rank_in cs action ≡ 0 → cs ≡ []
+none_ranked : (cs : List Condition) (action : Action) → rank_in cs action ≡ 0 → cs ≡ []
 none_ranked [] action none = refl
 none_ranked (c ∷ cs) action none = absurd (omega arith)
 
@@ -106,7 +106,7 @@ module _ (arch : TargetArch) (container : Container) (p : Profile) (l : Lowered)
         })
 
   -- An entry that a record meets, with another action, is of one that matches it, with another action.
-  pub other_at : DecidesAs arch container p l → (r : List ℕ) (action : SeccompAction) (place : ℕ)
+  pub other_at : DecidesAs arch container p l → (r : List ℕ) (action : Action) (place : ℕ)
       → Any (MeetsOtherwise place r action) l.entries → AtEntry p.entries place (IsOther arch container p r action)
   other_at decides r action place (k, e, within, at, is_other) =
       let own = (is.exactly e).0 (k, within, at) in
@@ -139,10 +139,9 @@ module _ (arch : TargetArch) (container : Container) (p : Profile) (l : Lowered)
     other = other_at decides r found.action second found.other;
   }
 
-  pub large_errno : (place : ℕ) → HasLargeErrno p.entries l.entries place
-      → AtEntry p.entries place (λ e. IsLargeErrno e.action × ((n : ℕ) × Concerns arch container p.default n e))
-  large_errno place ((x, at, large), (k, e, within, is_e, there)) =
+  pub lowered_at : (P : Entry → Type 0) (place : ℕ) → AtLowered p.entries l.entries place P → AtConcerned arch container p place P
+  lowered_at P place ((x, at, so), (k, e, within, is_e, there)) =
       let own : AtEntry p.entries place (Concerns arch container p.default e.number) =
       subst (λ at. AtEntry p.entries at (Concerns arch container p.default e.number)) there (concerned e (k, within, is_e)) in
       let same : own.0 ≡ x = same_at p.entries place own.0 x at.0 own.1.1 at.1 in
-      (x, at, (large, (e.number, subst (Concerns arch container p.default e.number) same own.2)))
+      (x, at, (so, (e.number, subst (Concerns arch container p.default e.number) same own.2)))

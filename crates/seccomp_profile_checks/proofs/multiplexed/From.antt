@@ -1,11 +1,11 @@
 -- For `settled_by`: the place from which on calls are settled, by the entry that settles their name.
 use Rattle.std.proofs.Common.{◌≡◌, ℕ, List, get_or, length, subst, take, ◌<◌}
-use Rattle.seccompiler.specs.declared.backend.SeccompAction.{SeccompAction}
+use Rattle.seccomp_entries.specs.declared.entry.Action.{Action}
 use Rattle.seccomp_profiles.specs.Types.{Container, Entry, Profile}
 use Rattle.seccomp_profile_checks.specs.Multiplexed.{IsBehind, IsSettledFrom, IsSettler, NoneSettles, Settles}
 use Rattle.seccomp_profile_checks.proofs.Places.{same_at}
 
-pub settled_from : (container : Container) (p : Profile) (name : List ℕ) (number place from : ℕ) (es : List Entry) (default : SeccompAction)
+pub settled_from : (container : Container) (p : Profile) (name : List ℕ) (number place from : ℕ) (es : List Entry) (default : Action)
     (e : Entry) → default ≡ p.default → es ≡ p.entries → IsSettler container default name es place → e ≡ get_or es place e
     → IsBehind name number e place from → IsSettledFrom container p name number from
 settled_from container p name number place from es default e default_is es_is settler there behind =

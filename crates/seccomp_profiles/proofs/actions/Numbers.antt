@@ -5,7 +5,7 @@ use Rattle.std.specs.Map.{lookup}
 use Rattle.std.specs.Str.{bytes_eq}
 use Rattle.serde_json.specs.Data.{Data, null, number, string, unsigned}
 use Rattle.serde_json.specs.Find.{get}
-use Rattle.seccompiler.specs.declared.backend.SeccompAction.{SeccompAction}
+use Rattle.seccomp_entries.specs.declared.entry.Action.{Action}
 use Rattle.seccomp_profiles.specs.Actions.{by_digits, by_name, either, IsActionUnder, IsBeside, IsNamedOr, IsNamedText}
 use Rattle.seccomp_profiles.specs.Actions.{IsNumberOr, NamesError}
 use Rattle.seccomp_names.specs.Errnos.{error_names}
@@ -47,7 +47,7 @@ beside_only d key name o p one two = one.is
 
 -- No action stands there, where what stands there with what is beside it is none.
 pub none_under : (d : Data) (action key name : List ℕ) (o : Option ℕ) (v : Data) → IsBeside d key name o → get action d ≡ Some v
-    → ((a : SeccompAction) → IsAction v o a → ⊥) → (a : SeccompAction) → IsActionUnder d action key name a → ⊥
+    → ((a : Action) → IsAction v o a → ⊥) → (a : Action) → IsActionUnder d action key name a → ⊥
 none_under d action key name o v beside there none a is =
     let same = beside_only d key name is.beside o is.is_beside beside in
     let value : is.is.0 ≡ v = let e = sym is.is.1 ∙ there in cc in

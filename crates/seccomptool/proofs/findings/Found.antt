@@ -1,12 +1,10 @@
 -- For the loops over parts: what is found, part by part.
-use Rattle.std.proofs.Common.{◌≡◌, ℕ, ◌+◌, ◌<◌, List, [], ◌∷◌, ◌++◌, length, length-append, take, get_or, map, All, sym, ap, ◌∙◌, subst}
-use Rattle.std.proofs.Common.{arith}
+use Rattle.std.proofs.Common.{◌≡◌, ℕ, ◌+◌, ◌<◌, List, [], ◌∷◌, ◌++◌, length, take, get_or, map, All, sym, ap, ◌∙◌, subst}
 use Rattle.std.proofs.lemmas.List.{take_more, map-append}
 use Rattle.std.proofs.lemmas.List.Elements.{All-push}
 use Rattle.seccompiler.specs.declared.backend.TargetArch.{TargetArch}
 use Rattle.seccomp_compare.specs.declared.Relation.{Relation}
-use Rattle.seccompiler.specs.SyscallTable.{Pair}
-use Rattle.seccomptool.specs.Findings.{ArePartsBelow, no_part, then_named, then_gap, IsFound}
+use Rattle.seccomptool.specs.Findings.{IsFound}
 use Rattle.seccomptool.specs.declared.findings.Finding.{Finding}
 use Rattle.seccomptool.specs.declared.findings.Part.{Part}
 
@@ -26,9 +24,3 @@ pub parts_of_more : (items : List Part) (at : ℕ) (part : Part) (old new : List
 parts_of_more items at part old new f room here so_far own is =
     ap (map (λ (f : Finding). f.part)) is ∙ map-append (λ (f : Finding). f.part) old (f ∷ []) ∙ ap (λ parts. parts ++ f.part ∷ []) so_far
     ∙ ap (λ p. take at items ++ p ∷ []) (own ∙ sym here) ∙ sym (take_more items at part room)
-
--- Where there are numbers, there is a part.
-pub some_part : (table : List Pair) (parts : List Part) (end : ℕ) → ArePartsBelow table parts end → 0 < end → 0 < length parts
-some_part table parts end (no_part none is) some = absurd (omega arith)
-some_part table parts end (then_named {front} below named own is) some = rw own (rw (length-append front (_ ∷ [])) (omega arith))
-some_part table parts end (then_gap {front} below gap own is) some = rw own (rw (length-append front (_ ∷ [])) (omega arith))

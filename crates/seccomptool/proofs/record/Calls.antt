@@ -2,7 +2,7 @@
 use Rattle.std.proofs.Common.{◌≡◌, ◌≢◌, ℕ, ◌<◌, ◌^◌, List, [], ◌∷◌, ◌++◌, All, Contains, None, Result, Ok, Err, IfSome, IfNone}
 use Rattle.std.proofs.Common.{codes, sym, subst, ◌∙◌, ◌+◌, ap, arith, get_or, inl, inr, length, take}
 use Rattle.std.proofs.lemmas.List.{take_more}
-use Rattle.std.proofs.lemmas.List.Elements.{All-nil, All-push, All-weaker, Contains-append_left, Contains-push, Contains-push_cases}
+use Rattle.std.proofs.lemmas.List.Elements.{All-push, All-weaker, Contains-append_left, Contains-push, Contains-push_cases}
 use Rattle.std.specs.Result.{OkIff, result_ok}
 use Rattle.std.specs.Str.Parse.{IsNumeral, digits_value}
 use Rattle.seccompiler.specs.declared.backend.TargetArch.{TargetArch}
@@ -71,12 +71,6 @@ module _ (call : List ℕ) where
     pub each : All (λ (known : KnownCall). Contains targets known.target × IsKnownCall call known) calls
     pub complete : (known : KnownCall) → Contains targets known.target → IsKnownCall call known → Contains calls known
 
-  pub none_on : AreCallsOn [] []
-  none_on = record {
-    each = All-nil (λ (known : KnownCall). Contains [] known.target × IsKnownCall call known);
-    complete = λ known on is. let none = on.1 in absurd (omega (arith, none));
-  }
-
   module _ (targets : List TargetArch) (calls : List KnownCall) (are : AreCallsOn targets calls) (target : TargetArch) where
     -- One architecture more, of which it is no call that has a name.
     pub none_more : ((known : KnownCall) → known.target ≡ target → IsKnownCall call known → ⊥) → AreCallsOn (targets ++ target ∷ []) calls
@@ -138,15 +132,3 @@ module _ (call : List ℕ) where
   pub are_known : (targets : List TargetArch) (calls : List KnownCall) → AreCallsOn targets calls → calls ≢ []
       → AreKnownCalls (Contains targets) call calls
   are_known targets calls are some = record { each = are.each; complete = are.complete; some = some }
-
-  -- The architectures are those for which Q holds.
-  pub known_on : (targets : List TargetArch) (Q : TargetArch → Type 0) (calls : List KnownCall)
-      → ((t : TargetArch) → Contains targets t → Q t) → ((t : TargetArch) → Q t → Contains targets t)
-      → AreKnownCalls (Contains targets) call calls → AreKnownCalls Q call calls
-  known_on targets Q calls to from are = record {
-    each = All-weaker (λ (known : KnownCall). Contains targets known.target × IsKnownCall call known)
-        (λ (known : KnownCall). Q known.target × IsKnownCall call known) (λ known is. (to known.target is.0, is.1)) calls
-        are.each;
-    complete = λ known on is. are.complete known (from known.target on) is;
-    some = are.some;
-  }

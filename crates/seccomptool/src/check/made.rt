@@ -14,7 +14,7 @@ use crate::error::ToolError;
 use crate::findings::Verdict;
 use crate::kind::{Subject, subject_of};
 use crate::made::Made;
-use crate::profile::push_profile_notes;
+use crate::profile::push_left_out;
 use crate::run::program::program_of;
 use crate::words::Asked;
 use std::alloc::Global;
@@ -67,7 +67,7 @@ fn accepted(
         Subject::Profile(container) => {
             let checked = profile_checked(alloc, arch, container, &asked.allowed, given)?;
             let (listed, left_out) = (asked.reading.listed, &checked.compiled.left_out);
-            push_profile_notes(&mut lines.notes, arch, lines.file, listed, left_out, &[]);
+            push_left_out(&mut lines.notes, arch, lines.file, listed, left_out);
             push_profile_warnings(lines, arch, &checked);
             Ok(verdict_where(denied, checked.warnings.len()))
         }

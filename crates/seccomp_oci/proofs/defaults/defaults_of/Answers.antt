@@ -1,7 +1,7 @@
 use Rattle.std.proofs.Common.{◌≡◌, ℕ, ap}
 use Rattle.std.proofs.lemmas.Result.{IfOk-weaker}
-use Rattle.seccompiler.specs.declared.backend.SeccompAction.{SeccompAction}
-use Rattle.seccompiler.specs.Policy.{word_of}
+use Rattle.seccomp_entries.specs.declared.entry.Action.{Action}
+use Rattle.seccomp_entries.specs.Entries.{value_of}
 use Rattle.seccomp_tree.specs.Decided.{default_for}
 use Rattle.seccomp_oci.specs.Decision.{default_of, IsDefault}
 use Rattle.seccomp_oci.specs.Defaults.{is_above}
@@ -12,9 +12,9 @@ pub returns-clause-values : goal.returns-clause-values
 returns-clause-values c =
     let greatest = c.named_in-greatest.result in
     IfOk-weaker c.values_of.result
-    (λ values. (n : ℕ) → default_for values.items n ≡ word_of (default_of c.args.arch c.profile.inside.default (is_above greatest n) n))
-    (λ values. (n : ℕ) → (action : SeccompAction) × IsDefault c.args.arch c.args.container.now c.args.profile.now n action
-    × (default_for values.items n ≡ word_of action))
+    (λ values. (n : ℕ) → default_for values.items n ≡ value_of (default_of c.args.arch c.profile.inside.default (is_above greatest n) n))
+    (λ values. (n : ℕ) → (action : Action) × IsDefault c.args.arch c.args.container.now c.args.profile.now n action
+    × (default_for values.items n ≡ value_of action))
     (λ values own n. (
       default_of c.args.arch c.profile.inside.default (is_above greatest n) n,
       record {

@@ -1,8 +1,7 @@
 use Rattle.std.proofs.Common.{◌≡◌, ◌++◌, ◌∙◌, ◌∷◌, [], List, ap, subst}
 use Rattle.seccomp_entries.specs.Entries.{Entry, Lowered}
-use Rattle.seccomp_profile_checks.specs.Doubts.{AreBehind, IsSoAlone, asked_alone}
+use Rattle.seccomp_profile_checks.specs.Doubts.{AreBehind, IsSoAlone, asked_alone, asked_of_default}
 use Rattle.seccomp_profile_checks.specs.declared.doubts.Doubt.{Doubt}
-use Rattle.seccomp_profile_checks.specs.declared.doubts.Doubt.TheVariants.{LargeDefaultErrno}
 use Rattle.seccomp_warnings.specs.Picked.{ArePicked}
 use Rattle.seccomp_profile_checks.proofs.doubts.doubts_of.Goals as goal
 
@@ -15,7 +14,7 @@ returns c =
     let left_open : List Doubt = c.in_ok-left_open.left_open.items in
     record {
       default = c.in_ok-all.all.items;
-      are_of_default = subst (λ (es : List Entry). ArePicked (IsSoAlone p es) (LargeDefaultErrno ∷ []) c.in_ok-all.all.items) same
+      are_of_default = subst (λ (es : List Entry). ArePicked (IsSoAlone p es) asked_of_default c.in_ok-all.all.items) same
           c.in_ok-all.ensures;
       alone = c.in_ok-alone.alone.items;
       are_alone = subst (λ (es : List Entry). ArePicked (IsSoAlone p es) (asked_alone p) c.in_ok-alone.alone.items) same

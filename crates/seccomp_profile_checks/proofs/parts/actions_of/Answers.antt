@@ -2,7 +2,8 @@ use Rattle.std.proofs.Common.{◌≡◌, ◌∙◌, ◌+◌, ◌⊎◌, inl, ◌
 use Rattle.std.specs.Prelude.{Contains}
 use Rattle.std.proofs.lemmas.Bool.{false≢true}
 use Rattle.std.proofs.lemmas.List.{take_all, take_more}
-use Rattle.seccompiler.specs.declared.backend.SeccompAction.{SeccompAction}
+use Rattle.seccomp_entries.specs.declared.entry.Action.{Action}
+use Rattle.seccomp_entries.specs.declared.entry.Action.TheVariants.{Own}
 use Rattle.seccompiler.specs.declared.backend.SeccompAction.TheVariants.{Allow}
 use Rattle.seccomp_entries.specs.Entries.{Entry}
 use Rattle.seccomp_profile_checks.specs.Parts.{AreActionsOf}
@@ -20,9 +21,9 @@ loop-entry-preserved-then-is_known c =
     let front : List Entry = take l.entry-index es in
     let longer : take (l.entry-index + 1) es ≡ front ++ e ∷ [] =
     take_more es l.entry-index e c.loop-entry-test.true ∙ ap (λ (x : Entry). front ++ x ∷ []) (sym c.entry-item.is) in
-    let known : (e.action ≡ Allow) ⊎ Contains l.actions.items e.action =
-    subst (λ (a : SeccompAction). (a ≡ Allow) ⊎ Contains l.actions.items a) c.action_of-action.ensures
-    (subst (λ (each : List SeccompAction). (c.action_of-action.result ≡ Allow) ⊎ Contains each c.action_of-action.result)
+    let known : (e.action ≡ Own Allow) ⊎ Contains l.actions.items e.action =
+    subst (λ (a : Action). (a ≡ Own Allow) ⊎ Contains l.actions.items a) c.action_of-action.ensures
+    (subst (λ (each : List Action). (c.action_of-action.result ≡ Own Allow) ⊎ Contains each c.action_of-action.result)
     c.deref.ensures.value (c.is_known.ensures.0 c.if-is_known.true)) in
     subst (λ (xs : List Entry). AreActionsOf xs l.actions.items) (sym longer) (actions_same front l.actions.items e l.invariant known)
 
@@ -35,7 +36,7 @@ loop-entry-preserved c =
     let longer : take (l.entry-index + 1) es ≡ front ++ e ∷ [] =
     take_more es l.entry-index e c.loop-entry-test.true ∙ ap (λ (x : Entry). front ++ x ∷ []) (sym c.entry-item.is) in
     let pushed : c.push.new.self.items ≡ l.actions.items ++ e.action ∷ [] =
-    c.in_ok-push.ensures.items ∙ ap (λ (a : SeccompAction). l.actions.items ++ a ∷ []) c.action_of-action.ensures in
+    c.in_ok-push.ensures.items ∙ ap (λ (a : Action). l.actions.items ++ a ∷ []) c.action_of-action.ensures in
     subst (λ (xs : List Entry). AreActionsOf xs c.push.new.self.items) (sym longer)
     (actions_more front l.actions.items e l.invariant c.push.new.self.items pushed
     (λ same. false≢true (sym c.if-is_known.false ∙ c.is_known.ensures.1 (inl (c.action_of-action.ensures ∙ same)))))

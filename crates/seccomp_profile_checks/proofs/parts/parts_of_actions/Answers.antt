@@ -1,7 +1,7 @@
 use Rattle.std.proofs.Common.{List, subst}
 use Rattle.std.specs.List.{AllZip}
 use Rattle.std.proofs.lemmas.List.{take_all}
-use Rattle.seccompiler.specs.declared.backend.SeccompAction.{SeccompAction}
+use Rattle.seccomp_entries.specs.declared.entry.Action.{Action}
 use Rattle.seccomp_profile_checks.specs.Parts.{IsPartOfAction}
 use Rattle.seccomp_profile_checks.proofs.Actions.{zip_more}
 use Rattle.seccomp_profile_checks.proofs.parts.parts_of_actions.Goals as goal
@@ -14,5 +14,5 @@ loop-action-preserved c =
 
 pub returns : goal.returns
 returns c =
-    subst (λ (each : List SeccompAction). AllZip (IsPartOfAction c.args.target c.args.effective.now) each c.loop-action.parts.items)
+    subst (λ (each : List Action). AllZip (IsPartOfAction c.args.target c.args.effective.now) each c.loop-action.parts.items)
     (take_all c.loop-action.action-index c.args.actions.now c.loop-action-test.false) c.loop-action.invariant

@@ -105,10 +105,11 @@ fn spot_of<'a>(
     let (default, action) = (Part::Under("defaultAction"), Part::Under("action"));
     match warning {
         ProfileWarning::Doubtful(doubt) => match *doubt {
-            Doubt::LargeDefaultErrno => (None, (0, 0), default, None),
-            Doubt::EqualsDefault { place } | Doubt::LargeErrno { place } => {
-                (Some(place), (0, 0), action, None)
-            }
+            Doubt::LargeDefaultErrno | Doubt::NotifiesByDefault => (None, (0, 0), default, None),
+            Doubt::EqualsDefault { place }
+            | Doubt::LargeErrno { place }
+            | Doubt::NoListener { place } => (Some(place), (0, 0), action, None),
+            Doubt::NotifiesWrite { place } => (Some(place), (0, 1), action, None),
             Doubt::Behind { second, number, .. } => {
                 let call = name_of(target, number);
                 (Some(second), (1, number as usize), Part::Whole, call)
@@ -212,6 +213,18 @@ fn said_of(
                 )
             }
         },
+        ProfileWarning::Doubtful(Doubt::NotifiesByDefault) => String::from_str(
+            alloc,
+            "runc starts no container with SCMP_ACT_NOTIFY as the default action; list the calls that the supervisor decides",
+        ),
+        ProfileWarning::Doubtful(Doubt::NoListener { .. }) => String::from_str(
+            alloc,
+            "without \"listenerPath\" runc starts no container, and under crun these calls fail with ENOSYS; write where the supervisor listens",
+        ),
+        ProfileWarning::Doubtful(Doubt::NotifiesWrite { .. }) => String::from_str(
+            alloc,
+            "runc starts no container with SCMP_ACT_NOTIFY for write; leave the call out here",
+        ),
         ProfileWarning::Evaded(evasion, _) => {
             said_of_calls(alloc, target, evasion, said_of_code(evasion.code))
         }

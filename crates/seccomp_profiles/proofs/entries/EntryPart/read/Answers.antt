@@ -12,7 +12,7 @@ returns-in_default-3-clause-none c = λ e h. unless_some _ c.in_default-3.not-So
 
 pub returns-clause-found : goal.returns-clause-found
 returns-clause-found c = record {
-  only = search rules;
+  only = search (rules, c.if-not-is_object_of.ensures.0);
   comment = search rules;
   names = search rules;
   action = search rules;

@@ -8,7 +8,7 @@ import re
 import subprocess
 
 import driver_rows
-from row_cases import ARCHITECTURES, NAMES, names_of
+from model import ARCHITECTURES, NAMES, numbers_on
 
 # The header of each architecture, and what its own header defines before it. Of x86_64 it is the machine's.
 WANTED = "-D__ARCH_WANT_NEW_STAT -D__ARCH_WANT_SET_GET_RLIMIT -D__ARCH_WANT_SYS_CLONE3 -D__ARCH_WANT_MEMFD_SECRET"
@@ -97,7 +97,7 @@ def compare_tables(results):
     """Compares each table with its pairs, then with each source, and riscv64's with aarch64's, which has the same calls but for three."""
     for arch in ARCHITECTURES:
         compare_table(results, arch)
-    tables = {arch: {name: number for number, name in names_of(arch).items()} for arch in ARCHITECTURES}
+    tables = {arch: numbers_on(arch) for arch in ARCHITECTURES}
     generic = {name: number for name, number in tables["aarch64"].items() if name != "renameat"}
     results.compare("riscv64: aarch64", (tables["riscv64"],), ({**generic, "riscv_flush_icache": 259, "riscv_hwprobe": 258},))
     for arch, pairs in tables.items():

@@ -59,71 +59,41 @@ static const struct sock_filter LISTING[24] = {
     {0x05, 0, 0, 2},    {0x06, 0, 0, 0x7fff0000}, {0x06, 0, 0, 0x80000000}, {0x06, 0, 0, 0x80000000},
 };
 
-/* The names of the header, and their numbers. */
-static const int64_t CODES[][2] = {
-    {SECCOMPILER_OUT_OF_MEMORY, -1},
-    {SECCOMPILER_UNKNOWN_ARCHITECTURE, -2},
-    {SECCOMPILER_UNKNOWN_LAYOUT, -3},
-    {SECCOMPILER_REJECTED, -4},
-    {SECCOMPILER_NO_FILTER, -5},
-    {SECCOMPILER_TOO_LARGE, -6},
-    {SECCOMPILER_NO_ROOM, -7},
-    {SECCOMPILER_NOT_CHECKED, -8},
-    {SECCOMPILER_UNKNOWN_RELATION, -9},
-    {SECCOMPILER_UNKNOWN_CALL, -10},
-    {SECCOMPILER_LAYOUT_LINEAR, 0},
-    {SECCOMPILER_LAYOUT_TREE, 1},
-    {SECCOMPILER_UNKNOWN_ACTION, -11},
-    {SECCOMPILER_BAD_COUNTS, -12},
-    {SECCOMPILER_BAD_ARGUMENT, -13},
-    {SECCOMPILER_UNKNOWN_LENGTH, -14},
-    {SECCOMPILER_UNKNOWN_OPERATOR, -15},
-    {SECCOMPILER_EMPTY_RULE, -16},
-    {SECCOMPILER_EQUAL_ACTIONS, -17},
-    {SECCOMPILER_BAD_ORDER, -18},
-    {SECCOMPILER_BAD_NUMBER, -19},
-    {SECCOMPILER_UNDECIDED, -20},
-    {SECCOMPILER_NO_FILE, -100},
-    {SECCOMPILER_ALIKE, 0},
-    {SECCOMPILER_AT_MOST_AS_PERMISSIVE, 1},
-    {SECCOMPILER_ALL_CALLS, 0},
-    {SECCOMPILER_DWORD, 4},
-    {SECCOMPILER_QWORD, 8},
-    {SECCOMPILER_EQ, 0},
-    {SECCOMPILER_NE, 1},
-    {SECCOMPILER_GT, 2},
-    {SECCOMPILER_GE, 3},
-    {SECCOMPILER_LT, 4},
-    {SECCOMPILER_LE, 5},
-    {SECCOMPILER_MASKED_EQ, 6},
+/* The other names of the headers, and their numbers. */
+static const int64_t NAMES[][2] = {
+    {SECCOMPILER_LAYOUT_LINEAR, 0}, {SECCOMPILER_LAYOUT_TREE, 1}, {SECCOMPILER_ALIKE, 0},
+    {SECCOMPILER_AT_MOST_AS_PERMISSIVE, 1}, {SECCOMPILER_ALL_CALLS, 0}, {SECCOMPILER_DWORD, 4},
+    {SECCOMPILER_QWORD, 8}, {SECCOMPILER_EQ, 0}, {SECCOMPILER_NE, 1}, {SECCOMPILER_GT, 2}, {SECCOMPILER_GE, 3},
+    {SECCOMPILER_LT, 4}, {SECCOMPILER_LE, 5}, {SECCOMPILER_MASKED_EQ, 6},
 };
 
-/* What each code of the headers means, and numbers that are no codes. tools/check-library compares the names with the headers. */
+/* The codes of the headers, their numbers, and what each means; and numbers that are no codes. tools/check-library compares the names
+ * with the headers. */
 static const struct {
-    int64_t code;
+    int64_t code, number;
     const char *text;
-} SENTENCES[] = {
-    {SECCOMPILER_OUT_OF_MEMORY, "Out of memory."},
-    {SECCOMPILER_UNKNOWN_ARCHITECTURE, "Unknown architecture."},
-    {SECCOMPILER_UNKNOWN_LAYOUT, "Unknown layout."},
-    {SECCOMPILER_REJECTED, "The policy is rejected."},
-    {SECCOMPILER_NO_FILTER, "The policy has no such filter."},
-    {SECCOMPILER_TOO_LARGE, "The program would have more than 4096 instructions."},
-    {SECCOMPILER_NO_ROOM, "The program has more instructions than the array."},
-    {SECCOMPILER_NOT_CHECKED, "The instructions are no program that may be run."},
-    {SECCOMPILER_UNKNOWN_RELATION, "Unknown relation."},
-    {SECCOMPILER_UNKNOWN_CALL, "Unknown system call."},
-    {SECCOMPILER_UNKNOWN_ACTION, "Unknown action."},
-    {SECCOMPILER_BAD_COUNTS, "The counts don't add up to the rules or the conditions."},
-    {SECCOMPILER_BAD_ARGUMENT, "The argument of a condition is above 5."},
-    {SECCOMPILER_UNKNOWN_LENGTH, "The length of a condition is neither 4 nor 8."},
-    {SECCOMPILER_UNKNOWN_OPERATOR, "The operator of a condition is above 6."},
-    {SECCOMPILER_EMPTY_RULE, "A rule has no conditions."},
-    {SECCOMPILER_EQUAL_ACTIONS, "The two actions are the same."},
-    {SECCOMPILER_BAD_ORDER, "The numbers of the chains don't ascend; sort their rules with them."},
-    {SECCOMPILER_BAD_NUMBER, "The number of a chain is below 0 or above 4294967295."},
-    {SECCOMPILER_UNDECIDED, "The comparison is undecided."},
-    {SECCOMPILER_NO_FILE, "The file can't be read."},
+} CODES[] = {
+    {SECCOMPILER_OUT_OF_MEMORY, -1, "Out of memory."},
+    {SECCOMPILER_UNKNOWN_ARCHITECTURE, -2, "Unknown architecture."},
+    {SECCOMPILER_UNKNOWN_LAYOUT, -3, "Unknown layout."},
+    {SECCOMPILER_REJECTED, -4, "The policy is rejected."},
+    {SECCOMPILER_NO_FILTER, -5, "The policy has no such filter."},
+    {SECCOMPILER_TOO_LARGE, -6, "The program would have more than 4096 instructions."},
+    {SECCOMPILER_NO_ROOM, -7, "The program has more instructions than the array."},
+    {SECCOMPILER_NOT_CHECKED, -8, "The instructions are no program that may be run."},
+    {SECCOMPILER_UNKNOWN_RELATION, -9, "Unknown relation."},
+    {SECCOMPILER_UNKNOWN_CALL, -10, "Unknown system call."},
+    {SECCOMPILER_UNKNOWN_ACTION, -11, "Unknown action."},
+    {SECCOMPILER_BAD_COUNTS, -12, "The counts don't add up to the rules or the conditions."},
+    {SECCOMPILER_BAD_ARGUMENT, -13, "The argument of a condition is above 5."},
+    {SECCOMPILER_UNKNOWN_LENGTH, -14, "The length of a condition is neither 4 nor 8."},
+    {SECCOMPILER_UNKNOWN_OPERATOR, -15, "The operator of a condition is above 6."},
+    {SECCOMPILER_EMPTY_RULE, -16, "A rule has no conditions."},
+    {SECCOMPILER_EQUAL_ACTIONS, -17, "The two actions are the same."},
+    {SECCOMPILER_BAD_ORDER, -18, "The numbers of the chains don't ascend; sort their rules with them."},
+    {SECCOMPILER_BAD_NUMBER, -19, "The number of a chain is below 0 or above 4294967295."},
+    {SECCOMPILER_UNDECIDED, -20, "The comparison is undecided."},
+    {SECCOMPILER_NO_FILE, -100, "The file can't be read."},
 };
 static const int64_t NO_CODES[] = {0, 1, 24, -21, -99, -101, INT64_MAX, INT64_MIN};
 
@@ -194,7 +164,7 @@ static const struct {
     {0x7fc00000, 0, SECCOMPILER_UNKNOWN_ACTION},
 };
 
-/* What is not compiled. Each row has the faults of all later ones that it can have. */
+/* What is neither compiled nor decided. Each row has the faults of all later ones that it can have. */
 static const struct {
     const char *text, *name;
     uint32_t arch, layout;
@@ -205,6 +175,7 @@ static const struct {
     {"", "b", 0, 2, 0, SECCOMPILER_UNKNOWN_ARCHITECTURE, "Unknown architecture."},
     {"", "b", AUDIT_ARCH_I386, 0, 0, SECCOMPILER_UNKNOWN_ARCHITECTURE, "Unknown architecture."},
     {"", "b", 0xc000003f, 0, 0, SECCOMPILER_UNKNOWN_ARCHITECTURE, "Unknown architecture."},
+    {"[]", "b", 0, 0, 0, SECCOMPILER_UNKNOWN_ARCHITECTURE, "Unknown architecture."},
     {"", "b", AUDIT_ARCH_X86_64, 2, 0, SECCOMPILER_UNKNOWN_LAYOUT, "Unknown layout."},
     {"[]", "b", AUDIT_ARCH_X86_64, 0, 0, SECCOMPILER_REJECTED,
      "the policy: expected an object of filters, found an empty array"},
@@ -231,9 +202,13 @@ static const struct {
      "a.filter[0]: \"note\": unknown key; expected syscall, args or comment"},
     {"{\"a\":{\"mismatch_action\":\"trap\",\"match_action\":\"trap\",\"filter\":[]}}", "b", AUDIT_ARCH_X86_64, 0, 0,
      SECCOMPILER_REJECTED, "a: expected two actions that differ, found the same one twice"},
+    {UNKNOWN, "c", AUDIT_ARCH_X86_64, 0, 0, SECCOMPILER_REJECTED,
+     "a.filter[0].syscall: unknown system call \"nosyscall\" on x86_64"},
+    {"{}", "b", AUDIT_ARCH_X86_64, 0, 0, SECCOMPILER_NO_FILTER, "No filter has this name."},
     {README, "b", AUDIT_ARCH_X86_64, 0, 0, SECCOMPILER_NO_FILTER, "No filter has this name."},
     {README, "main", AUDIT_ARCH_X86_64, 0, 0, SECCOMPILER_NO_FILTER, "No filter has this name."},
     {README, "\xff", AUDIT_ARCH_X86_64, 0, 0, SECCOMPILER_NO_FILTER, "No filter has this name."},
+    {README, "\xc2", AUDIT_ARCH_X86_64, 0, 0, SECCOMPILER_NO_FILTER, "No filter has this name."},
     {README, NAME, AUDIT_ARCH_X86_64, 0, 23, SECCOMPILER_NO_ROOM,
      "The array has too little room for the program: it has 24 instructions."},
     {README, NAME, AUDIT_ARCH_X86_64, 1, 12, SECCOMPILER_NO_ROOM,
@@ -339,22 +314,6 @@ static const struct {
     {"one set less", STRICT, 4, LAX, 4, 1, 0, 0, 0, 4, SECCOMPILER_UNDECIDED},
     {"as many sets as a difference takes", LAX, 4, STRICT, 4, 1, 0, 0, 0, 2, 0},
     {"one set less than that", LAX, 4, STRICT, 4, 1, 0, 0, 0, 1, SECCOMPILER_UNDECIDED},
-};
-
-/* What is not decided. Each row has the faults of all later ones that it can have. */
-static const struct {
-    const char *text, *name;
-    uint32_t arch;
-    int64_t code;
-    const char *said;
-} UNDECIDED[] = {
-    {"[]", "b", 0, SECCOMPILER_UNKNOWN_ARCHITECTURE, "Unknown architecture."},
-    {"[]", "b", AUDIT_ARCH_X86_64, SECCOMPILER_REJECTED, "the policy: expected an object of filters, found an empty array"},
-    {UNKNOWN, "c", AUDIT_ARCH_X86_64, SECCOMPILER_REJECTED,
-     "a.filter[0].syscall: unknown system call \"nosyscall\" on x86_64"},
-    {"{}", "b", AUDIT_ARCH_X86_64, SECCOMPILER_NO_FILTER, "No filter has this name."},
-    {README, "b", AUDIT_ARCH_X86_64, SECCOMPILER_NO_FILTER, "No filter has this name."},
-    {README, "\xc2", AUDIT_ARCH_X86_64, SECCOMPILER_NO_FILTER, "No filter has this name."},
 };
 
 /* Names of calls, and their numbers. */

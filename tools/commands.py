@@ -3,6 +3,7 @@
 import os
 import pathlib
 import re
+import shutil
 import subprocess
 
 TOP = pathlib.Path(__file__).resolve().parent.parent
@@ -24,6 +25,14 @@ def run(words, folder, given="", pass_fds=(), **more):
     except (OSError, subprocess.TimeoutExpired) as error:
         return "", str(error), None
     return *(it.decode("utf-8", "surrogateescape") for it in (ran.stdout, ran.stderr)), ran.returncode
+
+
+def is_there(otherwise, *commands):
+    """Returns whether all of these commands are installed; else says which isn't, and what isn't done."""
+    missing = [it for it in commands if shutil.which(it, path=ENVIRONMENT["PATH"]) is None]
+    if missing:
+        print(f"{missing[0]} isn't installed, so {otherwise}")
+    return not missing
 
 
 def shell_of(folder, path):

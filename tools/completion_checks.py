@@ -30,6 +30,7 @@ import tempfile
 
 sys.dont_write_bytecode = True
 
+from model import numbers_on  # noqa: E402
 from results import Results  # noqa: E402
 
 TOP = pathlib.Path(__file__).resolve().parent.parent
@@ -78,15 +79,10 @@ def commands_of(text):
     return re.findall(r"^  ([a-z]+)\b", listed[1] if listed else "", re.M)
 
 
-def calls_of(arch):
-    """Returns the names of the calls of an architecture."""
-    return sorted(it.split()[0] for it in (TOP / f"tools/call_names/{arch}").read_text().splitlines())
-
-
 def wanted_for(kind, files, text=""):
     """Returns what is completed if a help names this kind of argument. Bash itself quotes the names of files."""
     if kind == "CALL":
-        return calls_of("x86_64")
+        return sorted(numbers_on("x86_64"))
     is_input = re.search(rf"^ +[<\[]{kind}[>\]].* - for standard input", text, re.M) is not None
     return sorted([*(files if kind in FILES else []), *(["-"] if is_input else [])])
 
@@ -193,8 +189,8 @@ def completed_by(shell, folder, *words, program="seccomptool"):
 def compare_arguments_of(results, folder, shell, files):
     """Compares what zsh or fish completes for calls, for files, and for each word of seccompc."""
     for words, wanted in (
-        (["call", ""], calls_of("x86_64")), (["call", "-a", "arm64", ""], calls_of("aarch64")), (["call", "read", ""], files),
-        (["explain", ""], files), (["explain", "-f", "main", "given", ""], calls_of("x86_64")),
+        (["call", ""], sorted(numbers_on("x86_64"))), (["call", "-a", "arm64", ""], sorted(numbers_on("aarch64"))), (["call", "read", ""], files),
+        (["explain", ""], files), (["explain", "-f", "main", "given", ""], sorted(numbers_on("x86_64"))),
     ):
         results.compare(f"{shell}: seccomptool {words}", (wanted,), (completed_by(shell, folder, *words),))
     architectures = completed(folder, "seccompc", "run", "")

@@ -1,18 +1,23 @@
 """The blocks of a page in Markdown: commands and what is shown of them, and code."""
 
 
-def blocks_of(page, kind="console"):
-    """Returns the blocks of a kind of a page, each with the number of its first line, and its lines."""
+def blocks_in(lines, kinds):
+    """Returns the blocks of some kinds of lines, each with the number of its first line, and its lines."""
     blocks, block = [], None
-    for number, line in enumerate(page.read_text(encoding="utf-8").splitlines(), 1):
+    for number, line in enumerate(lines, 1):
         if block is not None and line.strip() == "```":
-            blocks.append(block)
+            blocks += [block] if block[1] is not None else []
             block = None
-        elif block is not None:
+        elif block is None and line.strip().startswith("```"):
+            block = (number + 1, [] if line.strip()[3:] in kinds else None)
+        elif block is not None and block[1] is not None:
             block[1].append(line)
-        elif line.strip() == f"```{kind}":
-            block = (number + 1, [])
     return blocks
+
+
+def blocks_of(page, kind="console"):
+    """Returns the blocks of a kind of a page."""
+    return blocks_in(page.read_text(encoding="utf-8").splitlines(), [kind])
 
 
 def commands_of(lines):

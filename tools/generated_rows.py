@@ -15,8 +15,7 @@ CODES = {0x20: "LD", 0x54: "AND", 0x05: "JA", 0x06: "RET", 0x15: "JEQ", 0x25: "J
 
 def shown(code):
     """Returns instructions as rows have them."""
-    return "; ".join(f"{CODES[kind]} {k}" + (f",{when},{otherwise}" if kind in TESTS else "")
-                     for kind, when, otherwise, k in code)
+    return "; ".join(f"{CODES[kind]} {k}" + (f",{when},{otherwise}" if kind in TESTS else "") for kind, when, otherwise, k in code)
 
 
 def compared(first, second, told):

@@ -25,6 +25,11 @@ def answer_of(number):
     return f"errno {number}: {os.strerror(number)}\n" if number else "0\n"
 
 
+def outcome_of(wanted):
+    """Returns what comes of `call` if its call fails with this error number or returns 0, or is killed: both outputs and the status."""
+    return ("", "", KILLED) if wanted == KILLED else (answer_of(wanted), "", 0)
+
+
 def denying(*entries):
     """Returns the filter that answers these entries with error number 1000 and allows the rest."""
     return filter_of({"errno": 1000}, "allow", *entries)
@@ -38,9 +43,7 @@ CALLS = denying("sched_yield")
 # Error numbers of a policy, and what a call returns for them. A program has 16 bits for the number, so a policy's
 # higher ones are cut off (SECCOMP_RET_DATA, seccomp(2)). The kernel takes 4095, MAX_ERRNO, for what is above it, and
 # answers 0 as a call that went well (__seccomp_filter in kernel/seccomp.c).
-LARGE_ERRNOS = {
-    4095: 4095, 4096: 4095, 65535: 4095, 65536: 0, 65537: 1, 65536 + 4096: 4095, 4294901760: 0, 4294967295: 4095,
-}
+LARGE_ERRNOS = {4095: 4095, 4096: 4095, 65535: 4095, 65536: 0, 65537: 1, 65536 + 4096: 4095, 4294901760: 0, 4294967295: 4095}
 
 # The policies of the cases. A text or bytes stand as they are, anything else as JSON.
 POLICIES = {
@@ -198,10 +201,8 @@ PASSED = [
     ("errno", ["sh", "-c", "exit 7"], "", 7),
     ("errno", ["sh", "-c", 'printf "%s|" "$@"', "sh", "a b", "", "--tree"], "a b||--tree|", 0),
     ("errno", ["sh", "-c", "kill -TERM $$"], "", -signal.SIGTERM),
-    ("large errno", ["sh", "-c", "{call} sched_yield; exec {call} sched_yield"],
-     "errno 1000: Unknown error 1000\n" * 2, 0),
-    ("log", ["grep", "-E", "^(NoNewPrivs|Seccomp):", "/proc/self/status"],
-     "NoNewPrivs:\t1\nSeccomp:\t2\n", 0),
+    ("large errno", ["sh", "-c", "{call} sched_yield; exec {call} sched_yield"], "errno 1000: Unknown error 1000\n" * 2, 0),
+    ("log", ["grep", "-E", "^(NoNewPrivs|Seccomp):", "/proc/self/status"], "NoNewPrivs:\t1\nSeccomp:\t2\n", 0),
 ]
 
 # Lines for a shell, in which JAIL is a jailer with its layout, and CALL the program `call`; standard output; and what is reported,
@@ -348,9 +349,7 @@ DENIED = [
     "ioctl 0 0x5412", "ioctl 0 0x100005412", "ioctl 0 0xffffffff00005412", "ioctl 0 0x541c", "ioctl 0 0x10000541c",
     "keyctl", "add_key", "request_key",
 ]
-NOT_DENIED = [
-    ("openat 0 0 1", 14), ("socket 99", 97), ("kill 0x7fffffff", 3), ("ioctl 99 0x5413", 9), ("ioctl 99 0x541b", 9),
-]
+NOT_DENIED = [("openat 0 0 1", 14), ("socket 99", 97), ("kill 0x7fffffff", 3), ("ioctl 99 0x5413", 9), ("ioctl 99 0x541b", 9)]
 
 # Under both filters of examples/deny-policy.json: a program for Python with a thread and a child.
 BUSY = """

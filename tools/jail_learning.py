@@ -16,14 +16,13 @@ import subprocess
 import time
 
 from commands import SECONDS, TOP, run
-from jail_cases import KILLED, answer_of
+from jail_cases import KILLED, answer_of, outcome_of
 from jail_running import EXAMPLES, TOOL
 from jail_services import PATH, gunicorn, memcached, mosquitto, nginx, postgres, postgres_programs, redis, redis_that_saves, sshd
+from model import ARCHITECTURES, numbers_on
 
 MACHINE = platform.machine()
-ARCH_WORD = {"x86_64": "c000003e", "aarch64": "c00000b7", "riscv64": "c00000f3"}.get(MACHINE)
-TABLE = (TOP / f"crates/seccomp_tables/src/{MACHINE}.rt").read_text(encoding="utf-8") if ARCH_WORD else ""
-NUMBERS = {name: int(number) for name, number in re.findall(r'\("([a-z0-9_]+)", ([0-9]+)\)', TABLE)}
+NUMBERS = numbers_on(MACHINE) if MACHINE in ARCHITECTURES else {}
 
 # What strace prints of a thread that ends before strace knows its call: none, or one whose number is that of a process.
 ENDED = re.compile(r"^\d+ +(\?\?\?|syscall_0x)\S.*\n", re.M)
@@ -115,7 +114,7 @@ def try_program(results, jailers, folder, name, files, prepare):
         results.compare(f"{jailer} {policy}", wanted, used(words, jailed, folder))
         for call, wanted in INJECTED:
             found = run([*jailed, folder / "bin/call", *call.split()], folder)
-            results.compare(f"{jailer} {policy}: {call}", ("", "", KILLED) if wanted == KILLED else (answer_of(wanted), "", 0), found)
+            results.compare(f"{jailer} {policy}: {call}", outcome_of(wanted), found)
 
 
 def try_old_clone(results, jailer, folder, files):
@@ -126,7 +125,7 @@ def try_old_clone(results, jailer, folder, files):
     results.compare(f"{jailer} {policy}: both filters", wanted, used(words, jailed, folder))
     for call, wanted in (("clone3", 38), ("kexec_load", KILLED)):
         found = run([*jailed, folder / "bin/call", call], folder)
-        results.compare(f"{jailer} {policy}: {call} under both", ("", "", KILLED) if wanted == KILLED else (answer_of(wanted), "", 0), found)
+        results.compare(f"{jailer} {policy}: {call} under both", outcome_of(wanted), found)
 
 
 def try_library(results, jailer, folder):
@@ -244,7 +243,7 @@ def logged(results, jailed, folder, call, wanted, code):
         os.close(log)
         if not line:
             print(f"the kernel's log has no line of {call}, so one of its form is explained")
-    return line or LINE.format(31 if wanted[2] == KILLED else 0, ARCH_WORD, number, code)
+    return line or LINE.format(31 if wanted[2] == KILLED else 0, f"{ARCHITECTURES[MACHINE]:x}", number, code)
 
 
 def explained(results, folder, policy, line, action, call):
@@ -273,7 +272,7 @@ def try_lines(results, jailer, folder, files):
 
 def try_learning(results, jailers, folder):
     """Makes policies of traces, and runs the traced programs and single calls under them."""
-    if ARCH_WORD is None:
+    if not NUMBERS:
         print(f"no names of calls of {MACHINE} are known, so nothing is learned")
         return
     try_library(results, jailers[0], folder)

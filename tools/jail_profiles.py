@@ -10,7 +10,7 @@ import re
 import subprocess
 
 from commands import ENVIRONMENT, SECONDS, run
-from jail_cases import KILLED, answer_of
+from jail_cases import KILLED, answer_of, outcome_of
 from jail_running import EXAMPLES, TOOL
 
 EXAMPLE = EXAMPLES / "oci-profile.json"
@@ -87,10 +87,8 @@ def try_call(results, what, jailed, folder, call, wanted):
     out, err, status = ran([*jailed, folder / "bin/call", *call.split()], folder)
     if wanted is None:
         results.compare(f"{what}: {call}", (False, "", 0), (out.startswith("errno"), err, status))
-    elif wanted == KILLED:
-        results.compare(f"{what}: {call}", ("", "", KILLED), (out, err, status))
     else:
-        results.compare(f"{what}: {call}", (answer_of(wanted), "", 0), (out, err, status))
+        results.compare(f"{what}: {call}", outcome_of(wanted), (out, err, status))
 
 
 def try_example(results, jailer, folder, way, end):

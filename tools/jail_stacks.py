@@ -11,7 +11,7 @@ import struct
 
 from commands import run
 from jail_running import TOOL
-from running_kernel import SECCOMP
+from running_kernel import under
 
 # Calls that do nothing, by their numbers.
 CALLS = {
@@ -44,17 +44,8 @@ def program(words):
 
 def seen(programs, number):
     """Returns what a process sees of a call once it has installed these programs."""
-    library = ctypes.CDLL(None, use_errno=True)
-    kept = [ctypes.create_string_buffer(it, len(it)) for it in programs]
-    headers = [struct.pack("@HP", len(it) // 8, ctypes.addressof(buffer)) for it, buffer in zip(programs, kept)]
-    child = os.fork()
-    if child == 0:
-        ok = library.prctl(38, 1, 0, 0, 0) == 0 and all(library.syscall(SECCOMP, 1, 0, it) == 0 for it in headers)
-        if not ok:
-            os._exit(255)
-        os._exit(0 if library.syscall(number) >= 0 else ctypes.get_errno())
-    status = os.waitstatus_to_exitcode(os.waitpid(child, 0)[1])
-    return "killed" if status == -31 else "made" if status == 0 else f"errno {status}"
+    told, status = under(programs, lambda library, _, out: os.write(out, bytes([library.syscall(number) < 0 and ctypes.get_errno()])))
+    return "killed" if status == -31 else "not installed" if status else f"errno {told[0]}" if told[0] else "made"
 
 
 def try_stack(results, names, words, folder):

@@ -14,11 +14,11 @@ from commands import run
 from jail_cases import answer_of
 from jail_running import TOOL
 from jail_stacks import CALLS
-from running_kernel import SECCOMP
+from running_kernel import under
 
-# Of `linux/seccomp.h`: the operation and its flag that returns the listener, and the two requests of a listener, with `struct
+# Of `linux/seccomp.h`: the flag by which seccomp(2) returns the listener, and the two requests of a listener, with `struct
 # seccomp_notif` and `struct seccomp_notif_resp`.
-SET_MODE_FILTER, NEW_LISTENER = 1, 8
+NEW_LISTENER = 8
 RECEIVE, SEND = 0xC0502100, 0xC0182101
 
 PROFILE = {"defaultAction": "SCMP_ACT_ALLOW", "syscalls": [
@@ -47,25 +47,14 @@ def supervise(listener):
 
 def seen_with_supervisor(program):
     """Returns the errno of each call in a process whose threads but one have this program and a supervisor, 0 for none."""
-    library = ctypes.CDLL(None, use_errno=True)
-    kept = ctypes.create_string_buffer(program, len(program))
-    header = struct.pack("@HP", len(program) // 8, ctypes.addressof(kept))
-    reading, writing = os.pipe()
-    child = os.fork()
-    if child == 0:
-        library.prctl(38, 1, 0, 0, 0)
-        listener = library.syscall(SECCOMP, SET_MODE_FILTER, NEW_LISTENER, header)
-        if listener < 0:
-            os._exit(ctypes.get_errno())
+    def act(library, listener, out):
         threading.Thread(target=supervise, args=(listener,), daemon=True).start()
         for call, arguments, _ in DECIDED:
             made = library.syscall(CALLS[call], *map(ctypes.c_ulong, arguments)) >= 0
-            os.write(writing, bytes([0 if made else ctypes.get_errno()]))
-        os._exit(0)
-    os.close(writing)
-    with os.fdopen(reading, "rb") as answers:
-        found = list(answers.read())
-    return found, os.waitstatus_to_exitcode(os.waitpid(child, 0)[1])
+            os.write(out, bytes([0 if made else ctypes.get_errno()]))
+
+    told, status = under([program], act, NEW_LISTENER)
+    return list(told), status
 
 
 def try_supervised(results, jailers, folder):

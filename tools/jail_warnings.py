@@ -15,6 +15,7 @@ from typing import NamedTuple
 from commands import TOP, run
 from jail_cases import KILLED, TIOCSTI, X32_ANSWERS, X32_BIT, X32_CALLS, answer_of, denying, filter_of, when
 from jail_running import EXAMPLES, TOOL
+from model import numbers_on
 
 LOW = 2**32 - 1
 WHOLE = 2**64 - 1
@@ -28,8 +29,7 @@ CAT = json.loads((EXAMPLES / "cat-policy.json").read_text(encoding="utf-8"))["ca
 
 # The calls by which a thread or a process ends, or a signal handler returns; and all calls of this machine.
 EXITS = ("exit", "exit_group", "rt_sigreturn")
-TABLE = (TOP / f"crates/seccomp_tables/src/{platform.machine()}.rt").read_text(encoding="utf-8")
-NAMES = re.findall(r'\("([a-z0-9_]+)", [0-9]+\)', TABLE)
+NAMES = sorted(numbers_on(platform.machine()))
 
 # Arguments, and masks of two neighbouring bits.
 MASKS = [(at, 3 << bit) for at in (0, 1) for bit in range(18)]
@@ -100,18 +100,14 @@ WARNED = {
     "errno 70000": on_errno(["errno-too-large"], 70000, 4095),
     "errno 4": on_errno(["endless-retry"], 4, 4),
     "errno 65537": on_errno(["errno-too-large"], 65537, 1),
-    "trace": Shown(["trace-without-tracer"], filter_of({"trace": 1}, "allow", "sched_yield"),
-                   [("sched_yield", answer_of(38))]),
+    "trace": Shown(["trace-without-tracer"], filter_of({"trace": 1}, "allow", "sched_yield"), [("sched_yield", answer_of(38))]),
     "errno 38": Shown([], filter_of({"errno": 38}, "allow", "sched_yield"), [("sched_yield", answer_of(38))]),
     # The number of x32 is none of the list: the filter lets it through. What the kernel says then isn't the filter's.
     "denies a list": Shown([], denying("sched_yield"), [("sched_yield", DENIED), (YIELD_OF_X32, X32_ANSWERS)]),
-    "allows a list": Shown([], {**CAT, "mismatch_action": {"errno": 1000}}, [
-        ("chroot 0", DENIED), (YIELD_OF_X32, DENIED)]),
-    "the high half is ignored": on_yield(
-        ["high-half-ignored"], "dword", "eq", LOW + 6, [5, LOW + 6, 3 * (LOW + 1) + 5], [4, 6, LOW + 5]),
+    "allows a list": Shown([], {**CAT, "mismatch_action": {"errno": 1000}}, [("chroot 0", DENIED), (YIELD_OF_X32, DENIED)]),
+    "the high half is ignored": on_yield(["high-half-ignored"], "dword", "eq", LOW + 6, [5, LOW + 6, 3 * (LOW + 1) + 5], [4, 6, LOW + 5]),
     "the high half is compared": on_yield([], "qword", "eq", LOW + 6, [LOW + 6], [5, 3 * (LOW + 1) + 5]),
-    "a bit outside the mask": on_yield(
-        ["value-outside-mask"], "dword", {"masked_eq": 3}, 4, [0, 4, 8, 16], [1, 2, 5, 7]),
+    "a bit outside the mask": on_yield(["value-outside-mask"], "dword", {"masked_eq": 3}, 4, [0, 4, 8, 16], [1, 2, 5, 7]),
     "no bit outside the mask": on_yield([], "dword", {"masked_eq": 7}, 4, [4, 12], [0, 1, 8, 16]),
     "at most the greatest dword": on_yield(["always-holds"], "dword", "le", LOW, [0, 1, LOW, LOW + 1, WHOLE], []),
     "at most that of a qword": on_yield(["high-half-evades"], "qword", "le", LOW, [0, 1, LOW], [LOW + 1, WHOLE]),

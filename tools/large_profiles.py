@@ -10,7 +10,7 @@ import re
 import shutil
 import subprocess
 
-from row_cases import names_of
+from model import numbers_on
 
 MOST = 2.2
 MOST_TIME = 3.5
@@ -20,7 +20,7 @@ SECONDS = 600
 # What `check` warns of if it is denied.
 ENDING = ["exit", "exit_group", "rt_sigreturn", "restart_syscall"]
 
-CALLS = sorted(set(names_of("x86_64").values()) - set(ENDING))[:250]
+CALLS = sorted(set(numbers_on("x86_64")) - set(ENDING))[:250]
 ACTIONS = ("SCMP_ACT_ALLOW", "SCMP_ACT_LOG")
 
 

@@ -11,10 +11,7 @@ import random
 import re
 import struct
 
-from model import JUMP, LOAD, MASK, RETURN, TESTS, run as run_on
-
-# An `AUDIT_ARCH_*` value (linux/audit.h).
-X86_64 = 0xC000003E
+from model import JUMP, LOAD, MASK, RETURN, TESTS, X86_64, instructions_of, numbers_on, run as run_on
 
 # Return values (linux/seccomp.h).
 WORDS = (0x7FFF0000, 0x7FFC0000, 0x00050001, 0x00050026, 0x00030000, 0, 0x80000000)
@@ -116,7 +113,7 @@ def records_to(numbers, program, place, wanted):
     return records
 
 
-def found_on(line, number_of):
+def found_on(line):
     """Returns what a line of `diff` says: that of records whose number in a place, 0 or 1, lies between two others, this one is answered
     otherwise. None if it says no such thing."""
     said = LINE.fullmatch(line)
@@ -124,11 +121,11 @@ def found_on(line, number_of):
         return None
     least, greatest, first, last, name, arch, call, *arguments, pointer = said.groups()
     wide = [int(it or "0", 16) for it in (pointer, *arguments)]
-    number = int(call) if call.isdigit() else number_of[call]
+    number = int(call) if call.isdigit() else numbers_on("x86_64")[call]
     record = number, int(arch, 16) if arch else X86_64, *(half for it in wide for half in (it % 2**32, it >> 32))
     if first:
         return (1, int(first, 16), int(last, 16)), record
-    return (0, *((number_of[name],) * 2 if name else (int(least), int(greatest)))), record
+    return (0, *((numbers_on("x86_64")[name],) * 2 if name else (int(least), int(greatest)))), record
 
 
 def is_within(record, part):
@@ -140,7 +137,7 @@ def is_within(record, part):
 def programs(numbers, top):
     """Returns programs with their names, and how many mutations there are of each."""
     for name in FOREIGN:
-        yield name, list(struct.iter_unpack("<HBBI", (top / f"examples/foreign/{name}.bpf").read_bytes())), OF_FOREIGN
+        yield name, instructions_of((top / f"examples/foreign/{name}.bpf").read_bytes()), OF_FOREIGN
     for number in range((MUTATIONS - OF_FOREIGN * len(FOREIGN)) // OF_MADE):
         yield f"made {number}", made(numbers), OF_MADE
 
@@ -154,16 +151,16 @@ def compared(run, tool, folder, old, mutations):
     return [(int(status), file.with_suffix(".out").read_text(encoding="utf-8")) for status, file in zip(statuses, files[1:])]
 
 
-def is_right(old, new, records, status, lines, number_of):
+def is_right(old, new, records, status, lines):
     """Returns whether each line of `diff` is so, and none is missing of those that records show."""
-    found = [found_on(line, number_of) for line in lines]
+    found = [found_on(line) for line in lines]
     parts = {it[0] for it in found if it}
     return status == bool(lines) and all(
         it and is_within(it[1], it[0]) and answer_of(new, it[1]) != answer_of(old, it[1]) for it in found
     ) and all(answer_of(new, it) == answer_of(old, it) or any(is_within(it, part) for part in parts) for it in records)
 
 
-def check_mutations(results, folder, top, tool, run, number_of):
+def check_mutations(results, folder, top, tool, run):
     """Compares programs with mutated ones. run(command) returns the exit status, the output and the errors."""
     numbers, tried, reached = random.Random(62), 0, 0
     for name, old, count in programs(numbers, top):
@@ -172,7 +169,7 @@ def check_mutations(results, folder, top, tool, run, number_of):
             lines = [line for line in output.split("\n") if line.startswith("  ")]
             records = records_to(numbers, old, place, (old[place][3], new[place][3]))
             tried, reached = tried + 1, reached + bool(records)
-            well = is_right(old, new, records, status, lines, number_of)
+            well = is_right(old, new, records, status, lines)
             results.tell(f"{name}, with {new[place]} at {place} in the place of {old[place]}", well, (status, output))
     results.tell("so many mutations are tried, and records come to most of them", tried == MUTATIONS and reached >= MUTATIONS * 4 // 5,
                  (tried, reached))

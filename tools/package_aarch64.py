@@ -4,10 +4,9 @@ tools/check-package. The emulator installs no filters, so no command is run unde
 import os
 import pathlib
 import re
-import shutil
 import subprocess
 
-from commands import ENVIRONMENT, TOP, VERSION, run, symbols_of, told
+from commands import TOP, VERSION, is_there, run, symbols_of, told
 from jail_cases import write_policies
 from jail_refusals import try_refusals
 from jail_running import Jailer
@@ -21,15 +20,6 @@ TRIPLE = "aarch64-unknown-linux-gnu"
 EM_AARCH64 = 183
 # What only the package for x86_64 has: the two programs, their manual pages and their completions.
 PROGRAMS = re.compile(r"bin/seccomp(c|tool)$|share/(man/man1/seccomp|bash-completion/.*/seccomp|zsh/.*/_seccomp|fish/.*/seccomp)")
-
-
-def is_there():
-    """Returns whether a package for aarch64 can be made and tried; else says what is missing."""
-    for command in (COMPILER, QEMU):
-        if shutil.which(command, path=ENVIRONMENT["PATH"]) is None:
-            print(f"{command} isn't installed, so no package for aarch64 is made and tried")
-            return False
-    return True
 
 
 def make(results, folder):
@@ -141,7 +131,7 @@ def check_aarch64(results, other, folder, programs):
     """Makes the package for aarch64, and tries it; returns where it is unpacked, or None. `other` is the one for x86_64."""
     place = folder / "aarch64"
     place.mkdir()
-    if not is_there():
+    if not is_there("no package for aarch64 is made and tried", COMPILER, QEMU):
         return None
     unpacked, packages = make(results, place)
     if unpacked is not None:

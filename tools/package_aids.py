@@ -2,9 +2,8 @@
 tools/check-package."""
 
 import re
-import shutil
 
-from commands import ENVIRONMENT, TOP, run, symbols_of, told
+from commands import TOP, is_there, run, symbols_of, told
 
 # Completes a program's first word in bash.
 ASKED = """
@@ -31,8 +30,7 @@ def check_hardening(results, path, tools=""):
 
 def check_pages(results, unpacked):
     """Lets man find each manual page, and format it without a warning."""
-    if shutil.which("man", path=ENVIRONMENT["PATH"]) is None:
-        print("man isn't installed, so no manual page is formatted")
+    if not is_there("no manual page is formatted", "man"):
         return
     top = unpacked / "share/man"
     for page in sorted(top.glob("*/*")):

@@ -1,8 +1,6 @@
 """Projects of CMake and meson over the package; a part of tools/check-package."""
 
-import shutil
-
-from commands import ENVIRONMENT, run
+from commands import is_there, run
 
 CMAKE = """cmake_minimum_required(VERSION 3.13)
 project(fresh C)
@@ -15,13 +13,7 @@ executable('fresh', 'program.c', dependencies: dependency('seccompiler', version
 """
 
 
-def is_there(*commands):
-    """Returns whether all of these commands are installed; else says what isn't built."""
-    for command in commands:
-        if shutil.which(command, path=ENVIRONMENT["PATH"]) is None:
-            print(f"{command} isn't installed, so no project of {commands[0]} is built over the package")
-            return False
-    return True
+NO_PROJECT = "no project of {} is built over the package"
 
 
 def try_project(results, what, place, steps, shown, **more):
@@ -40,7 +32,7 @@ def check_building(results, unpacked, folder, text, shown):
         places[name] = folder / name
         places[name].mkdir()
         (places[name] / "program.c").write_text(text)
-    if is_there("cmake"):
+    if is_there(NO_PROJECT.format("CMake"), "cmake"):
         for target in ("seccompiler", "static"):
             place = places[f"cmake-{target}"]
             (place / "CMakeLists.txt").write_text(CMAKE.format(version="0.6", target=target))
@@ -51,7 +43,7 @@ def check_building(results, unpacked, folder, text, shown):
             out, err, status = run(["cmake", "-B", "out", f"-DCMAKE_PREFIX_PATH={unpacked}"], places["cmake-old"])
             found = status != 0, "compatible with requested version" in err
             results.compare(f"find_package of CMake: version {version}", (True, True), found)
-    if is_there("meson", "ninja", "pkg-config"):
+    if is_there(NO_PROJECT.format("meson"), "meson", "ninja", "pkg-config"):
         place = places["meson"]
         (place / "meson.build").write_text(MESON.format(library=unpacked / "lib"))
         steps = ["meson", "setup", "out"], ["ninja", "-C", "out"]

@@ -165,9 +165,7 @@ def said_by(case, line):
 def has_loose_numbers(text):
     """Returns whether a whole number of a text is written with a fraction, with an exponent or as -0."""
     loose = []
-    json.loads(
-        text, parse_float=lambda it: loose.append(float(it).is_integer()), parse_int=lambda it: loose.append(it == "-0")
-    )
+    json.loads(text, parse_float=lambda it: loose.append(float(it).is_integer()), parse_int=lambda it: loose.append(it == "-0"))
     return any(loose)
 
 

@@ -34,10 +34,7 @@ FILES = {
 
 # What `list` writes for the filter that logs each call, under a name; and what `run` writes for it on
 # the records of the examples, four of x86_64 and one of aarch64.
-LISTING = (
-    "filter 4 {}\n0020 00 00 00000004\n0015 01 00 c000003e\n0006 00 00 80000000\n"
-    "0006 00 00 7ffc0000\n"
-)
+LISTING = "filter 4 {}\n0020 00 00 00000004\n0015 01 00 c000003e\n0006 00 00 80000000\n0006 00 00 7ffc0000\n"
 LINES = "7ffc0000 3\n" * 4 + "80000000 3\n"
 PROBED = "7fff0000 10\n80000000 8\n80000000 10\n80000000 6\n80000000 3\n"
 
@@ -47,10 +44,7 @@ UNREAD = "Json Frontend error: Error reading Json.\n"
 UNOPENED = "Error opening the policy file.\n"
 UNWRITTEN = "Error writing output.\n"
 INDEX = "The seccomp rule contains an invalid argument index. Maximum index value: 5\n"
-LARGE = (
-    "Backend error: The seccomp filter contains too many BPF instructions: 10130. "
-    "Max length is 4096.\n"
-)
+LARGE = "Backend error: The seccomp filter contains too many BPF instructions: 10130. Max length is 4096.\n"
 
 # What stands after `./seccompc`, the status, standard output, and standard error; if that ends
 # with `..`, it only has to begin so.
@@ -59,16 +53,14 @@ CASES = [
     ("probe x86_64 72 1 4294967298 < examples/records.bin", 0, PROBED, ""),
     ("probe x86_64 72 1 4294967298 < empty", 0, "", ""),
     ("list x86_64 < logs.json", 0, LISTING.format("a"), ""),
-    ("list X86_64 < names.json", 0,
-     LISTING.format("a\\x0a\\x5c") + LISTING.format("b") + LISTING.format("\u00b5"), ""),
+    ("list X86_64 < names.json", 0, LISTING.format("a\\x0a\\x5c") + LISTING.format("b") + LISTING.format("\u00b5"), ""),
     ("list x86_64 < no-filters.json", 0, "", ""),
     ("run x86_64 logs.json a < examples/records.bin", 0, LINES, ""),
     ("run x86_64 names.json \u00b5 < examples/records.bin", 0, LINES, ""),
     ("run x86_64 names.json \"$(printf 'a\\n\\\\')\" < examples/records.bin", 0, LINES, ""),
     ("run x86_64 logs.json a < empty", 0, "", ""),
     # Records that end inside a record.
-    ("run x86_64 logs.json a < 63-bytes", 1, "",
-     "The input ends inside a record, after 63 bytes of it.\n"),
+    ("run x86_64 logs.json a < 63-bytes", 1, "", "The input ends inside a record, after 63 bytes of it.\n"),
     # Policies that are refused, and names that no filter has.
     # Of JSON that can't be read the whole text, which ends with what serde_json of the kit says. The first is what that of
     # Rust says too; the others have its places, and fewer words.
@@ -76,8 +68,7 @@ CASES = [
     ("list x86_64 < empty", 1, "", FRONTEND + "Error parsing Json: EOF while parsing at line 1 column 0\n"),
     ("list x86_64 < comma.json", 1, "", FRONTEND + "Error parsing Json: invalid JSON at line 1 column 4\n"),
     ("run x86_64 too-large.json b < 63-bytes", 1, "", LARGE),
-    ("run x86_64 no-filters.json '' < examples/records.bin", 1, "",
-     "No filter has this name: .\n"),
+    ("run x86_64 no-filters.json '' < examples/records.bin", 1, "", "No filter has this name: .\n"),
     # Files and inputs that can't be opened or read.
     ("run x86_64 missing.json a < empty", 1, "", UNOPENED),
     ("run x8664 missing.json a < empty", 1, "", UNOPENED),

@@ -119,9 +119,7 @@ def compare_progress(results, program):
         (folder / "none.json").write_text("{")
         compiled = subprocess.run([program, "compile", "new.json"], cwd=folder, capture_output=True, timeout=SECONDS)
         (folder / "new.bpf").write_bytes(compiled.stdout)
-        long = [
-            ("diff", 0, "filter a: same\nother architectures: same\n", 32_000_000, ["old.json", "new.bpf"]),
-        ]
+        long = [("diff", 0, "filter a: same\nother architectures: same\n", 32_000_000, ["old.json", "new.bpf"])]
         for name, status, output, most, files in long:
             words = [name, "--quiet", "--most", str(most), *files]
             runs = [lanes.submit(it, program, folder, words) for it in (on_terminal, on_pipe)]

@@ -13,14 +13,13 @@ import struct
 import subprocess
 
 import driver_rows
-from model import DWORD, OPERATORS, QWORD, holds, run
-from running_kernel import SECCOMP
+from model import ARCHITECTURES, DWORD, OPERATORS, QWORD, holds, instructions_of, numbers_of, record_of, run
+from row_cases import instructions
+from running_kernel import under
 
 COUNT, SEED, RECORDS, ASKED = 10_000, 57, 24, 1
 ON_KERNEL = 200
 
-# From linux/audit.h.
-ARCHITECTURES = {"x86_64": 0xC000003E, "aarch64": 0xC00000B7, "riscv64": 0xC00000F3}
 KILL_PROCESS, ALLOW, ERRNO = 0x80000000, 0x7FFF0000, 0x00050000
 VALUES = [0, KILL_PROCESS, ALLOW, 0x00030000, 0x7FFC0000, ERRNO | 1, ERRNO | 38, 0x7FF00005]
 OFTEN = [*OPERATORS, "eq", "eq", "eq"]
@@ -108,21 +107,6 @@ def words_of(record):
     return f"{number} arch={arch:#x} " + " ".join(f"a{index}={it:#x}" for index, it in enumerate(arguments))
 
 
-def instructions_of(text):
-    """Instructions of a row, each its code, two distances and an operand."""
-    codes = {"LD": 0x20, "AND": 0x54, "JA": 0x05, "RET": 0x06, "JEQ": 0x15, "JGE": 0x35}
-    for part in text.split("; "):
-        name, operands = part.split(" ")
-        k, if_so, if_not = (*(int(it, 0) for it in operands.split(",")), 0, 0)[:3]
-        yield codes[name], if_so, if_not, k
-
-
-def numbers_of(record):
-    """The sixteen numbers of a record."""
-    arch, number, arguments = record
-    return [number, arch, 0, 0] + [part for it in arguments for part in (it % DWORD, it // DWORD)]
-
-
 def ask(all_of):
     """Asks crates/seccomp_vectors about decisions with records; returns the answers of each."""
     rows = []
@@ -138,10 +122,11 @@ def ask(all_of):
 
 def fault_of(decisions, records, answers):
     """Returns what is wrong with answers about decisions, or nothing."""
-    code = list(instructions_of(answers[0]))
+    code = instructions_of(instructions(answers[0]))
     for place, record in enumerate(records):
         wanted = decide(decisions, record)
-        value, steps = run(code, numbers_of(record))
+        arch, number, arguments = record
+        value, steps = run(code, numbers_of(record_of(number, arch, *arguments)))
         told = answers[1 + 2 * place:3 + 2 * place] if place < ASKED else [f"{wanted:#010x}", f"{value:#010x} {steps}"]
         if value != wanted or told != [f"{wanted:#010x}", f"{wanted:#010x} {steps}"]:
             return words_of(record), f"{wanted:#010x}", f"{value:#010x} {steps}", told
@@ -168,27 +153,16 @@ NO_CALL = 38
 ERRORS = [ALLOW, *(ERRNO | it for it in (1, 2, 13, 4095))]
 
 
-def called(library, code, records):
-    """Installs a program in a process of its own, makes the calls, and returns their error numbers, or what goes wrong."""
-    packed = b"".join(struct.pack("=HBBI", *it) for it in code)
-    held = ctypes.create_string_buffer(packed)
-    program = struct.pack("@HP", len(code), ctypes.addressof(held))
-    reader, writer = os.pipe()
-    child = os.fork()
-    if child == 0:
-        told = []
-        if library.prctl(38, 1, 0, 0, 0) == 0 and library.syscall(SECCOMP, 1, 0, program) == 0:
-            for _, number, arguments in records:
-                ctypes.set_errno(0)
-                library.syscall(ctypes.c_long(number), *(ctypes.c_uint64(it) for it in arguments))
-                told.append(ctypes.get_errno())
-        os.write(writer, struct.pack(f"={len(told)}H", *told))
-        os._exit(0)
-    os.close(writer)
-    with os.fdopen(reader, "rb") as given:
-        told = given.read()
-    os.waitpid(child, 0)
-    return list(struct.unpack(f"={len(told) // 2}H", told))
+def called(program, records):
+    """Installs a program in a process of its own, makes the calls, and returns their error numbers; none if it isn't installed."""
+    def act(library, _, out):
+        for _, number, arguments in records:
+            ctypes.set_errno(0)
+            library.syscall(ctypes.c_long(number), *(ctypes.c_uint64(it) for it in arguments))
+            os.write(out, struct.pack("=H", ctypes.get_errno()))
+
+    told, status = under([program], act)
+    return [] if status else list(struct.unpack(f"={len(told) // 2}H", told))
 
 
 def try_on_kernel(results, count=ON_KERNEL, seed=SEED):
@@ -196,7 +170,6 @@ def try_on_kernel(results, count=ON_KERNEL, seed=SEED):
     if not driver_rows.PROGRAM.exists():
         print("seccomp_vectors isn't built, so no random decisions were installed")
         return
-    library = ctypes.CDLL(None, use_errno=True)
     all_of = []
     for place in range(count):
         draw = random.Random(f"kernel {seed}, {place}")
@@ -207,6 +180,6 @@ def try_on_kernel(results, count=ON_KERNEL, seed=SEED):
         all_of.append((decisions, records))
     for place, ((decisions, records), answers) in enumerate(zip(all_of, ask(all_of))):
         wanted = [NO_CALL if value == ALLOW else value & 0xFFFF for value in (decide(decisions, it) for it in records)]
-        found = called(library, list(instructions_of(answers[0])), records)
+        found = called(instructions(answers[0]), records)
         differ = [(words_of(record), *both) for record, *both in zip(records, wanted, found) if both[0] != both[1]]
         results.compare(f"random decisions on the kernel, {place}", (len(records), []), (len(found), differ[:3]))

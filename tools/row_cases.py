@@ -35,22 +35,18 @@ policy is rejected the answer is the error's text.
 `seccomptool explain` says that the filter decides has to be what both programs return.
 """
 
-import functools
 import json
 import pathlib
 import re
 import struct
 
+import model
+from model import ARCHITECTURES, TESTS
 from running import run
 
 ROWS = pathlib.Path(__file__).resolve().parent / "rows"
 
-# A file of names and numbers of calls for each architecture, as the Rust crate has them.
-NAMES = pathlib.Path(__file__).resolve().parent / "call_names"
-
-ARCHITECTURES = {"x86_64": 0xC000003E, "aarch64": 0xC00000B7, "riscv64": 0xC00000F3}
 CODES = {0x20: "LD", 0x54: "AND", 0x05: "JA", 0x06: "RET", 0x15: "JEQ", 0x25: "JGT", 0x35: "JGE"}
-TESTS = {0x15: lambda a, k: a == k, 0x25: lambda a, k: a > k, 0x35: lambda a, k: a >= k}
 
 # How many instructions the code of a condition has: of low halves, and of both.
 LENGTHS = {"dword": ({"masked_eq": 3}, 2), "qword": ({"masked_eq": 6, "eq": 4, "ne": 4}, 5)}
@@ -73,13 +69,6 @@ def matched(form, text):
     if not found:
         raise NoRow(f"not understood: {text}")
     return found.groups()
-
-
-@functools.cache
-def names_of(arch):
-    """Returns the names of an architecture's calls, by their numbers."""
-    lines = (NAMES / arch).read_text(encoding="ascii").splitlines()
-    return {int(number): name for name, number in map(str.split, lines)}
 
 
 def action(text):
@@ -114,8 +103,7 @@ def record_of(words):
         if name not in values or not is_one:
             raise NoRow(f"not understood: {field}")
         values[name] = ARCHITECTURES.get(value) or int(value, 0)
-    arguments = (values[f"a{index}"] for index in range(6))
-    return struct.pack("<IIQ6Q", int(number, 0), values["arch"], values["ip"], *arguments)
+    return model.record_of(int(number, 0), values["arch"], *(values[f"a{index}"] for index in range(6)), pointer=values["ip"])
 
 
 def instructions(text):
@@ -147,29 +135,11 @@ def shown_as(wanted, code):
     return ": ".join(it for it in (", ".join(heads), "; ".join(lines) if listed or not told else "") if it)
 
 
-def outcome_of(code, record):
-    """Returns what a program returns for a record, and the steps that it takes."""
-    place = steps = accumulator = 0
-    while True:
-        kind, when, otherwise, k = code[place]
-        place, steps = place + 1, steps + 1
-        if kind == 0x06:
-            return k, steps
-        if kind == 0x20:
-            (accumulator,) = struct.unpack_from("<I", record, k)
-        elif kind == 0x54:
-            accumulator &= k
-        elif kind == 0x05:
-            place += k
-        else:
-            place += when if TESTS[kind](accumulator, k) else otherwise
-
-
 class Policy:
     """A policy, and what the built programs make of it."""
 
     def __init__(self, folder, arch, mismatch, match):
-        self.folder, self.arch, self.names = folder, arch, names_of(arch)
+        self.folder, self.arch, self.names = folder, arch, model.names_of(arch)
         self.filter = {"mismatch_action": action(mismatch), "match_action": action(match), "filter": []}
         self.made = {}
 
@@ -203,7 +173,7 @@ class Policy:
         status, output, errors = run(command, self.folder)
         if status:
             return (output + errors).rstrip("\n")
-        return list(struct.iter_unpack("<HBBI", (self.folder / "row.bpf").read_bytes()))
+        return model.instructions_of((self.folder / "row.bpf").read_bytes())
 
     def outcomes(self, records, layout="linear"):
         """Returns what a layout's program returns for records, and the steps that it takes; or what differs."""
@@ -217,7 +187,7 @@ class Policy:
         decided = [f"{it['action']['value']:08x}" for it in json.loads(told[1] or '{"decisions": []}')["decisions"]]
         if not len(ran) == len(decided) == len(records):
             return [f"{len(ran)} lines of run and {len(decided)} of explain"] * len(records)
-        trees = [outcome_of(tree, it) for it in records] if not isinstance(tree, str) else [None] * len(records)
+        trees = [None if isinstance(tree, str) else model.run(tree, model.numbers_of(it)) for it in records]
         return [self.agreed(*it, layout) for it in zip(ran, decided, trees)]
 
     def compared(self, old, words):

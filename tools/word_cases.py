@@ -1,15 +1,9 @@
 """What the words of `seccompc` mean, and words that are none of its commands, for tools/check-documents."""
 
 import shlex
-import struct
 
+from model import X86_64, record_of
 from program_cases import INDEX, UNOPENED, USAGE
-
-
-def called(number, index, value):
-    """Returns the record of a call of x86_64 with this argument, and 0 for the others."""
-    arguments = [value if it == index else 0 for it in range(6)]
-    return struct.pack("<IIQ6Q", number, 0xC000003E, 0, *arguments)
 
 
 def probe(*numbers):
@@ -66,11 +60,10 @@ OTHERS = [
     *(probe("72", "1", it) for it in ("18446744073709551616", "", "+1", "-1", "1.0")),
 ]
 
-WORD_FILES = {f"called-{at}": called(*call) for at, (_, call) in enumerate(MEANINGS)}
+WORD_FILES = {f"called-{at}": record_of(number, X86_64, *[0] * index, value) for at, (_, (number, index, value)) in enumerate(MEANINGS)}
 
 WORD_CASES = [
-    *((shlex.join(probe(*numbers)) + f" < called-{at}", 0, "7fff0000 10\n", "")
-      for at, (numbers, _) in enumerate(MEANINGS)),
+    *((shlex.join(probe(*numbers)) + f" < called-{at}", 0, "7fff0000 10\n", "") for at, (numbers, _) in enumerate(MEANINGS)),
     *((shlex.join(words) + " < empty", 1, "", text) for words, text in REFUSED),
     *((shlex.join(words) + " < empty", 2, "", USAGE) for words in OTHERS),
 ]

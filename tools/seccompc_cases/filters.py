@@ -2,9 +2,9 @@
 
 import re
 
+from model import AARCH64
 from program_cases import INDEX
 from seccomptool_cases.forms import NO_ARCHITECTURE, Failing, refuses, writes
-from seccomptool_cases.records import AARCH64
 
 from .instructions import ERRNO, KILL_PROCESS, jump_at_least, jump_equal, jump_greater, listing, load, mask, program
 from .policies import COMPLEX

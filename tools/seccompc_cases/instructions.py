@@ -5,7 +5,7 @@ conditions need no relay; the code of a condition is that of crates/seccompiler/
 codes are those of linux/seccomp.h and linux/filter.h.
 """
 
-from seccomptool_cases.records import X86_64
+from model import X86_64
 
 KILL_PROCESS = 0x8000_0000
 KILL_THREAD = 0x0000_0000

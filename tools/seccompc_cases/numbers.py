@@ -11,10 +11,7 @@ from .policy_texts import CODE_OF_EQUALS_5, UNPARSED, listed, replaced, shape, t
 INDICES = ["0", "1", "5"]
 OF_8_BITS = ["6", "254", "255"]
 OF_32_BITS = ["256", "257", "65535", "65536", "65537", "4294967295"]
-OF_64_BITS = [
-    "4294967296", "4294967297", "9223372036854775807", "9223372036854775808", "18446744073709551614",
-    "18446744073709551615",
-]
+OF_64_BITS = ["4294967296", "4294967297", "9223372036854775807", "9223372036854775808", "18446744073709551614", "18446744073709551615"]
 
 # Numbers of JSON that are greater than these, less than 0, or not written as whole numbers; and what is no number.
 UNFIT = [
@@ -74,10 +71,7 @@ def masks(number):
 
 
 INDEX = Place('"index":0', '"index":', "", at_index)
-ACTIONS = [
-    Place('"trap"', '{"errno":', "}", under_word(ERRNO)),
-    Place('"trap"', '{"trace":', "}", under_word(TRACE)),
-]
+ACTIONS = [Place('"trap"', '{"errno":', "}", under_word(ERRNO)), Place('"trap"', '{"trace":', "}", under_word(TRACE))]
 VALUES = [
     Place('"val":5', '"val":', "", equals_low),
     Place('"eq"', '{"masked_eq":', "}", masks_low),

@@ -4,9 +4,7 @@ from running import TOP
 
 # The policy of one filter, `a`, of no entries, which logs each call; its listing, and the line of a call.
 LOGS = '{"a": {"match_action": "allow", "mismatch_action":"log", "filter": []}}'
-LOGS_LISTED = (
-    "filter 4 a\n0020 00 00 00000004\n0015 01 00 c000003e\n0006 00 00 80000000\n0006 00 00 7ffc0000\n"
-)
+LOGS_LISTED = "filter 4 a\n0020 00 00 00000004\n0015 01 00 c000003e\n0006 00 00 80000000\n0006 00 00 7ffc0000\n"
 LOGGED = "7ffc0000 3\n"
 
 # The policy of examples/complex-policy.json: seven calls without arguments and two with, refused by error number 1000.

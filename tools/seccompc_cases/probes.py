@@ -1,8 +1,8 @@
 """What `probe` has to do: the lines of records, a rest after them, and the faults in their order."""
 
+from model import AARCH64, RISCV64, X86_64, record_of
 from program_cases import INDEX
 from seccomptool_cases.forms import NO_ARCHITECTURE, Case, Failing, refuses, writes
-from seccomptool_cases.records import AARCH64, RISCV64, X86_64, record_of
 
 from .policies import SHORT, UNREAD_RECORDS
 

@@ -1,7 +1,7 @@
 """What `run` has to do: the lines of calls under a policy's filter, and the faults in their order."""
 
+from model import X86_64, record_of
 from seccomptool_cases.forms import NO_ARCHITECTURE, NO_OBJECT, Case, Failing, refuses, writes
-from seccomptool_cases.records import X86_64, record_of
 
 from .policies import COMPLEX, LOGGED, LOGS, NO_FILTER, SHORT, UNREAD_RECORDS
 

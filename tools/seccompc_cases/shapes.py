@@ -124,12 +124,10 @@ ABOVE_5 = [
 
 # Conditions that are the former ones but for the index, and their code.
 OF_5 = [
-    ('{"index":5,"type":"dword","op":"eq","val":18446744073709551615,"comment":null}',
-     [load(56), jump_equal(4294967295, 0, 1)]),
+    ('{"index":5,"type":"dword","op":"eq","val":18446744073709551615,"comment":null}', [load(56), jump_equal(4294967295, 0, 1)]),
     ('{"index":5,"type":"qword","op":"eq","val":18446744073709551615,"comment":null}',
      [load(60), jump_equal(4294967295, 0, 3), load(56), jump_equal(4294967295, 0, 1)]),
-    ('{"comment":"c","val":0,"op":"eq","type":"qword","index":5}',
-     [load(60), jump_equal(0, 0, 3), load(56), jump_equal(0, 0, 1)]),
+    ('{"comment":"c","val":0,"op":"eq","type":"qword","index":5}', [load(60), jump_equal(0, 0, 3), load(56), jump_equal(0, 0, 1)]),
 ]
 
 # Values that are operators, and their code after the load of the argument, with the number 2.

@@ -3,9 +3,9 @@ of its requests for memory are granted. The calls are those of tools/short-calls
 
 import errno
 
+from model import X86_64, record_of
 from program_cases import INDEX, PROBED, UNREAD, UNWRITTEN, USAGE
-from running import Calls, Case
-from seccomptool_cases.records import AARCH64, X86_64, record_of
+from running import TOP, Calls, Case
 
 from .policies import LOGS, LOGS_LISTED, UNREAD_RECORDS
 from .probes import ALLOWED, LINE, PROBE
@@ -34,11 +34,7 @@ def unwritten(words, given, output, at_once, taken, error):
     return Case(words, 1, output[:taken], UNWRITTEN, given, Calls(OUTPUT, at_once, taken, error))
 
 
-# The records of examples/records.bin.
-RECORDS = ALLOWED + b"".join([
-    record_of(72, X86_64, 0, 2), record_of(72, X86_64, 0, 4294967299), record_of(5, X86_64, 0, 4294967298),
-    record_of(72, AARCH64, 0, 4294967298),
-])
+RECORDS = (TOP / "examples/records.bin").read_bytes()
 
 CASES = [
     # Little is read at once: records, the policy in FILE, the policy on standard input.
@@ -51,8 +47,7 @@ CASES = [
     *unread(UNTRACED, "", UNREAD, FILE, 7, len(LOGS)),
     *unread(UNTRACED, bytes(64), UNREAD_RECORDS, INPUT, 64, 64),
     # Writing fails after so many bytes, and does not if it takes each, a byte a call.
-    *[unwritten(PROBE, RECORDS, PROBED, 1, taken, error)
-      for error in (errno.EPIPE, errno.ENOMEM) for taken in range(len(PROBED))],
+    *[unwritten(PROBE, RECORDS, PROBED, 1, taken, error) for error in (errno.EPIPE, errno.ENOMEM) for taken in range(len(PROBED))],
     *[unwritten("list x86_64", LOGS, LOGS_LISTED, 1, taken, errno.ENOMEM) for taken in range(len(LOGS_LISTED))],
     unwritten("list x86_64", LOGS, LOGS_LISTED, len(LOGS_LISTED), 0, errno.ENOMEM),
     unwritten("list x86_64", LOGS, LOGS_LISTED, 3, 3, errno.ENOMEM),
@@ -70,7 +65,4 @@ GRANTED = [
 
 # Two commands of words of the same lengths, of which one is none. Reading words takes no memory, and neither does
 # an index that no argument has, so both have enough of as many requests.
-ALIKE = [
-    Case("probe x86_64 1 6 0", 1, "", "Backend error: " + INDEX),
-    Case("Probe x86_64 1 6 0", 2, "", USAGE),
-]
+ALIKE = [Case("probe x86_64 1 6 0", 1, "", "Backend error: " + INDEX), Case("Probe x86_64 1 6 0", 2, "", USAGE)]

@@ -6,11 +6,13 @@ The objects are made here of the texts of other tables, which are known by hand,
 import json
 import re
 
-from .compile import LINEAR, TREE, TWO, instructions
+from model import X86_64, instructions_of, numbers_on, record_of
+
+from .compile import LINEAR, TREE, TWO
 from .compiled_profiles import profile
 from .diff import NO_LONGER_READS, OTHER_ERRNO, READS_5
 from .explain import LINES, NEAR_LINES, SHORT, TWO_LINES, TWO_RECORDS
-from .forms import FULL, INPUT, LOGS, MISSING, OUTPUT, TOOL, Case, as_list, as_object, rejects, writes
+from .forms import FULL, INPUT, LOGS, MISSING, OUTPUT, TOOL, Case, Command, as_list, as_object, rejects, writes
 from .hostile import HOSTILE
 from .learn import entry as entry_of
 from .learn import MORE, OF_MANY, OF_NAMED, OF_RAW, OF_RAW_AS_PROFILE, OF_STRANGE, STRANGE_LINES, filtered, learned
@@ -18,7 +20,6 @@ from .logs import ON_DENIED, ON_TRACED
 from .oci import EXAMPLE_LINES
 from .program_diffs import READS, WRITES, others
 from .programs import EXPLAINED, JUMP, JUMP_AT_LEAST, JUMP_EQUAL, JUMP_GREATER, JUMP_IF_SET, LOAD, MASK, OF_READ, RETURN
-from .records import X86_64, numbers_on, record_of
 from .show import CALLS, CALLS_SHOWN, LOADS_SHOWN, LOGS_AS_TREE, OF_LOADS, READ_SHOWN
 from .show import LOGS as SHOWN
 from .stats import TWO_CALLS
@@ -41,7 +42,7 @@ BOTH = "error: the argument '--json' cannot be used with '--format <FORMAT>'\n..
 
 def program(name, binary):
     """Returns the object of a program in bytes."""
-    found = [dict(zip(("code", "jt", "jf", "k"), it)) for it in instructions(binary)]
+    found = [dict(zip(("code", "jt", "jf", "k"), it)) for it in instructions_of(binary)]
     return {"name": name, "length": len(found), "instructions": found}
 
 
@@ -136,10 +137,7 @@ def calls(*found):
     return as_list("calls", [dict(zip(("architecture", "name", "number"), it)) for it in found])
 
 
-def misused(words, told):
-    """Returns the case of words that are no command."""
-    return Case(words, 2, "", told)
-
+misused = Command("").misused
 
 CODE_ITEMS = [dict(zip(("code", "meaning"), it)) for it in MEANINGS]
 SAME, ELSEWHERE = found("a", "a", "same"), found("a", "program", "same", arch=None)

@@ -1,7 +1,8 @@
 """What `call` has to do: names and numbers of calls, their records, and the faults."""
 
+from model import AARCH64, RISCV64, X86_64, record_of
+
 from .forms import CLOSED, FULL, OUTPUT, TOOL, rejects, writes
-from .records import AARCH64, RISCV64, X86_64, record_of
 
 # The members in order: the call's number, the architecture's word, the instruction pointer, the arguments.
 FCNTL = bytes.fromhex("""
@@ -28,8 +29,7 @@ CASES = [
     rejects("call -a aarch64 open", "", NO_CALL_AT_ALL.format("open"), TOOL),
     rejects("call close > /dev/full", "", FULL, OUTPUT),
     # `call --record` writes the members in order.
-    *[writes(f"call --record {call} 3 4294967298 0 0 0 0x0123456789abcdef", "", FCNTL)
-      for call in ("fcntl", "72", "0x48")],
+    *[writes(f"call --record {call} 3 4294967298 0 0 0 0x0123456789abcdef", "", FCNTL) for call in ("fcntl", "72", "0x48")],
     # It takes the call of its architecture.
     writes("call --record -a aarch64 close", "", record_of(57, AARCH64)),
     writes("call --record close --arch riscv64", "", record_of(57, RISCV64)),

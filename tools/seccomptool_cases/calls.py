@@ -6,7 +6,7 @@ The lines are those of warnings.py, but for some filters whose codes stand here.
 import json
 import random
 
-from .forms import writes
+from .forms import policies_of, writes
 from .warnings import ALLOWED, EXITS, NOT_ALL, PERMITS, SIBLINGS, WAITING, condition, line, lines_of, warned
 
 # What an entry may ask of its call.
@@ -136,9 +136,7 @@ def some_filter(chance):
 def policies_by_chance():
     """Returns the texts of policies whose filters come by chance."""
     chance = random.Random(1)
-    filters = [some_filter(chance) for _ in range(BY_CHANCE)]
-    parts = [filters[start:start + FILTERS] for start in range(0, BY_CHANCE, FILTERS)]
-    return [json.dumps({f"f{number}": it for number, it in enumerate(some)}) for some in parts]
+    return map(json.dumps, policies_of([some_filter(chance) for _ in range(BY_CHANCE)], FILTERS))
 
 
 CASES = [

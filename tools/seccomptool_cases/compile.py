@@ -2,8 +2,8 @@
 tried if the compilers cc and c++ are installed."""
 
 import shutil
-import struct
 
+from model import instructions_of
 from program_cases import FRONTEND
 
 from .forms import (
@@ -62,20 +62,15 @@ def of_word(word):
     return TREE[:12] + bytes.fromhex(word) + TREE[16:]
 
 
-def instructions(program):
-    """Returns the code, jt, jf and k of each instruction of a program in bytes."""
-    return list(struct.iter_unpack("<HBBI", program))
-
-
 def listed(name, program):
     """Returns a program as `seccompc list` writes it."""
-    lines = ["%04x %02x %02x %08x\n" % it for it in instructions(program)]
+    lines = ["%04x %02x %02x %08x\n" % it for it in instructions_of(program)]
     return f"filter {len(lines)} {name}\n" + "".join(lines)
 
 
 def in_c(program):
     """Returns a program as `tcpdump -dd` writes it."""
-    return "".join("{ 0x%x, %d, %d, 0x%08x },\n" % it for it in instructions(program))
+    return "".join("{ 0x%x, %d, %d, 0x%08x },\n" % it for it in instructions_of(program))
 
 
 def included(layout, compiler, flags):
@@ -105,8 +100,7 @@ CASES = [
     writes("compile --format=c --layout=linear -", LOGS, in_c(LINEAR)),
     writes("compile --format c logs.json -o written.inc && cat written.inc && rm written.inc", "", in_c(TREE)),
     # A listing is that of `seccompc list`, but that no name steers a terminal.
-    writes("compile two-filters.json -f \"$(printf 'b\\302\\233')\" --format listing | head -n 1", "",
-           "filter 4 b\\xc2\\x9b\n"),
+    writes("compile two-filters.json -f \"$(printf 'b\\302\\233')\" --format listing | head -n 1", "", "filter 4 b\\xc2\\x9b\n"),
     writes("compile -f \"$(printf 'a\\n\\\\')\" names.json --format listing", "", listed(r"a\x0a\x5c", TREE)),
     writes(f"compile {EXAMPLE} --format listing --layout linear > listed.txt &&"
            f" ./seccompc list x86_64 < {EXAMPLE} | cmp - listed.txt; status=$?; rm listed.txt; (exit $status)", "", ""),

@@ -8,10 +8,11 @@ profile in profile_faults.py.
 import json
 import re
 
+from model import called
+
 from .forms import (
     CLOSED, FOLDER, FULL, INPUT, MISSING, OUTPUT, RESET, TOOL, Case, Failing, fails_to_read_and_write, named, rejects, writes
 )
-from .records import called
 
 PARSING = "Error parsing Json: .."
 FLAGS = "flags to set when the program is installed"
@@ -231,8 +232,7 @@ CASES = [
               + INPUT + f"{FLAGS} (1): SECCOMP_FILTER_FLAG_TSYNC\n"),
     # With --strict they are no error, but names are.
     *flagged("--oci --strict", profile(entry("read"), flags=["SECCOMP_FILTER_FLAG_LOG"]), "(1): SECCOMP_FILTER_FLAG_LOG", READ),
-    rejects("compile --oci --strict flags-profile.json", "", "not system calls of x86_64 (1): mmap2\n",
-            TOOL + "flags-profile.json: "),
+    rejects("compile --oci --strict flags-profile.json", "", "not system calls of x86_64 (1): mmap2\n", TOOL + "flags-profile.json: "),
     # With --strict names are rejected, each once.
     rejects("compile --strict", json.dumps(profile(entry("waitpid mmap2 read"), entry("mmap2"))),
             "not system calls of x86_64 (2): waitpid, mmap2\n"),
@@ -242,8 +242,7 @@ CASES = [
             TOOL + "unknown-profile.json: "),
     rejects("compile --oci --strict -a amd64", json.dumps(profile(entry("no_call\u0007", "SCMP_ACT_LOG"))),
             "not system calls of x86_64 (1): no_call\\x07\n"),
-    rejects("compile --oci --strict --arch aarch64", json.dumps(profile(entry("read open"))),
-            "not system calls of aarch64 (1): open\n"),
+    rejects("compile --oci --strict --arch aarch64", json.dumps(profile(entry("read open"))), "not system calls of aarch64 (1): open\n"),
     *compiles("--oci --strict", profile(entry("read"), entry("waitpid", includes={"arches": ["x86"]})), READ, OTHER),
     # Podman's errnos as texts: they win, and may be numbers. The empty text is none.
     *compiles("", profile(entry("read", "SCMP_ACT_ERRNO", errnoRet=22, errno="EINVAL"), entry("write", errno=""),

@@ -7,7 +7,7 @@ import itertools
 import json
 import random
 
-from .forms import writes
+from .forms import policies_of, writes
 from .warnings import ALLOWED, LOW, WHOLE, condition, lines_of, masked
 
 OPERATORS = ("eq", "ge", "gt", "le", "lt", "ne")
@@ -60,9 +60,4 @@ def all_filters():
     return [it for pair in ACTIONS for it in filters_of(on_borders, [pair])] + filters_of(by_chance, ACTIONS)
 
 
-def policies_of(filters):
-    """Returns the texts of policies that have these filters, whose order isn't that of their names as bytes."""
-    return [json.dumps({f"f{number}": it for number, it in enumerate(some)}) for some in parted(filters, FILTERS)]
-
-
-CASES = [writes(f"check {ALLOWED}", it, lines_of(it)) for it in policies_of(all_filters())]
+CASES = [writes(f"check {ALLOWED}", it, lines_of(it)) for it in map(json.dumps, policies_of(all_filters(), FILTERS))]

@@ -2,7 +2,7 @@
 
 from program_cases import FRONTEND
 
-from .forms import CLOSED, FOLDER, FULL, INPUT, LOGS, MISSING, NO_OBJECT, OUTPUT, RESET, TOOL, Case, Failing
+from .forms import CLOSED, FOLDER, FULL, INPUT, LOGS, MISSING, NO_OBJECT, OUTPUT, RESET, TOOL, Case, Command, Failing
 
 READ = '{"syscall":"read"}'
 READ_OF_5 = '{"syscall":"read","args":[{"index":0,"type":"dword","op":"eq","val":5}]}'
@@ -55,25 +55,8 @@ NAMES = "filter a: same\nfilter b: only in OLD\nfilter c: only in NEW\n"
 UNKNOWN_CALL = FRONTEND + "Invalid syscall name: nosyscall for given arch: x86_64.\n"
 
 
-def same(words, output, given=""):
-    """Returns the case of policies of which nothing is found."""
-    return Case("diff " + words, 0, output, "", given)
-
-
-def differ(words, output, given=""):
-    """Returns the case of policies that differ."""
-    return Case("diff " + words, 1, output, "", given)
-
-
-def fails(words, told, place=TOOL, given=""):
-    """Returns the case of words that write no output and tell this line of a place."""
-    return Case("diff " + words, 2, "", place + told, given)
-
-
-def misused(words, told="error: .."):
-    """Returns the case of words that are no command."""
-    return Case("diff " + words, 2, "", told)
-
+DIFF = Command("diff ")
+same, differ, fails, misused = DIFF.same, DIFF.differ, DIFF.fails, DIFF.misused
 
 CASES = [
     # The same policy, and another of the same decisions.
@@ -142,8 +125,7 @@ CASES = [
     fails("- unknown-call.json", NO_OBJECT, INPUT, "[]"),
     fails("logs.json unknown-call.json", UNKNOWN_CALL, TOOL + "unknown-call.json: "),
     fails("unknown-call.json logs.json", UNKNOWN_CALL, TOOL + "unknown-call.json: "),
-    fails("-a aarch64 logs.json opens.json",
-          FRONTEND + "Invalid syscall name: open for given arch: aarch64.\n", TOOL + "opens.json: "),
+    fails("-a aarch64 logs.json opens.json", FRONTEND + "Invalid syscall name: open for given arch: aarch64.\n", TOOL + "opens.json: "),
     fails("- logs.json", RESET, INPUT, Failing(LOGS)),
     fails("logs.json -", RESET, INPUT, Failing(LOGS)),
     # A filter that neither layout can hold.

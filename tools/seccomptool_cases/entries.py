@@ -9,7 +9,7 @@ import itertools
 import json
 import random
 
-from .forms import Case, writes
+from .forms import Case, policies_of, writes
 from .warnings import BESIDE, SAID, WHOLE, condition, holds, line, masked
 
 # The codes that are allowed here.
@@ -168,9 +168,7 @@ def some_filter(chance):
 def policies_by_chance():
     """Returns policies whose filters come by chance, each with the lines of its warnings."""
     chance = random.Random(1)
-    filters = [some_filter(chance) for _ in range(BY_CHANCE)]
-    for start in range(0, BY_CHANCE, FILTERS):
-        policy = {f"f{number}": it for number, it in enumerate(filters[start:start + FILTERS])}
+    for policy in policies_of([some_filter(chance) for _ in range(BY_CHANCE)], FILTERS):
         names = sorted(policy, key=lambda name: name.encode())
         lines = (line(f"{name}.filter[{place}]", code) for name in names for place, code in codes_of(policy[name]["filter"]))
         yield json.dumps(policy), "".join(lines)

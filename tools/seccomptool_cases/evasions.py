@@ -1,6 +1,8 @@
 """The evasions of a filter, from the definition of `IsEvasion` in crates/seccomp_warnings: two calls that differ in what changes
 nothing of what is denied, or of which the second can do the same; the filter denies the first and lets the second through."""
 
+from model import is_met as holds
+
 LOW = 2**32 - 1
 WHOLE = 2**64 - 1
 
@@ -38,16 +40,6 @@ DETOURS = [
 def mask_of(operator):
     """Returns the mask of an operator, or none."""
     return operator["masked_eq"] if isinstance(operator, dict) else None
-
-
-def holds(it, argument):
-    """Returns whether a condition holds for an argument, as docs/JSON.md says of its operator."""
-    cut = LOW if it["type"] == "dword" else WHOLE
-    left, right, operator = argument & cut, it["val"] & cut, it["op"]
-    if isinstance(operator, dict):
-        return left & (mask_of(operator) & cut) == right & (mask_of(operator) & cut)
-    return {"eq": left == right, "ne": left != right, "ge": left >= right, "gt": left > right, "le": left <= right,
-            "lt": left < right}[operator]
 
 
 def actions_of(it):

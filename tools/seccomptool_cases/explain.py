@@ -1,11 +1,9 @@
 """What `explain` has to do: what is decided on records, and why, and the faults in their order."""
 
+from model import AARCH64, X86_64, record_of
 from program_cases import FRONTEND, LARGE
 
-from .forms import (
-    CLOSED, FOLDER, FULL, INPUT, LOGS, MISSING, NO_OBJECT, OUTPUT, RESET, TOOL, Case, Failing, rejects, writes
-)
-from .records import AARCH64, X86_64, record_of
+from .forms import CLOSED, FOLDER, FULL, INPUT, LOGS, MISSING, NO_OBJECT, OUTPUT, RESET, TOOL, Case, Failing, rejects, writes
 
 # Entries of three calls, of which `close` has one without conditions.
 POLICY = r'''{"a": {"mismatch_action": {"errno": 1}, "match_action": "allow", "filter": [
@@ -39,10 +37,7 @@ OPENS = '{"a":{"mismatch_action":"log","match_action":"allow","filter":[{"syscal
 
 # Each of 1025 conditions takes 4 instructions.
 CONDITIONS = ",".join(['{"index":0,"type":"qword","op":"eq","val":1}'] * 1025)
-MANY_CONDITIONS = (
-    '{"a":{"mismatch_action":"log","match_action":"allow","filter":[{"syscall":"read","args":['
-    + CONDITIONS + "]}]}}"
-)
+MANY_CONDITIONS = '{"a":{"mismatch_action":"log","match_action":"allow","filter":[{"syscall":"read","args":[' + CONDITIONS + "]}]}}"
 
 FILES = {
     "explained.json": POLICY,
@@ -58,8 +53,7 @@ LINES = [
     (72, (9, 2, 1), "allow: a.filter[1] of fcntl (72)\n"),
     (72, (9, 1, 1), "allow: a.filter[2] of fcntl (72)\n"),
     (72, (9, 2, 0), "allow: a.filter[5] of fcntl (72)\n"),
-    (72, (9, 3, 1),
-     "errno 1 (EPERM): no match: a.filter[1].args[0] of fcntl (72) does not hold, the nearest of 3 entries\n"),
+    (72, (9, 3, 1), "errno 1 (EPERM): no match: a.filter[1].args[0] of fcntl (72) does not hold, the nearest of 3 entries\n"),
     (3, (3, 0, 0), "allow: a.filter[3] of close (3)\n"),
     (3, (2, 0, 0), "allow: a.filter[4] of close (3)\n"),
     (0, (0, 0, 0), "errno 1 (EPERM): no entry of read (0)\n"),
@@ -69,10 +63,8 @@ LINES = [
 # The same of the other policy: the nearest miss is that of the condition with the greatest index, and the first of these.
 NEAR_LINES = [
     (72, (9, 1, 0), r"trace 2: n\x07.filter[0] of fcntl (72)" "\n"),
-    (72, (9, 2, 0),
-     r"trap: no match: n\x07.filter[1].args[1] of fcntl (72) does not hold, the nearest of 3 entries" "\n"),
-    (72, (9, 4, 0),
-     r"trap: no match: n\x07.filter[0].args[0] of fcntl (72) does not hold, the nearest of 3 entries" "\n"),
+    (72, (9, 2, 0), r"trap: no match: n\x07.filter[1].args[1] of fcntl (72) does not hold, the nearest of 3 entries" "\n"),
+    (72, (9, 4, 0), r"trap: no match: n\x07.filter[0].args[0] of fcntl (72) does not hold, the nearest of 3 entries" "\n"),
     (3, (2, 0, 0), r"trap: no match: n\x07.filter[3].args[0] of close (3) does not hold" "\n"),
 ]
 
@@ -88,12 +80,9 @@ FAILING_RECORDS = Failing(bytes(64))
 
 CASES = [
     # `explain` tells the decision and the reason.
-    *[writes("explain explained.json -f a", record_of(number, X86_64, *arguments), line)
-      for number, arguments, line in LINES],
-    *[writes("explain near.json", record_of(number, X86_64, *arguments), line)
-      for number, arguments, line in NEAR_LINES],
-    *[writes(f"explain explained.json {number} {' '.join(map(str, arguments))}", "", line)
-      for number, arguments, line in LINES],
+    *[writes("explain explained.json -f a", record_of(number, X86_64, *arguments), line) for number, arguments, line in LINES],
+    *[writes("explain near.json", record_of(number, X86_64, *arguments), line) for number, arguments, line in NEAR_LINES],
+    *[writes(f"explain explained.json {number} {' '.join(map(str, arguments))}", "", line) for number, arguments, line in LINES],
     writes("explain explained.json fcntl 9 2 1", "", LINES[1][2]),
     writes("explain explained.json close -a x86_64 -f a -- -1", "", LINES[5][2]),
     writes("explain - close 2", POLICY, LINES[6][2]),

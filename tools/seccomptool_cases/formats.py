@@ -115,8 +115,7 @@ PARSING = "invalid JSON: expected "
 
 OF_ERRORS = [
     # What stands at a place: its first byte, behind spaces, tabs and line feeds.
-    *cases_of(filters('\n\t {"syscall" :\n\u2020"fnctl"}'),
-              (0, wrong("unknown-call", UNKNOWN, "a.filter[0].syscall", suggestion="fcntl"))),
+    *cases_of(filters('\n\t {"syscall" :\n\u2020"fnctl"}'), (0, wrong("unknown-call", UNKNOWN, "a.filter[0].syscall", suggestion="fcntl"))),
     *cases_of(filters('{"syscall":"read","args":[' + CONDITION % (0, '"eq"', 1) + "," + CONDITION % (MARK + "6", '"eq"', 1) + "]}"),
               (0, wrong("wrong-value", "expected 0 to 5, found 6", "a.filter[0].args[1].index"))),
     *cases_of(filters('{"syscall":"read","args":\u2020[]}'),
@@ -146,8 +145,7 @@ OF_ERRORS = [
     # A key that an object has twice, at its second place; of several the first.
     *cases_of('{"a":1,\n \u2020"a":2}', (0, wrong("repeated-key", REPEATED, "a"))),
     *cases_of('{"b":{"x":[{"k":1,"l":2},{"l":3,"k":4,\u2020"\\u006c":5}]},"b":2}', (0, wrong("repeated-key", REPEATED, "b.x[1].l"))),
-    *cases_of('{"a":{"a":[{"a":{"a":1}}],"b":1},"b":[[],[7,{"c":0}],{"a":0,\u2020"a":1}]}',
-              (0, wrong("repeated-key", REPEATED, "b[2].a"))),
+    *cases_of('{"a":{"a":[{"a":{"a":1}}],"b":1},"b":[[],[7,{"c":0}],{"a":0,\u2020"a":1}]}', (0, wrong("repeated-key", REPEATED, "b[2].a"))),
     # No JSON: where it stops being so, and why.
     *cases_of('{"a":\n [1,\u2020]}', (0, wrong("not-json", PARSING + 'a value, found "]"'))),
     *cases_of('\u2020// no comments\n{}', (0, wrong("not-json", PARSING + 'a value, found "//"'))),

@@ -56,6 +56,12 @@ def as_list(name, items):
     return f'{{"{name}":[' + (f"\n{lines}\n" if lines else "") + "]}\n"
 
 
+def policies_of(filters, count):
+    """Returns policies that have so many of these filters each, by names whose order isn't that of their numbers."""
+    parts = (filters[start:start + count] for start in range(0, len(filters), count))
+    return [{f"f{number}": it for number, it in enumerate(part)} for part in parts]
+
+
 def writes(words, given, output):
     """Returns the case of words that write this output, and end with 0."""
     return Case(words, 0, output, "", given)
@@ -75,6 +81,29 @@ def rejects(words, given, told, place=INPUT):
 def rejects_in_both(words, given, told):
     """Returns the same cases of both layouts."""
     return [rejects(words + layout, given, told) for layout in LAYOUTS]
+
+
+class Command:
+    """Makes the cases of a command, whose words begin so."""
+
+    def __init__(self, begin):
+        self.begin = begin
+
+    def same(self, words, output, given=""):
+        """Returns the case of words that write this output, and end with 0."""
+        return Case(self.begin + words, 0, output, "", given)
+
+    def differ(self, words, output, given=""):
+        """Returns the case of words that write this output, and end with 1."""
+        return Case(self.begin + words, 1, output, "", given)
+
+    def fails(self, words, told, place=TOOL, given=""):
+        """Returns the case of words that write no output and tell this line of a place."""
+        return Case(self.begin + words, 2, "", place + told, given)
+
+    def misused(self, words, told="error: .."):
+        """Returns the case of words that are no command."""
+        return Case(self.begin + words, 2, "", told)
 
 
 def fails_to_read_and_write(words, read=LOGS, written=LOGS):

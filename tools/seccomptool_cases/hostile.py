@@ -3,13 +3,13 @@
 import json
 import shlex
 
+from model import X86_64, record_of
 from program_cases import FRONTEND
 
 from .compile import TREE, listed
 from .compiled_profiles import entry, left_out, profile
 from .diff import policy
 from .forms import INPUT, LOGS, MISSING, TOOL, Case, rejects, writes
-from .records import X86_64, record_of
 from .show import LOGS_SHOWN
 from .stats import LOGS_STEPS
 

@@ -1,6 +1,6 @@
 """What `learn` has to do: the policies of traces, what is kept of arguments, what is noted, and the errors.
 
-The texts are written by hand, from the layout that docs/JSON.md shows and the rules of docs/TOOL.md. The forms of lines are those of
+The layout of the texts is written by hand, from docs/JSON.md and docs/OCI.md, and what they have from the rules of docs/TOOL.md. The forms of lines are those of
 strace 6.1, of Linux's log (kernel/audit.c, kernel/auditsc.c) and of ausearch.
 """
 
@@ -8,11 +8,11 @@ import json
 import re
 import shlex
 
+from model import AARCH64, RISCV64, X86_64, record_of
 from program_cases import FRONTEND
 from running import TOP
 
-from .forms import CLOSED, FOLDER, FULL, INPUT, MISSING, NO_OBJECT, OUTPUT, RESET, TOOL, Case, Failing, rejects, writes
-from .records import AARCH64, RISCV64, X86_64, record_of
+from .forms import CLOSED, FOLDER, FULL, INPUT, MISSING, NO_OBJECT, OUTPUT, RESET, TOOL, Case, Command, Failing, rejects, writes
 
 # A program's calls by strace: arguments are numbers, names, and texts that look like the end of a call.
 NAMED = r"""execve("/usr/bin/cat", ["cat", "a, b)"], 0x7ffd0 /* 20 vars */) = 0
@@ -28,26 +28,6 @@ exit_group(0)                           = ?
 +++ exited with 0 +++
 """
 
-# The same calls as a policy.
-OF_NAMED = """{
-    "main": {
-        "mismatch_action": "kill_process",
-        "match_action": "allow",
-        "filter": [
-            { "syscall": "brk" },
-            { "syscall": "close" },
-            { "syscall": "connect" },
-            { "syscall": "execve" },
-            { "syscall": "exit_group" },
-            { "syscall": "fcntl" },
-            { "syscall": "openat" },
-            { "syscall": "read" },
-            { "syscall": "socket" }
-        ]
-    }
-}
-"""
-
 # Calls whose arguments are numbers: hexadecimal, decimal, with their names, with what a descriptor is, or octal. One argument 1 of
 # `fcntl` has a high half, and one of `socket` is written as two flags.
 RAW = """77 fcntl(0x3, 0x3, 0)                = 0x8000
@@ -61,52 +41,6 @@ RAW = """77 fcntl(0x3, 0x3, 0)                = 0x8000
 77 socket(0x2, 0x1|0x80000, 0)          = 7
 77 close(-1)                            = -1 EBADF (Bad file descriptor)
 """
-
-# Conditions on 32 bits of an argument, in the order of their values.
-OF_RAW = """{
-    "main": {
-        "mismatch_action": "kill_process",
-        "match_action": "allow",
-        "filter": [
-            { "syscall": "close" },
-            { "syscall": "fcntl", "args": [{ "index": 1, "type": "dword", "op": "eq", "val": 2 }] },
-            { "syscall": "fcntl", "args": [{ "index": 1, "type": "dword", "op": "eq", "val": 3 }] },
-            { "syscall": "fcntl", "args": [{ "index": 1, "type": "dword", "op": "eq", "val": 8 }] },
-            { "syscall": "ioctl", "args": [{ "index": 1, "type": "dword", "op": "eq", "val": 21505 }] },
-            { "syscall": "prctl", "args": [{ "index": 0, "type": "dword", "op": "eq", "val": 15 }] },
-            { "syscall": "socket", "args": [{ "index": 0, "type": "dword", "op": "eq", "val": 2 }, { "index": 1, "type": "dword", "op": "eq", "val": 524289 }, { "index": 2, "type": "dword", "op": "eq", "val": 0 }] },
-            { "syscall": "socket", "args": [{ "index": 0, "type": "dword", "op": "eq", "val": 2 }, { "index": 1, "type": "dword", "op": "eq", "val": 526337 }, { "index": 2, "type": "dword", "op": "eq", "val": 6 }] },
-            { "syscall": "socket", "args": [{ "index": 0, "type": "dword", "op": "eq", "val": 10 }, { "index": 1, "type": "dword", "op": "eq", "val": 2 }, { "index": 2, "type": "dword", "op": "eq", "val": 0 }] }
-        ]
-    }
-}
-"""
-
-# The same calls as a profile: 32 bits are compared under a mask.
-OF_RAW_AS_PROFILE = """{
-    "defaultAction": "SCMP_ACT_KILL_PROCESS",
-    "architectures": ["SCMP_ARCH_X86_64"],
-    "syscalls": [
-        {
-            "names": [
-                "close"
-            ],
-            "action": "SCMP_ACT_ALLOW"
-        },
-        { "names": ["fcntl"], "action": "SCMP_ACT_ALLOW", "args": [{ "index": 1, "value": 4294967295, "valueTwo": 2, "op": "SCMP_CMP_MASKED_EQ" }] },
-        { "names": ["fcntl"], "action": "SCMP_ACT_ALLOW", "args": [{ "index": 1, "value": 4294967295, "valueTwo": 3, "op": "SCMP_CMP_MASKED_EQ" }] },
-        { "names": ["fcntl"], "action": "SCMP_ACT_ALLOW", "args": [{ "index": 1, "value": 4294967295, "valueTwo": 8, "op": "SCMP_CMP_MASKED_EQ" }] },
-        { "names": ["ioctl"], "action": "SCMP_ACT_ALLOW", "args": [{ "index": 1, "value": 4294967295, "valueTwo": 21505, "op": "SCMP_CMP_MASKED_EQ" }] },
-        { "names": ["prctl"], "action": "SCMP_ACT_ALLOW", "args": [{ "index": 0, "value": 4294967295, "valueTwo": 15, "op": "SCMP_CMP_MASKED_EQ" }] },
-        { "names": ["socket"], "action": "SCMP_ACT_ALLOW", "args": [{ "index": 0, "value": 4294967295, "valueTwo": 2, "op": "SCMP_CMP_MASKED_EQ" }, { "index": 1, "value": 4294967295, "valueTwo": 524289, "op": "SCMP_CMP_MASKED_EQ" }, { "index": 2, "value": 4294967295, "valueTwo": 0, "op": "SCMP_CMP_MASKED_EQ" }] },
-        { "names": ["socket"], "action": "SCMP_ACT_ALLOW", "args": [{ "index": 0, "value": 4294967295, "valueTwo": 2, "op": "SCMP_CMP_MASKED_EQ" }, { "index": 1, "value": 4294967295, "valueTwo": 526337, "op": "SCMP_CMP_MASKED_EQ" }, { "index": 2, "value": 4294967295, "valueTwo": 6, "op": "SCMP_CMP_MASKED_EQ" }] },
-        { "names": ["socket"], "action": "SCMP_ACT_ALLOW", "args": [{ "index": 0, "value": 4294967295, "valueTwo": 10, "op": "SCMP_CMP_MASKED_EQ" }, { "index": 1, "value": 4294967295, "valueTwo": 2, "op": "SCMP_CMP_MASKED_EQ" }, { "index": 2, "value": 4294967295, "valueTwo": 0, "op": "SCMP_CMP_MASKED_EQ" }] }
-    ]
-}
-"""
-
-# Its entries of calls after `getpid` in byte order.
-OTHERS_OF_RAW = [it.strip().rstrip(",") for it in OF_RAW.splitlines() if re.search(r'"(ioctl|prctl|socket)"', it)]
 
 # Two calls without numbers that are kept, the second twice.
 SHORT = "getpid() = 5\nclose(1) = 0\nclose(2) = 0\n"
@@ -186,6 +120,33 @@ def of_dword(call, index, *values):
     return [entry(call, (index, "dword", it)) for it in values]
 
 
+def profile_of(action, arch, names=(), entries=()):
+    """Returns the text of a profile with this default action, one entry of these names, and the texts of others."""
+    listed = ",".join(f'\n                "{it}"' for it in names)
+    named = [f'{{\n            "names": [{listed}\n            ],\n            "action": "SCMP_ACT_ALLOW"\n        }}'] * bool(names)
+    lines = ",".join(f"\n        {it}" for it in (*named, *entries))
+    head = f'    "defaultAction": {action},\n    "architectures": ["SCMP_ARCH_{arch}"],\n'
+    return f'{{\n{head}    "syscalls": [{lines}\n    ]\n}}\n'
+
+
+def of_profile(call, compared):
+    """Returns the text of an entry of a profile that compares these values of arguments in 32 bits, under a mask."""
+    args = ", ".join(f'{{ "index": {index}, "value": 4294967295, "valueTwo": {it}, "op": "SCMP_CMP_MASKED_EQ" }}' for index, it in compared)
+    return f'{{ "names": ["{call}"], "action": "SCMP_ACT_ALLOW", "args": [{args}] }}'
+
+
+# The calls of NAMED as a policy; and those of RAW with conditions on 32 bits of an argument, in the order of their values.
+OF_NAMED = learned("brk", "close", "connect", "execve", "exit_group", "fcntl", "openat", "read", "socket")
+IN_RAW = [
+    *(("fcntl", [(1, it)]) for it in (2, 3, 8)), ("ioctl", [(1, 0x5401)]), ("prctl", [(0, 15)]),
+    *(("socket", list(enumerate(it))) for it in ((2, 0x80001, 0), (2, 0x80801, 6), (10, 2, 0))),
+]
+RAW_ENTRIES = [entry(call, *((index, "dword", it) for index, it in compared)) for call, compared in IN_RAW]
+OF_RAW = learned("close", *RAW_ENTRIES)
+OF_RAW_AS_PROFILE = profile_of('"SCMP_ACT_KILL_PROCESS"', "X86_64", ["close"], [of_profile(*it) for it in IN_RAW])
+# The entries of calls after `getpid` in byte order.
+OTHERS_OF_RAW = RAW_ENTRIES[3:]
+
 # What records have of `fcntl` and `ioctl`.
 OF_FCNTL, OF_IOCTL = of_dword("fcntl", 1, 2)[0], of_dword("ioctl", 1, 2**32 - 1)[0]
 
@@ -200,10 +161,7 @@ def fails(words, told, place=TOOL, given=""):
     return Case("learn " + words, 2, "", f"{place}{told}\n" if not told.endswith("\n") else place + told, given)
 
 
-def misused(words, told="error: .."):
-    """Returns the case of words that are no command."""
-    return Case("learn " + words, 2, "", told)
-
+misused = Command("learn ").misused
 
 # Lines that aren't understood: no call, a line of a log without the call, and a name that no call has the form of. What breaks off
 # or isn't UTF-8 behind a name is understood.
@@ -286,8 +244,7 @@ BOTH = "error: TRACE and POLICY can't both be read from standard input\n.."
 TABLE = re.search(r"^\| call \| .*?\n\|---.*?\n(.*?)\n\n", (TOP / "docs/LEARNING.md").read_text(encoding="utf-8"), re.M | re.S)[1]
 RUNNABLE = sorted({name for row in TABLE.splitlines() for name in re.findall(r"`([a-z0-9_]+)`", row.split("|")[1])})
 REQUESTS = {"fcntl": [2, 3], "ioctl": [0x5401, 0x5413]}
-OTHERS = {"x86_64": {"riscv_hwprobe"}, "aarch64": {
-    "access", "arch_prctl", "open", "readlink", "riscv_hwprobe", "stat", "time"}}
+OTHERS = {"x86_64": {"riscv_hwprobe"}, "aarch64": {"access", "arch_prctl", "open", "readlink", "riscv_hwprobe", "stat", "time"}}
 
 
 def runnable(arch="x86_64", *more):
@@ -414,8 +371,7 @@ CASES = [
     writes("learn --strict raw.trace", "", OF_RAW),
     # Calls of other architectures, and such as the architecture hasn't.
     noted("foreign.trace", learned("close", "getpid"), "foreign.trace: 2 calls are of other architectures"),
-    noted("examples/records.bin", learned(*of_dword("fcntl", 1, 2, 3), "fstat"),
-          "examples/records.bin: 1 call is of another architecture"),
+    noted("examples/records.bin", learned(*of_dword("fcntl", 1, 2, 3), "fstat"), "examples/records.bin: 1 call is of another architecture"),
     noted("--strict unnamed.trace", learned("close", "getpid"), "unnamed.trace: " + NO_SUCH),
     noted("", learned("getpid"), "x86_64 has no call of these names or numbers: " + HOSTILE_TOLD, place=INPUT,
           given=filtered(HOSTILE) + "getpid() = 1\n"),
@@ -467,32 +423,12 @@ CASES = [
           *["raw.trace: " + ANY.format(it) for it in ("fcntl", "ioctl", "prctl", "socket")]),
     # As a profile, which decides the same.
     writes("learn --profile raw.trace", "", OF_RAW_AS_PROFILE),
-    writes("learn --profile", "", '{\n    "defaultAction": "SCMP_ACT_KILL_PROCESS",\n    "architectures": ["SCMP_ARCH_X86_64"],\n    "syscalls": [\n    ]\n}\n'),
-    writes("learn --profile --otherwise errno:38 -a aarch64", "fcntl(1, 1) = 0\n", """{
-    "defaultAction": "SCMP_ACT_ERRNO",
-    "defaultErrnoRet": 38,
-    "architectures": ["SCMP_ARCH_AARCH64"],
-    "syscalls": [
-        { "names": ["fcntl"], "action": "SCMP_ACT_ALLOW", "args": [{ "index": 1, "value": 4294967295, "valueTwo": 1, "op": "SCMP_CMP_MASKED_EQ" }] }
-    ]
-}
-"""),
-    writes("learn --profile --otherwise trace:7 -a riscv64 --args close", "close(5) = 0\nread(0) = 0\ngetpid() = 1\n", """{
-    "defaultAction": "SCMP_ACT_TRACE",
-    "defaultErrnoRet": 7,
-    "architectures": ["SCMP_ARCH_RISCV64"],
-    "syscalls": [
-        {
-            "names": [
-                "getpid",
-                "read"
-            ],
-            "action": "SCMP_ACT_ALLOW"
-        },
-        { "names": ["close"], "action": "SCMP_ACT_ALLOW", "args": [{ "index": 0, "value": 5, "op": "SCMP_CMP_EQ" }] }
-    ]
-}
-"""),
+    writes("learn --profile", "", profile_of('"SCMP_ACT_KILL_PROCESS"', "X86_64")),
+    writes("learn --profile --otherwise errno:38 -a aarch64", "fcntl(1, 1) = 0\n", profile_of(
+        '"SCMP_ACT_ERRNO",\n    "defaultErrnoRet": 38', "AARCH64", entries=[of_profile("fcntl", [(1, 1)])])),
+    writes("learn --profile --otherwise trace:7 -a riscv64 --args close", "close(5) = 0\nread(0) = 0\ngetpid() = 1\n", profile_of(
+        '"SCMP_ACT_TRACE",\n    "defaultErrnoRet": 7', "RISCV64", ["getpid", "read"],
+        ['{ "names": ["close"], "action": "SCMP_ACT_ALLOW", "args": [{ "index": 0, "value": 5, "op": "SCMP_CMP_EQ" }] }'])),
     *[Case(f"learn --profile --otherwise {it} | ./seccomptool explain --oci - read", 0, f"{it}: defaultAction of read (0)\n", "")
       for it in ("kill_process", "kill_thread", "trap", "log")],
     Case("learn --profile raw.trace | ./seccomptool explain - fcntl 9 3", 0, "allow: syscalls[2] of fcntl (72)\n", ""),

@@ -2,7 +2,7 @@
 
 from .compiled_profiles import entry, profile
 from .explain import POLICY as OF_ERRNO
-from .forms import FOLDER, FULL, INPUT, MISSING, OUTPUT, RESET, TOOL, Case, Failing, rejects
+from .forms import FOLDER, FULL, INPUT, MISSING, OUTPUT, RESET, TOOL, Case, Command, Failing, rejects
 from .learn import HOSTILE, HOSTILE_TOLD, filtered
 from .programs import ERRNO_1, OF_READ, program, returns
 
@@ -63,15 +63,8 @@ FILES = {
 }
 
 
-def explains(words, output, given=""):
-    """Returns the case of words that explain lines so."""
-    return Case("explain " + words, 0, output, "", given)
-
-
-def misused(words, told="error: .."):
-    """Returns the case of words that are no command."""
-    return Case("explain " + words, 2, "", told)
-
+EXPLAIN = Command("explain ")
+explains, misused = EXPLAIN.same, EXPLAIN.misused
 
 CASES = [
     explains("logged.json --log denied.log", ON_DENIED),

@@ -22,8 +22,7 @@ CASES = [
     writes("compile -q logs.json -o -", "", TREE),
     rejects("compile -q logs.json --output=- > /dev/full", "", FULL, OUTPUT),
     # A file is replaced whole and keeps its permissions, also if a link leads to it, and nothing is left beside it.
-    beside("replaced", "chmod 640 older &&", "read.json -o older", "stat -c %a older; ls",
-           0, "640\nolder\nread.json\n"),
+    beside("replaced", "chmod 640 older &&", "read.json -o older", "stat -c %a older; ls", 0, "640\nolder\nread.json\n"),
     beside("linked", "ln -s older link &&", "read.json -o link", "readlink link; wc -c < older", 0, f"older\n{len(TREE)}\n"),
     beside("dangling", "ln -s newer link &&", "read.json -o link", "readlink link; wc -c < newer; ls -A", 0,
            f"newer\n{len(TREE)}\nlink\nnewer\nolder\nread.json\n"),

@@ -13,8 +13,7 @@ from .compiled_profiles import configured, entry, profile, when
 ACTION = ("SCMP_ACT_ALLOW, SCMP_ACT_ERRNO, SCMP_ACT_KILL, SCMP_ACT_KILL_PROCESS, SCMP_ACT_KILL_THREAD, SCMP_ACT_LOG, "
           "SCMP_ACT_NOTIFY, SCMP_ACT_TRACE or SCMP_ACT_TRAP")
 OPERATOR = "SCMP_CMP_EQ, SCMP_CMP_GE, SCMP_CMP_GT, SCMP_CMP_LE, SCMP_CMP_LT, SCMP_CMP_MASKED_EQ or SCMP_CMP_NE"
-FLAG = ("SECCOMP_FILTER_FLAG_LOG, SECCOMP_FILTER_FLAG_SPEC_ALLOW, SECCOMP_FILTER_FLAG_TSYNC or "
-        "SECCOMP_FILTER_FLAG_WAIT_KILLABLE_RECV")
+FLAG = "SECCOMP_FILTER_FLAG_LOG, SECCOMP_FILTER_FLAG_SPEC_ALLOW, SECCOMP_FILTER_FLAG_TSYNC or SECCOMP_FILTER_FLAG_WAIT_KILLABLE_RECV"
 OBJECT, LIST, TEXT, TEXT_OR_NULL = "an object", "null or an array", "a string", "null or a string"
 INDEX, ACTION_NUMBER = "0 to 5", "null or 0 to 65535"
 NUMBER, NUMBER_OR_NULL = "0 to 18446744073709551615", "null or 0 to 18446744073709551615"
@@ -161,8 +160,7 @@ BESIDE = [
     *[("the profile", numbered("defaultErrnoRet"), profile(default=action, defaultErrnoRet=number))
       for action in PLAIN for number in (0, 1)],
     *[(ENTRY, numbered("errnoRet"), second(entry("read", action, errnoRet=number))) for action in PLAIN for number in (0, 65535)],
-    *[("the profile", numbered("defaultErrno"), profile(default=action, defaultErrno=name))
-      for action in PLAIN for name in ("EPERM", "1")],
+    *[("the profile", numbered("defaultErrno"), profile(default=action, defaultErrno=name)) for action in PLAIN for name in ("EPERM", "1")],
     *[(ENTRY, numbered("errno"), second(entry("read", action, errno="EPERM"))) for action in PLAIN],
     *[(ENTRY, BOTH, second({"names": names, "name": "write", "action": "SCMP_ACT_ALLOW"})) for names in (["read"], ["write"], [""])],
 ]

@@ -5,18 +5,14 @@ The numbers of the cases are counted by hand, and those of all other profiles by
 """
 
 import json
-import struct
 
-from .forms import CLOSED, FOLDER, FULL, LOGS, MISSING, OUTPUT, RESET, TOOL, Case, Failing, rejects, writes
+from model import ARCHITECTURES, JUMP, RETURN, TESTS, instructions_of, numbers_of, record_of, run as run_on
+
+from .forms import CLOSED, FOLDER, FULL, MISSING, OUTPUT, RESET, TOOL, Failing, rejects, writes
 from .compiled_profiles import PARSING, TOO_LONG, entry, profile
-from .oci import AUDIT_ARCH, COMMENTED, NO_NAME, WRONG_DEFAULT, arch_of, file_of, misused, record_of, unnamed, ways
-from .profile_faults import NO_PROFILE
+from .oci import COMMENTED, NO_NAME, WRONG_DEFAULT, arch_of, file_of, misused, unnamed, ways
 from .profiles import PROFILES
 from .stats import LOGS_STEPS
-
-# The codes of the instructions that the programs of profiles have.
-LOAD, SET, AND, JUMP, RETURN = 0x20, 0x00, 0x54, 0x05, 0x06
-TESTS = {0x15: lambda a, k: a == k, 0x25: lambda a, k: a > k, 0x35: lambda a, k: a >= k, 0x45: lambda a, k: a & k != 0}
 
 # The containers for which the example is measured.
 CONTAINERS = ("", "--cap CAP_SYS_ADMIN", "--kernel 4.4", "-a aarch64", "-a riscv64 --cap CAP_SYS_ADMIN --kernel 4.4")
@@ -32,26 +28,10 @@ def most_steps(program):
     return ways_behind[0]
 
 
-def steps_on(program, record):
-    """Returns how many instructions a program takes on a record."""
-    place = steps = accumulator = 0
-    while True:
-        code, if_so, if_not, k = program[place]
-        place, steps = place + 1, steps + 1
-        if code == RETURN:
-            return steps
-        if code in TESTS:
-            place += if_so if TESTS[code](accumulator, k) else if_not
-        elif code == JUMP:
-            place += k
-        else:
-            accumulator = {LOAD: lambda: struct.unpack_from("<I", record, k)[0], SET: lambda: k, AND: lambda: accumulator & k}[code]()
-
-
 def measured(words, written):
     """Returns the line of the numbers of a program in bytes, by a walk over its instructions."""
-    program = list(struct.iter_unpack("<HBBI", written))
-    passing = steps_on(program, record_of(arch_of(words), 2**32 - 1, (0,) * 6))
+    program = instructions_of(written)
+    _, passing = run_on(program, numbers_of(record_of(2**32 - 1, ARCHITECTURES[arch_of(words)])))
     return f"profile: {len(written) // 8} instructions, at most {most_steps(program)} steps, {passing} passing\n"
 
 
@@ -118,7 +98,6 @@ CASES = [
     writes("show --stats --oci --cap CAP_KILL --kernel 6.1 reads-profile.json", "", READS),
     writes("show --stats reads-profile.json --oci --kernel=6.1 --cap=CAP_KILL --cap=CAP_CHOWN", "", READS),
     # With `--oci` nothing else is a profile.
-    rejects("show --stats --oci logs.json", "", NO_PROFILE, TOOL + "logs.json: "),
     rejects("show --stats --oci", "{", PARSING),
     # Without it, a policy is one whatever its filters are named, and whatever its text has in other places.
     writes("show --stats default-action.json", "", LOGS_STEPS.replace("filter a", "filter defaultAction")),

@@ -6,8 +6,9 @@ of those whose conditions are met. A number of x32 kills the thread on x86_64, b
 
 import re
 
+from model import numbers_on
+
 from .compiled_profiles import entry, profile, when
-from .records import numbers_on
 
 # The actions of filters from the strictest on (seccomp(2)).
 STRICTEST_FIRST = ("kill_process", "kill_thread", "trap", "errno", "user_notif", "trace", "log", "allow")

@@ -1,14 +1,14 @@
 """What `diff` has to do of programs: the calls on which a program decides otherwise than a policy's filter or another program, and
 the faults."""
 
+from model import RISCV64, X86_64
 from program_cases import FRONTEND
 
 from .diff import policy
-from .forms import CLOSED, FOLDER, FULL, LOGS, MISSING, NO_OBJECT, OUTPUT, RESET, TOOL, Case, Failing
+from .forms import CLOSED, FOLDER, FULL, LOGS, MISSING, NO_OBJECT, OUTPUT, RESET, TOOL, Case, Command, Failing
 from .programs import ALLOW, ERRNO_1, JUMP_AT_LEAST, JUMP_EQUAL, JUMP_IF_SET, LOAD, MASK, UNFIT, program, returns
 
-# `AUDIT_ARCH_*` values (linux/audit.h), return values (linux/seccomp.h), and the bit of x32 numbers.
-X86_64, I386, RISCV64 = 0xC000003E, 0x40000003, 0xC00000F3
+# Return values (linux/seccomp.h), and the bit of x32 numbers.
 KILL_PROCESS, KILL_THREAD, LOG, TRAP, X32 = 0x80000000, 0, 0x7FFC0000, 0x00030000, 0x40000000
 
 
@@ -38,9 +38,7 @@ PROGRAMS = {
     # `read` of 5 (a condition on the low half of argument 0), and of numbers whose bit 0 is set; and `read` if the high half of
     # the instruction pointer is 5.
     "reads-5.bpf": guarded((JUMP_EQUAL, 0, 3, 0), (LOAD, 0, 0, 16), (JUMP_EQUAL, 0, 1, 5), returns(ALLOW), returns(LOG)),
-    "reads-odd.bpf": guarded(
-        (JUMP_EQUAL, 0, 4, 0), (LOAD, 0, 0, 16), (MASK, 0, 0, 1), (JUMP_EQUAL, 0, 1, 1), returns(ALLOW), returns(LOG)
-    ),
+    "reads-odd.bpf": guarded((JUMP_EQUAL, 0, 4, 0), (LOAD, 0, 0, 16), (MASK, 0, 0, 1), (JUMP_EQUAL, 0, 1, 1), returns(ALLOW), returns(LOG)),
     "reads-from-5.bpf": guarded((JUMP_EQUAL, 0, 3, 0), (LOAD, 0, 0, 12), (JUMP_EQUAL, 0, 1, 5), returns(ALLOW), returns(LOG)),
     "errno-1.bpf": guarded(returns(ERRNO_1)),
 }
@@ -67,20 +65,8 @@ def others(change, number="0"):
     return f"{BELOW}{change}: 0x0 {number}{NONE}{ABOVE}{change}: 0xc000003f {number}{NONE}"
 
 
-def same(words, output, given=""):
-    """Returns the case of a program on which nothing is found that counts."""
-    return Case("diff -q " + words, 0, output, "", given)
-
-
-def differs(words, output, given=""):
-    """Returns the case of a program that differs."""
-    return Case("diff -q " + words, 1, output, "", given)
-
-
-def fails(words, told, place=TOOL, given=""):
-    """Returns the case of words that write no output and tell this line of a place."""
-    return Case("diff -q " + words, 2, "", place + told, given)
-
+DIFF = Command("diff -q ")
+same, differs, fails = DIFF.same, DIFF.differ, DIFF.fails
 
 def compiled(arch, layout, file):
     """Returns words after which the program of a policy's file, in this layout, is standard input."""
@@ -151,13 +137,11 @@ CASES = [
     fails("unknown-call.json reads.bpf", FRONTEND + "Invalid syscall name: nosyscall for given arch: x86_64.\n",
           TOOL + "unknown-call.json: "),
     fails("logs.json:b reads.bpf", "No filter has this name: b.\n", TOOL + "logs.json: "),
-    fails("two-filters.json reads.bpf", "Name one of its filters: a, b\\xc2\\x9b.\n",
-          TOOL + "two-filters.json: "),
+    fails("two-filters.json reads.bpf", "Name one of its filters: a, b\\xc2\\x9b.\n", TOOL + "two-filters.json: "),
     fails("none.json reads.bpf", "The policy has no filters.\n", TOOL + "none.json: "),
     fails("logs.json:b -", "No filter has this name: b.\n", TOOL + "logs.json: ", b"\6\0\0"),
     *[fails("logs.json -", told + "\n", TOOL + "standard input: ", given) for given, told in UNFIT],
     fails("logs.json missing.bpf", MISSING, TOOL + "missing.bpf: "),
-    fails("logs.json examples", FOLDER, TOOL + "examples: "),
     fails("logs.json -", RESET, TOOL + "standard input: ", Failing(PROGRAMS["reads.bpf"])),
     # A filter that neither layout can hold, in front of the faults of the program.
     fails("too-large.json reads.bpf", "Backend error: The seccomp filter ..", TOOL + "too-large.json: "),
@@ -166,7 +150,6 @@ CASES = [
     fails("logs.json reads.bpf > /dev/full", FULL, OUTPUT),
     fails("allows-read.json reads.bpf >&-", CLOSED, OUTPUT),
     # Words that are no command.
-    Case("diff -q logs.json", 2, "", "error: .."),
     Case("diff -q - -", 2, "", "error: .."),
     Case("diff -q --all=true logs.json reads.bpf", 2, "", "error: .."),
     Case("diff -q logs.json reads.bpf reads.bpf", 2, "", "error: .."),

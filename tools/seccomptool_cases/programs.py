@@ -2,8 +2,9 @@
 
 import struct
 
-from .forms import CLOSED, FOLDER, FULL, MISSING, OUTPUT, RESET, TOOL, Case, Failing, rejects, writes
-from .records import RISCV64, X86_64, record_of
+from model import RISCV64, X86_64, record_of
+
+from .forms import CLOSED, FULL, MISSING, OUTPUT, RESET, TOOL, Case, Command, Failing, rejects, writes
 
 # Codes of instructions (linux/bpf_common.h): a load of a word, jumps, a mask, a return.
 LOAD, JUMP, JUMP_EQUAL, JUMP_GREATER, JUMP_AT_LEAST, JUMP_IF_SET, MASK, RETURN = 0x20, 0x05, 0x15, 0x25, 0x35, 0x45, 0x54, 0x06
@@ -82,10 +83,7 @@ UNFIT = [
 ]
 
 
-def misused(words, told="error: .."):
-    """Returns the case of words that are no command."""
-    return Case("explain " + words, 2, "", told)
-
+misused = Command("explain ").misused
 
 CASES = [
     # What a program returns for a call, by name or number, with arguments; and for records.
@@ -109,7 +107,6 @@ CASES = [
     # Programs that aren't taken.
     *[rejects("explain - read", given, told + "\n") for given, told in UNFIT],
     rejects("explain missing.bpf read", "", MISSING, TOOL + "missing.bpf: "),
-    rejects("explain examples read", "", FOLDER, TOOL + "examples: "),
     rejects("explain - read", Failing(OF_READ), RESET),
     # The program's fault comes before those of the records.
     rejects("explain - --records cut.bin", OF_READ[:-1], "The input ends inside an instruction, after 7 bytes of it.\n"),

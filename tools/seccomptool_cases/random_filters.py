@@ -9,7 +9,7 @@ import json
 import random
 import re
 
-from model import DWORD, QWORD, holds
+from model import DWORD, QWORD, is_met
 
 DRAW = random.Random(7)
 OPPOSITES = {"eq": "ne", "ne": "eq", "lt": "ge", "ge": "lt", "le": "gt", "gt": "le"}
@@ -47,27 +47,15 @@ def changed(entries):
     return parts
 
 
-def is_met(condition, arguments):
-    """Whether a condition holds."""
-    argument, value, operator = arguments[condition["index"]], condition["val"], condition["op"]
-    size = DWORD if condition["type"] == "dword" else QWORD
-    if isinstance(operator, dict):
-        return holds(size, "masked_eq", argument, value, operator["masked_eq"])
-    return holds(size, operator, argument, value)
-
-
 def decide(entries, arguments):
     """The action that entries decide."""
-    return "allow" if any(all(is_met(it, arguments) for it in entry) for entry in entries) else "log"
+    return "allow" if any(all(is_met(it, arguments[it["index"]]) for it in entry) for entry in entries) else "log"
 
 
 def policy(filters):
     """Returns the policy of these filters of `read`."""
     return json.dumps({
-        name: {
-            "mismatch_action": "log", "match_action": "allow",
-            "filter": [{"syscall": "read", "args": args} for args in entries],
-        }
+        name: {"mismatch_action": "log", "match_action": "allow", "filter": [{"syscall": "read", "args": args} for args in entries]}
         for name, entries in filters.items()
     })
 

@@ -6,37 +6,29 @@ from .forms import (
     CLOSED, FOLDER, FULL, INPUT, LAYOUTS, MISSING, NO_OBJECT, OUTPUT, RESET, STEERS, TOOL, Failing,
     fails_to_read_and_write, rejects, rejects_in_both, writes
 )
-from .programs import (
-    ALLOW, ERRNO_1, JUMP, JUMP_AT_LEAST, JUMP_EQUAL, JUMP_GREATER, LOAD, MASK, OF_READ, UNFIT, program, returns
-)
+from .programs import ALLOW, ERRNO_1, JUMP, JUMP_AT_LEAST, JUMP_EQUAL, JUMP_GREATER, LOAD, MASK, OF_READ, UNFIT, program, returns
 
 # Two filters without entries; the second one's name has a byte that steers a terminal.
 LOGS = r'''{"b\n":{"mismatch_action":{"errno":65537},"match_action":"allow","filter":[]},
     "a":{"mismatch_action":"log","match_action":"allow","filter":[]}}'''
 
-LOGS_AS_CHAINS = r"""filter 4 a
+KILL, LOG, FAIL = "#0x80000000             ; kill the process", "#0x7ffc0000             ; log", "#0x50001                ; errno 1 (EPERM)"
+
+
+def of_none(name, jumps, first, second, value="0xc00000b7", arch="aarch64"):
+    """Returns how the program of a filter without entries is shown: the value of the architecture, the places to which its test leads,
+    and the two returns."""
+    return f"""filter 4 {name}
    0  ld [4]                      ; the architecture
-   1  jeq #0xc00000b7, 3, 2       ; aarch64
-   2  ret #0x80000000             ; kill the process
-   3  ret #0x7ffc0000             ; log
-filter 4 b\x0a
-   0  ld [4]                      ; the architecture
-   1  jeq #0xc00000b7, 3, 2       ; aarch64
-   2  ret #0x80000000             ; kill the process
-   3  ret #0x50001                ; errno 1 (EPERM)
+   1  jeq #{value}, {jumps}       ; {arch}
+   2  ret {first}
+   3  ret {second}
 """
 
-LOGS_AS_TREE = r"""filter 4 a
-   0  ld [4]                      ; the architecture
-   1  jeq #0xc00000b7, 2, 3       ; aarch64
-   2  ret #0x7ffc0000             ; log
-   3  ret #0x80000000             ; kill the process
-filter 4 b\x0a
-   0  ld [4]                      ; the architecture
-   1  jeq #0xc00000b7, 2, 3       ; aarch64
-   2  ret #0x50001                ; errno 1 (EPERM)
-   3  ret #0x80000000             ; kill the process
-"""
+
+LOGS_AS_CHAINS = of_none("a", "3, 2", KILL, LOG) + of_none(r"b\x0a", "3, 2", KILL, FAIL)
+LOGS_AS_TREE = of_none("a", "2, 3", LOG, KILL) + of_none(r"b\x0a", "2, 3", FAIL, KILL)
+LOGS_SHOWN = of_none("a", "3, 2", KILL, LOG, "0xc000003e", "x86_64")
 
 # A call with two entries with conditions, and one without conditions: `read` is 63 on aarch64, and
 # `close` is 57.
@@ -75,13 +67,6 @@ CALLS_SHOWN = r"""filter 27 a
   24  ret #0x7ff00007             ; trace 7
   25  ret #0x30000                ; trap
   26  ret #0x30000                ; trap
-"""
-
-LOGS_SHOWN = """filter 4 a
-   0  ld [4]                      ; the architecture
-   1  jeq #0xc000003e, 3, 2       ; x86_64
-   2  ret #0x80000000             ; kill the process
-   3  ret #0x7ffc0000             ; log
 """
 
 # Programs in bytes, of whichever compiler.

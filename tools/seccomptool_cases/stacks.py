@@ -5,10 +5,11 @@ installed last (kernel/seccomp.c, seccomp_run_filters)."""
 import itertools
 import struct
 
+from model import X86_64, record_of
+
 from .compile import TREE, in_c, listed
 from .forms import LOGS, MISSING, OUTPUT, TOOL, Case, as_list, as_object, rejects, writes
 from .programs import ACTIONS, ALLOW, ERRNO_1, JUMP, JUMP_EQUAL, LOAD, MASK, OF_BIT, OF_READ, program, returns
-from .records import X86_64, record_of
 
 KILL_PROCESS, KILL_THREAD, TRAP, LOG, TRACE = 0x80000000, 0, 0x00030000, 0x7FFC0000, 0x7FF00007
 
@@ -27,9 +28,7 @@ def prevailing(words):
 
 def by_number(first, second, other):
     """Returns the program that answers calls 0 and 1 and each other call by these words."""
-    return program(
-        (LOAD, 0, 0, 0), (JUMP_EQUAL, 0, 1, 0), returns(first), (JUMP_EQUAL, 0, 1, 1), returns(second), returns(other)
-    )
+    return program((LOAD, 0, 0, 0), (JUMP_EQUAL, 0, 1, 0), returns(first), (JUMP_EQUAL, 0, 1, 1), returns(second), returns(other))
 
 
 # What three programs answer to calls 0, 1 and 2.

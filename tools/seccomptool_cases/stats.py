@@ -6,10 +6,7 @@ from .forms import FULL, INPUT, LOGS, NO_OBJECT, OUTPUT, STEERS, fails_to_read_a
 from .long_filters import of_masks, of_rules
 
 # The programs of a filter without entries load the architecture's word and compare it, and return.
-LOGS_STEPS = (
-    "filter a\nlinear: 4 instructions, at most 3 steps, 3 passing\n"
-    "tree: 4 instructions, at most 3 steps, 3 passing\n"
-)
+LOGS_STEPS = "filter a\nlinear: 4 instructions, at most 3 steps, 3 passing\ntree: 4 instructions, at most 3 steps, 3 passing\n"
 
 # Call 0 has a rule, and call 39 matches always.
 #

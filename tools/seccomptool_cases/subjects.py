@@ -14,11 +14,7 @@ LOG = 0x7FFC0000
 # (`reads.bpf`). And all is logged.
 LOGGED, LOGS_READ = profile(default="SCMP_ACT_LOG"), profile(entry("read"), default="SCMP_ACT_LOG")
 
-FILES = {
-    "logs-profile.json": json.dumps(LOGGED),
-    "logs-read-profile.json": json.dumps(LOGS_READ),
-    "logs-all.bpf": guarded(returns(LOG)),
-}
+FILES = {"logs-profile.json": json.dumps(LOGGED), "logs-read-profile.json": json.dumps(LOGS_READ), "logs-all.bpf": guarded(returns(LOG))}
 
 POLICIES = ("logs.json", "allows-read.json")
 PROFILES = ("logs-profile.json", "logs-read-profile.json")

@@ -285,8 +285,7 @@ def of_detours(name, asked, beside, evaded, mismatch="trap", match="allow", arch
 DENIES = ("kill_process", "kill_thread", "trap", {"errno": 1})
 
 DEFAULTS = [
-    *(it for action in PERMITS for it in warned(
-        {"a": filter_of([], action, "trap")}, line("a.mismatch_action", "allows-by-default"))),
+    *(it for action in PERMITS for it in warned({"a": filter_of([], action, "trap")}, line("a.mismatch_action", "allows-by-default"))),
     *(it for action in PERMITS for it in warned({"a": filter_of([], "trap", action)})),
     # If the listed calls are let through as well, nothing is denied that could be passed by.
     *of_condition("qword", "eq", 5, [], "allow", "log"),

@@ -1,8 +1,9 @@
 """Which words are a command, what is told of others, and help and the version."""
 
+from model import AARCH64, X86_64, record_of
+
 from .compile import LINEAR, TREE
-from .forms import FULL, OUTPUT, Case, rejects, writes
-from .records import AARCH64, X86_64, record_of
+from .forms import FULL, OUTPUT, Case, Command, rejects, writes
 
 GREATEST = 2**64 - 1
 
@@ -16,16 +17,9 @@ COMMANDS = ("check", "compile", "show", "explain", "diff", "stack", "learn", "ca
 
 NO_VERSION = "error: the value of --kernel isn't a version of two numbers, such as 6.1\n.."
 
-NO_NUMBER = (
-    "error: an ARG isn't a number from -9223372036854775808 to 18446744073709551615, "
-    "decimal or hexadecimal after 0x\n.."
-)
+NO_NUMBER = "error: an ARG isn't a number from -9223372036854775808 to 18446744073709551615, decimal or hexadecimal after 0x\n.."
 
-
-def misused(words, told="error: .."):
-    """Returns the case of words that are no command."""
-    return Case(words, 2, "", told)
-
+misused = Command("").misused
 
 CASES = [
     # Help and the version.
@@ -43,8 +37,7 @@ CASES = [
     writes("call --record read", "", record_of(0, X86_64)),
     writes("call --record 0 1 0x2 0xaBc 7 18446744073709551615 0xffffffffffffffff", "",
            record_of(0, X86_64, 1, 2, 0xABC, 7, GREATEST, GREATEST)),
-    writes("call --record 0 1 -- -1 -0x10 -9223372036854775808", "",
-           record_of(0, X86_64, 1, GREATEST, 2**64 - 16, 2**63)),
+    writes("call --record 0 1 -- -1 -0x10 -9223372036854775808", "", record_of(0, X86_64, 1, GREATEST, 2**64 - 16, 2**63)),
     # Options may stand between arguments.
     writes("call read 1 --record -a aarch64 2", "", record_of(63, AARCH64, 1, 2)),
     writes("call --record read 1 -a x86_64 0x2 -- -1", "", record_of(0, X86_64, 1, 2, GREATEST)),
@@ -77,8 +70,7 @@ CASES = [
     misused("explain --format word logs.json read", "error: unexpected argument '--format' found\n.."),
     misused("explain < empty"),
     misused("explain logs.json read --records 63-bytes", "error: the argument '[CALL]' cannot be used with '--records <FILE>'\n.."),
-    misused("explain -",
-            "error: SUBJECT and records can't both be read from standard input: give CALL, --records or --log\n.."),
+    misused("explain -", "error: SUBJECT and records can't both be read from standard input: give CALL, --records or --log\n.."),
     misused("explain - --records -"),
     misused("diff logs.json"),
     misused("diff -- -: -", "error: OLD and NEW can't both be read from standard input\n.."),

@@ -1,7 +1,7 @@
 """What the built program seccomptool is tried on by tools/check-documents, and what it has to do: a table of cases
 of each command, and one of words, with the files that they name beside those of tools/program_cases.py.
 
-Expected values come from the definitions in crates/seccomptool/specs, arithmetic or a kernel's headers, and never
+Expected values come from the definitions in crates/seccomp_answers/specs, arithmetic or a kernel's headers, and never
 from the program's output.
 """
 

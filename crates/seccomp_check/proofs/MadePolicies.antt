@@ -1,26 +1,25 @@
 -- For `policies_in` and `compiled_filters`: policies under the names of their filters, and their programs.
 use Rattle.std.proofs.Common.{◌≡◌, ℕ, List, [], ◌∷◌, Option, All, String, Global, Less, string_bytes}
-use Rattle.std.proofs.Common.{string_cmp, sym, ◌∙◌}
-use Rattle.std.specs.BTreeMap.{BTreeMap, get_by_text}
+use Rattle.std.proofs.Common.{string_cmp, IfSome, sym, subst, ◌∙◌}
+use Rattle.std.specs.BTreeMap.{BTreeMap, get_by_text, is_at}
 use Rattle.std.specs.List.{AllByRecursion, AllZip}
 use Rattle.std.specs.List.Sorted.{IsStrictlySortedBy}
 use Rattle.std.specs.Map.{keys_of, lookup}
 use Rattle.std.proofs.lemmas.List.Elements.{All-nil, All-cons}
-use Rattle.std.proofs.lemmas.Map.Text.{is_text}
+use Rattle.std.proofs.lemmas.Map.Entries.{All-lookup}
+use Rattle.std.proofs.lemmas.Map.Text.{is_eq-slice_cmp, is_text, text_cmp}
 use Rattle.serde_json.specs.Data.{Data}
 use Rattle.seccompiler.specs.Compiled.{IsCompiled}
 use Rattle.seccompiler.specs.declared.backend.TargetArch.{TargetArch}
 use Rattle.seccompiler.specs.declared.bpf.sock_filter.{sock_filter}
 use Rattle.seccompiler.specs.declared.json.types.JsonFilterMap.{JsonFilterMap}
-use Rattle.seccompiler.specs.JsonAnswers.{ArePoliciesOf, HasPolicy}
+use Rattle.seccompiler.specs.JsonAnswers.{ArePoliciesOf}
 use Rattle.seccompiler.specs.JsonPolicyOf.{IsPolicyOf}
 use Rattle.seccompiler.specs.JsonSteps.{AreFilters}
 use Rattle.seccompiler.specs.JsonTypes.{JsonFilter}
 use Rattle.seccompiler.specs.Policy.{Filter}
 use Rattle.seccompiler.proofs.ByName.{made_under}
 use Rattle.seccomp_check.specs.Checks.{IsFaultless, AreAllCompiled}
-use Rattle.seccomp_command_line.proofs.ByName.{by_text}
-use Rattle.seccomp_command_line.proofs.Found.{all_listed}
 
 -- ---- policies
 
@@ -58,6 +57,11 @@ module _ (target : TargetArch) where
   made_in_order [] (y ∷ ys) h order = absurd h
   made_in_order (x ∷ xs) (y ∷ ys) h order = (above x.0 y.0 h.0.0 xs ys h.1 order.0, made_in_order xs ys h.1 order.1)
 
+  -- An ordered map finds a name as a list does.
+  by_text : {X : Type 0} (name : List ℕ) (entries : List (String Global × X))
+      → lookup (is_at (text_cmp name)) entries ≡ lookup (is_text name) entries
+  by_text name entries = λ i. lookup (λ key. is_eq-slice_cmp name (string_bytes key) i) entries
+
   -- The policies of a value's filters are the value's.
   pub are_policies : (filters : JsonFilterMap) (made : Policies) → AllZip IsMade filters.0.entries made → (find : List ℕ → Option Filter)
       → ((name : List ℕ) → find name ≡ lookup (is_text name) made) → (d : Data) → AreFilters d filters → ArePoliciesOf target find d
@@ -76,10 +80,15 @@ module _ (target : TargetArch) where
   -- ---- programs
 
   -- Where each policy has a program, all filters of the value are compiled.
-  pub all_compiled : (policies : BTreeMap (String Global) Filter) → IsStrictlySortedBy string_cmp (keys_of policies.entries)
+  pub all_compiled : (policies : BTreeMap (String Global) Filter)
       → All (λ (e : String Global × Filter). (program : List sock_filter) × IsCompiled e.1 program) policies.entries
       → (d : Data) → ArePoliciesOf target (get_by_text policies) d → AreAllCompiled target d
-  all_compiled policies order all d are =
-      all_listed (HasPolicy target) (get_by_text policies) d are policies.entries order (λ name. by_text name policies.entries)
-      (λ f. (program : List sock_filter) × IsCompiled f program) _ all
-      (λ value f has is. (is.0, record { policy = f; is_policy = has; compiled = is.1 }))
+  all_compiled policies all d are =
+      let Compiles : Filter → Type 0 = λ f. (program : List sock_filter) × IsCompiled f program in
+      record {
+        is_object = are.is_object;
+        each = λ name value has.
+            let own = are.each name value has in
+            let is = subst (λ o. IfSome o Compiles) own.there (All-lookup Compiles (is_at (text_cmp name)) policies.entries all) in
+            (is.0, record { policy = own.found; is_policy = own.own; compiled = is.1 });
+      }

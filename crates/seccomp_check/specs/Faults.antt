@@ -25,8 +25,8 @@ use Rattle.seccomp_check.specs.declared.part.Kind.{Kind}
 use Rattle.seccomp_check.specs.declared.part.Kind.TheVariants as kind
 use Rattle.seccomp_check.specs.declared.part.Part.{Part}
 use Rattle.seccomp_check.specs.declared.part.Part.TheVariants as parts
-use Rattle.seccomp_command_line.specs.declared.steps.Step.{Step}
-use Rattle.seccomp_command_line.specs.declared.steps.Step.TheVariants as step
+use Rattle.seccomp_text.specs.declared.steps.Step.{Step}
+use Rattle.seccomp_text.specs.declared.steps.Step.TheVariants as step
 use Rattle.seccomp_check.specs.Parts.{IsPart, IsCallOf, names_of, required_of, pairs_of, part_at}
 
 -- ---- places

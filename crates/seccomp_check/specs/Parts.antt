@@ -16,8 +16,8 @@ use Rattle.seccomp_check.specs.declared.part.Kind.TheVariants.{Filter, Entry, Co
 use Rattle.seccomp_check.specs.declared.part.Part.{Part}
 use Rattle.seccomp_check.specs.declared.part.Part.TheVariants.{Policy, Object, Action, Entries, Name, Comment, Conditions, Index, Length}
 use Rattle.seccomp_check.specs.declared.part.Part.TheVariants.{Operator, ActionNumber, Number}
-use Rattle.seccomp_command_line.specs.declared.steps.Step.{Step}
-use Rattle.seccomp_command_line.specs.declared.steps.Step.TheVariants as step
+use Rattle.seccomp_text.specs.declared.steps.Step.{Step}
+use Rattle.seccomp_text.specs.declared.steps.Step.TheVariants as step
 
 -- ---- what stands where
 

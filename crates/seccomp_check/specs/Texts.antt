@@ -1,8 +1,8 @@
 -- The texts of the faults of a policy that have a place.
-use Rattle.std.specs.Prelude.{List, ℕ, [], ◌∷◌, ◌++◌, map, Option, None, Some, option_map, codes, decimal, string_bytes}
-use Rattle.std.specs.List.{concat}
-use Rattle.seccomp_command_line.specs.Readable.{readable}
-use Rattle.seccomp_command_line.specs.declared.readable.TextKind.TheVariants.{Name}
+use Rattle.std.specs.Prelude.{List, ℕ, [], ◌∷◌, ◌++◌, Option, None, Some, option_map, codes, decimal, string_bytes}
+use Rattle.std.specs.List.{flat_map}
+use Rattle.seccomp_text.specs.Readable.{readable}
+use Rattle.seccomp_text.specs.declared.readable.TextKind.TheVariants.{Name}
 use Rattle.seccompiler.specs.Architecture.{arch_text}
 use Rattle.seccomp_check.specs.declared.fault.Expected.{Expected}
 use Rattle.seccomp_check.specs.declared.fault.Expected.TheVariants as expected
@@ -13,8 +13,8 @@ use Rattle.seccomp_check.specs.declared.part.Kind.{Kind}
 use Rattle.seccomp_check.specs.declared.part.Kind.TheVariants as kind
 use Rattle.seccomp_check.specs.declared.part.Part.{Part}
 use Rattle.seccomp_check.specs.declared.part.Part.TheVariants as parts
-use Rattle.seccomp_command_line.specs.declared.steps.Step.{Step}
-use Rattle.seccomp_command_line.specs.declared.steps.Step.TheVariants as step
+use Rattle.seccomp_text.specs.declared.steps.Step.{Step}
+use Rattle.seccomp_text.specs.declared.steps.Step.TheVariants as step
 
 -- A step after the first: a name after a dot, and a place in brackets.
 abbrev pub step_text : Step → List ℕ
@@ -29,7 +29,7 @@ first_text (step.Item i) = codes "[" ++ decimal i ++ codes "]"
 -- The path of a place.
 abbrev pub path_text : List Step → List ℕ
 path_text [] = codes "the policy"
-path_text (first ∷ path) = first_text first ++ concat (map step_text path)
+path_text (first ∷ path) = first_text first ++ flat_map step_text path
 
 -- The form that a part has to be of.
 abbrev pub form_text : Part → List ℕ

@@ -11,7 +11,7 @@ ghost use Rattle.seccomp_check.specs.declared.fault.Cause.{Cause};
 ghost use Rattle.seccomp_check.specs.declared.part.Part.{Part};
 
 use crate::part::{Kind, Part};
-use seccomp_command_line::steps::Step;
+use seccomp_text::steps::Step;
 use seccompiler::TargetArch;
 use std::alloc::{AllocError, AllocFailed, Global};
 

@@ -3,8 +3,8 @@
 ghost use Rattle.std.specs.Prelude.{All, IfOk, IfErr};
 ghost use Rattle.serde_json.specs.Data.{Data};
 ghost use Rattle.serde_json.specs.View.{view};
+ghost use Rattle.seccompiler.specs.JsonFilters.{IsReadBack};
 ghost use Rattle.seccompiler.specs.JsonShape.{IsFilter};
-ghost use Rattle.seccompiler.specs.JsonSteps.{AreFilters};
 ghost use Rattle.seccomp_check.specs.declared.fault.Cause.TheVariants as cause;
 ghost use Rattle.seccomp_check.specs.declared.part.Kind.TheVariants as kind;
 ghost use Rattle.seccomp_check.specs.declared.part.Part.TheVariants as parts;
@@ -54,7 +54,7 @@ fn check_named(
     name: &str,
     filters: &JsonFilterMap,
 ) -> Result<(), Finding>
-    ensures found { (d : Data) → AreFilters d filters.now → IfErr result (Tells (cause.Length target) parts.Policy d) }
+    ensures found { (d : Data) → IsReadBack IsFilter filters.now.0 d → IfErr result (Tells (cause.Length target) parts.Policy d) }
 {
     match filters.0.get(name) {
         Some(filter) => under_key(alloc, name, check_length(alloc, target, filter)),
@@ -69,7 +69,7 @@ fn all_of_filters(
     members: &Map<String, Value>,
     filters: &JsonFilterMap,
 ) -> Result<Vec<Fault>, AllocError>
-    ensures { (d : Data) → AreFilters d filters.now → IfOk result (λ all. All (IsFaultOf parts.Policy d) all.items) }
+    ensures { (d : Data) → IsReadBack IsFilter filters.now.0 d → IfOk result (λ all. All (IsFaultOf parts.Policy d) all.items) }
 {
     let mut found = Vec::new(alloc);
     for (name, _) in members.iter() {

@@ -49,7 +49,7 @@ pub use crate::part::{Kind, Part};
 pub use crate::policies::policies_in;
 pub use crate::rejection::Rejection;
 pub use crate::text::{fault_text, push_problem};
-pub use seccomp_command_line::steps::Step;
+pub use seccomp_text::steps::Step;
 use seccompiler::json::{JsonFrontendError, filters_of};
 use seccompiler::{BackendError, Error, JsonFilterMap, TargetArch, programs_of};
 use serde_json::Value;

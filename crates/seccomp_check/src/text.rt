@@ -1,16 +1,16 @@
 // The text of a fault.
 
-ghost use Rattle.std.specs.Prelude.{◌≡◌, ◌++◌, map, IfOk, OnOk, codes, decimal, option_map, string_bytes};
-ghost use Rattle.std.specs.List.{concat};
-ghost use Rattle.seccomp_command_line.specs.Readable.{readable};
-ghost use Rattle.seccomp_command_line.specs.declared.readable.TextKind.TheVariants.{Name};
+ghost use Rattle.std.specs.Prelude.{◌≡◌, ◌++◌, IfOk, OnOk, codes, decimal, option_map, string_bytes};
+ghost use Rattle.std.specs.List.{flat_map};
+ghost use Rattle.seccomp_text.specs.Readable.{readable};
+ghost use Rattle.seccomp_text.specs.declared.readable.TextKind.TheVariants.{Name};
 ghost use Rattle.seccomp_check.specs.Texts as spec;
 ghost use Rattle.seccomp_check.specs.declared.fault.Expected.TheVariants.{Call};
 
 use crate::fault::{Expected, Fault, Problem};
 use crate::part::{Kind, Part};
-use seccomp_command_line::readable::{TextKind, push_readable};
-use seccomp_command_line::steps::Step;
+use seccomp_text::readable::{TextKind, push_readable};
+use seccomp_text::steps::Step;
 use seccompiler::TargetArch;
 use std::alloc::{AllocError, Global};
 
@@ -62,7 +62,7 @@ fn push_step(text: &mut Vec<u8>, alloc: Global, step: &Step) -> Result<(), Alloc
 
 // Adds the steps of a path after the first.
 fn push_steps(text: &mut Vec<u8>, alloc: Global, path: &[Step]) -> Result<(), AllocError>
-    ensures { OnOk result (text.new.items ≡ text.old.items ++ concat (map spec.step_text path.now)) }
+    ensures { OnOk result (text.new.items ≡ text.old.items ++ flat_map spec.step_text path.now) }
 {
     for step in path {
         push_step(text, alloc, step)?;

@@ -1,5 +1,6 @@
 -- The lemmas of the modules.
 pub mod OneEnd
+pub mod Ends
 pub mod OfSeven
 pub mod Words
 pub mod Masks

@@ -1,11 +1,8 @@
 -- What the machine of the seven operations checks and runs, this one does.
-use Rattle.std.proofs.Common.{◌≡◌, ◌≢◌, ℕ, suc, ◌+◌, ◌-◌, ◌<◌, ◌^◌, List, Some, length, refl, subst, lit<, arith}
+use Rattle.std.proofs.Common.{◌≡◌, ◌≢◌, ℕ, suc, ◌+◌, ◌-◌, List, Some, length, subst, arith}
 use Rattle.std.specs.Prelude.{slice_get}
-use Rattle.std.proofs.lemmas.Nat.{and_le_l}
 use Rattle.seccompiler.specs.declared.bpf.sock_filter.{sock_filter}
-use Rattle.seccompiler.specs.Machine.{IsRecord}
 use Rattle.seccompiler.specs.Machine as of_seven
-use Rattle.seccomp_compare.proofs.Words.{word_fits}
 use Rattle.seccomp_compare.specs.Machine.{Does, as_of_seven, has_bits, has_no_bits, EndsFrom, Ends, returns, goes_on}
 use Rattle.seccomp_compare.specs.Machine.{IsFine, fine_of_seven, fine_jset, IsChecked}
 
@@ -67,42 +64,3 @@ ends_of_seven p r n w e =
     let same : n - 1 + 1 ≡ n = omega (arith, e.some) in
     let ends = goes_then p r e.goes (returns e.instruction e.here e.returns) in
     subst (λ k. Ends p r k w) same (subst (λ v. Ends p r (n - 1 + 1) v) e.value ends)
-
--- what one of the seven leaves has 32 bits
-does_fits : (i : sock_filter) (r : List ℕ) (place a place' a' : ℕ) → IsRecord r → a < 2 ^ 32 → of_seven.Does i r place a place' a'
-    → a' < 2 ^ 32
-does_fits i r place a place' a' rec fits (of_seven.loads _ _ _ to) = omega (arith, to, word_fits r i.k rec)
-does_fits i r place a place' a' rec fits (of_seven.masks _ _ to) = omega (arith, to, fits, and_le_l a i.k)
-does_fits i r place a place' a' rec fits (of_seven.jumps _ _ to) = omega (arith, to, fits)
-does_fits i r place a place' a' rec fits (of_seven.is_equal _ _ _ to) = omega (arith, to, fits)
-does_fits i r place a place' a' rec fits (of_seven.is_not_equal _ _ _ to) = omega (arith, to, fits)
-does_fits i r place a place' a' rec fits (of_seven.is_greater _ _ _ to) = omega (arith, to, fits)
-does_fits i r place a place' a' rec fits (of_seven.is_not_greater _ _ _ to) = omega (arith, to, fits)
-does_fits i r place a place' a' rec fits (of_seven.is_at_least _ _ _ to) = omega (arith, to, fits)
-does_fits i r place a place' a' rec fits (of_seven.is_less _ _ _ to) = omega (arith, to, fits)
-
--- a run of a program of the seven ends so in their machine
-module _ (p : List sock_filter) (r : List ℕ) (checked : of_seven.IsChecked p) (rec : IsRecord r) where
-  ends_then : {place a n w : ℕ} (m : ℕ) → of_seven.Goes p r 0 0 m place a → a < 2 ^ 32 → EndsFrom p r place a n w
-      → of_seven.Ends p r (m + n) w
-  ends_then {place} {a} m g fits (returns i here code) = record {
-    place = place;
-    accumulator = a;
-    instruction = i;
-    some = omega arith;
-    goes = let before : m + 1 - 1 ≡ m = omega arith in rw before g;
-    here = here;
-    returns = code;
-    value = refl;
-  }
-  ends_then {place} {a} {w = w} m g fits (goes_on {place' = place'} {a' = a'} {n = n} i here does e) =
-      let step = does_of_seven i r place a place' a' _ (checked.each place i here) does in
-      let after = does_fits i r place a place' a' rec fits step in
-      let same : suc m + n ≡ m + suc n = omega arith in
-      subst (λ k. of_seven.Ends p r k w) same (ends_then (suc m)
-      (of_seven.then_step g record { instruction = i; here = here; before = fits; after = after; does = step }) after e)
-
-  pub seven_ends : (n w : ℕ) → Ends p r n w → of_seven.Ends p r n w
-  seven_ends n w e =
-      let same : 0 + n ≡ n = omega arith in
-      subst (λ k. of_seven.Ends p r k w) same (ends_then 0 of_seven.stays (lit< tt) e)

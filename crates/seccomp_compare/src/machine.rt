@@ -2,7 +2,7 @@
 
 ghost use Rattle.std.specs.Prelude.{◌≡◌, ◌≢◌, ℕ, ◌+◌, ◌^◌, ◌<◌, ◌≤◌, ◌↔◌, All, IsTrue, IfSome, IsNone, length};
 ghost use Rattle.seccompiler.specs.Machine as of_seven;
-ghost use Rattle.seccompiler.specs.Machine.{IsInRange, word_at};
+ghost use Rattle.seccompiler.specs.Machine.{IsInRange};
 ghost use Rattle.seccomp_compare.specs.Machine.{IsFine, IsChecked, IsFirstUnfit, Does, Ends};
 
 use seccompiler::bpf::{
@@ -10,6 +10,7 @@ use seccompiler::bpf::{
     LOAD, MASK, RETURN, sock_filter,
 };
 use seccompiler::machine::Outcome;
+use seccompiler::record::word_at;
 
 /// A jump that tests whether the accumulator has one of the bits of the operand.
 pub const BPF_JSET: u16 = 0x40;
@@ -148,12 +149,4 @@ fn step(
     };
     let distance = if holds { jt } else { jf };
     (next + distance as usize, accumulator)
-}
-
-// The 32 bits of a record at bytes `k` to `k + 3`.
-fn word_at(call: &[u8; 64], k: usize) -> u32
-    requires { k ≤ 60 }
-    ensures { result ≡ word_at call.now k }
-{
-    u32::from_le_bytes([call[k], call[k + 1], call[k + 2], call[k + 3]])
 }

@@ -1,7 +1,7 @@
 // Policies as JSON text.
 
 use itoa::Buffer;
-use seccomp_command_line::hexadecimal::four_digits;
+use seccomp_text::hexadecimal::four_digits;
 use seccompiler::{
     JsonCondition, JsonFilter, JsonFilterMap, JsonRule, SeccompAction, SeccompCmpArgLen,
     SeccompCmpOp,

@@ -1,40 +1,27 @@
 -- For the functions of `concerns`, `lowered` and `defaults`: what holds of some of a list's elements, as the list grows.
-use Rattle.std.proofs.Common.{◌≡◌, ◌↔◌, ℕ, zero, suc, ◌+◌, ◌<◌, List, [], ◌∷◌, ◌++◌, length, get_or, take, refl, subst, sym}
+use Rattle.std.proofs.Common.{◌≡◌, ◌↔◌, ℕ, ◌+◌, ◌<◌, List, [], ◌∷◌, ◌++◌, length, get_or, take, subst, sym}
 use Rattle.std.proofs.Common.{◌∙◌, ap, ◌⊎◌, inl, inr, arith, map, String, Global, string_bytes}
 use Rattle.std.specs.Prelude.{Any}
 use Rattle.std.proofs.lemmas.List.{map_push, take_more}
+use Rattle.std.proofs.lemmas.List.Elements.{Contains-append_left, Contains-push_cases}
+use Rattle.std.proofs.lemmas.List.Quantifiers.{Any-push}
 
 module _ {X : Type 0} (P : X → Type 0) where
-  any_head : (x : X) (xs : List X) → P x → Any P (x ∷ xs)
-  any_head x xs has = (0, x, omega arith, refl, has)
-
-  any_tail : (x : X) (xs : List X) → Any P xs → Any P (x ∷ xs)
-  any_tail x xs (k, y, within, is, has) = (suc k, y, omega arith, is, has)
-
-  any_cases : (x : X) (xs : List X) → Any P (x ∷ xs) → P x ⊎ Any P xs
-  any_cases x xs (zero, y, within, is, has) = inl (subst P (sym is) has)
-  any_cases x xs (suc k, y, within, is, has) = inr (k, y, omega arith, is, has)
-
   pub any_nil : Any P [] → ⊥
-  any_nil (k, y, within, is, has) = omega arith
+  any_nil any = let within = any.2 in omega (arith, within)
 
   -- Some element of a list with one more is in the list, or is this one.
-  pub any_last : (xs : List X) (x : X) → Any P (xs ++ x ∷ []) ↔ (Any P xs ⊎ P x)
-  any_last [] x = (
-    λ any. elim (any_cases x [] any) [ inl here ↦ inr here | inr none ↦ absurd (any_nil none) ],
-    λ either. elim either [ inl none ↦ absurd (any_nil none) | inr here ↦ any_head x [] here ],
-  )
-  any_last (y ∷ xs) x = let rest = any_last xs x in (
-    λ any. elim (any_cases y (xs ++ x ∷ []) any) [
-      | inl here ↦ inl (any_head y xs here)
-      | inr later ↦ elim (rest.0 later) [ inl left ↦ inl (any_tail y xs left) | inr last ↦ inr last ]
+  pub any_push : (xs : List X) (x : X) → Any P (xs ++ x ∷ []) ↔ (Any P xs ⊎ P x)
+  any_push xs x = (
+    λ any. elim (Contains-push_cases xs x any.1 (any.0, any.2, any.3)) [
+      | inl there ↦ inl (there.0, any.1, there.1, there.2, any.4)
+      | inr is ↦ inr (subst P (sym is) any.4)
     ],
     λ either. elim either [
-      | inl left ↦ elim (any_cases y xs left) [
-        | inl here ↦ any_head y (xs ++ x ∷ []) here
-        | inr later ↦ any_tail y (xs ++ x ∷ []) (rest.1 (inl later))
-      ]
-      | inr last ↦ any_tail y (xs ++ x ∷ []) (rest.1 (inr last))
+      | inl before ↦
+          let there = Contains-append_left xs (x ∷ []) before.1 (before.0, before.2, before.3) in
+          (there.0, before.1, there.1, there.2, before.4)
+      | inr here ↦ Any-push P xs x here
     ],
   )
 

@@ -6,7 +6,7 @@ use Rattle.seccomp_entries.specs.declared.entry.Action.TheVariants.{Notify, Own}
 use Rattle.seccompiler.specs.declared.backend.SeccompAction.TheVariants.{Errno}
 use Rattle.seccompiler.specs.declared.backend.TargetArch.{TargetArch}
 use Rattle.seccompiler.specs.Machine.{word_at}
-use Rattle.seccomp_entries.specs.Entries.{IsDecider, Lowered, Meets}
+use Rattle.seccomp_entries.specs.Entries.{IsDecider, Meets}
 use Rattle.seccomp_entries.specs.Entries as entries
 use Rattle.seccomp_profile_checks.specs.declared.doubts.Doubt.{Doubt}
 use Rattle.seccomp_profile_checks.specs.declared.doubts.Doubt.TheVariants as doubt

@@ -208,16 +208,11 @@ fn is_another(entry: &Entry, other: &Entry) -> bool
 fn is_order_beside(entry: &Entry, other: &Entry) -> bool
     ensures { IsTrue result ↔ IsOrderBeside entry.now other.now }
 {
-    other.number == entry.number && has_order_on(entry, other)
-}
-
-fn has_order_on(entry: &Entry, other: &Entry) -> bool
-    ensures { IsTrue result ↔ Any (λ c. IsOrderOn c other.now) entry.now.conditions }
-{
-    entry
-        .conditions
-        .iter()
-        .any(|condition| is_order_on(condition, other))
+    other.number == entry.number
+        && entry
+            .conditions
+            .iter()
+            .any(|condition| is_order_on(condition, other))
 }
 
 fn is_order_on(condition: &SeccompCondition, other: &Entry) -> bool
@@ -264,12 +259,9 @@ fn any_repeats(
 fn repeats(entries: &[Entry], entry: &Entry, other: &Entry, condition: &SeccompCondition) -> bool
     ensures { IsTrue result ↔ Repeats entries.now entry.now other.now condition.now }
 {
-    may_repeat(condition, entry, other) && has_both(entries, entry, other, condition)
-}
-
-fn has_both(entries: &[Entry], entry: &Entry, other: &Entry, condition: &SeccompCondition) -> bool
-    ensures { IsTrue result ↔ (HasSame condition.now other.now × Any (IsOtherOf entry.now.number condition.now) entries.now) }
-{
+    if !may_repeat(condition, entry, other) {
+        return false;
+    }
     has_same(condition, other) && has_other(entries, entry.number, condition)
 }
 

@@ -113,14 +113,7 @@ fn settler_of(
 fn settles(container: &Container, default: Action, name: &str, entry: &Entry) -> bool
     ensures { IsTrue result ↔ Settles container.now default name.now entry.now }
 {
-    gives_other(default, entry) && names_one(container, name, entry)
-}
-
-// Whether it gives all calls another action.
-fn gives_other(default: Action, entry: &Entry) -> bool
-    ensures { IsTrue result ↔ ((entry.now.args ≡ []) × (entry.now.action ≢ default)) }
-{
-    entry.args.is_empty() && entry.action != default
+    entry.args.is_empty() && entry.action != default && names_one(container, name, entry)
 }
 
 // Whether it applies, and names a call.

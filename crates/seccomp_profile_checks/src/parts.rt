@@ -81,18 +81,11 @@ pub(crate) fn is_same(first: Action, second: Action) -> bool
     first == second
 }
 
-// Whether the action is one of these.
-fn is_among(actions: &[Action], action: Action) -> bool
-    ensures { IsTrue result ↔ Contains actions.now action }
-{
-    actions.contains(&action)
-}
-
 // Whether the action is to allow, or is one of these.
 fn is_known(actions: &[Action], action: Action) -> bool
     ensures { IsTrue result ↔ ((action ≡ Own Allow) ⊎ Contains actions.now action) }
 {
-    is_same(action, Action::Own(SeccompAction::Allow)) || is_among(actions, action)
+    is_same(action, Action::Own(SeccompAction::Allow)) || actions.contains(&action)
 }
 
 // The actions of entries but for allow, each once.

@@ -44,13 +44,9 @@ pub(crate) fn rejects(x86: Option<X86>, entries: &[Entry], entry: &Entry, other:
 fn is_other(entry: &Entry, other: &Entry) -> bool
     ensures { IsTrue result ↔ IsOther entry.now other.now }
 {
-    other.number == entry.number && is_other_in_front(entry, other)
-}
-
-fn is_other_in_front(entry: &Entry, other: &Entry) -> bool
-    ensures { IsTrue result ↔ (IsInFront other.now entry.now × (other.now.action ≢ entry.now.action)) }
-{
-    is_in_front(other, entry) && !is_same(other.action, entry.action)
+    other.number == entry.number
+        && is_in_front(other, entry)
+        && !is_same(other.action, entry.action)
 }
 
 // Whether runtimes add the first before the second.
@@ -108,13 +104,7 @@ fn is_of_x86(number: u32) -> bool
 fn is_multiplexed(x86: X86, entry: &Entry) -> bool
     ensures { IsTrue result ↔ IsMultiplexed x86 entry.now }
 {
-    is_of_either(entry.number) && is_unsettled(x86, entry)
-}
-
-fn is_of_either(number: u32) -> bool
-    ensures { IsTrue result ↔ (IsOfIpc number ⊎ IsOfSockets number) }
-{
-    is_of_ipc(number) || is_of_sockets(number)
+    (is_of_ipc(entry.number) || is_of_sockets(entry.number)) && is_unsettled(x86, entry)
 }
 
 fn is_unsettled(x86: X86, entry: &Entry) -> bool
@@ -129,14 +119,9 @@ fn is_unsettled(x86: X86, entry: &Entry) -> bool
 fn rejects_as(reading: Reading, entries: &[Entry], entry: &Entry, other: &Entry) -> bool
     ensures { IsTrue result ↔ RejectsAs reading entries.now entry.now other.now }
 {
-    begins_some(reading, entry, other) && !has_shorter(reading, entries, entry, other)
-}
-
-// Whether the entry has tests, with which those of the other begin.
-fn begins_some(reading: Reading, entry: &Entry, other: &Entry) -> bool
-    ensures { IsTrue result ↔ (((0 < reading.first) ⊎ Any (Counts reading) entry.now.conditions) × Begins reading entry.now.conditions other.now.conditions) }
-{
-    has_tests(reading, entry) && begins(reading, entry, other)
+    has_tests(reading, entry)
+        && begins(reading, entry, other)
+        && !has_shorter(reading, entries, entry, other)
 }
 
 fn has_tests(reading: Reading, entry: &Entry) -> bool
@@ -160,13 +145,9 @@ fn has_shorter(reading: Reading, entries: &[Entry], entry: &Entry, other: &Entry
 fn is_shorter(reading: Reading, entry: &Entry, other: &Entry, third: &Entry) -> bool
     ensures { IsTrue result ↔ IsShorter reading entry.now other.now third.now }
 {
-    is_of_call_in_front(third, entry) && begins_and_has_less(reading, third, other)
-}
-
-fn is_of_call_in_front(one: &Entry, other: &Entry) -> bool
-    ensures { IsTrue result ↔ ((one.now.number ≡ other.now.number) × IsInFront one.now other.now) }
-{
-    one.number == other.number && is_in_front(one, other)
+    third.number == entry.number
+        && is_in_front(third, entry)
+        && begins_and_has_less(reading, third, other)
 }
 
 fn begins_and_has_less(reading: Reading, one: &Entry, other: &Entry) -> bool
@@ -242,14 +223,9 @@ fn has_same(reading: Reading, entry: &Entry, condition: &SeccompCondition) -> bo
 fn are_one(reading: Reading, one: &SeccompCondition, other: &SeccompCondition) -> bool
     ensures { IsTrue result ↔ AreOne reading one.now other.now }
 {
-    other.arg_index() == one.arg_index() && compare_alike(reading.bits, one, other)
-}
-
-fn compare_alike(bits: u64, one: &SeccompCondition, other: &SeccompCondition) -> bool
-    ensures { IsTrue result ↔ ((spec.seen_operator bits other.now.operator ≡ spec.seen_operator bits one.now.operator) × (spec.seen_value bits other.now.operator other.now.value ≡ spec.seen_value bits one.now.operator one.now.value)) }
-{
-    seen_operator(bits, other) == seen_operator(bits, one)
-        && seen_value(bits, other) == seen_value(bits, one)
+    other.arg_index() == one.arg_index()
+        && seen_operator(reading.bits, other) == seen_operator(reading.bits, one)
+        && seen_value(reading.bits, other) == seen_value(reading.bits, one)
 }
 
 // Whether a condition is tested: its argument counts, and it has no mask of 0.

@@ -2,8 +2,8 @@
 
 use crate::form::{Form, form_of};
 use crate::members::is_among;
-use seccomp_command_line::readable::{TextKind, readable};
-use seccomp_command_line::steps::Step;
+use seccomp_text::readable::{TextKind, readable};
+use seccomp_text::steps::Step;
 use serde_json::Value;
 use std::alloc::{AllocError, Global};
 

@@ -9,11 +9,11 @@ use Rattle.seccompiler.specs.declared.bpf.sock_filter.{sock_filter}
 use Rattle.seccompiler.specs.Code.{give}
 use Rattle.seccompiler.specs.Machine as of_seven
 use Rattle.seccompiler.specs.Machine.{IsRecord}
-use Rattle.seccomp_compare.specs.Machine.{returns, IsFine, fine_of_seven, IsChecked}
+use Rattle.seccomp_compare.proofs.Ends.{ends_somehow}
 use Rattle.seccomp_compare.proofs.OneEnd.{ends_only}
+use Rattle.seccomp_compare.specs.Machine.{returns, IsFine, fine_of_seven, IsChecked}
 use Rattle.seccomp_stack.specs.Stack.{strictness, prevailing, Returns, IsDecidedAt, IsStackDecision, of_none, of_one, IsStack}
 use Rattle.seccomp_stack.specs.Joined.{AreJoined}
-use Rattle.seccomp_stack.proofs.Ends.{checked_returns}
 
 -- what is found in a list and one element more is of the list, or that element
 get_pushed : {X : Type 0} (xs : List X) (y : X) (k : ℕ) (x : X) → slice_get (xs ++ y ∷ []) k ≡ Some x
@@ -94,7 +94,12 @@ decision_next r older newer v w some (of_one place decided) ends =
     (subst (IsDecidedAt r (older ++ newer ∷ []) (length older)) same (decided_anew r older newer place v w decided ends most)))
     (cases_lt (strictness v) (strictness w))
 
--- a program returns one word for a record
+-- each program that may be run returns one word for a record
+returned : (p : List sock_filter) (r : List ℕ) → IsChecked p → IsRecord r → (w : ℕ) × Returns p r w
+returned p r checked rec =
+    let end = ends_somehow p r checked rec in
+    (end.1, record { steps = end.0; ends = end.2 })
+
 stack_from : (programs : List (Vec sock_filter Global)) (program : List sock_filter) → IsChecked program
     → ((r : List ℕ) → IsRecord r → (word : ℕ) × Returns program r word × IsStackDecision r programs word) → IsStack programs program
 stack_from programs program checked decides = record {
@@ -102,7 +107,8 @@ stack_from programs program checked decides = record {
   decides = decides;
   only = λ r rec steps word ends.
       let known = decides r rec in
-      subst (IsStackDecision r programs) (ends_only program r known.1.ends ends refl refl).1 known.2;
+      let one = known.1 in
+      subst (IsStackDecision r programs) (ends_only program r one.ends ends refl refl).1 known.2;
 }
 
 -- without programs each call is allowed
@@ -129,7 +135,7 @@ stack_none = stack_from [] (give 0x7fff0000 ∷ []) checked decides where
 -- a program alone stands for itself
 pub stack_first : (p : Vec sock_filter Global) → IsChecked p.items → IsStack (p ∷ []) p.items
 stack_first p checked = stack_from (p ∷ []) p.items checked (λ r rec.
-    let end = checked_returns p.items r checked rec in
+    let end = returned p.items r checked rec in
     (end.0, end.1, of_one 0 (decided_first r p end.0 end.1)))
 
 -- one program more
@@ -138,7 +144,7 @@ pub stack_next : (older : List (Vec sock_filter Global)) (newer : Vec sock_filte
     → IsStack (older ++ newer ∷ []) both
 stack_next older newer program both some stack checked joined = stack_from (older ++ newer ∷ []) both joined.checked (λ r rec.
     let first = stack.decides r rec in
-    let second = checked_returns newer.items r checked rec in
+    let second = returned newer.items r checked rec in
     let one = first.1 in
     let other = second.1 in (
       prevailing first.0 second.0,

@@ -12,7 +12,7 @@ use Rattle.std.proofs.lemmas.Option.{same_Some, slice_get_within, slice_get-get_
 use Rattle.seccompiler.specs.declared.bpf.sock_filter.{sock_filter}
 use Rattle.seccompiler.specs.Code.{mask, jump, give}
 use Rattle.seccompiler.specs.Machine as of_seven
-use Rattle.seccompiler.specs.Machine.{IsInRange, AreInRange}
+use Rattle.seccompiler.specs.Machine.{IsInRange}
 use Rattle.seccomp_compare.specs.Machine.{IsFine, fine_of_seven, fine_jset, IsChecked}
 use Rattle.seccomp_stack.specs.Stack.{prevailing}
 use Rattle.seccomp_stack.specs.Joined.{place_of, in_front, front, in_copy, copy, joined, words_in, AreJoined}

@@ -3,7 +3,6 @@ pub mod Words
 pub mod Runs
 pub mod OlderRuns
 pub mod Fits
-pub mod Ends
 pub mod Decisions
 pub mod Stacked
 pub mod Asked

@@ -5,8 +5,8 @@ use Rattle.std.specs.Prelude.{option_map, slice_get}
 use Rattle.std.specs.List.{flat_map}
 use Rattle.std.proofs.lemmas.Bool.{cases_eq}
 use Rattle.std.proofs.lemmas.Bool.Decides.{nat_tests}
-use Rattle.std.proofs.lemmas.List.{length-map}
-use Rattle.std.proofs.lemmas.Option.{slice_get-map}
+use Rattle.std.proofs.lemmas.List.{get_or_append_left, get_or-append-add, length-append, length-map}
+use Rattle.std.proofs.lemmas.Option.{get_or_from_slice_get, slice_get-get_or, slice_get-map, slice_get_within}
 use Rattle.seccompiler.specs.declared.bpf.sock_filter.{sock_filter}
 use Rattle.seccompiler.specs.Code.{give}
 use Rattle.seccompiler.specs.Machine as of_seven
@@ -18,17 +18,6 @@ use Rattle.seccomp_stack.specs.Joined.{place_of, in_copy, copy}
 pub record Stands (p : List sock_filter) (base : ℕ) (piece : List sock_filter) : Type 0 where
   pub at : (k : ℕ) (i : sock_filter) → slice_get piece k ≡ Some i → slice_get p (base + k) ≡ Some i
 
--- what follows a front is found behind it
-pub get_behind : (a b : List sock_filter) (k : ℕ) (i : sock_filter) → slice_get b k ≡ Some i → slice_get (a ++ b) (length a + k) ≡ Some i
-get_behind [] b k i e = let z : 0 + k ≡ k = omega arith in rw z e
-get_behind (x ∷ a) b k i e = let z : length (x ∷ a) + k ≡ suc (length a + k) = omega arith in rw z (get_behind a b k i e)
-
--- a front is found where it was
-pub get_before : (a b : List sock_filter) (k : ℕ) (i : sock_filter) → slice_get a k ≡ Some i → slice_get (a ++ b) k ≡ Some i
-get_before [] b k i e = absurd (cc)
-get_before (x ∷ a) b zero i e = e
-get_before (x ∷ a) b (suc k) i e = get_before a b k i e
-
 -- what is found is of the front, or behind it
 pub get_either : (a b : List sock_filter) (k : ℕ) (i : sock_filter) → slice_get (a ++ b) k ≡ Some i
     → (slice_get a k ≡ Some i) ⊎ ((m : ℕ) × (k ≡ length a + m) × (slice_get b m ≡ Some i))
@@ -38,10 +27,21 @@ get_either (x ∷ a) b (suc k) i e =
     ⊎_elim (λ before. inl before) (λ behind. let same = behind.1 in inr (behind.0, omega arith, behind.2)) (get_either a b k i e)
 
 pub stands_front : (a b : List sock_filter) → Stands (a ++ b) 0 a
-stands_front a b = record { at = λ k i e. let z : 0 + k ≡ k = omega arith in rw z (get_before a b k i e) }
+stands_front a b = record {
+  at = λ k i e.
+      let within = slice_get_within a k i e in
+      let z : 0 + k ≡ k = omega arith in
+      rw z (slice_get-get_or (a ++ b) k i (omega (arith, length-append a b))
+      ∙ ap Some (get_or_append_left a b i k within ∙ get_or_from_slice_get a k i i e));
+}
 
 pub stands_behind : (a b : List sock_filter) → Stands (a ++ b) (length a) b
-stands_behind a b = record { at = λ k i e. get_behind a b k i e }
+stands_behind a b = record {
+  at = λ k i e.
+      let within = slice_get_within b k i e in
+      slice_get-get_or (a ++ b) (length a + k) i (omega (arith, length-append a b))
+      ∙ ap Some (get_or-append-add a b k i ∙ get_or_from_slice_get b k i i e);
+}
 
 -- a piece of a piece
 pub stands_in : (p q piece : List sock_filter) (base off at : ℕ) → at ≡ base + off → Stands p base q → Stands q off piece

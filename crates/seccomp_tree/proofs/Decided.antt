@@ -13,8 +13,8 @@ use Rattle.seccomp_tree.proofs.Common.{found_in, All-head, All-tail, DecideAs, I
 use Rattle.seccomp_tree.proofs.Common.{All-nil, call_of, decided, int_cmp, keys_of, nat_cmp, nothing, word_at, word_of, Filter, Global, All}
 use Rattle.seccomp_tree.proofs.Common.{Option, Ruling, Target, behind, get_or, length, lookup, nat_eq, nat_le, nat_lt, Chain, First, Grows}
 use Rattle.seccomp_tree.proofs.Common.{Holds, arith, false, holds, is_at, subst, Less, List, None, Rule, Some, Step, drop, here, ints, refl}
-use Rattle.seccomp_tree.proofs.Common.{true, ◌++◌, Any, Vec, inl, inr, map, pos, suc, sym, ◌+◌, ◌-◌, ◌<◌, ◌^◌, ◌∙◌, ◌∷◌, ◌≡◌, ◌≤◌, ◌⊎◌, ap}
-use Rattle.seccompiler.proofs.Searches.{any_cases, any_head, any_tail, any_nil}
+use Rattle.seccomp_tree.proofs.Common.{true, ◌++◌, Any, Vec, inl, inr, map, pos, suc, sym}
+use Rattle.seccomp_tree.proofs.Common.{zero, ◌+◌, ◌-◌, ◌<◌, ◌^◌, ◌∙◌, ◌∷◌, ◌≡◌, ◌≤◌, ◌⊎◌, ap}
 use Rattle.seccompiler.specs.Policy.{other_architecture as other}
 
 -- at an element there is it, and what is after
@@ -80,12 +80,20 @@ module _ (r : List ℕ) (default w : ℕ) where
   abbrev Names : Type 0 → ℕ → Type 0
   Names Is v = (Is × (v ≡ w)) ⊎ ((Is → ⊥) × (v ≡ default))
 
+  -- Some rule holds: the first, or one behind it.
+  first_or_later : (q : Rule) (chain : Chain) → Any (λ x. RuleHolds x r) (q ∷ chain) → RuleHolds q r ⊎ Any (λ x. RuleHolds x r) chain
+  first_or_later q chain (zero, x, within, is, holds) = inl (subst (λ y. RuleHolds y r) (sym is) holds)
+  first_or_later q chain (suc k, x, within, is, holds) = inr (k, x, omega arith, is, holds)
+
+  later : (q : Rule) (chain : Chain) → Any (λ x. RuleHolds x r) chain → Any (λ x. RuleHolds x r) (q ∷ chain)
+  later q chain (k, x, within, is, holds) = (suc k, x, omega arith, is, holds)
+
   rules_name : (chain : Chain) (v : ℕ) → First default r (map (λ q. record { conditions = q; value = w }) chain) v
       → Names (Any (λ q. RuleHolds q r) chain) v
-  rules_name [] v nothing = inr (any_nil (λ (x : Rule). RuleHolds x r), refl)
-  rules_name (q ∷ chain) v (here d rest holds) = inl (any_head (λ (x : Rule). RuleHolds x r) q chain holds, refl)
+  rules_name [] v nothing = inr (λ any. let within = any.2 in omega (arith, within), refl)
+  rules_name (q ∷ chain) v (here d rest holds) = inl ((0, q, omega arith, refl, holds), refl)
   rules_name (q ∷ chain) v (behind d rest u not first) =
-      let P = λ (x : Rule). RuleHolds x r in grind (arith, any_tail P q chain, any_cases P q chain, rules_name chain v first, not)
+      grind (arith, first_or_later q chain, later q chain, rules_name chain v first, not)
 
   -- so for a chain, which matches if it has no rules
   chain_names : (chain : Chain) (v : ℕ) → First default r (rulings_of w chain) v → Names (ChainMatches chain r) v

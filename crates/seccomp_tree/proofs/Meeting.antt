@@ -10,9 +10,9 @@ use Rattle.seccomp_tree.proofs.Common.{nat_eq, passes, Dword, Equal, First, Grow
 use Rattle.seccomp_tree.proofs.Common.{holds, masks, stops, Bool, Give, IsIn, List, None, Some, Step, drop, here, load, mask, only, refl, ℕ}
 use Rattle.seccomp_tree.proofs.Common.{true, zero, ◌&&◌, suc, sym, ◌%◌, ◌*◌, ◌+◌, ◌-◌, ◌/◌, ◌<◌, ◌^◌, ◌∙◌, ◌∷◌, ◌≡◌, ◌≤◌, ◌⊎◌, At, [], ap}
 use Rattle.seccomp_tree.proofs.Runs.{leads_grown, starts_last, starts_more, grows_not, grows_one, grows_on, leads_by}
-use Rattle.seccomp_tree.proofs.{Begun.numbers_many, Begun.single, Trees.high_word, Trees.load_run, Trees.low_word}
+use Rattle.seccomp_tree.proofs.{Begun.single, Trees.high_word, Trees.load_run, Trees.low_word}
 use Rattle.seccomp_tree.specs.Code.{AreAlike, AreFilled, AreOpenTo, AreRunSteps, IsAsked, IsRun, chosen, filled_by, meets, numbers_of}
-use Rattle.seccomp_tree.proofs.Common.{cases_lt, drop_all, found_in, AreSteps, IsPushed}
+use Rattle.seccomp_tree.proofs.Common.{cases_lt, found_in, AreSteps, IsPushed}
 use Rattle.seccomp_tree.specs.Decisions.{conditions_length}
 use Rattle.std.proofs.lemmas.List.{take-append-drop}
 
@@ -316,24 +316,6 @@ alike_drop c (suc n) (d ∷ run) h = alike_drop c n run h.1
 alike_drop c (suc n) [] h = tt
 alike_drop c zero run h = h
 
-pub run_open : (c : Condition) → AreRunSteps c [] (single (At 0))
-run_open c = record {
-  are = (refl, omega (arith, numbers_many c.arg_len));
-  each = λ a lt. refl;
-  small = λ a v lt is. absurd (cc);
-  few = omega arith;
-}
-
-pub run_one : (c x : Condition) (d : Ruling) (steps : List Step) → only d.conditions ≡ Some x → alike (only d.conditions) (Some c) ≡ true
-    → d.value < 2 ^ 32 → AreLaid x (Give d.value) (At 0) steps → AreRunSteps c (d ∷ []) steps
-run_one c x d steps own alike fits h =
-    let same : x.arg_len ≡ c.arg_len = grind (arith, nat_tests, rw own at alike) in record {
-      are = rw same at h.are;
-      each = λ a lt. rw own (h.each a (rw same lt));
-      small = λ a v lt is. grind (arith, h.each a (rw same lt), is, fits);
-      few = omega (arith, h.few);
-    }
-
 pub run_halves : (c : Condition) (n : ℕ) (run : List Ruling) (front back steps : List Step) → AreRunSteps c (take n run) front
     → AreRunSteps c (drop n run) back → AreFilled c.arg_len front back steps → AreRunSteps c run steps
 run_halves c n run front back steps h k filled =
@@ -357,16 +339,6 @@ pub record Ascending (c : Condition) (run : List Ruling) (settled next : ℕ) (s
   pub small : (a v : ℕ) → a < next → found_in steps a ≡ Give v → v < 2 ^ 32
   pub few : length steps ≤ 2 * settled
 
-pub ascending_none : (c : Condition) (run : List Ruling) → Ascending c run 0 0 []
-ascending_none c run = record {
-  within = omega arith;
-  are = refl;
-  each = λ a lt. absurd (omega (arith, lt));
-  behind = λ a le. refl;
-  small = λ a v lt is. absurd (omega (arith, lt));
-  few = omega arith;
-}
-
 -- a ruling that asks for a number is met by it alone
 asked_meets : (o : Option Condition) (c : Condition) (v a : ℕ) → IsAsked o v → alike o (Some c) ≡ true
     → (meets o a ≡ nat_eq a v) × (v < numbers_of c.arg_len)
@@ -374,10 +346,6 @@ asked_meets (Some x) c v a asked like =
     let same : x.arg_len ≡ c.arg_len = grind (arith, nat_tests, like) in
     (rw (asked.0, ← asked.1) refl, rw (← same) asked.2)
 asked_meets None c v a asked like = absurd asked
-
-filled_open : (t : Target) → filled_by t (At 0) ≡ t
-filled_open (Give w) = refl
-filled_open (At n) = grind (arith, nat_tests)
 
 module _ {c : Condition} {run : List Ruling} {i next v : ℕ} {d : Ruling} {steps opened more : List Step} (h : Ascending c run i next steps)
     (here : drop i run ≡ d ∷ drop (i + 1) run) (asked : IsAsked (only d.conditions) v) (like : alike (only d.conditions) (Some c) ≡ true)
@@ -420,23 +388,6 @@ module _ {c : Condition} {run : List Ruling} {i next v : ℕ} {d : Ruling} {step
         ]
       ];
       few = omega (arith, h.few, gap.few, pushed.few);
-    }
-
-pub ascending_all : {c : Condition} {run : List Ruling} {i next : ℕ} {steps more : List Step} → Ascending c run i next steps
-    → length run ≤ i → i ≤ length run → AreOpenTo steps next (numbers_of c.arg_len) more → AreRunSteps c run more
-ascending_all {c} {run} {i} {next} {steps} {more} h all within gap =
-    let none : drop i run ≡ [] = drop_all i run all in record {
-      are = gap.are;
-      each = λ a lt. elim (cases_lt a next) [
-        | inl low ↦ gap.below a low ∙ sym (h.each a low ∙ ap (λ l. filled_by (found_in steps a) (chosen l a)) none
-            ∙ filled_open (found_in steps a))
-        | inr le ↦ gap.gap a le lt ∙ sym (h.behind a le ∙ ap (λ l. chosen l a) none)
-      ];
-      small = λ a v lt is. elim (cases_lt a next) [
-        | inl low ↦ h.small a v low (sym (gap.below a low) ∙ is)
-        | inr le ↦ absurd (grind (arith, gap.gap a le lt, is))
-      ];
-      few = omega (arith, h.few, gap.few, within);
     }
 
 -- what a run gives, or else what comes after it, is in the code

@@ -1,6 +1,5 @@
 -- The theorem: what is written answers every record as is decided. Sound code is checked, and a run that returns a word ends with it.
 use Rattle.seccomp_tree.proofs.{Begun.not_none, Common.other_architecture, Meeting.rule_or_not, Meeting.one_first, Trees.load_run}
-use Rattle.seccompiler.proofs.Runs.{goes_far}
 use Rattle.std.proofs.lemmas.Option.{slice_get_within}
 use Rattle.seccomp_tree.proofs.Common.{greatest_length, EndsAsDecided, IsTreeProgram, if◌then◌else◌, AreCallSteps, calls_length, EndsWithin}
 use Rattle.seccomp_tree.proofs.Common.{DecisionSet, default_for, rulings_for, sock_filter, audit_word, one-le-pow, AreRanges, IsChecked, []}
@@ -10,6 +9,11 @@ use Rattle.seccomp_tree.proofs.Common.{goes_on, word_at, IsPart, Ruling, Target,
 use Rattle.seccomp_tree.proofs.Common.{First, Leads, Takes, arith, gives, other, stays, stops, subst, Goes, List, Some, Step, drop, ends}
 use Rattle.seccomp_tree.proofs.Common.{give, load, refl, zero, inl, inr, one, own, suc, ◌*◌, ◌+◌, ◌-◌, ◌<◌, ◌^◌, ◌∷◌, ◌≡◌, ◌≤◌}
 use Rattle.seccomp_tree.proofs.{Decided.decided_some, Decided.fewest, Runs.returns_more, Runs.grown_long, Runs.sound_some}
+
+-- A run of n steps goes n places at least.
+goes_far : (p : List sock_filter) (r : List ℕ) {place a n place' a' : ℕ} → Goes p r place a n place' a' → place + n ≤ place'
+goes_far p r stays = omega arith
+goes_far p r (then_step g step) = let does = step.does in grind (arith, goes_far p r g)
 
 get_at : (p : List sock_filter) (place : ℕ) (i : sock_filter) (rest : List sock_filter) → drop place p ≡ i ∷ rest
     → slice_get p place ≡ Some i

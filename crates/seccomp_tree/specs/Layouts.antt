@@ -15,10 +15,14 @@ use Rattle.seccomp_tree.specs.declared.layout.Layout.TheVariants.{Linear, Tree}
 use Rattle.seccomp_tree.specs.TreeProgram.{IsTreeProgram, IsTooLargeFor}
 use Rattle.seccomp_tree.specs.FilterDecisions.{decisions_of}
 
+-- The program returns for every call record what the filter decides.
+abbrev pub Decides : Filter → List sock_filter → Type 0
+Decides f p = (r : List ℕ) → IsRecord r → EndsAtDecision f p r
+
 -- The program is compiled for the filter as a tree: it decides every call record, and is the program of the filter's
 -- decisions, so it may be run, is soon done and is short.
 pub record IsTreeCompiled (f : Filter) (p : List sock_filter) : Type 0 where
-  pub decides : (r : List ℕ) → IsRecord r → EndsAtDecision f p r
+  pub decides : Decides f p
   pub tree : IsTreeProgram (decisions_of f) p
 
 -- The program is compiled for the filter in the layout.

@@ -2,8 +2,9 @@
 
 ghost use Rattle.std.specs.Prelude.{IfOk, IfErr, OnOk};
 ghost use Rattle.seccompiler.specs.Compiled.{AreCallNumbers, numbers_of};
+ghost use Rattle.seccompiler.specs.Machine.{IsChecked};
 ghost use Rattle.seccomp_tree.specs.declared.layout.Layout.TheVariants.{Tree};
-ghost use Rattle.seccomp_tree.specs.Layouts.{AgreesInAll, IsCompiledIn, IsFitting, IsFittingRefusal, IsRefusalIn};
+ghost use Rattle.seccomp_tree.specs.Layouts.{AgreesInAll, Decides, IsCompiledIn, IsFitting, IsFittingRefusal, IsRefusalIn};
 
 use crate::decisions::Decisions;
 use crate::error::{FilterError, TreeError};
@@ -46,6 +47,10 @@ pub fn to_bpf_in(
 ) -> Result<BpfProgram, FilterError>
     ensures compiled { IfOk result (λ program. IsCompiledIn layout filter.now program.items) }
     ensures agrees { IfOk result (λ program. AgreesInAll filter.now program.items) }
+
+    // In either layout it may be run, and decides as the filter does.
+    ensures checked { IfOk result (λ program. IsChecked program.items) }
+    ensures decides { IfOk result (λ program. Decides filter.now program.items) }
     ensures numbers { OnOk result (AreCallNumbers (numbers_of filter.now.chains)) }
     ensures refused { IfErr result (IsRefusalIn layout filter.now) }
 {
@@ -103,6 +108,8 @@ pub fn to_tree_bpf(alloc: Global, filter: &SeccompFilter) -> Result<BpfProgram, 
 /// `FilterTooLarge` with `program_len` if neither layout fits; `OutOfMemory` if memory runs out.
 pub fn fitting_bpf(alloc: Global, filter: &SeccompFilter) -> Result<BpfProgram, BackendError>
     ensures fitting { IfOk result (λ program. IsFitting filter.now program.items) }
+    ensures checked { IfOk result (λ program. IsChecked program.items) }
+    ensures decides { IfOk result (λ program. Decides filter.now program.items) }
     ensures numbers { OnOk result (AreCallNumbers (numbers_of filter.now.chains)) }
     ensures refused { IfErr result (IsFittingRefusal filter.now) }
 {

@@ -1,5 +1,5 @@
 -- For `met` and `beside`: the entries of a filter at other places than one.
-use Rattle.std.proofs.Common.{◌≡◌, ◌≢◌, ◌+◌, ◌++◌, ◌∙◌, ◌⊎◌, take, drop, ℕ, zero, suc, List, [], ◌∷◌, Some, refl, sym, ap, subst}
+use Rattle.std.proofs.Common.{◌≡◌, ◌≢◌, ◌+◌, ◌++◌, ◌⊎◌, take, drop, ℕ, zero, suc, List, [], ◌∷◌, Some, refl, sym, ap, subst}
 use Rattle.std.proofs.Common.{arith, inl, inr, length}
 use Rattle.std.specs.Prelude.{Any, slice_get}
 use Rattle.std.proofs.lemmas.Option.{slice_get_read}

@@ -11,7 +11,7 @@ use Rattle.seccomp_entries.specs.Entries.{Entry}
 use Rattle.seccompiler.specs.declared.backend.TargetArch.{TargetArch}
 use Rattle.seccomp_warnings.specs.CallWarnings.{IsNumberOf}
 use Rattle.seccomp_warnings.specs.Judgements.{HasNoneUnnamed, IsOfNumber, IsSibling, IsUnnamed, all_undone, siblings_of}
-use Rattle.seccomp_warnings.proofs.Quantified.{any_append, any_one}
+use Rattle.seccomp_warnings.proofs.Quantified.{any_push}
 
 module _ (w : Bool) where
   -- The numbers are those of the entries.
@@ -23,11 +23,11 @@ module _ (w : Bool) where
       → ((n : ℤ) → (number ≡ n) ↔ IsOfNumber w n e) → HasNumbers (es ++ e ∷ []) (numbers ++ number ∷ [])
   some_more es e numbers number so_far own n =
       let P = IsOfNumber w n in (
-        λ has. (any_append P es (e ∷ [])).1 (⊎_elim (λ before. inl ((so_far n).0 before)) (λ here. inr ((any_one P e).1 ((own n).0 here)))
+        λ has. (any_push P es e).1 (⊎_elim (λ before. inl ((so_far n).0 before)) (λ here. inr ((own n).0 here))
             (Contains-push_cases numbers number n has)),
         λ any. ⊎_elim (λ before. Contains-append_left numbers (number ∷ []) n ((so_far n).1 before))
-            (λ here. subst (λ m. Contains (numbers ++ number ∷ []) m) ((own n).1 ((any_one P e).0 here)) (Contains-push numbers number))
-            ((any_append P es (e ∷ [])).0 any),
+            (λ here. subst (λ m. Contains (numbers ++ number ∷ []) m) ((own n).1 here) (Contains-push numbers number))
+            ((any_push P es e).0 any),
       )
 
   -- One entry more, of none.
@@ -35,8 +35,8 @@ module _ (w : Bool) where
       → ((n : ℤ) → IsOfNumber w n e → ⊥) → HasNumbers (es ++ e ∷ []) numbers
   none_more es e numbers so_far none n =
       let P = IsOfNumber w n in (
-        λ has. (any_append P es (e ∷ [])).1 (inl ((so_far n).0 has)),
-        λ any. ⊎_elim (so_far n).1 (λ here. absurd (none n ((any_one P e).0 here))) ((any_append P es (e ∷ [])).0 any),
+        λ has. (any_push P es e).1 (inl ((so_far n).0 has)),
+        λ any. ⊎_elim (so_far n).1 (λ here. absurd (none n here)) ((any_push P es e).0 any),
       )
 
   -- Those of a front.

@@ -5,9 +5,9 @@ use Rattle.std.specs.declared.io.Error.{Error as IoError}
 use Rattle.std.specs.declared.io.ErrorKind.TheVariants as kind
 use Rattle.seccompc.specs.Policies.{AnswersList, AnswersRun}
 use Rattle.seccompc.specs.Probe.{AnswersProbe}
-use Rattle.seccomp_command_line.specs.Errors.{IsReadFault}
-use Rattle.seccomp_command_line.specs.declared.error.ToolError.{ToolError}
-use Rattle.seccomp_command_line.specs.declared.error.ToolError.TheVariants.{OutOfMemory}
+use Rattle.seccompc.specs.Errors.{IsReadFault}
+use Rattle.seccompc.specs.declared.error.ToolError.{ToolError}
+use Rattle.seccompc.specs.declared.error.ToolError.TheVariants.{OutOfMemory}
 use Rattle.seccompc.specs.declared.failure.Failure.{Failure}
 use Rattle.seccompc.specs.declared.failure.Failure.TheVariants.{Unopened, Engine}
 use Rattle.seccompc.specs.declared.words.Command.{Command}

@@ -1,7 +1,7 @@
 -- What the program writes for the records of system calls: a line for each.
 use Rattle.std.specs.Prelude.{◌≡◌, ℕ, List, ◌++◌, codes, decimal}
 use Rattle.std.specs.List.{AllZip, concat}
-use Rattle.seccomp_command_line.specs.Hexadecimal.{hexadecimal}
+use Rattle.seccomp_text.specs.Hexadecimal.{hexadecimal}
 use Rattle.seccompiler.specs.declared.bpf.sock_filter.{sock_filter}
 use Rattle.seccompiler.specs.Machine.{Ends}
 use Rattle.seccompiler.specs.Policy.{Filter}

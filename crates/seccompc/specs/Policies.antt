@@ -8,10 +8,10 @@ use Rattle.seccompiler.specs.JsonFilters.{AreAll}
 use Rattle.seccompiler.specs.JsonPrograms.{IsProgramOf}
 use Rattle.seccompiler.specs.JsonShape.{Under, Lacks}
 use Rattle.seccompiler.specs.Policy.{Filter}
-use Rattle.seccomp_command_line.specs.Answers.{Answers, AnswersOnRecords}
-use Rattle.seccomp_command_line.specs.Policies.{OfPolicy, IsPolicyFault, IsRefusedPolicy}
-use Rattle.seccomp_command_line.specs.declared.error.ToolError.{ToolError}
-use Rattle.seccomp_command_line.specs.declared.error.ToolError.TheVariants.{Library, NoFilter, OutOfMemory}
+use Rattle.seccompc.specs.Answers.{Answers, AnswersOnRecords}
+use Rattle.seccompc.specs.Faults.{OfPolicy, IsPolicyFault, IsRefusedPolicy}
+use Rattle.seccompc.specs.declared.error.ToolError.{ToolError}
+use Rattle.seccompc.specs.declared.error.ToolError.TheVariants.{Library, NoFilter, OutOfMemory}
 use Rattle.seccompc.specs.Lines.{Traced}
 use Rattle.seccompc.specs.Listing.{Listed}
 

@@ -8,10 +8,10 @@ use Rattle.seccompiler.specs.declared.backend.BackendError.TheVariants.{InvalidA
 use Rattle.seccompiler.specs.declared.error.Error.{Error}
 use Rattle.seccompiler.specs.declared.error.Error.TheVariants.{Backend}
 use Rattle.seccompiler.specs.Policy.{Filter, IsCallNumber}
-use Rattle.seccomp_command_line.specs.Answers.{AnswersOnRecords}
-use Rattle.seccomp_command_line.specs.Policies.{IsNameOf, IsNoArchitecture}
-use Rattle.seccomp_command_line.specs.declared.error.ToolError.{ToolError}
-use Rattle.seccomp_command_line.specs.declared.error.ToolError.TheVariants.{Library, OutOfMemory}
+use Rattle.seccompc.specs.Answers.{AnswersOnRecords}
+use Rattle.seccompc.specs.Faults.{IsNameOf, IsNoArchitecture}
+use Rattle.seccompc.specs.declared.error.ToolError.{ToolError}
+use Rattle.seccompc.specs.declared.error.ToolError.TheVariants.{Library, OutOfMemory}
 use Rattle.seccompc.specs.Lines.{Traced}
 
 -- The filter that allows a call of this number if all 8 bytes of the argument equal the value, and else kills the

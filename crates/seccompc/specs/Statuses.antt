@@ -1,5 +1,5 @@
 -- What the program's statuses say of the words that it is called with.
-use Rattle.seccomp_command_line.specs.Policies.{NamesArchitecture}
+use Rattle.seccompc.specs.Faults.{NamesArchitecture}
 use Rattle.seccompc.specs.Probe.{IsProbeFaultless}
 use Rattle.seccompc.specs.declared.words.Command.{Command}
 use Rattle.seccompc.specs.declared.words.Command.TheVariants.{Probe, List as Listing, Run}

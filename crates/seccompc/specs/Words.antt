@@ -1,6 +1,6 @@
 -- The words that the program is called with, and the command that they are.
 use Rattle.std.specs.Prelude.{◌≡◌, ℕ, ℤ, pos, neg_ℤ, ◌≤ℤ◌, ◌<ℤ◌, ◌^◌, ◌<◌, List, [], ◌∷◌, ◌++◌, codes}
-use Rattle.seccomp_command_line.specs.Numbers.{IsWritten}
+use Rattle.seccomp_text.specs.Numbers.{IsWritten}
 use Rattle.seccompc.specs.declared.words.Command.{Command}
 use Rattle.seccompc.specs.declared.words.Command.TheVariants.{Probe, List as Listing, Run}
 

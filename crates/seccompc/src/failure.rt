@@ -1,6 +1,6 @@
 // Why a command isn't carried out.
 
-use seccomp_command_line::error::ToolError;
+use crate::error::ToolError;
 use std::fmt;
 
 /// Why a command isn't carried out.

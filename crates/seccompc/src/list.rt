@@ -1,13 +1,13 @@
 // The programs of a policy, as text.
 
 ghost use Rattle.std.specs.Prelude.{IfErr};
-ghost use Rattle.seccomp_command_line.specs.Errors.{KeepsOutput};
+ghost use Rattle.seccompc.specs.Errors.{KeepsOutput};
 ghost use Rattle.seccompc.specs.Policies.{AnswersList};
 
+use crate::error::ToolError;
 use crate::policy::compiled;
 use crate::program_text::listing;
-use seccomp_command_line::error::ToolError;
-use seccomp_command_line::streams::send;
+use crate::streams::send;
 use std::alloc::Global;
 use std::io::{Read, Write};
 

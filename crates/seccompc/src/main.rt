@@ -1,6 +1,8 @@
 // Compiles seccomp filters, and shows what their programs do with the records of system calls.
 #![tactic(auto)]
 
+mod architecture;
+mod error;
 mod failure;
 mod list;
 mod perform;
@@ -9,6 +11,7 @@ mod probe;
 mod program_text;
 mod record_text;
 mod run;
+mod streams;
 mod words;
 
 ghost use Rattle.std.specs.Prelude.{◌≡◌, ◌≤◌, IfSome, IfNone, OnOk, OnErr};
@@ -16,11 +19,11 @@ ghost use Rattle.std.specs.Process.{exit_status};
 ghost use Rattle.seccompc.specs.Commands.{IsPerformed};
 ghost use Rattle.seccompc.specs.Statuses.{HasNoFault};
 
+use crate::error::ToolError;
 use crate::failure::Failure;
 use crate::perform::perform_on;
 use crate::words::{Command, read_words};
-use seccomp_command_line::arguments::behind_the_name;
-use seccomp_command_line::error::ToolError;
+use seccomp_text::arguments::behind_the_name;
 use std::io::{ErrorKind, Read, Write};
 use std::process::ExitCode;
 use std::rt::Files;

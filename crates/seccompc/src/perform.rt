@@ -2,14 +2,14 @@
 
 ghost use Rattle.std.specs.Prelude.{◌≡◌, IfOk, IfErr};
 ghost use Rattle.seccompc.specs.Commands.{AnswersCommand, AnswersOpened, IsUnopened};
-ghost use Rattle.seccomp_command_line.specs.Errors.{KeepsOutput};
+ghost use Rattle.seccompc.specs.Errors.{KeepsOutput};
 
+use crate::error::ToolError;
 use crate::failure::Failure;
 use crate::list::list;
 use crate::probe::probe;
 use crate::run::run_policy;
 use crate::words::Command;
-use seccomp_command_line::error::ToolError;
 use std::alloc::Global;
 use std::io::{self, ErrorKind, Read, Write};
 

@@ -5,12 +5,13 @@ ghost use Rattle.std.specs.BTreeMap.{get_by_text};
 ghost use Rattle.seccompiler.specs.Machine.{IsChecked};
 ghost use Rattle.seccompiler.specs.Errors.{IsNoMemoryInside};
 ghost use Rattle.seccompiler.specs.JsonAnswers.{OfValue};
-ghost use Rattle.seccompiler.specs.JsonPrograms.{AreProgramsOf, TellsFirstFault};
+ghost use Rattle.seccompiler.specs.JsonPrograms.{TellsFirstFault};
 ghost use Rattle.seccompiler.specs.Reads.{Reads};
-ghost use Rattle.seccomp_command_line.specs.Policies.{OfPolicy, IsRefusedPolicy};
+ghost use Rattle.seccompc.specs.EngineSteps.{HasPrograms};
+ghost use Rattle.seccompc.specs.Faults.{OfPolicy, IsRefusedPolicy};
 
-use seccomp_command_line::architecture::architecture_of;
-use seccomp_command_line::error::ToolError;
+use crate::architecture::architecture_of;
+use crate::error::ToolError;
 use seccompiler::json::text_of;
 use seccompiler::{BpfProgram, TargetArch, programs_of};
 use std::alloc::Global;
@@ -24,7 +25,7 @@ pub(crate) fn compiled<P: Read + Drop>(
     arch: &str,
     policy: P,
 ) -> Result<BTreeMap<String, BpfProgram>, ToolError>
-    ensures programs { IfOk result (λ programs. OfPolicy arch.now (P.remaining policy) (λ target. AreProgramsOf target (get_by_text programs))) }
+    ensures programs { IfOk result (λ programs. OfPolicy arch.now (P.remaining policy) (λ target. HasPrograms target programs)) }
     ensures checked { IfOk result (λ programs. (name : List ℕ) → IfSome (get_by_text programs name) (λ program. IsChecked program.items)) }
     ensures refused { IfErr result (IsRefusedPolicy arch.now (P.remaining policy)) }
 {
@@ -38,7 +39,7 @@ fn programs_in<P: Read + Drop>(
     policy: P,
     target: TargetArch,
 ) -> seccompiler::Result<BTreeMap<String, BpfProgram>>
-    ensures programs { IfOk result (λ programs. Reads (P.remaining policy) (λ text. OfValue text (AreProgramsOf target (get_by_text programs)))) }
+    ensures programs { IfOk result (λ programs. Reads (P.remaining policy) (λ text. OfValue text (HasPrograms target programs))) }
     ensures checked { IfOk result (λ programs. (name : List ℕ) → IfSome (get_by_text programs name) (λ program. IsChecked program.items)) }
     ensures fault { IfErr result (λ e. Reads (P.remaining policy) (λ text. TellsFirstFault target text e)) }
     ensures memory { IfErr result IsNoMemoryInside }

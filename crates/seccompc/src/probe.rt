@@ -1,14 +1,13 @@
 // The filter of one condition, and what its program does with records.
 
 ghost use Rattle.std.specs.Prelude.{IfOk, IfErr};
-ghost use Rattle.seccomp_command_line.specs.Errors.{KeepsOutput};
+ghost use Rattle.seccompc.specs.Errors.{KeepsOutput};
 ghost use Rattle.seccompc.specs.Probe.{IsRefusedProbe, AnswersProbe};
 ghost use Rattle.seccompc.specs.EngineSteps.{IsFilterFor, IsCompiledFor};
 
-use crate::record_text::Trace;
-use seccomp_command_line::architecture::architecture_of;
-use seccomp_command_line::error::ToolError;
-use seccomp_command_line::record_texts::tell_records;
+use crate::architecture::architecture_of;
+use crate::error::ToolError;
+use crate::record_text::tell_records;
 use seccompiler::{
     BpfProgram, SeccompAction, SeccompCmpArgLen, SeccompCmpOp, SeccompCondition, SeccompFilter,
     SeccompRule,
@@ -50,7 +49,7 @@ pub fn probe<R: Read + Drop, W: Write>(
     ensures unwritten { IfErr result (λ e. KeepsOutput e out.old out.new) }
 {
     let program = program_of(alloc, arch, nr, index, value)?;
-    tell_records(alloc, &Trace(program.as_slice()), records, out)
+    tell_records(alloc, program.as_slice(), records, out)
 }
 
 // The filter's program.

@@ -1,12 +1,11 @@
 // The listing of programs under their names.
 
-ghost use Rattle.std.specs.Prelude.{◌≡◌, map, IfOk, string_cmp};
-ghost use Rattle.std.specs.List.{concat};
-ghost use Rattle.std.specs.BTreeMap as tree;
-ghost use Rattle.seccomp_command_line.specs.Listing.{listing_of};
+ghost use Rattle.std.specs.Prelude.{◌≡◌, map, IfOk};
+ghost use Rattle.std.specs.List.{flat_map};
+ghost use Rattle.seccomp_text.specs.Listing.{listing_of};
 ghost use Rattle.seccompc.specs.Listing.{named_program};
 
-use seccomp_command_line::listing::{HEADER, LINE, push_listing};
+use seccomp_text::listing::{HEADER, LINE, push_listing};
 use seccompiler::BpfProgram;
 use std::alloc::{AllocError, Global};
 use std::collections::BTreeMap;
@@ -16,8 +15,7 @@ pub(crate) fn listing(
     alloc: Global,
     programs: &BTreeMap<String, BpfProgram>,
 ) -> Result<Vec<u8>, AllocError>
-    ensures listings { IfOk result (λ text. text.items ≡ concat (map listing_of (map named_program programs.now.entries))) }
-    ensures ordered { tree.IsOrdered string_cmp programs.now }
+    ensures { IfOk result (λ text. text.items ≡ flat_map listing_of (map named_program programs.now.entries)) }
 {
     let mut text = Vec::with_capacity(alloc, room(programs))?;
     for (name, program) in programs {
@@ -27,10 +25,7 @@ pub(crate) fn listing(
 }
 
 // The bytes that the listings take if no byte of a name is written by its number.
-fn room(programs: &BTreeMap<String, BpfProgram>) -> usize
-    // As each walk over a map tells.
-    ensures ordered { tree.IsOrdered string_cmp programs.now }
-{
+fn room(programs: &BTreeMap<String, BpfProgram>) -> usize {
     let mut bytes = 0usize;
     for (name, program) in programs {
         bytes = bytes

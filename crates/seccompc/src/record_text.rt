@@ -1,27 +1,45 @@
 // What a program does with records, as text.
 
-ghost use Rattle.std.specs.Prelude.{◌≡◌, ◌++◌, IfOk, OnOk};
+ghost use Rattle.std.specs.Prelude.{◌≡◌, ◌++◌, IfOk, IfErr, OnOk};
 ghost use Rattle.seccompiler.specs.Machine.{IsChecked};
+ghost use Rattle.seccompiler.specs.Reads.{Reads};
+ghost use Rattle.seccompc.specs.Errors.{KeepsOutput, IsRecordsError};
 ghost use Rattle.seccompc.specs.Lines.{AreLines, line_of};
+ghost use Rattle.seccompc.specs.Records.{AnswersRecords};
 
+use crate::error::ToolError;
+use crate::streams::{read_whole, send};
 use itoa::Buffer;
-use seccomp_command_line::hexadecimal::eight_digits;
-use seccomp_command_line::record_texts::TellsRecords;
+use seccomp_text::hexadecimal::eight_digits;
 use seccompiler::BpfProgramRef;
 use seccompiler::machine::{Outcome, run};
 use std::alloc::{AllocError, Global};
+use std::io::{Read, Write};
 
-/// A program, of whose runs on records a line each is printed.
-#[derive(Clone, Copy)]
-pub(crate) struct Trace<'a>(pub BpfProgramRef<'a>);
-
-impl TellsRecords for Trace<'_> {
-    ghost can_tell = { λ trace. IsChecked trace.0.now };
-
-    ghost is_text_of = { λ trace records text. AreLines trace.0.now records text };
-
-    fn text_of(&self, alloc: Global, records: &[[u8; 64]]) -> Result<Vec<u8>, AllocError> {
-        lines(alloc, self.0, records)
+// Writes the lines of a program on the whole records of 64 bytes that a reader gives.
+//
+// All records are read before anything is written, and all is written at once. The first of these errors comes:
+// `Read` if the reader fails; `Write` if the writer does; `ShortRecord` if 1 to 63 bytes are left, after the lines
+// of the whole records are written. `OutOfMemory` is returned instead of any of these if memory runs out, in the
+// reader too. On any error but `Write` and `ShortRecord` nothing is written.
+pub(crate) fn tell_records<R: Read + Drop, W: Write>(
+    alloc: Global,
+    program: BpfProgramRef<'_>,
+    records: R,
+    out: &mut W,
+) -> Result<(), ToolError>
+    requires { IsChecked program.now }
+    ensures told { Reads (R.remaining records) (λ bytes. AnswersRecords (AreLines program.now) bytes result (W.contents out.old) (W.contents out.new)) }
+    ensures cause { IfErr result IsRecordsError }
+    ensures unwritten { IfErr result (λ e. KeepsOutput e out.old out.new) }
+{
+    let bytes = read_whole(alloc, records)?;
+    let (records, rest) = bytes.as_slice().as_chunks::<64>();
+    let text = lines(alloc, program, records)?;
+    send(out, text.as_slice())?;
+    match rest.len() {
+        0 => Ok(()),
+        rest => Err(ToolError::ShortRecord(rest)),
     }
 }
 

@@ -1,13 +1,12 @@
 // A filter of a policy, and what its program does with records.
 
 ghost use Rattle.std.specs.Prelude.{IfErr};
-ghost use Rattle.seccomp_command_line.specs.Errors.{KeepsOutput};
+ghost use Rattle.seccompc.specs.Errors.{KeepsOutput};
 ghost use Rattle.seccompc.specs.Policies.{AnswersRun};
 
+use crate::error::ToolError;
 use crate::policy::compiled;
-use crate::record_text::Trace;
-use seccomp_command_line::error::ToolError;
-use seccomp_command_line::record_texts::tell_records;
+use crate::record_text::tell_records;
 use std::alloc::Global;
 use std::io::{Read, Write};
 
@@ -45,5 +44,5 @@ pub fn run_policy<P: Read + Drop, R: Read + Drop, W: Write>(
     let Some(program) = programs.get(name) else {
         return Err(ToolError::NoFilter(String::from_str(alloc, name)?));
     };
-    tell_records(alloc, &Trace(program.as_slice()), records, out)
+    tell_records(alloc, program.as_slice(), records, out)
 }

@@ -4,7 +4,7 @@ ghost use Rattle.std.specs.Prelude.{◌≡◌, ℤ, [], ◌∷◌, IfSome, IfNon
 ghost use Rattle.seccompc.specs.declared.words.Command.{Command};
 ghost use Rattle.seccompc.specs.Words.{IsSignedText, IsSigned64, IsCommand};
 
-use seccomp_command_line::numbers::read_digits;
+use seccomp_text::numbers::read_digits;
 
 /// A command of the program.
 #[derive(Clone, Copy, Debug)]

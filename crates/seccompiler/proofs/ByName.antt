@@ -58,7 +58,7 @@ module _ {X : Type 0} where
   behind (e ∷ front) back h = behind front back (sorted_tail string_cmp e.0 (keys_of (front ++ back)) h)
 
   -- In order, no name stands twice.
-  once : (xs : ByName X) → AreInOrder xs → IsDistinct string_eq (keys_of xs)
+  pub once : (xs : ByName X) → AreInOrder xs → IsDistinct string_eq (keys_of xs)
   once xs h = grind (arith, is_eq-slice_cmp, IsDistinct-from_sorted)
 
   -- Each value is found under its name.

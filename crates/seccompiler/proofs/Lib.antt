@@ -17,3 +17,4 @@ pub mod TableFacts
 pub mod TableNames
 pub mod ByName
 pub mod TextFilters
+pub mod ReadBack

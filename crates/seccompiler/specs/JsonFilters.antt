@@ -1,9 +1,13 @@
 -- The filters of a JSON text, under their names.
-use Rattle.std.specs.Prelude.{◌≡◌, ℕ, List, Option, Some, None, String, string_bytes, bytes_eq}
+use Rattle.std.specs.Prelude.{◌≡◌, ℕ, List, All, Contains, map, Option, Some, None, String, string_bytes, bytes_eq}
+use Rattle.std.specs.BTreeMap.{BTreeMap, get_by_text}
+use Rattle.std.specs.Cmp.Lexicographic.{slice_cmp}
 use Rattle.std.specs.Global.{Global}
+use Rattle.std.specs.List.Sorted.{IsStrictlySortedBy}
 use Rattle.std.specs.Map.{lookup}
+use Rattle.std.specs.Ordering.{nat_cmp}
 use Rattle.serde_json.specs.Data.{Data}
-use Rattle.seccompiler.specs.JsonShape.{IsObject, Has, Lacks, IsFilter}
+use Rattle.seccompiler.specs.JsonShape.{IsObject, Has, Under, Lacks, IsFilter}
 use Rattle.seccompiler.specs.JsonTypes.{JsonFilter}
 use Rattle.seccompiler.specs.SyscallTable.{ComesBefore}
 
@@ -23,6 +27,20 @@ pub record AreFound {X : Type 0} (P : Data → X → Type 0) (find : List ℕ �
   pub is_object : IsObject d
   pub each : (name : List ℕ) (value : Data) → Has d name value → IsFound P find name value
   pub no_other : (name : List ℕ) → Lacks d name → find name ≡ None
+
+-- Each item is as P says of the value that stands under its name. They come in byte order of the names, one for each name of the
+-- value.
+pub record AreNamed {X : Type 0} (name_of : X → List ℕ) (P : X → Data → Type 0) (d : Data) (all : List X) : Type 0 where
+  pub ordered : IsStrictlySortedBy (slice_cmp nat_cmp) (map name_of all)
+  pub each : All (λ x. Under d (name_of x) (P x)) all
+  pub complete : (name : List ℕ) (value : Data) → Has d name value → Contains (map name_of all) name
+
+-- From the map back to the value: what is found under a name is, as P says, what the name's value is; if nothing is found, the value
+-- hasn't the name; and so for the map's entries, one by one.
+pub record IsReadBack {X : Type 0} (P : Data → X → Type 0) (m : BTreeMap (String Global) X) (d : Data) : Type 0 where
+  pub there : (name : List ℕ) (x : X) → get_by_text m name ≡ Some x → Under d name (λ value. P value x)
+  pub nowhere : (name : List ℕ) → get_by_text m name ≡ None → Lacks d name
+  pub entries : AreNamed (λ e. string_bytes e.0) (λ e value. P value e.1) d m.entries
 
 -- The value is an object, and each value in it is as P says.
 pub record AreAll (P : Data → Type 0) (d : Data) : Type 0 where

@@ -5,11 +5,12 @@ ghost use Rattle.std.specs.BTreeMap as tree;
 ghost use Rattle.std.specs.HashMap as hash;
 ghost use Rattle.std.specs.List.Sorted.{IsStrictlySortedBy};
 ghost use Rattle.std.specs.Map.{keys_of};
+ghost use Rattle.serde_json.specs.Data.{Data};
 ghost use Rattle.seccompiler.specs.Machine.{IsChecked};
 ghost use Rattle.seccompiler.specs.Errors.{IsNoMemoryInside, IsNoReader};
 ghost use Rattle.seccompiler.specs.JsonAnswers.{OfValue};
-ghost use Rattle.seccompiler.specs.JsonFilters.{under};
-ghost use Rattle.seccompiler.specs.JsonPrograms.{AreProgramsOf, TellsFirstFault};
+ghost use Rattle.seccompiler.specs.JsonFilters.{IsReadBack, under};
+ghost use Rattle.seccompiler.specs.JsonPrograms.{AreProgramsOf, IsProgramOf, TellsFirstFault};
 ghost use Rattle.seccompiler.specs.Reads.{Reads};
 
 use crate::backend::TargetArch;
@@ -90,6 +91,7 @@ pub fn programs_of(
     arch: TargetArch,
 ) -> Result<BTreeMap<String, BpfProgram>>
     ensures programs { IfOk result (λ m. OfValue text.now (AreProgramsOf arch (tree.get_by_text m))) }
+    ensures read_back { IfOk result (λ m. (d : Data) → AreProgramsOf arch (tree.get_by_text m) d → IsReadBack (λ value program. IsProgramOf arch value program.items) m d) }
     ensures checked { IfOk result (λ m. (name : List ℕ) → IfSome (tree.get_by_text m name) (λ program. IsChecked program.items)) }
     ensures fault { IfErr result (TellsFirstFault arch text.now) }
     ensures no_reader { IfErr result IsNoReader }

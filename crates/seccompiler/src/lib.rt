@@ -55,7 +55,7 @@ pub mod install;
 pub mod json;
 mod linear;
 pub mod machine;
-pub(crate) mod record;
+pub mod record;
 pub mod rule;
 pub mod syscall_table;
 

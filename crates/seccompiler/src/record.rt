@@ -1,4 +1,4 @@
-// The numbers in the record of a system call, which are little-endian.
+//! The numbers in the record of a system call, a `struct seccomp_data`, which are little-endian.
 
 ghost use Rattle.std.specs.Prelude.{◌≡◌, ◌≤◌};
 ghost use Rattle.seccompiler.specs.Machine.{word_at, argument_at};
@@ -8,8 +8,11 @@ use crate::bpf::{SECCOMP_DATA_ARG_SIZE, SECCOMP_DATA_ARGS_OFFSET};
 /// The offset of the last 32 bits of a record, in bytes.
 pub(crate) const LAST_WORD_OFFSET: u32 = 60;
 
-/// Reads the 32 bits of bytes `k` to `k + 3`.
-pub(crate) fn word_at(call: &[u8; 64], k: usize) -> u32
+/// Reads the 32 bits of bytes `k` to `k + 3` of the record of a system call.
+///
+/// The call number is at 0, the `AUDIT_ARCH_*` value at 4, and the low half of argument `i` at `16 + 8 * i`
+/// (`linux/seccomp.h`).
+pub fn word_at(call: &[u8; 64], k: usize) -> u32
     requires { k ≤ 60 }
     ensures { result ≡ word_at call.now k }
 {

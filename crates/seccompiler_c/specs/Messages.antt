@@ -8,8 +8,8 @@ use Rattle.seccompiler.specs.declared.backend.TargetArch.{TargetArch}
 use Rattle.seccomp_tree.specs.Layouts.{filter_text}
 use Rattle.seccomp_check.specs.Checks.{TellsFaultOf, frontend_cause}
 use Rattle.seccomp_check.specs.declared.fault.Cause.{Cause}
-use Rattle.seccomp_command_line.specs.Readable.{readable}
-use Rattle.seccomp_command_line.specs.declared.readable.TextKind.TheVariants.{Line}
+use Rattle.seccomp_text.specs.Readable.{readable}
+use Rattle.seccomp_text.specs.declared.readable.TextKind.TheVariants.{Line}
 use Rattle.seccompiler_c.specs.Codes.{fault_code, code_text, IsSentence}
 use Rattle.seccompiler_c.specs.declared.fault.Fault.{Fault}
 use Rattle.seccompiler_c.specs.declared.fault.Fault.TheVariants.{OutOfMemory, UnknownArchitecture, UnknownLayout, Text, NoFilter, NoIndex}

@@ -1,7 +1,6 @@
 // The names of a text's filters.
 
-ghost use Rattle.std.specs.Prelude.{◌≡◌, ◌≤◌, ℕ, List, Some, pos, length, map, slice_get, string_bytes, string_cmp, IfOk, IfErr, IfSome, IfNone};
-ghost use Rattle.std.specs.List.Sorted.{IsStrictlySortedBy};
+ghost use Rattle.std.specs.Prelude.{◌≡◌, ◌≤◌, ℕ, List, Some, pos, length, map, slice_get, string_bytes, IfOk, IfErr, IfSome, IfNone};
 ghost use Rattle.std.specs.Map.{keys_of};
 ghost use Rattle.seccompiler_c.specs.Messages.{HoldsMessage};
 ghost use Rattle.seccompiler_c.specs.Names.{OfNames, IsUnnamed};
@@ -35,7 +34,6 @@ fn write_key(filters: &JsonFilterMap, index: usize, name: &mut [u8]) -> Option<i
     ensures found { IfSome result (λ answer. (said : List ℕ) × (slice_get (map string_bytes (keys_of filters.now.0.entries)) index ≡ Some said) × (answer ≡ pos (length said)) × HoldsMessage said name.old name.new) }
     ensures none { IfNone result (length (keys_of filters.now.0.entries) ≤ index) }
     ensures left { IfNone result (name.new ≡ name.old) }
-    ensures ordered { IsStrictlySortedBy string_cmp (keys_of filters.now.0.entries) }
 {
     let mut place: usize = 0;
     for key in filters.0.keys() {

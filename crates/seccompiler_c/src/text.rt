@@ -8,7 +8,7 @@ ghost use Rattle.seccompiler_c.specs.Messages.{HoldsMessage, IsFaultText, fault_
 use crate::arguments::architecture_of;
 use crate::fault::Fault;
 use seccomp_check::{Cause, cause_of_frontend, place};
-use seccomp_command_line::readable::{TextKind, readable};
+use seccomp_text::readable::{TextKind, readable};
 use seccompiler::{JsonFrontendError, TargetArch};
 use std::alloc::Global;
 use std::fmt;

@@ -1,8 +1,5 @@
 -- Laws of the definitions, which the proofs of several modules cite. The lemmas of one module lie in that module's folder,
 -- and the file beside the folder lists them.
-pub mod Pairs
-pub mod Readings
-pub mod Named
 pub mod Causes
 pub mod Traces
 pub mod Wanted

@@ -3,9 +3,9 @@ use Rattle.std.proofs.Common.{◌≡◌, ◌<◌, ◌≤◌, ◌+◌, ℕ, zero,
 use Rattle.std.specs.Prelude.{Any}
 use Rattle.std.proofs.lemmas.List.{get_or_default, take_all, take_more}
 use Rattle.seccomptool.specs.Learn.{InTurn, IsUnknown, indices}
-use Rattle.seccomptool.specs.Record.{IsUncalled}
-use Rattle.seccomptool.specs.declared.error.ToolError.{ToolError}
-use Rattle.seccomptool.specs.declared.error.ToolError.TheVariants.{OutOfMemory}
+use Rattle.seccomp_answers.specs.Calls.{IsUncalled}
+use Rattle.seccomp_answers.specs.declared.error.AnswerError.{AnswerError}
+use Rattle.seccomp_answers.specs.declared.error.AnswerError.TheVariants.{OutOfMemory}
 use Rattle.seccomptool.specs.declared.learn.AskedArguments.{AskedArguments}
 use Rattle.seccomptool.specs.declared.words.Asked.{Asked}
 
@@ -42,7 +42,7 @@ index_at (suc (suc (suc (suc (suc zero))))) within = refl
 index_at (suc (suc (suc (suc (suc (suc i)))))) within = absurd (omega arith)
 
 -- One of the calls that are asked for is unknown.
-pub unknown_of : (asked : Asked) (e : ToolError)
+pub unknown_of : (asked : Asked) (e : AnswerError)
     → Any (λ (call : AskedArguments). IsUncalled asked.arch call.call.now e) asked.arguments.items → IsUnknown asked e
 unknown_of asked OutOfMemory is = tt
 unknown_of asked e is = is

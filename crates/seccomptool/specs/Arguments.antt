@@ -11,20 +11,20 @@ use Rattle.seccomp_compare.specs.declared.Relation.{Relation}
 use Rattle.seccomp_compare.specs.declared.Relation.TheVariants.{Alike, AtMostAsPermissive}
 use Rattle.seccomp_tree.specs.declared.layout.Layout.{Layout}
 use Rattle.seccomp_tree.specs.declared.layout.Layout.TheVariants.{Linear, Tree}
-use Rattle.seccomptool.specs.declared.check.format.CheckFormat.{CheckFormat}
-use Rattle.seccomptool.specs.declared.check.format.CheckFormat.TheVariants as check_format
-use Rattle.seccomptool.specs.declared.compile.ProgramFormat.{ProgramFormat}
-use Rattle.seccomptool.specs.declared.compile.ProgramFormat.TheVariants as format
-use Rattle.seccomptool.specs.declared.diff.Scope.{Scope}
-use Rattle.seccomptool.specs.declared.diff.Scope.TheVariants as scope
-use Rattle.seccomptool.specs.declared.kind.Reading.{Reading}
+use Rattle.seccomp_views.specs.declared.check.format.CheckFormat.{CheckFormat}
+use Rattle.seccomp_views.specs.declared.check.format.CheckFormat.TheVariants as check_format
+use Rattle.seccomp_views.specs.declared.program.ProgramFormat.{ProgramFormat}
+use Rattle.seccomp_views.specs.declared.program.ProgramFormat.TheVariants as format
+use Rattle.seccomp_answers.specs.declared.diff.Scope.{Scope}
+use Rattle.seccomp_answers.specs.declared.diff.Scope.TheVariants as scope
+use Rattle.seccomp_answers.specs.declared.kind.Reading.{Reading}
 use Rattle.seccomptool.specs.declared.words.Asked.{Asked}
 use Rattle.seccomptool.specs.declared.words.Calls.{Calls}
 use Rattle.seccomptool.specs.declared.words.Calls.TheVariants as calls
 use Rattle.seccomptool.specs.declared.words.Inputs.{Inputs}
 use Rattle.seccomptool.specs.declared.words.Verb.{Verb}
 use Rattle.seccomptool.specs.declared.words.Verb.TheVariants.{Call, Check, Codes, Compile, Diff, Explain, Learn, Show, Stack}
-use Rattle.seccomptool.specs.Chosen.{text_of}
+use Rattle.seccomp_answers.specs.Chosen.{text_of}
 
 -- ---- values
 

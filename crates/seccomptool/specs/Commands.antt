@@ -1,6 +1,5 @@
 -- What it means that a command is carried out on the texts that it is given.
 use Rattle.std.specs.Prelude.{◌≡◌, ◌≢◌, ◌<◌, ◌↔◌, ℕ, ◌/◌, ◌%◌, Bool, true, false, IsTrue, List, [], Option, Vec, length, ⊤}
-use Rattle.std.specs.Borrow.{Bor}
 use Rattle.std.specs.List.{AllZip}
 use Rattle.std.specs.Simd.{first_chunks}
 use Rattle.std.specs.declared.alloc.Global.{Global}
@@ -8,7 +7,7 @@ use Rattle.seccompiler.specs.declared.backend.TargetArch.{TargetArch}
 use Rattle.seccompiler.specs.declared.bpf.sock_filter.{sock_filter}
 use Rattle.seccomp_tree.specs.declared.layout.Layout.{Layout}
 use Rattle.seccomp_tree.specs.Layouts.{IsCompiledIn}
-use Rattle.seccompiler.specs.JsonAnswers.{ArePoliciesOf, OfValue}
+use Rattle.seccompiler.specs.JsonAnswers.{OfValue}
 use Rattle.seccompiler.specs.Policy.{Filter}
 use Rattle.seccomp_compare.specs.Machine.{IsChecked}
 use Rattle.seccomp_oci.specs.declared.compiled.CompiledProfile.{CompiledProfile}
@@ -16,54 +15,51 @@ use Rattle.seccomp_oci.specs.CompiledProfile.{IsCompiledProfile}
 use Rattle.seccomp_oci.specs.Types.{Container}
 use Rattle.seccomp_stack.specs.Stack.{IsStack}
 use Rattle.seccomp_learn.specs.declared.trace.Trace.{Trace}
-use Rattle.seccomptool.specs.declared.check.CheckedPolicy.{CheckedPolicy}
-use Rattle.seccomptool.specs.declared.check.profile.CheckedProfile.{CheckedProfile}
-use Rattle.seccomptool.specs.declared.compile.NamedProgram.{NamedProgram}
-use Rattle.seccomptool.specs.declared.diff.Diff.{Diff}
-use Rattle.seccomptool.specs.declared.error.ToolError.{ToolError}
-use Rattle.seccomptool.specs.declared.error.ToolError.TheVariants.{OutOfMemory}
-use Rattle.seccomptool.specs.declared.explain.Explanation.{Explanation}
-use Rattle.seccomptool.specs.declared.findings.Verdict.{Verdict}
-use Rattle.seccomptool.specs.declared.findings.Verdict.TheVariants.{Same, Different}
-use Rattle.seccomptool.specs.declared.kind.Reading.{Reading}
-use Rattle.seccomptool.specs.declared.kind.Subject.{Subject}
-use Rattle.seccomptool.specs.declared.kind.Subject.TheVariants as subject
+use Rattle.seccomp_answers.specs.declared.check.CheckedPolicy.{CheckedPolicy}
+use Rattle.seccomp_answers.specs.declared.check.CheckedProfile.{CheckedProfile}
+use Rattle.seccomp_answers.specs.declared.programs.NamedProgram.{NamedProgram}
+use Rattle.seccomp_answers.specs.declared.diff.Diff.{Diff}
+use Rattle.seccomp_answers.specs.declared.error.AnswerError.{AnswerError}
+use Rattle.seccomp_answers.specs.declared.error.AnswerError.TheVariants.{OutOfMemory}
+use Rattle.seccomp_answers.specs.declared.explain.Explanation.{Explanation}
+use Rattle.seccomp_answers.specs.declared.findings.Verdict.{Verdict}
+use Rattle.seccomp_answers.specs.declared.findings.Verdict.TheVariants.{Same, Different}
+use Rattle.seccomp_answers.specs.declared.kind.Subject.{Subject}
+use Rattle.seccomp_answers.specs.declared.kind.Subject.TheVariants as subject
 use Rattle.seccomptool.specs.declared.made.Made.{Made}
-use Rattle.seccomptool.specs.declared.record.KnownCall.{KnownCall}
-use Rattle.seccomptool.specs.declared.sides.Side.{Side}
-use Rattle.seccomptool.specs.declared.stack.Layer.{Layer}
-use Rattle.seccomptool.specs.declared.stats.FilterStats.{FilterStats}
-use Rattle.seccomptool.specs.declared.stats.Measure.{Measure}
+use Rattle.seccomp_answers.specs.declared.calls.KnownCall.{KnownCall}
+use Rattle.seccomp_answers.specs.declared.sides.Side.{Side}
+use Rattle.seccomp_answers.specs.declared.layers.Layer.{Layer}
+use Rattle.seccomp_answers.specs.declared.measures.FilterStats.{FilterStats}
+use Rattle.seccomp_answers.specs.declared.measures.Measure.{Measure}
 use Rattle.seccomptool.specs.declared.words.Call.{Call}
 use Rattle.seccomptool.specs.declared.words.Calls.{Calls}
 use Rattle.seccomptool.specs.declared.words.Calls.TheVariants.{One, Records, Log}
 use Rattle.seccomptool.specs.declared.words.Asked.{Asked}
 use Rattle.seccomptool.specs.declared.words.Verb.{Verb}
 use Rattle.seccomptool.specs.declared.words.Verb.TheVariants as verb
-use Rattle.seccomptool.specs.Check.{IsCheckOf, IsRefusal, verdict_where}
-use Rattle.seccomptool.specs.CheckProfile.{IsProfileCheckOf, IsRefusedProfile}
-use Rattle.seccomptool.specs.Chosen.{text_of}
-use Rattle.seccomptool.specs.Compile.{ArePrograms, IsWrittenAs}
-use Rattle.seccomptool.specs.Diff.{IsDiff, verdict_in}
-use Rattle.seccomptool.specs.Explain.{IsOfPolicy, IsOfProfile, IsOfProgram, IsOfStack}
-use Rattle.seccomptool.specs.Kinds.{IsTakenAs}
+use Rattle.seccomp_answers.specs.Check.{IsCheckOf, IsRefusal, verdict_where}
+use Rattle.seccomp_answers.specs.CheckProfile.{IsProfileCheckOf}
+use Rattle.seccomp_answers.specs.Chosen.{text_of}
+use Rattle.seccomp_views.specs.Written.{IsWrittenAs}
+use Rattle.seccomp_answers.specs.Diff.{IsDiff, verdict_in}
+use Rattle.seccomp_answers.specs.Kinds.{IsTakenAs}
 use Rattle.seccomptool.specs.Learn.{IsLesson}
-use Rattle.seccomptool.specs.Record.{AreKnownCalls, IsRecordOf}
-use Rattle.seccomptool.specs.Run.{IsProgramOf, IsRefusedProgram}
-use Rattle.seccomptool.specs.Sides.{IsChosen, IsProgramFor, Policies}
-use Rattle.seccomptool.specs.Stats.{AreStats, IsMeasureOf, IsProfileMeasure}
+use Rattle.seccomp_answers.specs.Calls.{AreKnownCalls, IsRecordOf}
+use Rattle.seccomp_answers.specs.Programs.{IsProgramOf, IsRefusedProgram}
+use Rattle.seccomp_answers.specs.Explain.{Explains}
+use Rattle.seccomp_answers.specs.Layers.{IsLayer, IsStackExplained}
+use Rattle.seccomp_answers.specs.Sides.{IsFilterOf, IsSideOf}
+use Rattle.seccomp_answers.specs.Measures.{AreStats, IsMeasureOf, IsProfileMeasure}
+use Rattle.seccomp_answers.specs.Causes.{IsRefusedProfile}
+use Rattle.seccomp_answers.specs.Compiled.{ArePrograms}
 
 -- ---- what each command answers
 
 -- The program is compiled for the filter that is asked for, or the only one, of the policy's text.
-pub record IsFilterCompiled (target : TargetArch) (layout : Layout) (asked : Option (List ℕ)) (text : List ℕ) (program : List sock_filter)
-    : Type 0 where
-  pub filters : Policies
-  pub of_text : OfValue text (ArePoliciesOf target filters)
-  pub name : List ℕ
-  pub filter : Filter
-  pub chosen : IsChosen asked filters name filter
-  pub compiled : IsCompiledIn layout filter program
+abbrev pub IsFilterCompiled : TargetArch → Layout → (asked : Option (List ℕ)) → (text : List ℕ) → (program : List sock_filter) → Type 0
+IsFilterCompiled target layout asked text program =
+    (filter : Filter) × IsFilterOf target asked text filter × IsCompiledIn layout filter program
 
 -- The program of what is given: compiled for a filter, or for a profile, or given itself.
 abbrev pub IsCompiledAs : Asked → Subject → (given : List ℕ) → (program : List sock_filter) → Type 0
@@ -120,7 +116,7 @@ IsAccepted asked (subject.Profile container) text v =
 IsAccepted asked subject.Program bytes v = IsCheckedProgram bytes × (v ≡ Same)
 
 -- What is given is rejected for this, or memory ran out.
-abbrev pub IsRejectedFor : TargetArch → Subject → (given : List ℕ) → ToolError → Type 0
+abbrev pub IsRejectedFor : TargetArch → Subject → (given : List ℕ) → AnswerError → Type 0
 IsRejectedFor arch subject.Policy text e = IsRefusal arch text e
 IsRejectedFor arch (subject.Profile container) text e = IsRefusedProfile arch container.now false text e
 IsRejectedFor arch subject.Program bytes e = IsRefusedProgram bytes e
@@ -128,7 +124,7 @@ IsRejectedFor arch subject.Program bytes e = IsRefusedProgram bytes e
 -- What is given is accepted; or it is rejected, and not for want of memory.
 pub data IsJudged (asked : Asked) (kind : Subject) (given : List ℕ) (v : Verdict) : Type 0 where
   accepted : IsAccepted asked kind given v → IsJudged asked kind given v
-  rejected : (e : ToolError) → IsRejectedFor asked.arch kind given e → e ≢ OutOfMemory → v ≡ Different → IsJudged asked kind given v
+  rejected : (e : AnswerError) → IsRejectedFor asked.arch kind given e → e ≢ OutOfMemory → v ≡ Different → IsJudged asked kind given v
 
 abbrev pub IsCheck : Asked → (given : List ℕ) → Verdict → Type 0
 IsCheck asked given v = (kind : Subject) × IsTakenAs asked.reading given kind × IsJudged asked kind given v
@@ -147,17 +143,6 @@ OnRecordsOf Log arch call bytes P = (records : List (List ℕ)) × P records
 abbrev pub OnRecords : Asked → (bytes : List ℕ) → (List (List ℕ) → Type 0) → Type 0
 OnRecords asked bytes P = OnRecordsOf asked.calls asked.arch asked.call bytes P
 
--- What is given decides so on the records, and why: a policy's filter, a profile or a program.
-abbrev pub IsExplainedAs : TargetArch → Subject → (asked : Option (List ℕ)) → (given : List ℕ) → (records : List (List ℕ)) → Explanation
-    → Type 0
-IsExplainedAs arch subject.Policy asked text records e = IsOfPolicy arch asked text records e
-IsExplainedAs arch (subject.Profile container) asked text records e = IsOfProfile arch container.now text records e
-IsExplainedAs arch subject.Program asked bytes records e = IsOfProgram arch bytes records e
-
-abbrev pub Explains : Asked → (given : List ℕ) → (records : List (List ℕ)) → Explanation → Type 0
-Explains asked given records e =
-    (kind : Subject) × IsTakenAs asked.reading given kind × IsExplainedAs asked.arch kind (text_of asked.filter) given records e
-
 -- The architecture that is asked about, or each.
 abbrev pub IsAskedAbout : (each : Bool) → (asked of : TargetArch) → Type 0
 IsAskedAbout true asked of = ⊤
@@ -173,12 +158,6 @@ IsCalledOn false each arch call written =
 abbrev pub IsCalled : Asked → (written : List ℕ) → Type 0
 IsCalled asked written = IsCalledOn asked.recorded asked.each_arch asked.arch asked.call written
 
--- The side is of these bytes, and of this filter of theirs.
-pub record IsSideOf (reading : Reading) (filter : Option (Bor (List ℕ))) (given : List ℕ) (side : Side) : Type 0 where
-  pub kind : IsTakenAs reading given side.kind
-  pub filter_is : side.filter ≡ filter
-  pub given_is : side.given.now ≡ given
-
 -- On which calls the one decides otherwise than the other, and whether on any that counts.
 pub record IsCompared (asked : Asked) (old_given new_given : List ℕ) (v : Verdict) : Type 0 where
   pub old : Side
@@ -189,30 +168,18 @@ pub record IsCompared (asked : Asked) (old_given new_given : List ℕ) (v : Verd
   pub is : IsDiff asked.terms.target asked.terms.relation old new found
   pub verdict : v ≡ verdict_in asked.scope found
 
--- The program is that of a layer.
-pub record IsLayer (asked : Asked) (layer : Layer) (program : Vec sock_filter Global) : Type 0 where
-  pub side : Side
-  pub of_layer : IsSideOf asked.reading layer.filter layer.text.items side
-  pub is : IsProgramFor asked.arch side.kind (text_of side.filter) side.given.now program.items
-
--- What is decided on the records is what the kernel makes of the programs of all layers.
-pub record IsStackExplained (asked : Asked) (layers : List Layer) (records : List (List ℕ)) (e : Explanation) : Type 0 where
-  pub programs : List (Vec sock_filter Global)
-  pub each : AllZip (IsLayer asked) layers programs
-  pub decided : AllZip (IsOfStack asked.arch programs) records e.records.items
-
 -- One program answers as the kernel makes it of those of all layers, and it is what is written.
 pub record IsStacked (asked : Asked) (layers : List Layer) (written : List ℕ) : Type 0 where
   pub programs : List (Vec sock_filter Global)
-  pub each : AllZip (IsLayer asked) layers programs
+  pub each : AllZip (IsLayer asked.arch asked.reading) layers programs
   pub program : List sock_filter
   pub stack : IsStack programs program
   pub is_written : IsWrittenAs asked.format program written
 
 -- What is given decides so on the records, and why; or, if there are layers, all of them do together.
 abbrev pub ExplainsIn : Asked → List Layer → (given : List ℕ) → (records : List (List ℕ)) → Explanation → Type 0
-ExplainsIn asked [] given records e = Explains asked given records e
-ExplainsIn asked layers given records e = IsStackExplained asked layers records e
+ExplainsIn asked [] given records e = Explains asked.arch asked.reading (text_of asked.filter) given records e
+ExplainsIn asked layers given records e = IsStackExplained asked.arch asked.reading layers records e
 
 abbrev pub IsExplainedIn : Asked → List Layer → (given : List ℕ) → (records : List (List ℕ)) → Type 0
 IsExplainedIn asked layers given records = (e : Explanation) × ExplainsIn asked layers given records e

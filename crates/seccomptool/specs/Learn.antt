@@ -11,14 +11,14 @@ use Rattle.seccomp_learn.specs.declared.trace.Trace.{Trace}
 use Rattle.seccomp_learn.specs.Learned.{IsLearnedWithin}
 use Rattle.seccomp_learn.specs.Usual.{AreCloning, AreRunnable, AreUsual, IsAskedArgument}
 use Rattle.seccomp_learn.specs.Written.{HasFilters, beside}
-use Rattle.seccomptool.specs.declared.error.ToolError.{ToolError}
-use Rattle.seccomptool.specs.declared.error.ToolError.TheVariants.{OutOfMemory, Told}
+use Rattle.seccomp_answers.specs.declared.error.AnswerError.{AnswerError}
+use Rattle.seccomp_answers.specs.declared.error.AnswerError.TheVariants.{OutOfMemory, Told}
 use Rattle.seccomptool.specs.declared.learn.AskedArguments.{AskedArguments}
 use Rattle.seccomptool.specs.declared.learn.Start.{Start}
 use Rattle.seccomptool.specs.declared.learn.Start.TheVariants.{Otherwise, Into}
 use Rattle.seccomptool.specs.declared.words.Asked.{Asked}
-use Rattle.seccomptool.specs.Chosen.{IsChosen, text_of}
-use Rattle.seccomptool.specs.Record.{IsCall, IsUncalled}
+use Rattle.seccomp_answers.specs.Chosen.{IsChosen, text_of}
+use Rattle.seccomp_answers.specs.Calls.{IsCall, IsUncalled}
 
 -- Calls are added to this filter of this name, beside others: one that allows nothing, and answers with this action; or that of a
 -- policy's text that is asked for, or the only one, if it allows what it lists.
@@ -125,7 +125,7 @@ pub record AreWanted (asked : Asked) (observed : List Observation) (wanted : Lis
   pub are : InTurn (AreWithCall asked.arch observed) asked.arguments.items usual wanted
 
 -- The error tells of one of the calls that are asked for that it is none of the architecture; or memory ran out.
-abbrev pub IsUnknown : Asked → ToolError → Type 0
+abbrev pub IsUnknown : Asked → AnswerError → Type 0
 IsUnknown asked OutOfMemory = ⊤
 IsUnknown asked e = Any (λ (call : AskedArguments). IsUncalled asked.arch call.call.now e) asked.arguments.items
 
@@ -138,7 +138,7 @@ pub record IsUnderstood (strict : Bool) (trace : Trace) : Type 0 where
   pub bytes : strict ≡ true → trace.rest ≡ 0
 
 -- The error tells that this isn't so, or is lack of memory.
-abbrev pub IsStrange : (strict : Bool) → Trace → ToolError → Type 0
+abbrev pub IsStrange : (strict : Bool) → Trace → AnswerError → Type 0
 IsStrange strict trace (Told text) = IsUnderstood strict trace → ⊥
 IsStrange strict trace OutOfMemory = ⊤
 IsStrange strict trace e = ⊥

@@ -1,24 +1,24 @@
 -- What a command does outside, and with which status it ends.
 use Rattle.std.specs.Prelude.{◌≡◌, ◌⊎◌, ℕ, max, Bool, true, false, List, [], ◌∷◌, ◌++◌, Option, None, IfSome, Some, ⊤}
 use Rattle.std.specs.Str.Lossy.{utf8_lossy}
-use Rattle.seccomp_command_line.specs.Readable.{readable}
-use Rattle.seccomp_command_line.specs.declared.readable.TextKind.TheVariants.{Lines}
+use Rattle.seccomp_text.specs.Readable.{readable}
+use Rattle.seccomp_text.specs.declared.readable.TextKind.TheVariants.{Lines}
 use Rattle.seccomp_learn.specs.declared.trace.Trace.{Trace}
-use Rattle.seccomptool.specs.declared.check.format.CheckFormat.{CheckFormat}
-use Rattle.seccomptool.specs.declared.check.format.CheckFormat.TheVariants.{Json}
-use Rattle.seccomptool.specs.declared.compile.ProgramFormat.{ProgramFormat}
-use Rattle.seccomptool.specs.declared.compile.ProgramFormat.TheVariants.{Raw}
-use Rattle.seccomptool.specs.declared.error.ToolError.{ToolError}
-use Rattle.seccomptool.specs.declared.error.ToolError.TheVariants.{Told, OutOfMemory}
-use Rattle.seccomptool.specs.declared.findings.Verdict.{Verdict}
-use Rattle.seccomptool.specs.declared.findings.Verdict.TheVariants.{Same, Different, Undecided}
+use Rattle.seccomp_views.specs.declared.check.format.CheckFormat.{CheckFormat}
+use Rattle.seccomp_views.specs.declared.check.format.CheckFormat.TheVariants.{Json}
+use Rattle.seccomp_views.specs.declared.program.ProgramFormat.{ProgramFormat}
+use Rattle.seccomp_views.specs.declared.program.ProgramFormat.TheVariants.{Raw}
+use Rattle.seccomp_answers.specs.declared.error.AnswerError.{AnswerError}
+use Rattle.seccomp_answers.specs.declared.error.AnswerError.TheVariants.{Told, OutOfMemory}
+use Rattle.seccomp_answers.specs.declared.findings.Verdict.{Verdict}
+use Rattle.seccomp_answers.specs.declared.findings.Verdict.TheVariants.{Same, Different, Undecided}
 use Rattle.seccomptool.specs.declared.made.Made.{Made}
-use Rattle.seccomptool.specs.declared.stack.Layer.{Layer}
+use Rattle.seccomp_answers.specs.declared.layers.Layer.{Layer}
 use Rattle.seccomptool.specs.declared.words.Asked.{Asked}
 use Rattle.seccomptool.specs.declared.words.Inputs.{Inputs}
 use Rattle.seccomptool.specs.declared.words.Verb.{Verb}
 use Rattle.seccomptool.specs.declared.words.Verb.TheVariants as verb
-use Rattle.seccomptool.specs.Chosen.{text_of}
+use Rattle.seccomp_answers.specs.Chosen.{text_of}
 use Rattle.seccomptool.specs.Commands.{IsPerformed}
 use Rattle.seccomptool.specs.Failures.{IsFailure}
 
@@ -27,7 +27,7 @@ use Rattle.seccomptool.specs.Failures.{IsFailure}
 -- Bytes are written to a file, or to standard output; or an error is told on standard error.
 pub data Event : Type 0 where
   wrote : (path : Option (List ℕ)) (bytes : List ℕ) → Event
-  told : ToolError → Event
+  told : AnswerError → Event
 
 -- What is done before, if it is known, is done after too, and then this.
 abbrev pub Adds : (before after : Option (List Event)) → List Event → Type 0
@@ -74,19 +74,19 @@ IsDelivered false asked made before after =
 -- ---- what keeps it from that
 
 -- The error is of a file, or of standard input or output; or memory ran out. What is there no contract says.
-abbrev pub IsOfFile : ToolError → Type 0
+abbrev pub IsOfFile : AnswerError → Type 0
 IsOfFile (Told text) = ⊤
 IsOfFile OutOfMemory = ⊤
 IsOfFile e = ⊥
 
 -- Trouble has a cause: an error of a file; or of what is asked for, on some bytes.
-pub data IsTrouble (asked : Asked) (e : ToolError) : Type 0 where
+pub data IsTrouble (asked : Asked) (e : AnswerError) : Type 0 where
   of_file : IsOfFile e → IsTrouble asked e
   of_bytes : (traces : List Trace) (layers : List Layer) (first second : List ℕ) → IsFailure asked traces layers first second e
       → IsTrouble asked e
 
 -- The error is told, and nothing else is done.
-abbrev pub IsTold : ToolError → (before after : State) → Type 0
+abbrev pub IsTold : AnswerError → (before after : State) → Type 0
 IsTold e before after = Adds before.done after.done (told e ∷ []) × (after.gathered ≡ before.gathered)
 
 -- ---- statuses
@@ -108,7 +108,7 @@ pub data Ends (asked : Asked) (before after : State) (status : ℕ) : Type 0 whe
       → status ≡ made_status made.is_cut made.verdict → Ends asked before after status
   unnoted : (made : Made) (between : State) → IsPerformed asked made → IsDelivered (gathers asked) asked made.text.items before between
       → IsTold OutOfMemory between after → status ≡ 2 → Ends asked before after status
-  kept : (e : ToolError) → IsTrouble asked e → IsTold e before after → status ≡ 2 → Ends asked before after status
+  kept : (e : AnswerError) → IsTrouble asked e → IsTold e before after → status ≡ 2 → Ends asked before after status
 
 -- The command is carried out on one after the other of these. The status is the greatest of theirs, and 0 if there is none.
 pub data EndsOnEach (asked : Asked) (before : State) : List Inputs → State → ℕ → Type 0 where
@@ -125,7 +125,7 @@ WritesAll before after = (text : List ℕ) × Adds before after (wrote None text
 -- At the end all that is gathered is written to standard output, in a text of which no more is said; or an error of that is told.
 pub data EndsGathered (before after : Option (List Event)) (status : ℕ) : Type 0 where
   all_written : WritesAll before after → status ≡ 0 → EndsGathered before after status
-  not_written : (e : ToolError) → IsOfFile e → Adds before after (told e ∷ []) → status ≡ 2 → EndsGathered before after status
+  not_written : (e : AnswerError) → IsOfFile e → Adds before after (told e ∷ []) → status ≡ 2 → EndsGathered before after status
 
 abbrev pub EndsBehind : (gathers : Bool) → (before after : Option (List Event)) → (status : ℕ) → Type 0
 EndsBehind true before after status = EndsGathered before after status

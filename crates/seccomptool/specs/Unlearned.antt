@@ -8,19 +8,20 @@ use Rattle.seccompiler.specs.declared.backend.TargetArch.{TargetArch}
 use Rattle.seccompiler.specs.declared.json.error.JsonFrontendError.{JsonFrontendError}
 use Rattle.seccomp_learn.specs.Written.{HasFilter}
 use Rattle.seccomp_learn.specs.declared.trace.Trace.{Trace}
-use Rattle.seccomptool.specs.Causes.{IsFaultText, IsUnchosen, IsUnread}
-use Rattle.seccomptool.specs.Chosen.{IsChosen, text_of}
-use Rattle.seccomptool.specs.Errors.{IsOfSecond, from_library}
+use Rattle.seccomptool.specs.Causes.{IsFaultText}
+use Rattle.seccomp_answers.specs.Chosen.{IsChosen, text_of}
+use Rattle.seccomp_answers.specs.Errors.{IsOfSecond, from_library}
 use Rattle.seccomptool.specs.Learn.{IsBase, IsStrange, IsUnknown}
-use Rattle.seccomptool.specs.declared.error.ToolError.{ToolError}
-use Rattle.seccomptool.specs.declared.error.ToolError.TheVariants.{OutOfMemory}
+use Rattle.seccomp_answers.specs.declared.error.AnswerError.{AnswerError}
+use Rattle.seccomp_answers.specs.declared.error.AnswerError.TheVariants.{OutOfMemory}
 use Rattle.seccomptool.specs.declared.learn.Start.{Start}
 use Rattle.seccomptool.specs.declared.learn.Start.TheVariants.{Into}
 use Rattle.seccomptool.specs.declared.words.Asked.{Asked}
+use Rattle.seccomp_answers.specs.Causes.{IsUnchosen, IsUnread}
 
 -- Why calls aren't added to a filter of a policy's text: the text is rejected, on whichever architecture; or by the filter's name; or
 -- the filter doesn't allow what it lists. Or memory ran out, which may be so if they are added to nothing too.
-pub data IsNoBase (start : Start) (asked : Option (List ℕ)) (text : List ℕ) (e : ToolError) : Type 0 where
+pub data IsNoBase (start : Start) (asked : Option (List ℕ)) (text : List ℕ) (e : AnswerError) : Type 0 where
   no_memory : e ≡ OutOfMemory → IsNoBase start asked text e
   unread : start ≡ Into → ((arch : TargetArch) → IsUnread arch text e) → IsNoBase start asked text e
   unchosen : start ≡ Into → IsUnchosen asked text e → IsNoBase start asked text e
@@ -28,7 +29,7 @@ pub data IsNoBase (start : Start) (asked : Option (List ℕ)) (text : List ℕ) 
       → filter.match_action ≢ Allow → IsFaultText e → IsNoBase start asked text e
 
 -- Why nothing is learned: there is no filter that calls are added to; or that filter is no policy of the architecture.
-pub data IsUntaught (asked : Asked) (text : List ℕ) (e : ToolError) : Type 0 where
+pub data IsUntaught (asked : Asked) (text : List ℕ) (e : AnswerError) : Type 0 where
   no_base : IsNoBase asked.start (text_of asked.name) text e → IsUntaught asked text e
   no_policy : (name : List ℕ) (base : JsonFilter) (others : List ℕ → Option JsonFilter)
       → IsBase asked.start (text_of asked.name) text name base others
@@ -36,15 +37,15 @@ pub data IsUntaught (asked : Asked) (text : List ℕ) (e : ToolError) : Type 0 w
       → IsUntaught asked text e
 
 -- Why what is learned isn't written: memory ran out; or a policy's text that is made is rejected when it is read back.
-pub data IsUnwritten (asked : Asked) (e : ToolError) : Type 0 where
+pub data IsUnwritten (asked : Asked) (e : AnswerError) : Type 0 where
   no_room : e ≡ OutOfMemory → IsUnwritten asked e
   not_read_back : asked.as_profile ≡ false → asked.as_unit ≡ false → (cause : JsonFrontendError) → IsBeforePolicies cause
       → e ≡ from_library (from_frontend cause) → IsUnwritten asked e
 
 -- Why `learn` gives nothing: a trace isn't understood; a call of `--args` is unknown; nothing is learned, which is told as of the
 -- second of what is read; or it isn't written.
-pub data IsUnlearned (asked : Asked) (traces : List Trace) (text : List ℕ) (e : ToolError) : Type 0 where
+pub data IsUnlearned (asked : Asked) (traces : List Trace) (text : List ℕ) (e : AnswerError) : Type 0 where
   of_trace : Any (λ trace. IsStrange asked.strict trace e) traces → IsUnlearned asked traces text e
   of_call : IsUnknown asked e → IsUnlearned asked traces text e
-  of_base : (own : ToolError) → IsUntaught asked text own → IsOfSecond own e → IsUnlearned asked traces text e
+  of_base : (own : AnswerError) → IsUntaught asked text own → IsOfSecond own e → IsUnlearned asked traces text e
   of_text : IsUnwritten asked e → IsUnlearned asked traces text e

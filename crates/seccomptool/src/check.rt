@@ -1,123 +1,114 @@
-// The first fault of a policy, or else its warnings.
+// What `check` makes of what it is given, and what the codes of its warnings mean.
 
-pub(crate) mod fault;
-pub mod format;
-pub(crate) mod made;
-pub(crate) mod outline;
-pub(crate) mod policy;
-pub mod profile;
+ghost use Rattle.std.specs.Prelude.{◌≡◌, IfErr, IfOk, false};
+ghost use Rattle.seccomp_answers.specs.declared.error.AnswerError.TheVariants.{OutOfMemory};
+ghost use Rattle.seccomptool.specs.Commands.{IsAccepted, IsCheck, IsPlain, IsRejectedFor};
 
-ghost use Rattle.std.specs.Prelude.{◌≡◌, ◌+◌, IfErr, IfOk, IfSome};
-ghost use Rattle.seccomptool.specs.Check as spec;
-ghost use Rattle.seccomptool.specs.Check.{AreWarningsIn, IsCheckOf, IsRefusal};
-
-use crate::error::ToolError;
-use crate::findings::Verdict;
-use seccomp_check::{Rejection, check};
-use seccomp_warnings::{Code, FilterWarned, beside_of, codes_beside, policy_warnings_of};
-use seccompiler::{JsonFilterMap, JsonFrontendError, TargetArch};
+use crate::made::Made;
+use crate::words::Asked;
+use seccomp_answers::check::{checked, profile_checked, verdict_where};
+use seccomp_answers::error::AnswerError;
+use seccomp_answers::findings::Verdict;
+use seccomp_answers::kind::{Subject, subject_of};
+use seccomp_answers::program::program_of;
+use seccomp_views::check::fault::push_error;
+use seccomp_views::check::format::Lines;
+use seccomp_views::check::policy::push_warnings;
+use seccomp_views::check::profile::push_profile_warnings;
+use seccomp_views::json::{Object, push_item, written};
+use seccomp_views::notes::push_left_out;
+use seccomp_views::text::Text;
+use seccomp_warnings::Code;
 use std::alloc::Global;
 
-/// A filter's name, and its warnings.
-#[derive(Drop)]
-pub struct FilterWarnings {
-    /// The name.
-    pub name: String,
-    /// The warnings, and what is so of its entries beside each other.
-    pub warned: FilterWarned,
-}
-
-/// The warnings of all filters of a policy.
-#[derive(Drop)]
-pub struct CheckedPolicy {
-    /// Those of each filter, in byte order of names.
-    pub filters: Vec<FilterWarnings>,
-    /// How many there are.
-    pub count: usize,
-}
-
-/// The warnings of a policy's text, except those of the allowed codes, and of those that another filter of the text settles.
-///
-/// The filters come in byte order of names. Of each filter come first the warnings of its two actions, then those of its
-/// entries, condition by condition.
-///
-/// # Errors
-///
-/// `Placed` with a fault of the kind that `compile_from_json` reports, and its text, if it has a place. `Library`
-/// with the error of `compile_from_json`, if it has no place: the bytes are no JSON, or a name is repeated.
-/// `OutOfMemory` is returned instead of any of these if memory runs out.
-///
-/// The contract promises any one fault of that kind, and lets it be reported as `Library`. That it is the first
-/// in the order of docs/CHECKS.md, and that a fault with a place is reported as `Placed`, is tested and not
-/// proved.
-pub fn checked(
+pub(crate) fn check_made(
     alloc: Global,
-    target: TargetArch,
-    allowed: &[Code],
-    text: &[u8],
-) -> Result<CheckedPolicy, ToolError>
-    ensures checked { IfOk result (IsCheckOf target allowed.now text.now) }
-    ensures refused { IfErr result (IsRefusal target text.now) }
+    asked: &Asked<'_>,
+    path: &str,
+    given: &[u8],
+) -> Result<Made, AnswerError>
+    ensures made { IfOk result (λ made. IsCheck asked.now given.now made.verdict × (made.is_cut ≡ false)) }
+    ensures failed { IfErr result (λ error. error ≡ OutOfMemory) }
 {
-    let filters = match check(alloc, target, text) {
-        Ok(filters) => filters,
-        Err(Rejection::Library(refusal)) => return Err(ToolError::Library(refusal)),
-        Err(Rejection::Placed(told, fault)) => return Err(ToolError::Placed(told, fault)),
-        Err(Rejection::OutOfMemory) => return Err(ToolError::OutOfMemory),
-    };
-    // The policy is taken, so that each of its filters is one of the architecture: an error is want of memory.
-    match warnings_in(alloc, target, allowed, &filters) {
-        Ok(checked) => Ok(checked),
+    let subject = subject_of(alloc, &asked.reading, given)?;
+    let mut lines = Lines::new(alloc, asked.check_format, path, given);
+    let verdict = match accepted(&mut lines, asked, subject, given) {
+        Ok(verdict) => verdict,
+        Err(AnswerError::OutOfMemory { .. }) => {
+            drop(lines);
+            return Err(AnswerError::OutOfMemory);
+        }
         Err(error) => {
+            push_error(&mut lines, asked.arch, given, &error);
             // Here, so that no branch below has to.
             drop(error);
-            Err(ToolError::OutOfMemory)
+            Verdict::Different
+        }
+    };
+    let (text, notes) = lines.finish();
+    Ok(Made::noting(text.finish()?, verdict, notes.finish()?))
+}
+
+// What is found of a subject that is accepted.
+fn accepted(
+    lines: &mut Lines<'_>,
+    asked: &Asked<'_>,
+    subject: Subject<'_>,
+    given: &[u8],
+) -> Result<Verdict, AnswerError>
+    ensures accepted { IfOk result (IsAccepted asked.now subject.entry given.now) }
+    ensures rejected { IfErr result (IsRejectedFor asked.now.arch subject.entry given.now) }
+{
+    let (alloc, arch, denied) = (lines.text.alloc(), asked.arch, asked.denied);
+    match subject {
+        Subject::Policy => {
+            let checked = checked(alloc, arch, &asked.allowed, given)?;
+            push_warnings(lines, arch, &checked.filters);
+            Ok(verdict_where(denied, checked.count))
+        }
+        Subject::Profile(container) => {
+            let checked = profile_checked(alloc, arch, container, &asked.allowed, given)?;
+            let (listed, left_out) = (asked.reading.listed, &checked.compiled.left_out);
+            push_left_out(&mut lines.notes, arch, lines.file, listed, left_out);
+            push_profile_warnings(lines, arch, &checked);
+            Ok(verdict_where(denied, checked.warnings.len()))
+        }
+        Subject::Program => {
+            let _program = program_of(alloc, given)?;
+            Ok(Verdict::Same)
         }
     }
 }
 
-// The warnings of all filters.
-pub(crate) fn warnings_in(
-    alloc: Global,
-    target: TargetArch,
-    allowed: &[Code],
-    filters: &JsonFilterMap,
-) -> Result<CheckedPolicy, JsonFrontendError>
-    ensures { IfOk result (λ checked. AreWarningsIn target allowed.now filters.now.0.entries checked) }
+// A line for each code of a warning, in the order of `Code::all`: its name, and what is so if a warning has the code, up to the first
+// point or colon. As JSON their list, with all that is said of each.
+pub(crate) fn codes_made(alloc: Global, json: bool) -> Result<Made, AnswerError>
+    ensures made { IfOk result IsPlain }
+    ensures failed { IfErr result (λ error. error ≡ OutOfMemory) }
 {
-    let beside = beside_of(filters);
-    let mut all = Vec::new(alloc);
-    let mut count: usize = 0;
-    for (name, filter) in &filters.0 {
-        let codes = codes_beside(alloc, allowed, beside, filter)?;
-        let warned = policy_warnings_of(alloc, target, filter, &codes)?;
-        let Some(sum) = sum_of(count, warned.of_part.warnings.len(), warned.evasions.len()) else {
-            return Err(JsonFrontendError::OutOfMemory);
-        };
-        count = sum;
-        let name = name.clone()?;
-        all.push(FilterWarnings { name, warned })?;
+    let mut text = Text::new(alloc);
+    for code in Code::all() {
+        let (name, paragraph) = (code.name(), code.paragraph());
+        if json {
+            let mut item = Object::new(alloc);
+            item.field("code", name);
+            item.field("meaning", paragraph);
+            push_item(&mut text, item);
+        } else {
+            let head = head_of(paragraph);
+            text.push_format(format!(in alloc; "{name:22} {head}\n"));
+        }
     }
-    Ok(CheckedPolicy {
-        filters: all,
-        count,
-    })
+    Made::plain(alloc, written(text, json, "codes"))
 }
 
-// The sum of three numbers, if it is one.
-fn sum_of(first: usize, second: usize, third: usize) -> Option<usize>
-    ensures { IfSome result (λ sum. sum ≡ first + (second + third)) }
-{
-    first.checked_add(second)?.checked_add(third)
-}
-
-// The verdict where warnings are denied or not, and there are so many.
-pub(crate) fn verdict_where(denied: bool, count: usize) -> Verdict
-    ensures { result ≡ spec.verdict_where denied count }
-{
-    if denied && count > 0 {
-        Verdict::Different
-    } else {
-        Verdict::Same
+// What a paragraph says up to its first point or colon.
+fn head_of(paragraph: &str) -> &str {
+    let mut head = paragraph.trim_end_matches('.');
+    for end in [". ", ": "] {
+        if let Some((front, _)) = head.split_once(end) {
+            head = front;
+        }
     }
+    head
 }

@@ -1,23 +1,102 @@
-// A program, in the form that is asked for.
+// The program of a filter, of a profile or one that is given, in the form that is asked for.
 
-ghost use Rattle.std.specs.Prelude.{◌≡◌, IfOk};
-ghost use Rattle.seccomptool.specs.Causes.{IsSizeTold};
-ghost use Rattle.seccomptool.specs.Compile.{IsWrittenAs, instruction_bytes, program_bytes};
+ghost use Rattle.std.specs.Prelude.{◌≡◌, IfErr, IfOk};
+ghost use Rattle.seccomp_answers.specs.Compiled.{instruction_bytes, program_bytes};
+ghost use Rattle.seccomp_answers.specs.declared.kind.Subject.TheVariants.{Policy, Profile};
+ghost use Rattle.seccomptool.specs.Causes.{AreNamesTold, IsSizeTold, IsUncompiled, IsUncompiledAs, IsUncompiledProfile};
+ghost use Rattle.seccomptool.specs.Commands.{IsCompiled, IsPlain, IsWrittenOf};
+ghost use Rattle.seccomp_views.specs.Written.{IsWrittenAs};
 
-use crate::error::ToolError;
-use crate::json::{List, Object, or_null};
-use crate::text::Text;
-use seccomp_command_line::listing::push_listing;
-use seccomp_command_line::readable::TextKind;
+use crate::made::Made;
+use crate::notes::push_counted;
+use crate::words::Asked;
+use seccomp_answers::chosen::{chosen_filter, refuse_name};
+use seccomp_answers::error::AnswerError;
+use seccomp_answers::findings::Verdict;
+use seccomp_answers::kind::{Subject, subject_of};
+use seccomp_answers::profile::compiled_of;
+use seccomp_answers::program::program_of;
+use seccomp_oci::{CompileError, Container};
+use seccomp_text::readable::TextKind;
 use seccomp_tree::{FilterError, Layout, to_bpf_in};
-use seccompiler::{BpfProgram, BpfProgramRef, SeccompFilter, sock_filter};
-use std::alloc::{AllocError, Global};
+use seccomp_views::notes::{each_once, push_install_notes, push_left_out};
+use seccomp_views::program::program_text;
+use seccomp_views::text::Text;
+use seccompiler::{SeccompFilter, TargetArch};
+use std::alloc::Global;
 
-/// The program of a filter, under its name; or that of a profile, or one that is given.
-#[derive(Drop)]
-pub struct NamedProgram {
-    pub name: String,
-    pub program: BpfProgram,
+pub(crate) fn compile_made(
+    alloc: Global,
+    asked: &Asked<'_>,
+    path: &str,
+    given: &[u8],
+) -> Result<Made, AnswerError>
+    ensures made { IfOk result (λ made. IsCompiled asked.now given.now made.text.items × IsPlain made) }
+    ensures cause { IfErr result (IsUncompiled asked.now given.now) }
+{
+    match subject_of(alloc, &asked.reading, given)? {
+        Subject::Policy => policy_made(alloc, asked, path, given),
+        Subject::Profile(container) => {
+            refuse_name(alloc, asked.filter)?;
+            profile_made(alloc, asked, container, path, given)
+        }
+        Subject::Program => {
+            refuse_name(alloc, asked.filter)?;
+            let program = program_of(alloc, given)?;
+            Made::plain(
+                alloc,
+                program_text(alloc, asked.format, "program", &program),
+            )
+        }
+    }
+}
+
+// Compiles a filter of a policy: the one of the name that is asked for, or else the only one. Only this filter is compiled, so that
+// another one is too large is no error.
+fn policy_made(
+    alloc: Global,
+    asked: &Asked<'_>,
+    path: &str,
+    policy: &[u8],
+) -> Result<Made, AnswerError>
+    ensures made { IfOk result (λ made. IsWrittenOf asked.now Policy policy.now made.text.items × IsPlain made) }
+    ensures cause { IfErr result (IsUncompiledAs asked.now Policy policy.now) }
+{
+    let arch = asked.arch;
+    let (name, chosen) = chosen_filter(alloc, arch, asked.filter, policy)?;
+    let program = match to_bpf_in(alloc, &chosen, asked.layout) {
+        Ok(program) => program,
+        Err(cause) => return Err(too_large(alloc, &chosen, name.as_str(), cause)),
+    };
+    let mut notes = Text::new(alloc);
+    push_counted(&mut notes, asked.quiet, arch, path, policy);
+    let text = program_text(alloc, asked.format, name.as_str(), &program);
+    Made::of(text, Verdict::Same, notes)
+}
+
+fn profile_made(
+    alloc: Global,
+    asked: &Asked<'_>,
+    container: &Container,
+    path: &str,
+    profile: &[u8],
+) -> Result<Made, AnswerError>
+    ensures made { IfOk result (λ made. IsWrittenOf asked.now (Profile container.entry) profile.now made.text.items × IsPlain made) }
+    ensures cause { IfErr result (IsUncompiledProfile asked.now.arch container.now asked.now.strict profile.now) }
+{
+    let arch = asked.arch;
+    let compiled = match compiled_of(alloc, arch, container, asked.strict, profile) {
+        Ok(compiled) => compiled,
+        Err(error) => return Err(uncompiled(alloc, arch, error)),
+    };
+    let mut notes = Text::new(alloc);
+    if !asked.quiet {
+        let (listed, left_out) = (asked.reading.listed, &compiled.left_out);
+        push_left_out(&mut notes, arch, path, listed, left_out);
+        push_install_notes(&mut notes, path, &compiled);
+    }
+    let text = program_text(alloc, asked.format, "profile", &compiled.program);
+    Made::of(text, Verdict::Same, notes)
 }
 
 // Why a filter of this name has no program in a layout: if it is too large, with the length that it would have, if that is known,
@@ -27,7 +106,7 @@ pub(crate) fn too_large(
     filter: &SeccompFilter,
     name: &str,
     cause: FilterError,
-) -> ToolError
+) -> AnswerError
     ensures { IsSizeTold cause result }
 {
     let mut told = Text::new(alloc);
@@ -54,95 +133,29 @@ pub(crate) fn too_large(
         Err(_) => told.fail(),
     }
     match told.finish_string() {
-        Ok(told) => ToolError::Fault(told),
+        Ok(told) => AnswerError::Fault(told),
         Err(error) => error.into(),
     }
 }
 
-/// How `compile` writes a program.
-#[derive(Clone, Copy)]
-pub enum ProgramFormat {
-    /// As `struct sock_fprog` of `seccomp(2)` points at it, in the byte order of each machine that a program can be made for: each
-    /// instruction as the 8 bytes of a `struct sock_filter`, its numbers with the low byte first.
-    Raw,
-    /// As `seccompc list` writes it: a line `filter LENGTH NAME` and a line for each instruction.
-    Listing,
-    /// As C and `tcpdump -dd` have it: for each instruction the initializer of a `struct sock_filter`, in a line.
-    C,
-    /// As JSON: an object with its name, its length and its instructions.
-    Json,
-}
-
-/// A filter's program in this form.
-pub(crate) fn program_text(
-    alloc: Global,
-    format: ProgramFormat,
-    name: &str,
-    program: BpfProgramRef<'_>,
-) -> Result<Vec<u8>, AllocError>
-    ensures { IfOk result (λ written. IsWrittenAs format program.now written.items) }
+/// Why a profile isn't compiled: the error, or the names that no call of the architecture has.
+pub(crate) fn uncompiled(alloc: Global, arch: TargetArch, error: AnswerError) -> AnswerError
+    ensures { AreNamesTold error result }
 {
-    match format {
-        ProgramFormat::Raw => bytes_of(alloc, program),
-        ProgramFormat::Listing => {
-            let mut listing = Vec::new(alloc);
-            push_listing(&mut listing, name, program)?;
-            Ok(listing)
-        }
-        ProgramFormat::C => {
-            let mut text = Text::new(alloc);
-            for instruction in program {
-                let sock_filter { code, jt, jf, k } = *instruction;
-                text.push_format(format!(in alloc; "{{ 0x{code:x}, {jt}, {jf}, 0x{k:08x} }},\n"));
-            }
-            text.finish()
-        }
-        ProgramFormat::Json => {
-            let mut text = Text::new(alloc);
-            text.push_object(program_value(alloc, name, program, &[]));
-            text.push_str("\n");
-            text.finish()
-        }
+    let AnswerError::Profile(cause) = &error else {
+        return error;
+    };
+    let CompileError::UnknownNames(names) = cause else {
+        return error;
+    };
+    let told = match each_once(alloc, names) {
+        Ok((count, names)) => format!(in alloc; "not system calls of {arch} ({count}){names}"),
+        Err(error) => Err(error),
+    };
+    // Here, so that no branch below has to.
+    drop(error);
+    match told {
+        Ok(told) => AnswerError::Fault(told),
+        Err(error) => error.into(),
     }
-}
-
-// A program as JSON, with notes on its instructions if there are any.
-pub(crate) fn program_value(
-    alloc: Global,
-    name: &str,
-    program: BpfProgramRef<'_>,
-    notes: &[String],
-) -> Object {
-    let mut instructions = List::new(alloc);
-    for (place, instruction) in program.iter().enumerate() {
-        let sock_filter { code, jt, jf, k } = *instruction;
-        let mut value = Object::new(alloc);
-        value.field("code", code);
-        value.field("jt", jt);
-        value.field("jf", jf);
-        value.field("k", k);
-        if let Some(note) = notes.get(place) {
-            value.field("note", or_null(note.as_str()));
-        }
-        instructions.item(value);
-    }
-    let mut value = Object::new(alloc);
-    value.field("name", name);
-    value.field("length", program.len());
-    value.field("instructions", instructions);
-    value
-}
-
-// The bytes of a program.
-pub(crate) fn bytes_of(alloc: Global, program: BpfProgramRef<'_>) -> Result<Vec<u8>, AllocError>
-    ensures { IfOk result (λ bytes. bytes.items ≡ program_bytes program.now) }
-{
-    let mut bytes = Vec::new(alloc);
-    for instruction in program {
-        let sock_filter { code, jt, jf, k } = *instruction;
-        let [code0, code1] = code.to_le_bytes();
-        let [k0, k1, k2, k3] = k.to_le_bytes();
-        bytes.extend_from_slice(&[code0, code1, jt, jf, k0, k1, k2, k3])?;
-    }
-    Ok(bytes)
 }

@@ -2,29 +2,27 @@
 
 mod arguments;
 pub(crate) mod notes;
-mod unit;
 
 ghost use Rattle.std.specs.Prelude.{◌≡◌, ◌++◌, All, Any, IfErr, IfOk, OnOk, codes, string_bytes};
 ghost use Rattle.seccomp_learn.specs.Written.{found_in};
-ghost use Rattle.seccomptool.specs.Chosen.{text_of};
+ghost use Rattle.seccomp_answers.specs.Chosen.{text_of};
 ghost use Rattle.seccomptool.specs.Commands.{IsPlain};
 ghost use Rattle.seccomptool.specs.Learn.{AreAdded, AreCloningIf, AreObserved, AreRunnableIf, IsBase, IsLearned, IsLesson, IsStrange, IsUnderstood, IsWrittenPolicy, Unless, clone3_filter, with_second};
 ghost use Rattle.seccomptool.specs.Unlearned.{IsNoBase, IsUnlearned, IsUntaught, IsUnwritten};
 
-use crate::chosen::chosen_name;
-use crate::error::ToolError;
-use crate::findings::Verdict;
 use crate::learn::arguments::{push_asked_notes, wanted_in};
 use crate::learn::notes::{learned_json, push_notes, refuse_trace};
-use crate::learn::unit::{push_unit_notes, unit_text};
 use crate::made::Made;
-use crate::text::Text;
 use crate::words::{Asked, Inputs};
+use seccomp_answers::chosen::named_filters;
+use seccomp_answers::error::AnswerError;
+use seccomp_answers::findings::Verdict;
 use seccomp_learn::{
     Kept, Lesson, Observation, Trace, cloning_calls, learn_within, profile_text, runnable_calls,
     take_filter, written_policy,
 };
-use seccompiler::json::filters_of;
+use seccomp_views::text::Text;
+use seccomp_views::unit::{push_unit_notes, unit_text};
 use seccompiler::{JsonFilter, JsonFilterMap, JsonRule, SeccompAction};
 use std::alloc::{AllocError, Global};
 use std::collections::BTreeMap;
@@ -56,7 +54,7 @@ pub(crate) fn learn_made(
     inputs: Inputs<'_>,
     traces: &[Trace],
     policy: &[u8],
-) -> Result<Made, ToolError>
+) -> Result<Made, AnswerError>
     ensures lesson { IfOk result (λ made. IsLesson asked.now traces.now policy.now made.text.items × IsPlain made) }
     ensures cause { IfErr result (IsUnlearned asked.now traces.now policy.now) }
 {
@@ -65,7 +63,7 @@ pub(crate) fn learn_made(
     let wanted = wanted_in(alloc, asked, &observed)?;
     let learned = match learned_of(alloc, asked, &observed, &wanted, policy) {
         Ok(learned) => learned,
-        Err(error) => return Err(ToolError::in_second(alloc, error)),
+        Err(error) => return Err(AnswerError::in_second(alloc, error)),
     };
     let made = views_of(alloc, asked, inputs, traces, &observed, &wanted, &learned);
     // Here, so that no branch has to.
@@ -79,7 +77,7 @@ fn refuse_traces(
     asked: &Asked<'_>,
     inputs: Inputs<'_>,
     traces: &[Trace],
-) -> Result<(), ToolError>
+) -> Result<(), AnswerError>
     ensures understood { OnOk result (All (IsUnderstood asked.now.strict) traces.now) }
     ensures cause { IfErr result (λ error. Any (λ trace. IsStrange asked.now.strict trace error) traces.now) }
 {
@@ -145,7 +143,7 @@ fn views_of(
     observed: &[Observation],
     wanted: &[Kept],
     learned: &Named<Lesson>,
-) -> Result<Made, ToolError>
+) -> Result<Made, AnswerError>
     ensures made { IfOk result (λ made. IsPlain made × Unless asked.now.json (IsWrittenPolicy asked.now (found_in learned.now.2) (string_bytes learned.now.0) learned.now.1.learned.json made.text.items)) }
     ensures cause { IfErr result (IsUnwritten asked.now) }
 {
@@ -164,7 +162,7 @@ fn lesson_text(
     alloc: Global,
     asked: &Asked<'_>,
     learned: &Named<Lesson>,
-) -> Result<Vec<u8>, ToolError>
+) -> Result<Vec<u8>, AnswerError>
     ensures policy { IfOk result (λ text. IsWrittenPolicy asked.now (found_in learned.now.2) (string_bytes learned.now.0) learned.now.1.learned.json text.items) }
     ensures cause { IfErr result (IsUnwritten asked.now) }
 {
@@ -208,7 +206,7 @@ fn learned_of(
     observed: &[Observation],
     wanted: &[Kept],
     policy: &[u8],
-) -> Result<Named<Lesson>, ToolError>
+) -> Result<Named<Lesson>, AnswerError>
     ensures learned { IfOk result (λ own. IsLearned asked.now wanted.now observed.now policy.now (string_bytes own.0) own.1 (found_in own.2)) }
     ensures cause { IfErr result (IsUntaught asked.now policy.now) }
 {
@@ -266,7 +264,7 @@ fn base_of(
     start: Start,
     asked: Option<&str>,
     policy: &[u8],
-) -> Result<Named<JsonFilter>, ToolError>
+) -> Result<Named<JsonFilter>, AnswerError>
     ensures base { IfOk result (λ base. IsBase start (text_of asked.entry) policy.now (string_bytes base.0) base.1 (found_in base.2)) }
     ensures cause { IfErr result (IsNoBase start (text_of asked.entry) policy.now) }
 {
@@ -282,17 +280,16 @@ fn base_of(
         }
         Start::Into => {}
     }
-    let mut others = filters_of(alloc, policy)?;
-    let name = chosen_name(alloc, asked, &others.0)?;
+    let (mut others, name) = named_filters(alloc, asked, policy)?;
     let Some(filter) = take_filter(&mut others, name.as_str()) else {
-        return Err(ToolError::NoFilter(name));
+        return Err(AnswerError::NoFilter(name));
     };
     match filter.match_action {
         SeccompAction::Allow => Ok((name, filter, others)),
         _ => {
             drop((name, filter, others));
             let told = "The filter's match_action isn't allow, so it doesn't list what is allowed.";
-            Err(ToolError::Fault(String::from_str(alloc, told)?))
+            Err(AnswerError::Fault(String::from_str(alloc, told)?))
         }
     }
 }

@@ -1,37 +1,27 @@
 // Compiles, checks and explains the policies of seccomp filters.
 #![tactic(auto)]
 
+mod call;
 mod check;
-mod chosen;
 mod compile;
 mod diff;
-mod error;
 mod explain;
 mod files;
-mod findings;
-mod json;
-mod kind;
 mod learn;
 mod made;
 mod notes;
 mod outside;
 mod perform;
-mod profile;
 mod progress;
-mod record;
-mod run;
 mod shell;
 mod show;
-mod sides;
 mod stack;
-mod stats;
-mod text;
 mod words;
 
 use crate::outside::Streams;
 use crate::progress::Watch;
 use crate::shell::{answer, unread};
-use seccomp_command_line::arguments::behind_the_name;
+use seccomp_text::arguments::behind_the_name;
 use std::io::IsTerminal;
 use std::process::ExitCode;
 

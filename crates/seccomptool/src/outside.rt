@@ -1,11 +1,11 @@
 // What the program does outside: it writes what a command makes, and tells what keeps it from that.
 
-ghost use Rattle.seccomptool.specs.Chosen.{text_of};
+ghost use Rattle.seccomp_answers.specs.Chosen.{text_of};
 
-use crate::error::ToolError;
-use crate::files::write_whole;
+use crate::files::{of_io, of_path, write_whole};
 use crate::notes::{tell, tell_notes};
 use crate::words::Inputs;
+use seccomp_answers::error::AnswerError;
 use std::alloc::{AllocError, Global};
 use std::io;
 use std::io::Write;
@@ -19,24 +19,24 @@ pub(crate) const OUTPUT: &str = "standard output";
 /// in which it is done.
 pub(crate) trait Outside {
     ghost use Rattle.std.specs.Prelude.{List, [], ◌∷◌, IfErr, Option, OnErr, OnOk};
-    ghost use Rattle.seccomptool.specs.Chosen.{text_of};
+    ghost use Rattle.seccomp_answers.specs.Chosen.{text_of};
     ghost use Rattle.seccomptool.specs.Outside.{Adds, Event, IsOfFile, told, wrote};
 
     // What is done so far, if that is known.
     ghost done: { Self → Option (List Event) };
 
     /// Fails once nobody reads standard output any more.
-    fn check_reader(&self, alloc: Global) -> Result<(), ToolError>
+    fn check_reader(&self, alloc: Global) -> Result<(), AnswerError>
         ensures { IfErr result IsOfFile };
 
     /// Writes a file whole, or standard output.
-    fn write(&mut self, output: Option<&str>, text: &[u8]) -> Result<(), ToolError>
+    fn write(&mut self, output: Option<&str>, text: &[u8]) -> Result<(), AnswerError>
         ensures written { OnOk result (Adds (done self.old) (done self.new) (wrote (text_of output.entry) text.now ∷ [])) }
         ensures unwritten { OnErr result (Adds (done self.old) (done self.new) []) }
         ensures cause { IfErr result IsOfFile };
 
     /// Reports an error, and the file that it is in.
-    fn tell(&mut self, inputs: Inputs<'_>, error: &ToolError)
+    fn tell(&mut self, inputs: Inputs<'_>, error: &AnswerError)
         ensures { Adds (done self.old) (done self.new) (told error.now ∷ []) };
 
     /// Reports notes: lines of text. Fails if there is no memory for them.
@@ -59,14 +59,14 @@ impl Outside for Streams<'_> {
 
     ghost done = { λ streams. None };
 
-    fn check_reader(&self, alloc: Global) -> Result<(), ToolError> {
+    fn check_reader(&self, alloc: Global) -> Result<(), AnswerError> {
         if self.is_closed {
-            return Err(ToolError::of_path(alloc, OUTPUT, "nobody reads it"));
+            return Err(of_path(alloc, OUTPUT, "nobody reads it"));
         }
         Ok(())
     }
 
-    fn write(&mut self, output: Option<&str>, text: &[u8]) -> Result<(), ToolError> {
+    fn write(&mut self, output: Option<&str>, text: &[u8]) -> Result<(), AnswerError> {
         let rt = self.rt;
         let written = match output {
             Some(path) => write_whole(rt, path, text),
@@ -76,14 +76,14 @@ impl Outside for Streams<'_> {
             return Ok(());
         };
         self.is_closed = output.is_none() && error.kind() == io::ErrorKind::BrokenPipe;
-        Err(ToolError::of_io(rt.alloc(), output.unwrap_or(OUTPUT), error))
+        Err(of_io(rt.alloc(), output.unwrap_or(OUTPUT), error))
     }
 
-    fn tell(&mut self, inputs: Inputs<'_>, error: &ToolError) {
+    fn tell(&mut self, inputs: Inputs<'_>, error: &AnswerError) {
         if self.is_closed {
             return;
         }
-        if !matches!(error, ToolError::OutOfMemory) && tell(self.rt, inputs, error).is_ok() {
+        if !matches!(error, AnswerError::OutOfMemory) && tell(self.rt, inputs, error).is_ok() {
             return;
         }
         if !self.lacks_memory {

@@ -4,14 +4,19 @@ ghost use Rattle.std.specs.Prelude.{IfErr, IfOk};
 ghost use Rattle.seccomptool.specs.Commands.{IsCarriedOut};
 ghost use Rattle.seccomptool.specs.Failures.{IsFailure};
 
-use crate::check::made::check_made;
-use crate::error::ToolError;
-use crate::explain::made::explain_made;
+use crate::call::call_made;
+use crate::check::{check_made, codes_made};
+use crate::compile::compile_made;
+use crate::diff::diff_made;
+use crate::explain::explain_made;
 use crate::learn::learn_made;
-use crate::made::{Made, call_made, codes_made, compile_made, diff_made, show_made};
+use crate::made::Made;
 use crate::progress::Watch;
-use crate::stack::{Layer, stack_made};
+use crate::show::show_made;
+use crate::stack::stack_made;
 use crate::words::{Asked, Inputs, Verb};
+use seccomp_answers::error::AnswerError;
+use seccomp_answers::layers::Layer;
 use seccomp_learn::Trace;
 use std::alloc::Global;
 
@@ -30,7 +35,7 @@ pub(crate) fn perform(
     first: &[u8],
     second: &[u8],
     progress: &mut Watch<'_>,
-) -> Result<Made, ToolError>
+) -> Result<Made, AnswerError>
     ensures carried_out { IfOk result (λ made. IsCarriedOut asked.now traces.now layers.now first.now second.now made) }
     ensures failed { IfErr result (IsFailure asked.now traces.now layers.now first.now second.now) }
 {

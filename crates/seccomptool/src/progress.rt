@@ -1,7 +1,7 @@
 // What is shown of a comparison while it lasts.
 
-use crate::findings::Part;
-use crate::findings::parts::name_of;
+use seccomp_answers::findings::parts::name_of;
+use seccomp_answers::findings::{Part, Progress};
 use seccompiler::TargetArch;
 use std::time::Instant;
 
@@ -34,8 +34,16 @@ impl<'a> Watch<'a> {
         }
     }
 
-    /// So many sets of calls of a part were looked at without an answer.
-    pub(crate) fn looked_at(&mut self, target: TargetArch, part: Part, sets: usize) {
+    /// The comparison ended.
+    pub(crate) fn end(&mut self) {
+        if self.written {
+            let _ = eprint!(self.rt; "\r\x1b[K");
+        }
+    }
+}
+
+impl Progress for Watch<'_> {
+    fn looked_at(&mut self, target: TargetArch, part: Part, sets: usize) {
         self.sets = self.sets.saturating_add(sets);
         let Some(start) = self.start else { return };
         if matches!(start.elapsed(self.rt), Ok(time) if time.as_secs() >= SECONDS) {
@@ -49,13 +57,6 @@ impl<'a> Watch<'a> {
             let sets = self.sets;
             // From the line's begin on, and nothing behind it.
             let _ = eprint!(self.rt; "\rseccomptool: {name}: {sets} sets of calls looked at\x1b[K");
-        }
-    }
-
-    /// The comparison ended.
-    pub(crate) fn end(&mut self) {
-        if self.written {
-            let _ = eprint!(self.rt; "\r\x1b[K");
         }
     }
 }

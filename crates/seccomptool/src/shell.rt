@@ -8,22 +8,23 @@ ghost use Rattle.seccomptool.specs.Commands.{IsPerformed};
 ghost use Rattle.seccomptool.specs.Outside as spec;
 ghost use Rattle.seccomptool.specs.Outside.{Adds, EndWith, Ends, EndsGathered, IsDelivered, IsOfFile, IsTrouble, WritesAll, made_status};
 
-use crate::check::format::CheckFormat;
-use crate::compile::ProgramFormat;
-use crate::error::ToolError;
-use crate::files::{is_same, whole_of};
-use crate::findings::Verdict;
-use crate::json::list_text;
+use crate::files::{is_same, of_path, whole_of};
 use crate::made::Made;
-use crate::notes::{readable, tell_notes};
+use crate::notes::tell_notes;
 use crate::outside::{OUTPUT, Outside};
 use crate::perform::perform;
 use crate::progress::Watch;
-use crate::stack::Layer;
 use crate::words::{Asked, Inputs, Verb, named_in, read};
 use clap::error::ErrorKind;
-use seccomp_command_line::readable::TextKind;
+use seccomp_answers::error::AnswerError;
+use seccomp_answers::findings::Verdict;
+use seccomp_answers::layers::Layer;
 use seccomp_learn::{Trace, read_trace};
+use seccomp_text::readable::TextKind;
+use seccomp_views::check::format::CheckFormat;
+use seccomp_views::json::list_text;
+use seccomp_views::notes::readable;
+use seccomp_views::program::ProgramFormat;
 use std::alloc::Global;
 use std::io;
 use std::process::ExitCode;
@@ -140,7 +141,11 @@ fn end_gathered<O: Outside>(alloc: Global, out: &mut O, gathered: &[u8]) -> u8
     TROUBLE
 }
 
-fn write_gathered<O: Outside>(alloc: Global, out: &mut O, gathered: &[u8]) -> Result<(), ToolError>
+fn write_gathered<O: Outside>(
+    alloc: Global,
+    out: &mut O,
+    gathered: &[u8],
+) -> Result<(), AnswerError>
     ensures written { OnOk result (WritesAll (O.done out.old) (O.done out.new)) }
     ensures unwritten { OnErr result (Adds (O.done out.old) (O.done out.new) []) }
     ensures cause { IfErr result IsOfFile }
@@ -177,7 +182,7 @@ fn carry_out<O: Outside>(
     match carried_out(rt, out, asked, inputs, to_terminal, progress, gathered) {
         Ok(made) => {
             if out.note(&made.notes).is_err() {
-                out.tell(inputs, &ToolError::OutOfMemory);
+                out.tell(inputs, &AnswerError::OutOfMemory);
                 return TROUBLE;
             }
             status_of(made.is_cut, made.verdict)
@@ -198,7 +203,7 @@ fn carried_out<O: Outside>(
     to_terminal: bool,
     progress: &mut Watch<'_>,
     gathered: &mut Vec<u8>,
-) -> Result<Made, ToolError>
+) -> Result<Made, AnswerError>
     ensures performed { IfOk result (IsPerformed asked.now) }
     ensures delivered { IfOk result (λ made. IsDelivered (spec.gathers asked.now) asked.now made.text.items (record { done = O.done out.old; gathered = gathered.old.items }) (record { done = O.done out.new; gathered = gathered.new.items })) }
     ensures cause { IfErr result (IsTrouble asked.now) }
@@ -235,7 +240,7 @@ fn write_made<O: Outside>(
     asked: &Asked<'_>,
     text: &[u8],
     gathered: &mut Vec<u8>,
-) -> Result<(), ToolError>
+) -> Result<(), AnswerError>
     ensures delivered { OnOk result (IsDelivered (spec.gathers asked.now) asked.now text.now (record { done = O.done out.old; gathered = gathered.old.items }) (record { done = O.done out.new; gathered = gathered.new.items })) }
     ensures unwritten { OnErr result (Adds (O.done out.old) (O.done out.new) []) }
     ensures ungathered { OnErr result (gathered.new.items ≡ gathered.old.items) }
@@ -267,7 +272,7 @@ fn refuse_output(
     asked: &Asked<'_>,
     inputs: Inputs<'_>,
     to_terminal: bool,
-) -> Result<(), ToolError>
+) -> Result<(), AnswerError>
     ensures { IfErr result IsOfFile }
 {
     let told = match asked.output {
@@ -277,11 +282,11 @@ fn refuse_output(
         Some(path) if is_read(rt, asked, inputs, path) => { "the output would overwrite the input" }
         _ => return Ok(()),
     };
-    Err(ToolError::of_path(rt.alloc(), asked.output.unwrap_or(OUTPUT), told))
+    Err(of_path(rt.alloc(), asked.output.unwrap_or(OUTPUT), told))
 }
 
 // The first one of what a command reads: nothing if that is traces or layers.
-fn first_of(rt: &HostRuntime, asked: &Asked<'_>, inputs: Inputs<'_>) -> Result<Vec<u8>, ToolError>
+fn first_of(rt: &HostRuntime, asked: &Asked<'_>, inputs: Inputs<'_>) -> Result<Vec<u8>, AnswerError>
     ensures { IfErr result IsOfFile }
 {
     match asked.verb {
@@ -296,7 +301,7 @@ fn traces_of(
     rt: &HostRuntime,
     asked: &Asked<'_>,
     inputs: Inputs<'_>,
-) -> Result<Vec<Trace>, ToolError>
+) -> Result<Vec<Trace>, AnswerError>
     ensures { IfErr result IsOfFile }
 {
     let mut traces = Vec::new(rt.alloc());
@@ -314,7 +319,7 @@ fn layers_of<'a>(
     rt: &HostRuntime,
     asked: &Asked<'a>,
     inputs: Inputs<'a>,
-) -> Result<Vec<Layer<'a>>, ToolError>
+) -> Result<Vec<Layer<'a>>, AnswerError>
     ensures { IfErr result IsOfFile }
 {
     let mut layers = Vec::new(rt.alloc());
@@ -338,7 +343,7 @@ fn layers_of<'a>(
 }
 
 // The layer at a path, behind which the name of a filter may stand.
-fn layer_of<'a>(rt: &HostRuntime, text: &'a str) -> Result<Layer<'a>, ToolError>
+fn layer_of<'a>(rt: &HostRuntime, text: &'a str) -> Result<Layer<'a>, AnswerError>
     ensures { IfErr result IsOfFile }
 {
     let (path, filter) = named_in(text);
@@ -350,7 +355,7 @@ fn layer_of<'a>(rt: &HostRuntime, text: &'a str) -> Result<Layer<'a>, ToolError>
 }
 
 // The trace at a path.
-fn trace_of(rt: &HostRuntime, asked: &Asked<'_>, path: Option<&str>) -> Result<Trace, ToolError>
+fn trace_of(rt: &HostRuntime, asked: &Asked<'_>, path: Option<&str>) -> Result<Trace, AnswerError>
     ensures { IfErr result IsOfFile }
 {
     let text = whole_of(rt, path)?;

@@ -1,116 +1,69 @@
-// The programs of a policy, for people.
+// The programs of what is given, for people, or how long they are and how many steps they take.
 
-mod notes;
+ghost use Rattle.std.specs.Prelude.{IfErr, IfOk, OnOk};
+ghost use Rattle.seccomptool.specs.Causes.{IsUnshown, IsUnshownAs};
+ghost use Rattle.seccomptool.specs.Commands.{IsPlain, IsShown, IsShownOrMeasured};
 
-ghost use Rattle.std.specs.Prelude.{IfErr, IfOk};
-ghost use Rattle.seccompiler.specs.JsonAnswers.{OfValue};
-ghost use Rattle.seccomptool.specs.Causes.{AreUncompiledIn};
-ghost use Rattle.seccomptool.specs.Chosen.{text_of};
-ghost use Rattle.seccomptool.specs.Compile.{ArePrograms};
+use crate::made::Made;
+use crate::words::Asked;
+use seccomp_answers::error::AnswerError;
+use seccomp_answers::kind::{Subject, subject_of};
+use seccomp_answers::measures::{measure_of, stats_of};
+use seccomp_answers::programs::programs_in;
+use seccomp_answers::sides::{Side, ruled_by};
+use seccomp_views::json::written;
+use seccomp_views::program::{push_measure, push_program, push_programs, push_stats};
+use seccomp_views::text::Text;
+use std::alloc::Global;
 
-use crate::chosen::refuse_missing;
-use crate::compile::{NamedProgram, program_value};
-use crate::error::ToolError;
-use crate::text::Text;
-use seccomp_command_line::readable::TextKind;
-use seccomp_compare::machine::JUMP_IF_SET;
-use seccomp_tree::{Layout, to_bpf_in};
-use seccompiler::bpf::{JUMP, JUMP_AT_LEAST, JUMP_EQUAL, JUMP_GREATER, LOAD, MASK, RETURN};
-use seccompiler::{BpfProgramRef, JsonCompiler, TargetArch, sock_filter};
-use std::alloc::{AllocError, Global};
-
-/// The programs of all filters of a policy's text, in byte order of the filters' names.
-///
-/// # Errors
-///
-/// `Library` with what is at fault in the text; `NoFilter` with the name if a filter is asked for and none has it; `Library` with
-/// `FilterTooLarge`, or `TreeTooLarge`, of the first filter that is too large in the layout. `OutOfMemory` if memory runs out.
-pub fn programs_in(
-    alloc: Global,
-    target: TargetArch,
-    layout: Layout,
-    asked: Option<&str>,
-    text: &[u8],
-) -> Result<Vec<NamedProgram>, ToolError>
-    ensures programs { IfOk result (λ programs. OfValue text.now (λ d. ArePrograms layout target d programs.items)) }
-    ensures cause { IfErr result (AreUncompiledIn target layout (text_of asked.entry) text.now) }
+pub(crate) fn show_made(alloc: Global, asked: &Asked<'_>, given: &[u8]) -> Result<Made, AnswerError>
+    ensures made { IfOk result (λ made. IsShown asked.now given.now × IsPlain made) }
+    ensures cause { IfErr result (IsUnshown asked.now given.now) }
 {
-    let filters = JsonCompiler::new(target).policies_of(alloc, text)?;
-    refuse_missing(alloc, asked, &filters)?;
-    let mut programs = Vec::new(alloc);
-    for (name, filter) in filters {
-        let program = to_bpf_in(alloc, &filter, layout)?;
-        programs.push(NamedProgram { name, program })?;
-    }
-    Ok(programs)
+    let subject = subject_of(alloc, &asked.reading, given)?;
+    let mut text = Text::new(alloc);
+    push_shown(&mut text, asked, subject, given)?;
+    let name = if asked.measured {
+        "measures"
+    } else {
+        "programs"
+    };
+    Made::plain(alloc, written(text, asked.json, name))
 }
 
-/// Adds the programs of a policy's filters, each after a line `filter LENGTH NAME`; as JSON the items of their list.
-pub(crate) fn push_programs(
+// Adds the programs of what is given, or how long they are and how many steps they take: of a policy those of all filters, or of the
+// one that is asked for.
+fn push_shown(
     text: &mut Text,
-    target: TargetArch,
-    json: bool,
-    asked: Option<&str>,
-    programs: &[NamedProgram],
-) {
-    for NamedProgram { name, program } in programs {
-        let name = name.as_str();
-        if asked.unwrap_or(name) == name {
-            if !json {
-                text.push_format(format!(in text.alloc(); "filter {} ", program.len()));
-                text.push_readable(name, TextKind::Name);
-                text.push_str("\n");
-            }
-            push_program(text, target, json, name, program);
+    asked: &Asked<'_>,
+    subject: Subject<'_>,
+    given: &[u8],
+) -> Result<(), AnswerError>
+    ensures shown { OnOk result (IsShownOrMeasured asked.now.measured asked.now.arch subject.entry asked.now.layout given.now) }
+    ensures cause { IfErr result (IsUnshownAs asked.now subject.entry given.now) }
+{
+    let (alloc, arch, filter, json) = (text.alloc(), asked.arch, asked.filter, asked.json);
+    if let Subject::Policy = subject {
+        if asked.measured {
+            push_stats(text, json, filter, &stats_of(alloc, arch, filter, given)?);
+            return Ok(());
         }
+        let programs = programs_in(alloc, arch, asked.layout, filter, given)?;
+        push_programs(text, arch, json, filter, &programs);
+        return Ok(());
     }
-}
-
-/// Adds the lines of a program, one for each instruction: its place, the instruction as `bpf_asm` has it, and the note on it. Calls
-/// have their names on the architecture that it tests for, and on this one if it tests for none. As JSON an item, with this name.
-pub(crate) fn push_program(
-    text: &mut Text,
-    target: TargetArch,
-    json: bool,
-    name: &str,
-    program: BpfProgramRef<'_>,
-) {
-    let alloc = text.alloc();
-    let Ok(notes) = notes::notes(alloc, target, program) else {
-        return text.fail();
+    let side = Side {
+        kind: subject,
+        filter,
+        given,
     };
-    if json {
-        return text.push_item(program_value(alloc, name, program, &notes));
+    let one = ruled_by(alloc, arch, side)?;
+    let name = one.name.as_str();
+    if asked.measured {
+        let measure = measure_of(alloc, arch, &one.program)?;
+        push_measure(text, json, name, None, measure);
+        return Ok(());
     }
-    for (place, note) in notes.iter().enumerate() {
-        let (width, mark) = if note.is_empty() { (0, "") } else { (28, "; ") };
-        match words(alloc, place, program) {
-            Ok(words) => text.push_format(format!(in alloc;
-                "{place:4}  {words:width$}{mark}{note}\n"
-            )),
-            Err(_) => text.fail(),
-        }
-    }
-}
-
-// The instruction at this place, in the words of bpf_asm. Jumps tell the places that they lead to.
-fn words(alloc: Global, place: usize, program: BpfProgramRef<'_>) -> Result<String, AllocError> {
-    let Some(sock_filter { code, jt, jf, k }) = program.get(place).copied() else {
-        return Ok(String::new(alloc));
-    };
-    let next = place.saturating_add(1);
-    let name = match code {
-        LOAD => return format!(in alloc; "ld [{k}]"),
-        MASK => return format!(in alloc; "and #0x{k:x}"),
-        JUMP => return format!(in alloc; "ja {}", next.saturating_add(k as usize)),
-        RETURN => return format!(in alloc; "ret #0x{k:x}"),
-        JUMP_EQUAL => "jeq",
-        JUMP_GREATER => "jgt",
-        JUMP_AT_LEAST => "jge",
-        JUMP_IF_SET => "jset",
-        _ => return String::from_str(alloc, "unknown"),
-    };
-    let met = next.saturating_add(jt as usize);
-    let unmet = next.saturating_add(jf as usize);
-    format!(in alloc; "{name} #0x{k:x}, {met}, {unmet}")
+    push_program(text, arch, json, name, &one.program);
+    Ok(())
 }

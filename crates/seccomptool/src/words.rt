@@ -8,13 +8,7 @@ ghost use Rattle.std.specs.Prelude.{IfOk};
 ghost use Rattle.clap.specs.Words.{found_of};
 ghost use Rattle.seccomptool.specs.Arguments.{IsAskedFor, IsVerbFor};
 
-use crate::check::format::CheckFormat;
-use crate::compile::ProgramFormat;
-use crate::diff::Scope;
-use crate::findings::Terms;
-use crate::kind::Reading;
 use crate::learn::{AskedArguments, Start};
-use crate::text::Text;
 use crate::words::paths::{further_in, inputs_in};
 use crate::words::program::program;
 pub(crate) use crate::words::values::named_in;
@@ -25,7 +19,13 @@ use crate::words::values::{
 };
 use clap::ArgMatches;
 use clap::error::ErrorKind;
+use seccomp_answers::diff::Scope;
+use seccomp_answers::findings::Terms;
+use seccomp_answers::kind::Reading;
 use seccomp_tree::Layout;
+use seccomp_views::check::format::CheckFormat;
+use seccomp_views::program::ProgramFormat;
+use seccomp_views::text::Text;
 use seccomp_warnings::Code;
 use seccompiler::TargetArch;
 use std::alloc::{AllocError, Global};

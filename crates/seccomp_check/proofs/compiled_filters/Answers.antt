@@ -1,7 +1,5 @@
-use Rattle.std.proofs.Common.{◌∷◌, ◌++◌, [], List, String, Global, string_cmp, refl, sym, ap, ◌∙◌, subst, append_assoc, append-nil, rules}
+use Rattle.std.proofs.Common.{◌∷◌, ◌++◌, [], List, String, Global, refl, sym, ap, ◌∙◌, subst, append_assoc, append-nil}
 use Rattle.std.specs.Prelude.{All}
-use Rattle.std.specs.List.Sorted.{IsStrictlySortedBy}
-use Rattle.std.specs.Map.{keys_of}
 use Rattle.std.proofs.lemmas.List.Elements.{All-nil, All-push}
 use Rattle.seccompiler.specs.Compiled.{IsCompiled}
 use Rattle.seccompiler.specs.declared.bpf.sock_filter.{sock_filter}
@@ -38,13 +36,12 @@ returns c =
     let policies = c.in_ok-policies.policies in
     let read = c.in_ok-filters.ensures.filters in
     let whole = sym c.into_iter-name-iterator.ensures.into_iter_gives.0 ∙ so_far.whole
-    ∙ ap (λ (es : Policies). done ++ es) c.in-None.ensures.steps.0 ∙ append-nil done in
-    let order : IsStrictlySortedBy string_cmp (keys_of policies.entries) = search rules in (
+    ∙ ap (λ (es : Policies). done ++ es) c.in-None.ensures.steps.0 ∙ append-nil done in (
       read.0,
       read.1,
       (
         read.2,
-        all_compiled c.args.target policies order (subst (All Compiles) (sym whole) so_far.each)
+        all_compiled c.args.target policies (subst (All Compiles) (sym whole) so_far.each)
             read.0 (c.in_ok-policies.ensures.policies read.0 read.2),
       ),
     )

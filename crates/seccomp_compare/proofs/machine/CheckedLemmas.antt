@@ -1,5 +1,5 @@
 -- For `first_unfit` and `run`: what the checker shows of a program.
-use Rattle.std.proofs.Common.{◌≡◌, ℕ, ◌+◌, ◌-◌, ◌<◌, ◌≤◌, List, length, get_or, Some, subst, IsTrue, nat_eq, eq-eqb, ap, sym}
+use Rattle.std.proofs.Common.{◌≡◌, ℕ, ◌+◌, ◌-◌, ◌<◌, ◌≤◌, List, length, get_or, Some, subst, below_more, IsTrue, nat_eq, eq-eqb, ap, sym}
 use Rattle.std.proofs.Common.{◌∙◌, arith, ⊎_elim}
 use Rattle.std.proofs.lemmas.Bool.{eqb-true, cases_lt}
 use Rattle.std.specs.Prelude.{slice_get}
@@ -7,6 +7,13 @@ use Rattle.std.proofs.lemmas.Option.{get_or_from_slice_get, slice_get-get_or, sl
 use Rattle.seccompiler.specs.declared.bpf.sock_filter.{sock_filter}
 use Rattle.seccompiler.specs.Machine.{IsInRange}
 use Rattle.seccomp_compare.specs.Machine.{IsFine, IsChecked}
+
+-- The instructions before a place are fine, and so is the one there.
+pub one_more : (p : List sock_filter) (j n : ℕ) (default : sock_filter)
+    → ((place : ℕ) → place < j → (i : sock_filter) → slice_get p place ≡ Some i → IsFine i place n × IsInRange i)
+    → IsFine (get_or p j default) j n × IsInRange (get_or p j default)
+    → (place : ℕ) → place < j + 1 → (i : sock_filter) → slice_get p place ≡ Some i → IsFine i place n × IsInRange i
+one_more p j n default before here place within i found = grind (arith, below_more, get_or_from_slice_get)
 
 -- A program of one fine instruction to the greatest length is checked exactly if the last of them returns.
 pub checked_if : (p : List sock_filter) (j : ℕ) (default : sock_filter) → 0 < length p → length p ≤ 4096 → length p ≤ j

@@ -10,16 +10,6 @@ use Rattle.seccomp_profiles.specs.declared.types.Operator.TheVariants.{Ne, Lt, L
 use Rattle.seccomp_oci.specs.Decision.{AreMet, all_met, one_met, IsMet, Meets}
 use Rattle.seccomp_oci.specs.Conditions.{AreConditionsOf, alone, compared_by, condition_of, together}
 
--- The library's operator compares as the profile's one does.
-pub compared_meets : (o : Operator) (v w x : ℕ) → Compares (compared_by o v w).0 x (compared_by o v w).1 ↔ Meets o x v w
-compared_meets Ne v w x = (λ is. is, λ is. is)
-compared_meets Lt v w x = (λ is. is, λ is. is)
-compared_meets Le v w x = (λ is. is, λ is. is)
-compared_meets Eq v w x = (λ is. is, λ is. is)
-compared_meets Ge v w x = (λ is. is, λ is. is)
-compared_meets Gt v w x = (λ is. is, λ is. is)
-compared_meets MaskedEq v w x = (λ is. is, λ is. is)
-
 -- So does a condition, on all 64 bits.
 pub condition_holds : (r : List ℕ) (a : Argument) → Holds (condition_of a) r ↔ IsMet r a
 condition_holds r a = by_operator a.operator a.value a.value_two (argument_at r a.index)

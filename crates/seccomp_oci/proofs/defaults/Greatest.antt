@@ -2,7 +2,7 @@
 use Rattle.std.proofs.Common.{◌≡◌, ◌≤◌, ℕ, List, [], ◌∷◌, ◌++◌, refl, sym, subst, ◌∙◌, arith, ◌⊎◌, inl, inr}
 use Rattle.std.specs.Prelude.{Any}
 use Rattle.seccomp_oci.specs.Defaults.{IsGreatest}
-use Rattle.seccomp_oci.proofs.Quantified.{any_last, any_nil}
+use Rattle.seccomp_oci.proofs.Quantified.{any_push, any_nil}
 
 -- Nothing has a greatest number.
 pub greatest_none : (P : ℕ → Type 0) → ((n : ℕ) → P n → ⊥) → IsGreatest P 0
@@ -17,18 +17,18 @@ pub greatest_more : {X : Type 0} (Q : X → ℕ → Type 0) (xs ys : List X) (x 
     → IsGreatest (λ n. Any (λ x. Q x n) ys) m
 greatest_more Q xs ys x g h m longer before last left right which = subst (λ ys. IsGreatest (λ n. Any (λ x. Q x n) ys) m) (sym longer)
     (record {
-      most = λ n any. elim ((any_last (λ x. Q x n) xs x).0 any) [
+      most = λ n any. elim ((any_push (λ x. Q x n) xs x).0 any) [
         | inl there ↦ let most = before.most n there in omega arith
         | inr here ↦ let most = last.most n here in omega arith
       ];
       own = elim which [
         | inl is ↦ elim before.own [
           | inl zero ↦ inl (is ∙ zero)
-          | inr has ↦ inr (subst (λ n. Any (λ x. Q x n) (xs ++ x ∷ [])) (sym is) ((any_last (λ x. Q x g) xs x).1 (inl has)))
+          | inr has ↦ inr (subst (λ n. Any (λ x. Q x n) (xs ++ x ∷ [])) (sym is) ((any_push (λ x. Q x g) xs x).1 (inl has)))
         ]
         | inr is ↦ elim last.own [
           | inl zero ↦ inl (is ∙ zero)
-          | inr has ↦ inr (subst (λ n. Any (λ x. Q x n) (xs ++ x ∷ [])) (sym is) ((any_last (λ x. Q x h) xs x).1 (inr has)))
+          | inr has ↦ inr (subst (λ n. Any (λ x. Q x n) (xs ++ x ∷ [])) (sym is) ((any_push (λ x. Q x h) xs x).1 (inr has)))
         ]
       ];
       small =

@@ -1,11 +1,9 @@
 -- For `push_rank` and `entries_of`: the entries that are asked before a place of a rank, as more are added.
 use Rattle.std.proofs.Common.{◌≡◌, ◌≢◌, ◌<◌, ◌+◌, ◌⊎◌, ℕ, List, [], ◌++◌, length, get_or, sym, subst, ap, ◌∙◌, arith, inl, inr}
-use Rattle.std.specs.Prelude.{Contains}
 use Rattle.std.specs.List.{AllZip}
 use Rattle.std.proofs.lemmas.List.Elements.{All-append, All-nil, Contains-append_cases, Contains-append_left, Contains-append_right}
 use Rattle.seccomp_entries.specs.declared.entry.Action.{Action}
 use Rattle.seccompiler.specs.declared.backend.TargetArch.{TargetArch}
-use Rattle.seccompiler.specs.Policy.{Condition}
 use Rattle.seccomp_entries.specs.Entries as entries
 use Rattle.seccomp_oci.specs.Concerns.{AreAskedTo, Concern, IsAskedTo, IsConcernOf, IsPushed, entries_for, passed_over, pushed}
 use Rattle.seccomp_oci.specs.Decision.{rank}

@@ -1,5 +1,5 @@
 -- For `lowered`: lists whose elements stand in an order, and what several lists have.
-use Rattle.std.proofs.Common.{ℕ, zero, suc, List, [], ◌∷◌, ◌++◌, refl, subst, sym, arith, inl, inr}
+use Rattle.std.proofs.Common.{zero, suc, List, [], ◌∷◌, ◌++◌, refl, subst, sym, arith, inl, inr}
 use Rattle.std.specs.Prelude.{All, Contains}
 use Rattle.std.specs.List.{AllPairs, flat_map}
 use Rattle.std.proofs.lemmas.List.Elements.{All-append, All-contains_itself, All-head, All-tail, All-weaker, Contains-append_cases}

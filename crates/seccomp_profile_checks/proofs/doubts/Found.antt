@@ -1,10 +1,9 @@
 -- For `profile_warnings_of`: each doubt that is found is so.
 use Rattle.std.proofs.Common.{◌≡◌, ◌++◌, ℕ, Bool, true, false, List, [], ◌∷◌, Contains, All, Some, refl, sym, subst, arith, nat_eq}
 use Rattle.std.proofs.Common.{⊎_elim, if◌then◌else◌}
-use Rattle.std.specs.List.{flat_map}
 use Rattle.std.proofs.lemmas.Bool.{cond_both, false≢true}
 use Rattle.std.proofs.lemmas.Bool.Decides.{nat_tests}
-use Rattle.std.proofs.lemmas.List.Elements.{All-append, All-cons, All-contains_itself, All-head, All-nil, All-pop, All-tail}
+use Rattle.std.proofs.lemmas.List.Elements.{All-append, All-cons, All-contains_itself, All-nil, All-pop}
 use Rattle.seccompiler.specs.declared.backend.TargetArch.{TargetArch}
 use Rattle.seccomp_entries.specs.declared.entry.Action.TheVariants.{Notify}
 use Rattle.seccomp_entries.specs.Entries.{Lowered}

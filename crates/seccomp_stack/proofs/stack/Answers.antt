@@ -88,8 +88,8 @@ loop-count-preserved c =
       program = joined_is
           ∙ next_stacked programs count newer c.loop-count-test.true c.loop-count.invariant.some c.index-programs-count.is older
           c.loop-count.invariant.program;
-      stack = next_stack programs count newer c.loop-count-test.true c.loop-count.invariant.some c.index-programs-count.is older both
-          c.loop-count.invariant.stack checked are_joined;
+      stack = next_stack programs count newer c.loop-count-test.true c.loop-count.invariant.some c.index-programs-count.is
+          older both c.loop-count.invariant.stack checked are_joined;
       before = none_longer programs count older c.loop-count.invariant.before c.loop-count.invariant.program
           c.loop-count.invariant.stack.checked.few;
       some = omega arith;

@@ -4,6 +4,7 @@ use seccompiler::bpf::{
     BPF_ABS, BPF_JEQ, BPF_JMP, BPF_K, BPF_LD, BPF_RET, BPF_W, bpf_jump, bpf_stmt,
 };
 use seccompiler::machine::{Outcome, check, first_unfit, run};
+use seccompiler::record::word_at;
 use seccompiler::{SyscallTable, TargetArch};
 use std::test::Fail;
 
@@ -40,6 +41,14 @@ fn a_run(rt: HostRuntime) {
     call[0] = 39;
     assert!(rt; check(&program));
     assert!(rt; run(&program, &call) == Outcome { word: 1, steps: 3 });
+}
+
+#[test]
+fn the_number_and_the_architecture_of_a_record(rt: HostRuntime) {
+    let mut call = [0; 64];
+    (call[0], call[4], call[7]) = (39, 0x3e, 0xc0);
+    assert!(rt; word_at(&call, 0) == 39);
+    assert!(rt; word_at(&call, 4) == 0xc000_003e);
 }
 
 #[test]

@@ -10,10 +10,10 @@ use Rattle.seccompiler.specs.Errors.{from_backend}
 use Rattle.seccompiler.specs.Layout.{counted_length}
 use Rattle.seccompiler.specs.Policy.{Filter, IsCallNumber}
 use Rattle.seccompiler.specs.Compiled.{IsCompiled, IsRefusal, IsCompilable, numbers_of}
-use Rattle.seccomp_command_line.specs.Errors.{from_library}
-use Rattle.seccomp_command_line.specs.Policies.{IsNameOf, IsRefusedName}
-use Rattle.seccomp_command_line.specs.declared.error.ToolError.{ToolError}
-use Rattle.seccomp_command_line.specs.declared.error.ToolError.TheVariants as tool
+use Rattle.seccompc.specs.Errors.{from_library}
+use Rattle.seccompc.specs.Faults.{IsNameOf, IsRefusedName}
+use Rattle.seccompc.specs.declared.error.ToolError.{ToolError}
+use Rattle.seccompc.specs.declared.error.ToolError.TheVariants as tool
 use Rattle.seccompc.specs.Probe.{IsRefusedProbe, no_architecture, no_argument, no_call_number}
 use Rattle.seccompc.specs.EngineSteps.{IsFilterFor, IsCompiledFor}
 

@@ -1,21 +1,21 @@
 -- For `listing`: listings of programs, one after the other.
 use Rattle.std.proofs.Common.{◌≡◌, ℕ, List, [], ◌∷◌, ◌++◌, map, string_bytes, sym, ap, ◌∙◌}
-use Rattle.std.specs.List.{concat}
-use Rattle.std.proofs.lemmas.List.{map_push}
+use Rattle.std.specs.List.{flat_map}
+use Rattle.std.proofs.lemmas.List.{map_push, flat_map_more}
 use Rattle.seccompiler.specs.declared.bpf.sock_filter.{sock_filter}
-use Rattle.seccomp_command_line.specs.Listing.{listing_of}
+use Rattle.seccomp_text.specs.Listing.{listing_of}
 use Rattle.seccompc.specs.Listing.{named_program}
-use Rattle.seccomp_command_line.proofs.Joined.{joined, joined_push}
 use Rattle.seccompc.proofs.Policies.{Entry}
 
 -- The listings of programs.
 abbrev pub listings : List Entry → List ℕ
-listings entries = concat (map listing_of (map named_program entries))
+listings entries = flat_map listing_of (map named_program entries)
 
 -- One program more at the end.
 listings_push : (entries : List Entry) (e : Entry) → listings (entries ++ e ∷ []) ≡ listings entries ++ listing_of (named_program e)
 listings_push entries e =
-    ap (joined listing_of) (map_push named_program entries e) ∙ joined_push listing_of (map named_program entries) (named_program e)
+    ap (flat_map listing_of) (map_push named_program entries e)
+    ∙ sym (flat_map_more listing_of [] (map named_program entries) (named_program e))
 
 -- One listing more.
 pub listing_more : (done : List Entry) (e : Entry) (name : List ℕ) (program : List sock_filter) (old new : List ℕ) → old ≡ listings done

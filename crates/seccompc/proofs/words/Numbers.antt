@@ -6,7 +6,7 @@ use Rattle.std.proofs.lemmas.Bool.{cases_eq}
 use Rattle.std.specs.Result.{OkIff, result_ok}
 use Rattle.std.specs.Str.Parse.{AllDigits, ParsesSigned, digits_value}
 use Rattle.std.proofs.lemmas.Str.Parse.{IsNumeralModel, parse_signed_plain, parse_signed_minus}
-use Rattle.seccomp_command_line.specs.Numbers.{IsWritten}
+use Rattle.seccomp_text.specs.Numbers.{IsWritten}
 use Rattle.seccompc.specs.Words.{IsSignedText, IsSigned64, unsigned, after_minus}
 use mir.Syntax.{w64}
 

@@ -93,9 +93,6 @@ pub record Counted (q : List Condition) (n o : ℕ) : Type 0 where
   pub high : o ≤ 254
   pub count : n ≡ min (2 + total_size q + 3 * k) (2 ^ 64 - 1)
 
-pub counted_empty : Counted [] 2 1
-counted_empty = record { k = 0; cutting = none refl refl refl; low = omega arith; high = omega arith; count = refl }
-
 -- one condition more, near enough
 pub counted_more : (q : List Condition) (c : Condition) (n n' o o' : ℕ) → o ≤ greatest_offset
     → n' ≡ min (n + size_of c) (2 ^ 64 - 1) → o' ≡ o + size_of c → Counted q n o → Counted (q ++ c ∷ []) n' o'

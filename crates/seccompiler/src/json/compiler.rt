@@ -6,10 +6,11 @@ ghost use Rattle.std.specs.HashMap.{get_by_text};
 ghost use Rattle.std.specs.List.Sorted.{IsStrictlySortedBy};
 ghost use Rattle.std.specs.Map.{keys_of};
 ghost use Rattle.std.specs.Ordering.{int_cmp};
+ghost use Rattle.serde_json.specs.Data.{Data};
 ghost use Rattle.seccompiler.specs.Errors.{IsNoMemoryInFrontend};
-ghost use Rattle.seccompiler.specs.JsonAnswers.{OfValue, ArePoliciesOf, TellsFrontendFault};
+ghost use Rattle.seccompiler.specs.JsonAnswers.{OfValue, ArePoliciesOf, HasPolicy, TellsFrontendFault};
 ghost use Rattle.seccompiler.specs.JsonEntries.{PoliciesMatchEntries};
-ghost use Rattle.seccompiler.specs.JsonFilters.{under};
+ghost use Rattle.seccompiler.specs.JsonFilters.{IsReadBack, under};
 ghost use Rattle.seccompiler.specs.JsonSteps.{IsNoFailedRead, IsPolicyRefusal};
 ghost use Rattle.seccompiler.specs.Reads.{Reads};
 ghost use Rattle.seccompiler.specs.Policy.{Filter};
@@ -157,6 +158,7 @@ impl JsonCompiler {
         text: &[u8],
     ) -> Result<BTreeMap<String, SeccompFilter>, JsonFrontendError>
         ensures policies { IfOk result (λ m. OfValue text.now (ArePoliciesOf self.now (tree.get_by_text m))) }
+        ensures read_back { IfOk result (λ m. (d : Data) → ArePoliciesOf self.now (tree.get_by_text m) d → IsReadBack (HasPolicy self.now) m d) }
         ensures numbers { IfOk result (λ m. (name : List ℕ) → IfSome (tree.get_by_text m name) (λ f. All IsTableNumber (numbers_of f.chains))) }
         ensures fault { IfErr result (TellsFrontendFault self.now text.now) }
         ensures no_reader { IfErr result IsNoFailedRead }

@@ -5,7 +5,7 @@ ghost use Rattle.std.specs.List.Sorted.{IsStrictlySortedBy};
 ghost use Rattle.std.specs.Map.{keys_of};
 ghost use Rattle.serde_json.specs.Data.{Data};
 ghost use Rattle.serde_json.specs.View.{view};
-ghost use Rattle.seccompiler.specs.JsonFilters.{AreFound, under};
+ghost use Rattle.seccompiler.specs.JsonFilters.{AreFound, IsReadBack, under};
 ghost use Rattle.seccompiler.specs.JsonSteps.{AreFilters, IsShapeRefusal};
 ghost use Rattle.seccompiler.specs.JsonShape.{IsFilter};
 ghost use Rattle.seccompiler.specs.JsonTypes.{JsonFilter};
@@ -37,6 +37,7 @@ use std::alloc::Global;
 /// ```
 pub fn read_filters(alloc: Global, value: &Value) -> Result<JsonFilterMap, JsonFrontendError>
     ensures filters { IfOk result (AreFilters (view value.now)) }
+    ensures read_back { IfOk result (λ filters. (d : Data) → AreFilters d filters → IsReadBack IsFilter filters.0 d) }
     ensures refusal { IfErr result (IsShapeRefusal (view value.now)) }
 
     // A value is at most one filter.

@@ -5,6 +5,7 @@ ghost use Rattle.serde_json.specs.Data.{Data};
 ghost use Rattle.serde_json.specs.View.{view};
 ghost use Rattle.seccompiler.specs.Errors.{IsNoMemoryInFrontend};
 ghost use Rattle.seccompiler.specs.JsonAnswers.{IsValueOf, OfValue, TellsFrontendFault};
+ghost use Rattle.seccompiler.specs.JsonFilters.{IsReadBack};
 ghost use Rattle.seccompiler.specs.JsonShape.{IsFilter};
 ghost use Rattle.seccompiler.specs.JsonSteps.{AreFilters, IsBeforePolicies, IsNoFailedRead};
 ghost use Rattle.seccompiler.specs.JsonTypes.{JsonFilter};
@@ -70,6 +71,7 @@ pub fn text_of<R: Read + Drop>(alloc: Global, mut reader: R) -> Result<Vec<u8>, 
 /// ```
 pub fn filters_of(alloc: Global, text: &[u8]) -> Result<JsonFilterMap, JsonFrontendError>
     ensures filters { IfOk result (λ filters. OfValue text.now (λ d. AreFilters d filters)) }
+    ensures read_back { IfOk result (λ filters. (d : Data) → AreFilters d filters → IsReadBack IsFilter filters.0 d) }
     // On whichever architecture.
     ensures fault { IfErr result (λ e. (arch : TargetArch) → TellsFrontendFault arch text.now e) }
     ensures cause { IfErr result IsBeforePolicies }

@@ -2,16 +2,16 @@
 
 ghost use Rattle.std.specs.Prelude.{◌≡◌, Any, IfErr, IfOk, OnOk, false, slice_index_or};
 ghost use Rattle.seccomptool.specs.Learn.{AreWanted, AreWithCall, InTurn, IsUnknown, IsWithArgument};
-ghost use Rattle.seccomptool.specs.Record.{IsUncalled};
+ghost use Rattle.seccomp_answers.specs.Calls.{IsUncalled};
 
 use super::AskedArguments;
 use super::notes::{has, note_at};
-use crate::error::ToolError;
-use crate::record::call_number;
-use crate::text::Text;
 use crate::words::{Asked, Inputs};
-use seccomp_command_line::readable::TextKind;
+use seccomp_answers::calls::call_number;
+use seccomp_answers::error::AnswerError;
 use seccomp_learn::{Kept, Observation, Symbolic, Trace, asked_kept, usual_kept};
+use seccomp_text::readable::TextKind;
+use seccomp_views::text::Text;
 use seccompiler::TargetArch;
 use std::alloc::{AllocError, Global};
 
@@ -20,7 +20,7 @@ pub(super) fn wanted_in(
     alloc: Global,
     asked: &Asked<'_>,
     observed: &[Observation],
-) -> Result<Vec<Kept>, ToolError>
+) -> Result<Vec<Kept>, AnswerError>
     ensures wanted { IfOk result (λ wanted. AreWanted asked.now observed.now wanted.items) }
     ensures cause { IfErr result (IsUnknown asked.now) }
 {
@@ -36,7 +36,7 @@ fn push_calls(
     observed: &[Observation],
     calls: &[AskedArguments<'_>],
     wanted: &mut Vec<Kept>,
-) -> Result<(), ToolError>
+) -> Result<(), AnswerError>
     ensures added { OnOk result (InTurn (AreWithCall arch observed.now) calls.now wanted.old.items wanted.new.items) }
     ensures cause { IfErr result (λ error. Any (λ call. IsUncalled arch call.call.now error) calls.now) }
 {
@@ -53,12 +53,12 @@ fn push_call(
     observed: &[Observation],
     call: &AskedArguments<'_>,
     wanted: &mut Vec<Kept>,
-) -> Result<(), ToolError>
+) -> Result<(), AnswerError>
     ensures added { OnOk result (AreWithCall arch observed.now call.now wanted.old.items wanted.new.items) }
     ensures cause { IfErr result (IsUncalled arch call.now.call.now) }
 {
     let Some(number) = call_number(arch, call.call) else {
-        return Err(ToolError::UnknownCall(String::from_str(alloc, call.call)?, arch));
+        return Err(AnswerError::UnknownCall(String::from_str(alloc, call.call)?, arch));
     };
     for index in 0..6u8 {
         push_argument(observed, number, call, index, wanted)?;

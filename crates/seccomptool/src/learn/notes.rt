@@ -3,14 +3,15 @@
 ghost use Rattle.std.specs.Prelude.{◌↔◌, Any, IfErr, IsTrue, OnOk};
 ghost use Rattle.seccomptool.specs.Learn.{IsArgument, IsStrange, IsUnderstood};
 
-use crate::error::ToolError;
-use crate::findings::parts::name_of;
-use crate::json::{List, Object, call_name};
-use crate::notes::note;
-use crate::text::Text;
+use crate::files::of_path;
 use crate::words::{Asked, Inputs};
-use seccomp_command_line::readable::TextKind;
+use seccomp_answers::error::AnswerError;
+use seccomp_answers::findings::parts::name_of;
 use seccomp_learn::{Kept, Observation, StrangeLine, Trace};
+use seccomp_text::readable::TextKind;
+use seccomp_views::json::{List, Object, call_name, push_object};
+use seccomp_views::notes::note;
+use seccomp_views::text::Text;
 use seccompiler::{SeccompCmpArgLen, TargetArch};
 use std::alloc::{AllocError, Global};
 
@@ -137,7 +138,7 @@ pub(super) fn refuse_trace(
     inputs: Inputs<'_>,
     index: usize,
     trace: &Trace,
-) -> Result<(), ToolError>
+) -> Result<(), AnswerError>
     ensures understood { OnOk result (IsUnderstood asked.now.strict trace.now) }
     ensures cause { IfErr result (IsStrange asked.now.strict trace.now) }
 {
@@ -154,10 +155,10 @@ pub(super) fn refuse_trace(
     }
     let told = told.finish_string()?;
     Err(match index.checked_sub(1) {
-        None => ToolError::of_path(alloc, inputs.first.unwrap_or("-"), told.as_str()),
+        None => of_path(alloc, inputs.first.unwrap_or("-"), told.as_str()),
         Some(place) => {
             let path = asked.further.get(place).copied().unwrap_or("-");
-            ToolError::of_path(alloc, path, told.as_str())
+            of_path(alloc, path, told.as_str())
         }
     })
 }
@@ -236,7 +237,7 @@ pub(super) fn learned_json(
     }
     object.field("notes", lines);
     let mut json = Text::new(alloc);
-    json.push_object(object);
+    push_object(&mut json, object);
     // The text takes the place of the brace.
     json.pop();
     json.push_str(if asked.as_profile {

@@ -3,12 +3,12 @@
 ghost use Rattle.std.specs.Prelude.{◌≡◌, [], ◌∷◌, IfOk, drop, map, option_map, unwrap_or};
 ghost use Rattle.clap.specs.Words.{found_of};
 ghost use Rattle.seccomptool.specs.Arguments.{AreRead, each_with, further_given, paths_of};
-ghost use Rattle.seccomptool.specs.Chosen.{text_of};
+ghost use Rattle.seccomp_answers.specs.Chosen.{text_of};
 
 use super::values::{named_in, path_in, records_in};
 use super::{Inputs, Verb};
-use crate::text::Text;
 use clap::ArgMatches;
+use seccomp_views::text::Text;
 use std::alloc::{AllocError, Global};
 
 // What a command is carried out on, one after the other.

@@ -4,21 +4,21 @@
 ghost use Rattle.std.specs.Prelude.{◌≡◌, codes};
 ghost use Rattle.clap.specs.Words.{first_value, found_of};
 ghost use Rattle.seccomptool.specs.Arguments.{IsByFormat, IsFlag, IsFormatName, IsPathAndName, IsReadingFor, arch_named, calls_named, check_format_named, is_json, is_of_all, is_only_more, layout_named, name_given, output_named, path_given, program_format_named, records_given, verb_named};
-ghost use Rattle.seccomptool.specs.Chosen.{text_of};
+ghost use Rattle.seccomp_answers.specs.Chosen.{text_of};
 
 use super::{Calls, Verb};
-use crate::check::format::CheckFormat;
-use crate::compile::ProgramFormat;
-use crate::diff::Scope;
-use crate::kind::Reading;
 use crate::learn::{AskedArguments, Start};
-use crate::record::read_number;
-use crate::text::Text;
 use clap::ArgMatches;
+use seccomp_answers::calls::read_number;
+use seccomp_answers::diff::Scope;
+use seccomp_answers::kind::Reading;
 use seccomp_compare::Relation;
 use seccomp_names::{capabilities, capability};
 use seccomp_oci::{Container, Runtime, kernel_of};
 use seccomp_tree::Layout;
+use seccomp_views::check::format::CheckFormat;
+use seccomp_views::program::ProgramFormat;
+use seccomp_views::text::Text;
 use seccomp_warnings::Code;
 use seccompiler::{SeccompAction, TargetArch};
 

@@ -2,10 +2,8 @@ use Rattle.std.proofs.Common.{◌≡◌, ◌-◌, ◌+◌, ◌<◌, ◌≤◌, l
 use Rattle.std.proofs.lemmas.Bool.Decides.{nat_tests}
 use Rattle.std.proofs.lemmas.Bool.{false≢true, true≢false}
 use Rattle.std.proofs.lemmas.Option.{slice_get-get_or}
-use Rattle.seccompiler.specs.Machine.{IsInRange}
-use Rattle.seccomp_compare.specs.Machine.{IsFine, not_fine, no_return}
-use Rattle.seccompiler.proofs.machine.CheckedLemmas.{one_more}
-use Rattle.seccomp_compare.proofs.machine.CheckedLemmas.{checked_if}
+use Rattle.seccomp_compare.specs.Machine.{not_fine, no_return}
+use Rattle.seccomp_compare.proofs.machine.CheckedLemmas.{checked_if, one_more}
 use Rattle.seccomp_compare.proofs.machine.first_unfit.Goals as goal
 
 pub returns-then-not-is_fine-clause-unfit : goal.returns-then-not-is_fine-clause-unfit
@@ -26,8 +24,8 @@ returns-then-not-is_fine-clause-checked c = (
 pub loop-place-preserved : goal.loop-place-preserved
 loop-place-preserved c = record {
   few = omega (arith, c.loop-place.invariant.few, c.if-place-eq-BPF_MAX_LEN.false);
-  each = one_more (λ place i. IsFine i place (length c.args.prog.now) × IsInRange i) c.args.prog.now c.loop-place.place _
-      c.loop-place.invariant.each (c.if-not-is_fine.ensures.fine.0 refl, c.if-not-is_fine.ensures.range);
+  each = one_more c.args.prog.now c.loop-place.place (length c.args.prog.now) _ c.loop-place.invariant.each
+      (c.if-not-is_fine.ensures.fine.0 refl, c.if-not-is_fine.ensures.range);
 }
 
 pub returns-then-prog-eq-RETURN-clause-checked : goal.returns-then-prog-eq-RETURN-clause-checked

@@ -1,5 +1,4 @@
-use Rattle.std.proofs.Common.{◌≡◌, ℕ, ◌<◌, ◌∙◌, ◌+◌, ◌∷◌, ◌++◌, [], List, Option, None, Some, IfNone, IfSome, ap, get_or, subst, sym, take}
-use Rattle.std.specs.Prelude.{MatchOption}
+use Rattle.std.proofs.Common.{◌≡◌, ℕ, ◌<◌, ◌∙◌, ◌+◌, ◌∷◌, ◌++◌, [], List, Option, None, IfNone, IfSome, ap, get_or, subst, sym, take}
 use Rattle.std.proofs.lemmas.List.{take_all, take_more}
 use Rattle.seccomp_entries.specs.Entries.{Entry}
 use Rattle.seccomp_profile_checks.specs.Doubts.{AreBehind, behind_at, none}

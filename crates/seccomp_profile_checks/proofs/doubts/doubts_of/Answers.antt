@@ -1,4 +1,4 @@
-use Rattle.std.proofs.Common.{◌≡◌, ◌++◌, ◌∙◌, ◌∷◌, [], List, ap, subst}
+use Rattle.std.proofs.Common.{◌≡◌, ◌++◌, ◌∙◌, List, ap, subst}
 use Rattle.seccomp_entries.specs.Entries.{Entry, Lowered}
 use Rattle.seccomp_profile_checks.specs.Doubts.{AreBehind, IsSoAlone, asked_alone, asked_of_default}
 use Rattle.seccomp_profile_checks.specs.declared.doubts.Doubt.{Doubt}

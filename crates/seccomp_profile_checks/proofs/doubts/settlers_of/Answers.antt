@@ -1,5 +1,5 @@
 use Rattle.std.proofs.Common.{◌≡◌, ◌≢◌, ◌<◌, ◌∙◌, ◌+◌, ◌∷◌, ◌++◌, [], ℕ, List, Option, None, Some, IfNone, IfSome}
-use Rattle.std.proofs.Common.{ap, get_or, refl, replicate, subst, sym, take}
+use Rattle.std.proofs.Common.{ap, get_or, refl, subst, sym, take}
 use Rattle.std.specs.Prelude.{MatchOption, slice_get, slice_set}
 use Rattle.std.proofs.lemmas.List.{get_or-replicate, length-set, take_all, take_more}
 use Rattle.std.proofs.lemmas.List.Elements.{All-nil}

@@ -1,13 +1,11 @@
 use Rattle.std.proofs.Common.{Result, Ok, Err, IfErr}
 use Rattle.std.proofs.lemmas.Result.{err_from_is_err_and}
 use Rattle.std.specs.Prelude.{⊤}
-use Rattle.std.specs.BTreeMap.{get_by_text}
-use Rattle.seccomp_command_line.proofs.Answers.{refused_at_once, sent_at_once}
-use Rattle.seccomp_command_line.proofs.ByName.{by_text}
-use Rattle.seccomp_command_line.specs.Errors.{IsWriteError, KeepsOutput}
-use Rattle.seccomp_command_line.specs.Policies.{IsRefusedPolicy}
-use Rattle.seccomp_command_line.specs.declared.error.ToolError.{ToolError}
-use Rattle.seccomp_command_line.specs.declared.error.ToolError.TheVariants.{Write}
+use Rattle.seccompc.proofs.Answers.{refused_at_once, sent_at_once}
+use Rattle.seccompc.specs.Errors.{IsWriteError, KeepsOutput}
+use Rattle.seccompc.specs.Faults.{IsRefusedPolicy}
+use Rattle.seccompc.specs.declared.error.ToolError.{ToolError}
+use Rattle.seccompc.specs.declared.error.ToolError.TheVariants.{Write}
 use Rattle.seccompc.specs.Policies.{IsListing}
 use Rattle.seccompc.proofs.Policies.{listed}
 use Rattle.seccompc.proofs.list.list.Goals as goal
@@ -39,6 +37,5 @@ returns-clause-answers g c =
     let known = g.R.Read.remaining c.args.policy in
     sent_at_once (IsListing arch known) (IsRefusedPolicy arch known) text.text.items c.as_slice.result.now c.send.result
     (contents c.args.out.now) (contents c.send.new.out)
-    (listed arch known (get_by_text programs) c.in_ok-programs.ensures.programs programs.entries text.text.items
-    (λ name. by_text name programs.entries) text.ensures.ordered text.ensures.listings)
+    (listed arch known programs c.in_ok-programs.ensures.programs text.text.items text.ensures)
     c.as_slice.ensures.value c.send.ensures.sent c.send.ensures.cause

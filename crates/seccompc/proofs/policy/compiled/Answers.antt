@@ -1,5 +1,5 @@
 use Rattle.std.proofs.lemmas.Result.{err_from_is_err_and}
-use Rattle.seccomp_command_line.proofs.Faults.{name_is_policy, policy_refused}
+use Rattle.seccompc.proofs.Faults.{name_is_policy, policy_refused}
 use Rattle.seccompc.proofs.policy.compiled.Goals as goal
 
 pub returns-in_err-target-clause-refused : goal.returns-in_err-target-clause-refused

@@ -1,7 +1,7 @@
 use Rattle.std.proofs.Common.{w64}
 use Rattle.std.proofs.lemmas.Int.{to_z-of_z}
 use Rattle.std.proofs.lemmas.Result.{err_from_is_err_and}
-use Rattle.seccomp_command_line.proofs.Answers.{refused_before, told_of_records}
+use Rattle.seccompc.proofs.Answers.{refused_before, told_of_records}
 use Rattle.seccompc.specs.Lines.{AreLines}
 use Rattle.seccompc.specs.Probe.{IsProbeFaultless, IsProbed, IsRefusedProbe}
 use Rattle.seccompc.proofs.probe.probe.Goals as goal

@@ -1,7 +1,8 @@
-use Rattle.std.proofs.Common.{[], ◌∷◌, ◌++◌, get_or, sym, ap, ◌∙◌, refl}
+use Rattle.std.proofs.Common.{[], ◌∷◌, ◌++◌, append-nil, get_or, sym, ap, ◌∙◌, refl}
+use Rattle.std.specs.List.{concat}
 use Rattle.std.proofs.lemmas.List.{get_or_default}
 use Rattle.std.proofs.lemmas.List.Elements.{all_zip_more}
-use Rattle.seccomp_command_line.proofs.Joined.{concat_push}
+use Rattle.std.proofs.lemmas.List.Folds.{concat-append}
 use Rattle.seccompc.specs.Lines.{IsLine, line_of}
 use Rattle.seccompc.proofs.record_text.lines.Goals as goal
 
@@ -16,5 +17,6 @@ records-preserved c =
       each = all_zip_more (IsLine c.args.program.now) records so_far.lines c.records.record-index call line c.records-test.true
           (get_or_default records c.records.record-index [] call c.records-test.true) so_far.each
           (record { word = c.run.result.word; steps = c.run.result.steps; ends = c.run.ensures.ends; text = refl });
-      joined = c.in_ok-push_line.ensures ∙ ap (λ text. text ++ line) so_far.joined ∙ sym (concat_push so_far.lines line);
+      joined = c.in_ok-push_line.ensures ∙ ap (λ text. text ++ line) so_far.joined
+          ∙ sym (concat-append so_far.lines (line ∷ []) ∙ ap (λ text. concat so_far.lines ++ text) (append-nil line));
     }

@@ -6,10 +6,10 @@ use Rattle.seccompiler.specs.declared.bpf.sock_filter.{sock_filter}
 use Rattle.seccompiler.specs.Machine.{IsChecked}
 use Rattle.seccompc.specs.Lines.{AreLines, Traced}
 use Rattle.seccompc.specs.Policies.{IsRunnable, IsRun, IsRefusedRun}
-use Rattle.seccomp_command_line.specs.Policies.{IsRefusedPolicy}
-use Rattle.seccomp_command_line.specs.declared.error.ToolError.{ToolError}
-use Rattle.seccomp_command_line.specs.declared.error.ToolError.TheVariants as tool
-use Rattle.seccomp_command_line.proofs.Answers.{refused_before, told_of_records}
+use Rattle.seccompc.specs.Faults.{IsRefusedPolicy}
+use Rattle.seccompc.specs.declared.error.ToolError.{ToolError}
+use Rattle.seccompc.specs.declared.error.ToolError.TheVariants as tool
+use Rattle.seccompc.proofs.Answers.{refused_before, told_of_records}
 use Rattle.seccompc.proofs.Policies.{no_filter_named, filter_found}
 use Rattle.seccompc.proofs.run.run_policy.Goals as goal
 
@@ -37,7 +37,7 @@ returns-in_default-clause-answers g c =
     let programs = c.in_ok-programs.programs in
     let none : get_by_text programs c.args.name.now ≡ None = sym c.in_default.ensures.value in (
       c.in_ok-from_str.ensures.ok,
-      no_filter_named c.args.arch.now (g.P.Read.remaining c.args.policy) (get_by_text programs) c.in_ok-programs.ensures.programs
+      no_filter_named c.args.arch.now (g.P.Read.remaining c.args.policy) programs c.in_ok-programs.ensures.programs
           c.args.name.now none,
     )
 
@@ -58,7 +58,7 @@ returns-clause-answers g c =
     let arch = c.args.arch.now in
     let known = g.P.Read.remaining c.args.policy in
     let name = c.args.name.now in
-    let of = filter_found arch known (get_by_text programs) c.in_ok-programs.ensures.programs name program found in
+    let of = filter_found arch known programs c.in_ok-programs.ensures.programs name program found in
     told_of_records (IsRunnable arch known name) (IsRun arch known name) (IsRefusedRun arch known name) (g.R.Read.remaining c.args.records)
     (of (λ policy. ⊤) (λ policy compiled. tt)) tt (AreLines program.items)
     (λ calls text lines. of (λ policy. Traced policy calls text) (λ policy compiled.

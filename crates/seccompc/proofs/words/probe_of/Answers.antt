@@ -2,7 +2,7 @@ use Rattle.std.proofs.Common.{◌≡◌, ℕ, ℤ, pos, negsuc, ◌<◌, ◌^◌
 use Rattle.std.proofs.Common.{rules, w64, FitsSigned}
 use Rattle.std.specs.Result.{OkIff, result_ok}
 use Rattle.std.proofs.lemmas.Int.{ints, to_z-of_z}
-use Rattle.seccomp_command_line.specs.Numbers.{IsWritten}
+use Rattle.seccomp_text.specs.Numbers.{IsWritten}
 use Rattle.seccompc.specs.declared.words.Command.{Command}
 use Rattle.seccompc.specs.declared.words.Command.TheVariants.{Probe, List as Listing, Run}
 use Rattle.seccompc.specs.Words.{IsSignedText, IsSigned64, IsCommand}

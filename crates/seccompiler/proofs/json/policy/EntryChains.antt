@@ -1,5 +1,5 @@
 -- For `add_rule`, `widened_numbers` and `chains_of_numbers`: the chains of a map, after one was written or some were put in.
-use Rattle.std.proofs.Common.{◌≡◌, ℤ, ◌++◌, List, [], ◌∷◌, Vec, Global, Bool, ◌||◌, cond, Option, Some, None, option_map, refl, sym, ap}
+use Rattle.std.proofs.Common.{◌≡◌, ℤ, ◌++◌, List, [], ◌∷◌, Vec, Global, cond, Option, Some, None, option_map, refl, sym, ap}
 use Rattle.std.proofs.Common.{◌∙◌, unwrap_or, arith}
 use Rattle.std.specs.BTreeMap.{BTreeMap, is_at, IsFromIterResult}
 use Rattle.std.specs.Map.{lookup, keys_of, update_all}
@@ -8,11 +8,10 @@ use Rattle.std.specs.Option.{is_some}
 use Rattle.std.specs.Ordering.{int_cmp, int_eq}
 use Rattle.std.proofs.lemmas.Bool.Decides.{Decides-int_eq}
 use Rattle.std.proofs.lemmas.Cmp.{int_eq_equiv}
-use Rattle.std.proofs.lemmas.List.Sums.{fold_push}
 use Rattle.std.proofs.lemmas.Map.Keys.{IsDistinct-from_sorted}
 use Rattle.std.proofs.lemmas.Map.Made.{lookup-map_values, update_all_none}
 use Rattle.seccompiler.specs.Policy.{Rule, Chain, chains_of}
-use Rattle.seccompiler.specs.JsonGathered.{added, chain_of}
+use Rattle.seccompiler.specs.JsonGathered.{added}
 use Rattle.seccompiler.specs.JsonPolicyOf.{chain_at}
 
 -- Numbers, each with the rules of its chain.
@@ -47,11 +46,6 @@ pub made_of_rules : (rules : BTreeMap ℤ (Vec Rule Global)) → IsStrictlySorte
     → made_at rules.entries q ≡ chain_at (chains_of rules.entries) q
 made_of_rules rules order q = ap list_of (update_all_none int_eq_equiv int_eq (λ x y. refl) rules.entries q
     (IsDistinct-from_sorted int_cmp (keys_of rules.entries) order)) ∙ sym (chain_held rules.entries q)
-
--- A number more has the empty chain.
-pub made_more : (pairs : Pairs) (number : ℤ) (empty : Vec Rule Global) (q : ℤ) (so_far : Bool) (chain : Option Chain) → empty.items ≡ []
-    → made_at pairs q ≡ chain_of so_far chain → made_at (pairs ++ (number, empty) ∷ []) q ≡ chain_of (so_far || int_eq q number) chain
-made_more pairs number empty q so_far chain is_empty made = grind (arith, fold_push, int_eq_equiv)
 
 -- The map finds what it is made of.
 pub made_found : (pairs : Pairs) (all : BTreeMap ℤ (Vec Rule Global)) → IsFromIterResult int_cmp pairs all → (q : ℤ)

@@ -16,7 +16,7 @@ returns-in_err-filters-clause-unnamed c =
 pub returns-in-Some-clause-named : goal.returns-in-Some-clause-named
 returns-in-Some-clause-named c =
     let read = c.in_ok-filters.ensures.filters in
-    let names = are_names read.0 c.in_ok-filters.filters read.2 c.write_key.ensures.ordered in
+    let names = are_names read.0 c.in_ok-filters.filters read.2 (c.in_ok-filters.ensures.read_back read.0 read.2) in
     let found = c.in-Some.ensures.found in
     let fits : SFits w64 c.in-Some.length = search rules in
     rw (to_z-of_z w64 c.in-Some.length fits)
@@ -26,7 +26,7 @@ pub returns-clause-unnamed : goal.returns-clause-unnamed
 returns-clause-unnamed c =
     let read = c.in_ok-filters.ensures.filters in
     let keys = keys_of c.in_ok-filters.filters.0.entries in
-    let names = are_names read.0 c.in_ok-filters.filters read.2 c.write_key.ensures.ordered in
+    let names = are_names read.0 c.in_ok-filters.filters read.2 (c.in_ok-filters.ensures.read_back read.0 read.2) in
     let few : length (map string_bytes keys) ≤ c.args.index =
     subst (λ (n : ℕ). n ≤ c.args.index) (sym (length-map keys string_bytes)) c.in-None.ensures.none in
     (read.0, read.1, (map string_bytes keys, names, few))

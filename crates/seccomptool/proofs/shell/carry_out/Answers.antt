@@ -1,6 +1,6 @@
 use Rattle.std.proofs.Common.{[], ◌∷◌, refl}
 use Rattle.seccomptool.specs.Outside.{State, carried_out, gathers, kept, told, unnoted}
-use Rattle.seccomptool.specs.declared.error.ToolError.TheVariants.{OutOfMemory}
+use Rattle.seccomp_answers.specs.declared.error.AnswerError.TheVariants.{OutOfMemory}
 use Rattle.seccomptool.proofs.shell.Written.{adds_both, delivered_still}
 use Rattle.seccomptool.proofs.shell.carry_out.Goals as goal
 

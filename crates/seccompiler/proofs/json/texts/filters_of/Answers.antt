@@ -6,7 +6,7 @@ pub returns-in_err-value : goal.returns-in_err-value
 returns-in_err-value c = let p = err_from_is_err_and c.from_residual.result c.from_residual.ensures.1 in
     let told = c.in_err-value.ensures in
     rw (p.1, p.2)
-    (record { filters = tt; fault = told.0; cause = told.1; no_reader = told.2; memory = told.3; one_filter = one_filter })
+    (record { filters = tt; read_back = tt; fault = told.0; cause = told.1; no_reader = told.2; memory = told.3; one_filter = one_filter })
 
 pub returns-clause-one_filter : goal.returns-clause-one_filter
 returns-clause-one_filter c = one_filter

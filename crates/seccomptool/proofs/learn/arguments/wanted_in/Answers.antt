@@ -2,7 +2,7 @@ use Rattle.std.proofs.Common.{List, subst}
 use Rattle.std.specs.Prelude.{Any}
 use Rattle.std.proofs.lemmas.Result.{err_from_is_err_and}
 use Rattle.seccomptool.specs.Learn.{AreWithCall, InTurn}
-use Rattle.seccomptool.specs.Record.{IsUncalled}
+use Rattle.seccomp_answers.specs.Calls.{IsUncalled}
 use Rattle.seccomptool.specs.declared.learn.AskedArguments.{AskedArguments}
 use Rattle.seccomptool.proofs.Wanted.{unknown_of}
 use Rattle.seccomptool.proofs.learn.arguments.wanted_in.Goals as goal

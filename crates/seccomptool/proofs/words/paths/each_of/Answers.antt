@@ -1,7 +1,7 @@
 use Rattle.std.proofs.Common.{ap, arith, length, map, refl, ◌≡◌, ◌∙◌}
 use Rattle.std.proofs.lemmas.Grind.{common_steps}
 use Rattle.std.proofs.lemmas.List.{take_all}
-use Rattle.seccomptool.specs.Chosen.{text_of}
+use Rattle.seccomp_answers.specs.Chosen.{text_of}
 use Rattle.seccomptool.proofs.words.Parts.{each_some, paths_more, paired}
 use Rattle.seccomptool.proofs.words.paths.each_of.Goals as goal
 

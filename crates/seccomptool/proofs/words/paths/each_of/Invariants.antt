@@ -1,6 +1,6 @@
 use Rattle.std.proofs.Common.{◌≡◌, map, take}
 use Rattle.seccomptool.specs.Arguments.{paths_of}
-use Rattle.seccomptool.specs.Chosen.{text_of}
+use Rattle.seccomp_answers.specs.Chosen.{text_of}
 use Rattle.seccomptool.proofs.words.Parts.{paired}
 use Rattle.seccomptool.proofs.words.paths.each_of.Given as goal
 

@@ -1,0 +1,164 @@
+-- For the causes of errors: what a layer below refuses, as an error of the tool.
+use Rattle.std.proofs.Common.{◌≡◌, ℕ, ℤ, pos, negsuc, ◌<◌, ◌^◌, List, ◌∷◌, ◌++◌, Option}
+use Rattle.std.proofs.Common.{IfSome, All, inl, inr, String, Global, string_bytes, string_cmp, refl, subst, arith}
+use Rattle.std.specs.BTreeMap.{is_at}
+use Rattle.std.specs.List.Sorted.{IsStrictlySortedBy}
+use Rattle.std.specs.Map.{keys_of, lookup}
+use Rattle.std.proofs.lemmas.Int.{ints}
+use Rattle.std.proofs.lemmas.List.Elements.{All-contains}
+use Rattle.std.proofs.lemmas.Map.Text.{text_cmp}
+use Rattle.serde_json.specs.Data.{Data}
+use Rattle.seccompiler.specs.Compiled.{IsLeastUnfit, IsRefusal, numbers_of}
+use Rattle.seccompiler.specs.Errors.{IsNoMemoryInFrontend, IsNoMemoryInside, IsNoReader, from_backend, from_frontend}
+use Rattle.seccompiler.specs.JsonAnswers.{ArePoliciesOf, OfValue, TellsFrontendFault}
+use Rattle.seccompiler.specs.JsonFilters.{AreFound}
+use Rattle.seccompiler.specs.JsonPrograms.{TellsFirstFault}
+use Rattle.seccompiler.specs.JsonSteps.{IsNoFailedRead}
+use Rattle.seccompiler.specs.Policy.{Filter}
+use Rattle.seccompiler.specs.SyscallTable.{IsTableNumber}
+use Rattle.seccompiler.specs.declared.backend.BackendError.{BackendError}
+use Rattle.seccompiler.specs.declared.backend.BackendError.TheVariants as backend
+use Rattle.seccompiler.specs.declared.backend.TargetArch.{TargetArch}
+use Rattle.seccompiler.specs.declared.error.Error.{Error}
+use Rattle.seccompiler.specs.declared.error.Error.TheVariants as library
+use Rattle.seccompiler.specs.declared.json.error.JsonFrontendError.{JsonFrontendError}
+use Rattle.seccompiler.specs.declared.json.error.JsonFrontendError.TheVariants as frontend
+use Rattle.seccomp_tree.specs.Layouts.{IsFittingRefusal, IsRefusalIn}
+use Rattle.seccomp_tree.specs.declared.error.FilterError.{FilterError}
+use Rattle.seccomp_tree.specs.declared.error.FilterError.TheVariants as filter
+use Rattle.seccomp_tree.specs.declared.layout.Layout.{Layout}
+use Rattle.seccomp_tree.specs.declared.layout.Layout.TheVariants.{Linear, Tree}
+use Rattle.seccomp_answers.proofs.Found.{nowhere, there}
+use Rattle.seccomp_answers.specs.Errors.{from_filter, from_library}
+use Rattle.seccomp_answers.specs.declared.error.AnswerError.{AnswerError}
+use Rattle.seccomp_answers.specs.declared.error.AnswerError.TheVariants.{NoFilter, OutOfMemory, Unchosen}
+use Rattle.seccomp_answers.specs.declared.kind.Subject.TheVariants as subject
+use Rattle.seccomp_answers.proofs.diff.Names.{Entries, next_found}
+use Rattle.seccomp_answers.specs.Causes.{IsRefusedPolicy, IsUnpicked, of_name, AreUncompiledIn, IsFilterIn, IsMissing, IsMissingIn}
+use Rattle.seccomp_answers.specs.Causes.{IsRefusedText, IsUnchosen, IsUnchosenIn, IsUnfitIn, IsUnread, TellsLarge, TellsUnfitting}
+use Rattle.seccomp_answers.specs.Causes.{too_large, unread}
+
+-- ---- texts
+
+-- What the front end refuses a text for.
+pub unread_for : (target : TargetArch) (text : List ℕ) (e : JsonFrontendError) → TellsFrontendFault target text e → IsNoFailedRead e
+    → IsNoMemoryInFrontend e → IsUnread target text (from_library (from_frontend e))
+unread_for target text frontend.OutOfMemory first reader memory = tt
+unread_for target text e first reader memory = record { memory = λ same. cc; none_inside = memory; no_reader = reader; first = first }
+
+-- The same of the library as a whole.
+pub refused_before : (target : TargetArch) (text : List ℕ) (e : JsonFrontendError) → TellsFrontendFault target text e → IsNoFailedRead e
+    → IsNoMemoryInFrontend e → IsRefusedText target text (from_library (from_frontend e))
+refused_before target text frontend.OutOfMemory first reader memory = tt
+refused_before target text e first reader memory =
+    record { memory = λ same. cc; none_inside = (λ same. cc, memory); no_reader = reader; first = first }
+
+pub refused_for : (target : TargetArch) (text : List ℕ) (e : Error) → TellsFirstFault target text e → IsNoReader e → IsNoMemoryInside e
+    → IsRefusedText target text (from_library e)
+refused_for target text library.OutOfMemory first reader memory = tt
+refused_for target text e first reader memory =
+    record { memory = λ same. cc; none_inside = memory; no_reader = reader; first = first }
+
+-- ---- names
+
+module _ {X : Type 0} (P : Data → X → Type 0) (text : List ℕ) (find : List ℕ → Option X) (read : OfValue text (AreFound P find))
+    (asked : Option (List ℕ)) where
+  -- Nothing is found under a name that the text lacks.
+  pub missing_in : (e : AnswerError) → IsMissingIn asked find e → IsMissing asked text e
+  missing_in (NoFilter name) is = (is.0, (read.0, read.1, nowhere P find read.0 read.2 (string_bytes name) is.1))
+  missing_in OutOfMemory is = tt
+  missing_in e is = is
+
+  pub unchosen_in : (e : AnswerError) → IsUnchosenIn asked find e → IsUnchosen asked text e
+  unchosen_in (Unchosen names) is = (
+    is.0,
+    (
+      read.0,
+      read.1,
+      λ name only.
+          let own = read.2.each name only.value only.there in
+          is.1 name (record {
+            value = own.found;
+            there = own.there;
+            only = λ other x found. let at = there P find read.0 read.2 other x found in only.only other at.0 at.1;
+          }),
+    ),
+  )
+  unchosen_in (NoFilter name) is = missing_in (NoFilter name) is
+  unchosen_in OutOfMemory is = tt
+  unchosen_in e is = is
+
+-- ---- filters
+
+-- What isn't picked is refused, whatever is too large.
+pub unpicked : (target : TargetArch) (asked : Option (List ℕ)) (text : List ℕ) (Large : AnswerError → Type 0) (e : AnswerError)
+    → IsUnpicked target asked text e → IsRefusedPolicy target text (IsUnchosen asked text) Large e
+unpicked target asked text Large e (inl is) = unread is
+unpicked target asked text Large e (inr is) = of_name is
+
+-- A table's number is a call number.
+pub never_unfit : (numbers : List ℤ) (n : ℤ) → All IsTableNumber numbers → IsLeastUnfit numbers n → ⊥
+never_unfit numbers n all is = by n (All-contains IsTableNumber numbers n all is.among) is.unfit
+  where
+    by : (n : ℤ) → IsTableNumber n → (((k : ℕ) × (n ≡ pos k) × (k < 2 ^ 32)) → ⊥) → ⊥
+    by (pos k) fits unfit = unfit (k, refl, grind (arith, ints, fits.1))
+    by (negsuc k) fits unfit = absurd (grind (arith, ints, fits.0))
+
+-- A filter whose numbers are a table's is refused for its size alone, or for want of memory.
+pub told_large : (layout : Layout) (f : Filter) → ((n : ℤ) → IsLeastUnfit (numbers_of f.chains) n → ⊥) → (cause : FilterError)
+    → IsUnfitIn layout f cause → TellsLarge layout f (from_filter cause)
+told_large Linear f fits (filter.InvalidSyscallNumber n) is = absurd (fits n is)
+told_large Tree f fits (filter.InvalidSyscallNumber n) is = absurd (fits n is)
+told_large Linear f fits (filter.FilterTooLarge n) is = is
+told_large Tree f fits (filter.FilterTooLarge n) is = absurd is
+told_large Linear f fits filter.TreeTooLarge is = absurd is
+told_large Tree f fits filter.TreeTooLarge is = is
+told_large Linear f fits filter.OutOfMemory is = tt
+told_large Tree f fits filter.OutOfMemory is = tt
+
+pub told_unfitting : (f : Filter) → ((n : ℤ) → IsLeastUnfit (numbers_of f.chains) n → ⊥) → (cause : BackendError) → IsFittingRefusal f cause
+    → TellsUnfitting f (from_library (from_backend cause))
+told_unfitting f fits (backend.FilterTooLarge n) is = is
+told_unfitting f fits (backend.InvalidSyscallNumber n) is = absurd (fits n is)
+told_unfitting f fits backend.OutOfMemory is = tt
+told_unfitting f fits _ is = absurd is
+
+-- The same of the library's refusal of a program in the linear layout.
+pub told_linear : (f : Filter) → ((n : ℤ) → IsLeastUnfit (numbers_of f.chains) n → ⊥) → (cause : BackendError) → IsRefusal f cause
+    → TellsLarge Linear f (from_library (from_backend cause))
+told_linear f fits (backend.FilterTooLarge n) is = is
+told_linear f fits (backend.InvalidSyscallNumber n) is = absurd (fits n is)
+told_linear f fits backend.OutOfMemory is = tt
+told_linear f fits _ is = absurd is
+
+-- What a layout's call refuses a filter for.
+pub unfit_for : (layout : Layout) (f : Filter) (cause : FilterError) → IsRefusalIn layout f cause → IsUnfitIn layout f cause
+unfit_for layout f filter.OutOfMemory is = tt
+unfit_for layout f cause is = is
+
+-- ---- the filters of a text, one after the other
+
+module _ (target : TargetArch) (text : List ℕ) (entries : Entries) (order : IsStrictlySortedBy string_cmp (keys_of entries))
+    (of_text : OfValue text (ArePoliciesOf target (λ name. lookup (is_at (text_cmp name)) entries)))
+    (numbers : (name : List ℕ) → IfSome (lookup (is_at (text_cmp name)) entries) (λ f. All IsTableNumber (numbers_of f.chains)))
+    (done left rest : Entries) (e : String Global × Filter) (whole : entries ≡ done ++ left) (step : left ≡ e ∷ rest) where
+  -- The next one is found under its name.
+  pub next_in : IsFilterIn target text e.1
+  next_in = record {
+    filters = λ name. lookup (is_at (text_cmp name)) entries;
+    of_text = of_text;
+    name = string_bytes e.0;
+    there = next_found entries done left rest e order whole step;
+  }
+
+  -- Its numbers are a table's, and so fit.
+  pub next_fits : (n : ℤ) → IsLeastUnfit (numbers_of e.1.chains) n → ⊥
+  next_fits n unfit =
+      let all = subst (λ (o : Option Filter). IfSome o (λ f. All IsTableNumber (numbers_of f.chains)))
+      (next_found entries done left rest e order whole step) (numbers (string_bytes e.0)) in
+      never_unfit (numbers_of e.1.chains) n all unfit
+
+  -- It is refused in a layout.
+  pub next_refused : (layout : Layout) (asked : Option (List ℕ)) (cause : FilterError) → IsUnfitIn layout e.1 cause
+      → AreUncompiledIn target layout asked text (from_filter cause)
+  next_refused layout asked cause is = too_large (e.1, next_in, told_large layout e.1 next_fits cause is)

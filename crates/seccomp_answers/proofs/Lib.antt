@@ -1,0 +1,8 @@
+-- Laws of the definitions, which the proofs of several modules cite. The lemmas of one module lie in that module's folder,
+-- and the file beside the folder lists them.
+pub mod ByName
+pub mod Found
+pub mod Pairs
+pub mod Readings
+pub mod Named
+pub mod Causes

@@ -1,0 +1,153 @@
+// Whether a policy or a profile is accepted, and its warnings.
+
+ghost use Rattle.std.specs.Prelude.{◌≡◌, ◌+◌, IfErr, IfOk, IfSome, false};
+ghost use Rattle.seccomp_answers.specs.Causes.{IsRefusedProfile};
+ghost use Rattle.seccomp_answers.specs.Check as spec;
+ghost use Rattle.seccomp_answers.specs.Check.{AreWarningsIn, IsCheckOf, IsRefusal};
+ghost use Rattle.seccomp_answers.specs.CheckProfile.{IsProfileCheckOf};
+
+use crate::error::AnswerError;
+use crate::findings::Verdict;
+use crate::profile::compiled_of;
+use seccomp_check::{Rejection, check};
+use seccomp_oci::{CompiledProfile, Container};
+use seccomp_profile_checks::{ProfileWarning, profile_warnings_of};
+use seccomp_warnings::{Code, FilterWarned, beside_of, codes_beside, policy_warnings_of};
+use seccompiler::{JsonFilterMap, JsonFrontendError, TargetArch};
+use std::alloc::Global;
+
+/// A filter's name, and its warnings.
+#[derive(Drop)]
+pub struct FilterWarnings {
+    /// The name.
+    pub name: String,
+    /// The warnings, and what is so of its entries beside each other.
+    pub warned: FilterWarned,
+}
+
+/// The warnings of all filters of a policy.
+#[derive(Drop)]
+pub struct CheckedPolicy {
+    /// Those of each filter, in byte order of names.
+    pub filters: Vec<FilterWarnings>,
+    /// How many there are.
+    pub count: usize,
+}
+
+/// The warnings of a policy's text, except those of the allowed codes, and of those that another filter of the text settles.
+///
+/// The filters come in byte order of names. Of each filter come first the warnings of its two actions, then those of its
+/// entries, condition by condition.
+///
+/// # Errors
+///
+/// `Placed` with a fault of the kind that `compile_from_json` reports, and its text, if it has a place. `Library`
+/// with the error of `compile_from_json`, if it has no place: the bytes are no JSON, or a name is repeated.
+/// `OutOfMemory` is returned instead of any of these if memory runs out.
+///
+/// The contract promises any one fault of that kind, and lets it be reported as `Library`. That it is the first
+/// in the order of docs/CHECKS.md, and that a fault with a place is reported as `Placed`, is tested and not
+/// proved.
+pub fn checked(
+    alloc: Global,
+    target: TargetArch,
+    allowed: &[Code],
+    text: &[u8],
+) -> Result<CheckedPolicy, AnswerError>
+    ensures checked { IfOk result (IsCheckOf target allowed.now text.now) }
+    ensures refused { IfErr result (IsRefusal target text.now) }
+{
+    let filters = match check(alloc, target, text) {
+        Ok(filters) => filters,
+        Err(Rejection::Library(refusal)) => return Err(AnswerError::Library(refusal)),
+        Err(Rejection::Placed(told, fault)) => return Err(AnswerError::Placed(told, fault)),
+        Err(Rejection::OutOfMemory) => return Err(AnswerError::OutOfMemory),
+    };
+    // The policy is taken, so that each of its filters is one of the architecture: an error is want of memory.
+    match warnings_in(alloc, target, allowed, &filters) {
+        Ok(checked) => Ok(checked),
+        Err(error) => {
+            // Here, so that no branch below has to.
+            drop(error);
+            Err(AnswerError::OutOfMemory)
+        }
+    }
+}
+
+/// The warnings of all filters.
+pub fn warnings_in(
+    alloc: Global,
+    target: TargetArch,
+    allowed: &[Code],
+    filters: &JsonFilterMap,
+) -> Result<CheckedPolicy, JsonFrontendError>
+    ensures { IfOk result (λ checked. AreWarningsIn target allowed.now filters.now.0.entries checked) }
+{
+    let beside = beside_of(filters);
+    let mut all = Vec::new(alloc);
+    let mut count: usize = 0;
+    for (name, filter) in &filters.0 {
+        let codes = codes_beside(alloc, allowed, beside, filter)?;
+        let warned = policy_warnings_of(alloc, target, filter, &codes)?;
+        let Some(sum) = sum_of(count, warned.of_part.warnings.len(), warned.evasions.len()) else {
+            return Err(JsonFrontendError::OutOfMemory);
+        };
+        count = sum;
+        let name = name.clone()?;
+        all.push(FilterWarnings { name, warned })?;
+    }
+    Ok(CheckedPolicy {
+        filters: all,
+        count,
+    })
+}
+
+// The sum of three numbers, if it is one.
+fn sum_of(first: usize, second: usize, third: usize) -> Option<usize>
+    ensures { IfSome result (λ sum. sum ≡ first + (second + third)) }
+{
+    first.checked_add(second)?.checked_add(third)
+}
+
+/// The verdict where warnings are denied or not, and there are so many.
+pub fn verdict_where(denied: bool, count: usize) -> Verdict
+    ensures { result ≡ spec.verdict_where denied count }
+{
+    if denied && count > 0 {
+        Verdict::Different
+    } else {
+        Verdict::Same
+    }
+}
+
+/// A profile that was read, with its program and its warnings.
+#[derive(Drop)]
+pub struct CheckedProfile {
+    /// The profile, and its program.
+    pub compiled: CompiledProfile,
+    /// The warnings.
+    pub warnings: Vec<ProfileWarning>,
+}
+
+/// The warnings of a profile's text, except those of the allowed codes.
+///
+/// # Errors
+///
+/// Those of [`compiled_of`], if it isn't strict.
+pub fn profile_checked(
+    alloc: Global,
+    target: TargetArch,
+    container: &Container,
+    allowed: &[Code],
+    text: &[u8],
+) -> Result<CheckedProfile, AnswerError>
+    ensures checked { IfOk result (IsProfileCheckOf target container.now allowed.now text.now) }
+    ensures refused { IfErr result (IsRefusedProfile target container.now false text.now) }
+{
+    let compiled = compiled_of(alloc, target, container, false, text)?;
+    let profile = &compiled.profile;
+    let Ok(warnings) = profile_warnings_of(alloc, target, container, allowed, profile) else {
+        return Err(AnswerError::OutOfMemory);
+    };
+    Ok(CheckedProfile { compiled, warnings })
+}

@@ -1,0 +1,248 @@
+// What a filter of a policy, a profile or a program decides on records, and why.
+
+ghost use Rattle.std.specs.Prelude.{◌≡◌, IfErr, IfOk, false, option_map};
+ghost use Rattle.std.specs.List.{AllZip};
+ghost use Rattle.seccomp_compare.specs.Machine.{IsChecked};
+ghost use Rattle.seccomp_answers.specs.Causes.{IsRefusedProfile, IsRefusedText, IsUndecided, IsUnexplainedFilter};
+ghost use Rattle.seccomp_answers.specs.Chosen.{text_of};
+ghost use Rattle.seccomp_answers.specs.Explain.{Explains, IsExplainedBy, IsOfPolicy, IsOfProfile, IsReturned};
+
+use crate::calls::number_for;
+use crate::chosen::{chosen_name, refuse_name};
+use crate::error::AnswerError;
+use crate::kind::{Reading, Subject, subject_of};
+use crate::program::program_of;
+use seccomp_compare::machine;
+use seccomp_entries::{Lowered, Reason, explain, lowered_policy};
+use seccomp_oci::{CompileError, Container, ProfileError, lowered_profile, profile_of};
+use seccompiler::bpf::BPF_MAX_LEN;
+use seccompiler::json::filters_of;
+use seccompiler::machine::Outcome;
+use seccompiler::{
+    BpfProgramRef, JsonCompiler, JsonFilterMap, JsonFrontendError, TargetArch, programs_of,
+};
+use std::alloc::{AllocError, Global};
+
+/// Why a record is decided as it is.
+#[derive(Clone, Copy)]
+pub enum Why {
+    /// By the entries of a policy or of a profile, for this reason.
+    Entries(Reason),
+    /// By a program.
+    Program {
+        /// The number of the record's call, if it is of the architecture.
+        number: Option<u32>,
+        /// How many steps the program takes.
+        steps: usize,
+    },
+    /// By one of several programs that hold together.
+    Layer {
+        /// The number of the record's call, if it is of the architecture.
+        number: Option<u32>,
+        /// The place of the program that decides, from 0, that which was installed first; none of no programs.
+        place: Option<usize>,
+        /// How many steps all of them take.
+        steps: usize,
+    },
+}
+
+/// What is decided on a record, and why.
+#[derive(Clone, Copy)]
+pub struct Explained {
+    /// The value that is returned.
+    pub word: u32,
+    /// Why.
+    pub why: Why,
+}
+
+/// What is decided on records, and why.
+#[derive(Drop)]
+pub struct Explanation {
+    /// The name of the filter that decides; none of a profile or a program.
+    pub name: Option<String>,
+    /// The value of a profile's default action; none of a policy or a program.
+    pub default: Option<u32>,
+    /// The entries that decide, of which the reasons have the indices; none of a program.
+    pub entries: Vec<seccomp_entries::Entry>,
+    /// What is decided on each record, in order.
+    pub records: Vec<Explained>,
+}
+
+/// What is decided on these records, and why, by what is given in these bytes.
+///
+/// # Errors
+///
+/// Those of [`explain_policy`] and [`explain_profile`]; `NoFilter` with the name that is asked for, if what is given has no filters;
+/// `Program` with the first fault of a program. `OutOfMemory` if memory runs out.
+pub fn explanation_of(
+    alloc: Global,
+    target: TargetArch,
+    reading: &Reading,
+    asked: Option<&str>,
+    given: &[u8],
+    records: &[[u8; 64]],
+) -> Result<Explanation, AnswerError>
+    ensures explained { IfOk result (Explains target reading.now (text_of asked.entry) given.now records.now) }
+    ensures cause { IfErr result (IsUndecided target reading.now (text_of asked.entry) given.now) }
+{
+    match subject_of(alloc, reading, given)? {
+        Subject::Policy => explain_policy(alloc, target, asked, given, records),
+        Subject::Profile(container) => {
+            refuse_name(alloc, asked)?;
+            explain_profile(alloc, target, container, given, records)
+        }
+        Subject::Program => {
+            refuse_name(alloc, asked)?;
+            let program = program_of(alloc, given)?;
+            let records = returned(alloc, target, &program, records)?;
+            Ok(Explanation {
+                name: None,
+                default: None,
+                entries: Vec::new(alloc),
+                records,
+            })
+        }
+    }
+}
+
+/// Explains what a filter of a policy decides, the one that is asked for or the only one.
+///
+/// # Errors
+///
+/// `Library` with what `compile_from_json` rejects the policy for, whichever filter has the fault; `Unchosen`
+/// if no filter is asked for and the policy doesn't have exactly one; `NoFilter` with the name if no filter has
+/// it. `OutOfMemory` if memory runs out.
+pub fn explain_policy(
+    alloc: Global,
+    target: TargetArch,
+    asked: Option<&str>,
+    text: &[u8],
+    records: &[[u8; 64]],
+) -> Result<Explanation, AnswerError>
+    ensures explained { IfOk result (IsOfPolicy target (option_map (λ name. name.now) asked.entry) text.now records.now) }
+    ensures cause { IfErr result (IsUnexplainedFilter target (text_of asked.entry) text.now) }
+{
+    let filters = filters_of(alloc, text)?;
+    let name = chosen_name(alloc, asked, &filters.0)?;
+    refuse_faulty(alloc, target, &filters, text)?;
+    let Some(filter) = filters.0.get(name.as_str()) else {
+        return Err(AnswerError::NoFilter(name));
+    };
+    // The policy is taken, so that each of its filters is one of the architecture: an error is want of memory.
+    let lowered = match lowered_policy(alloc, target, filter) {
+        Ok(lowered) => lowered,
+        Err(_) => return Err(AnswerError::OutOfMemory),
+    };
+    let records = explain_each(alloc, &lowered, records)?;
+    Ok(Explanation {
+        name: Some(name),
+        default: None,
+        entries: lowered.entries,
+        records,
+    })
+}
+
+// That each of a text's filters has a program, or else the first fault, as the library tells it.
+fn refuse_faulty(
+    alloc: Global,
+    target: TargetArch,
+    filters: &JsonFilterMap,
+    text: &[u8],
+) -> Result<(), AnswerError>
+    ensures { IfErr result (IsRefusedText target text.now) }
+{
+    if let Ok(true) = are_short(alloc, target, filters) {
+        return Ok(());
+    }
+    match programs_of(alloc, text, target) {
+        // Memory that was lacking is there again.
+        Ok(_) => Err(AnswerError::OutOfMemory),
+        Err(refusal) => Err(refusal.into()),
+    }
+}
+
+// Whether none of the filters' programs is too long, if each filter has a policy.
+fn are_short(
+    alloc: Global,
+    target: TargetArch,
+    filters: &JsonFilterMap,
+) -> Result<bool, JsonFrontendError> {
+    let compiler = JsonCompiler::new(target);
+    for (_name, filter) in &filters.0 {
+        let policy = compiler.make_seccomp_filter(alloc, filter)?;
+        if policy.program_len() > BPF_MAX_LEN {
+            return Ok(false);
+        }
+    }
+    Ok(true)
+}
+
+/// Explains what a profile decides: the action, by which of its entries.
+///
+/// # Errors
+///
+/// `Profile` with what [`profile_of`](seccomp_oci::profile_of) gives of a profile. `OutOfMemory` if memory runs out.
+pub fn explain_profile(
+    alloc: Global,
+    target: TargetArch,
+    container: &Container,
+    text: &[u8],
+    records: &[[u8; 64]],
+) -> Result<Explanation, AnswerError>
+    ensures explained { IfOk result (IsOfProfile target container.now text.now records.now) }
+    ensures cause { IfErr result (IsRefusedProfile target container.now false text.now) }
+{
+    let profile = match profile_of(alloc, text) {
+        Ok(profile) => profile,
+        Err(ProfileError::OutOfMemory) => return Err(AnswerError::OutOfMemory),
+        Err(fault) => return Err(AnswerError::Profile(CompileError::Profile(fault))),
+    };
+    let lowered = lowered_profile(alloc, target, container, &profile)?;
+    let records = explain_each(alloc, &lowered, records)?;
+    Ok(Explanation {
+        name: None,
+        default: Some(profile.default.into()),
+        entries: lowered.entries,
+        records,
+    })
+}
+
+// What entries decide on each of these records.
+fn explain_each(
+    alloc: Global,
+    lowered: &Lowered,
+    records: &[[u8; 64]],
+) -> Result<Vec<Explained>, AllocError>
+    ensures { IfOk result (λ all. AllZip (IsExplainedBy lowered.now) records.now all.items) }
+{
+    let mut all = Vec::with_capacity(alloc, records.len())?;
+    for call in records {
+        let seccomp_entries::Explained { word, reason } = explain(lowered, call);
+        let why = Why::Entries(reason);
+        all.push(Explained { word, why })?;
+    }
+    Ok(all)
+}
+
+/// What a program returns for records, and in how many steps, one for each, in order.
+///
+/// The program may be of any compiler, if `machine::check` of `seccomp_compare` passes it; that takes fewer instructions than
+/// a kernel does.
+pub fn returned(
+    alloc: Global,
+    target: TargetArch,
+    program: BpfProgramRef<'_>,
+    records: &[[u8; 64]],
+) -> Result<Vec<Explained>, AllocError>
+    requires { IsChecked program.now }
+    ensures { IfOk result (λ all. AllZip (IsReturned target program.now) records.now all.items) }
+{
+    let mut all = Vec::new(alloc);
+    for call in records {
+        let Outcome { word, steps } = machine::run(program, call);
+        let number = number_for(target, call);
+        let why = Why::Program { number, steps };
+        all.push(Explained { word, why })?;
+    }
+    Ok(all)
+}

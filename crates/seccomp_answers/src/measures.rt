@@ -1,0 +1,139 @@
+// How long programs are, and how many steps they take.
+
+ghost use Rattle.std.specs.Prelude.{◌≡◌, ◌≢◌, ◌+◌, ◌<◌, length, IfErr, IfOk};
+ghost use Rattle.seccompiler.specs.JsonAnswers.{OfValue};
+ghost use Rattle.seccomp_compare.specs.Machine.{IsChecked, IsFine};
+ghost use Rattle.seccomp_answers.specs.Chosen.{text_of};
+ghost use Rattle.seccomp_answers.specs.Measures.{AreStats, IsMeasureIn, IsMeasureOf, passing_record};
+ghost use Rattle.seccomp_answers.specs.Ways.{IsGreatestNext};
+ghost use Rattle.seccomp_answers.specs.Causes.{AreUncompiledInSome, IsUnfitIn};
+
+use crate::chosen::refuse_missing;
+use crate::error::AnswerError;
+use seccomp_compare::machine::run;
+use seccomp_tree::{FilterError, Layout, to_bpf_in};
+use seccompiler::bpf::{JUMP, LOAD, MASK, RETURN};
+use seccompiler::{
+    BpfProgramRef, JsonCompiler, SeccompFilter, SyscallTable, TargetArch, sock_filter,
+};
+use std::alloc::{AllocError, Global};
+
+/// How long a program is, and how many steps it takes.
+#[derive(Clone, Copy)]
+pub struct Measure {
+    /// How many instructions it has.
+    pub length: usize,
+    /// The most instructions on a way through it.
+    pub most: usize,
+    /// Its steps on a call whose number is the greatest, which no filter lists.
+    pub passing: usize,
+}
+
+/// The numbers of a filter's programs.
+#[derive(Drop)]
+pub struct FilterStats {
+    pub name: String,
+    /// Those of its program in the linear layout.
+    pub linear: Measure,
+    /// Those of its program as a tree.
+    pub tree: Measure,
+}
+
+/// Measures the programs of all filters of a policy's text, in byte order of the filters' names. That a program in the linear layout
+/// is too large is reported before that a tree is.
+///
+/// # Errors
+///
+/// Those of [`programs_in`](crate::programs::programs_in), in the linear layout and then as trees.
+pub fn stats_of(
+    alloc: Global,
+    target: TargetArch,
+    asked: Option<&str>,
+    text: &[u8],
+) -> Result<Vec<FilterStats>, AnswerError>
+    ensures stats { IfOk result (λ all. OfValue text.now (λ d. AreStats target d all.items)) }
+    ensures cause { IfErr result (AreUncompiledInSome target (text_of asked.entry) text.now) }
+{
+    // Its table has no number as great as that of the passing record.
+    let _table = SyscallTable::new(target);
+    let filters = JsonCompiler::new(target).policies_of(alloc, text)?;
+    refuse_missing(alloc, asked, &filters)?;
+    for (_, filter) in &filters {
+        filter.compiled_len()?;
+    }
+    let mut all = Vec::new(alloc);
+    for (name, filter) in filters {
+        let linear = measure_in(alloc, target, &filter, Layout::Linear)?;
+        let tree = measure_in(alloc, target, &filter, Layout::Tree)?;
+        all.push(FilterStats { name, linear, tree })?;
+    }
+    Ok(all)
+}
+
+// The numbers of a filter's program in a layout.
+fn measure_in(
+    alloc: Global,
+    target: TargetArch,
+    filter: &SeccompFilter,
+    layout: Layout,
+) -> Result<Measure, FilterError>
+    ensures measured { IfOk result (IsMeasureIn layout target filter.now) }
+    ensures refused { IfErr result (IsUnfitIn layout filter.now) }
+{
+    let program = to_bpf_in(alloc, filter, layout)?;
+    Ok(measure_of(alloc, target, &program)?)
+}
+
+/// The measure of a program for this architecture.
+pub fn measure_of(
+    alloc: Global,
+    target: TargetArch,
+    program: BpfProgramRef<'_>,
+) -> Result<Measure, AllocError>
+    requires { IsChecked program.now }
+    ensures { IfOk result (IsMeasureOf target program.now) }
+{
+    // The most instructions on a way from each place to a return, which the places behind it tell. Whether a record takes it is not
+    // asked.
+    let mut most = vec![in alloc; 0usize; program.len()]?;
+    for place in (0..program.len()).rev() {
+        let instruction = program[place];
+        let behind = if instruction.code == RETURN {
+            0
+        } else {
+            most_behind(instruction, place, &most)
+        };
+        most[place] = behind + 1;
+    }
+    Ok(Measure {
+        length: program.len(),
+        most: most[0],
+        passing: run(program, &passing_record(target)).steps,
+    })
+}
+
+// The greatest of the numbers at the places that an instruction may lead to.
+fn most_behind(instruction: sock_filter, place: usize, most: &[usize]) -> usize
+    requires fine { IsFine instruction place (length most.now) }
+    requires goes_on { instruction.code ≢ RETURN }
+    requires next { place + 1 < length most.now }
+    ensures { IsGreatestNext instruction place most.now result }
+{
+    let sock_filter { code, jt, jf, k } = instruction;
+    let next = place + 1;
+    match code {
+        LOAD | MASK => most[next],
+        JUMP => most[next + k as usize],
+        _ => most[next + jt as usize].max(most[next + jf as usize]),
+    }
+}
+
+// The record of the greatest call number, with arguments that are 0.
+fn passing_record(target: TargetArch) -> [u8; 64]
+    ensures { result ≡ passing_record target }
+{
+    let mut record = [0; 64];
+    record[..4].copy_from_slice(&u32::MAX.to_le_bytes());
+    record[4..8].copy_from_slice(&target.get_audit_value().to_le_bytes());
+    record
+}

@@ -1,8 +1,0 @@
-use Rattle.std.proofs.Common.{rules}
-use Rattle.seccomp_command_line.specs.Hexadecimal.{hexadecimal}
-use Rattle.seccomp_command_line.proofs.Digits.{two_bytes_written}
-use Rattle.seccomp_command_line.proofs.hexadecimal.four_digits.Goals as goal
-
-pub returns : goal.returns
-unfolding hexadecimal
-returns c = rw (c.two_digits.ensures, c.two_digits-2.ensures, c.to_be_bytes.ensures) (two_bytes_written c.args.n (search rules))

@@ -1,7 +1,0 @@
-use Rattle.std.proofs.Common.{refl}
-use Rattle.seccomp_command_line.specs.Hexadecimal.{hexadecimal}
-use Rattle.seccomp_command_line.proofs.listing.line.Goals as goal
-
-pub returns : goal.returns
-unfolding hexadecimal
-returns c = rw (c.four_digits.ensures, c.two_digits.ensures, c.two_digits-2.ensures, c.eight_digits.ensures) refl

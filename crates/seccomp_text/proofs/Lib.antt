@@ -1,0 +1,2 @@
+-- Lemmas for `hexadecimal`.
+pub mod Digits

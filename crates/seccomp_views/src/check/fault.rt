@@ -1,0 +1,284 @@
+// What is said of the errors for which a text is rejected.
+
+use crate::check::format::{CheckFormat, Lines, Place};
+use crate::check::outline::{Located, Outline, Position};
+use crate::notes::{failure, note, readable};
+use seccomp_answers::error::AnswerError;
+use seccomp_check::{
+    Expected, Fault, JsonFault, Problem, Step, fault_text, faults, json_fault, push_problem,
+};
+use seccomp_oci::{CompileError, ProfileError, ProfileFault, profile_fault_text, profile_faults};
+use seccomp_text::readable::TextKind;
+use seccompiler::{Error, JsonFrontendError, TargetArch};
+use std::alloc::{AllocError, Global};
+use std::collections::BTreeMap;
+use std::mem;
+
+// The most errors of a text that are told each by itself.
+const MOST: usize = 100;
+
+/// Adds what is said of the error of this text, for people on standard error: if it is a fault of a policy or of a profile, of all its
+/// faults, in the text's order.
+pub fn push_error(lines: &mut Lines<'_>, arch: TargetArch, given: &[u8], error: &AnswerError) {
+    let alloc = lines.text.alloc();
+    match error {
+        AnswerError::Placed(_, fault) => push_faults(lines, arch, given, fault),
+        AnswerError::Profile(CompileError::Profile(ProfileError::NotAProfile(told))) => {
+            push_profile_faults(lines, given, error, told.as_str())
+        }
+        AnswerError::Library(Error::JsonFrontend(JsonFrontendError::SerdeJson(reader)))
+        | AnswerError::Profile(CompileError::Profile(ProfileError::Json(reader))) => {
+            push_no_json(lines, given, reader)
+        }
+        _ => match (lines.format, error.told(alloc)) {
+            (CheckFormat::Text, _) => {
+                let told = failure(alloc, Some(lines.file), error);
+                lines.notes.push_format(told);
+            }
+            (_, Ok(told)) => push_unplaced(lines, error, told.as_str()),
+            (_, Err(_)) => lines.text.fail(),
+        },
+    }
+}
+
+// Why a text is no JSON; or, if that isn't found, what its reader says.
+fn reason_of(
+    alloc: Global,
+    given: &[u8],
+    reader: &serde_json::Error,
+) -> Result<JsonFault, AllocError> {
+    if let Some(fault) = json_fault(alloc, given)? {
+        return Ok(fault);
+    }
+    let told = reader.to_string(alloc)?;
+    Ok(JsonFault {
+        line: reader.line().max(1),
+        column: reader.column().max(1),
+        told,
+    })
+}
+
+// Adds that a text is no JSON, and why.
+fn push_no_json(lines: &mut Lines<'_>, given: &[u8], reader: &serde_json::Error) {
+    let alloc = lines.text.alloc();
+    let Ok(JsonFault { line, column, told }) = reason_of(alloc, given, reader) else {
+        return lines.text.fail();
+    };
+    if let CheckFormat::Text = lines.format {
+        let said = format!(in alloc; "line {line}, column {column}: invalid JSON: {told}");
+        return note(&mut lines.notes, lines.file, said);
+    }
+    lines.place = Place::At(Some(Position { line, column }));
+    match format!(in alloc; "invalid JSON: {told}") {
+        Ok(message) => lines.push("error", "not-json", message.as_str()),
+        Err(_) => lines.text.fail(),
+    }
+}
+
+// Adds what is said of the faults of a policy, of which this is the first in the order in which they are looked for.
+fn push_faults(lines: &mut Lines<'_>, arch: TargetArch, given: &[u8], first: &Fault) {
+    let alloc = lines.text.alloc();
+    let Ok(all) = faults(alloc, arch, MOST, given) else {
+        return lines.text.fail();
+    };
+    if all.is_empty() {
+        return push_fault(lines, first);
+    }
+    let mut ordered = Ordered::new(alloc, given);
+    for fault in &all {
+        let strange = match &fault.problem {
+            Problem::Strange(key, _) => Some(key.as_str()),
+            _ => None,
+        };
+        ordered.push(alloc, &fault.path, strange);
+    }
+    for nth in ordered.places.values().take(MOST) {
+        if let Some(fault) = all.get(*nth) {
+            push_fault(lines, fault);
+        }
+    }
+    push_more(lines, &ordered);
+}
+
+// Adds what is said of the faults of a text that is no profile, for this error.
+fn push_profile_faults(lines: &mut Lines<'_>, given: &[u8], error: &AnswerError, told: &str) {
+    let alloc = lines.text.alloc();
+    let Ok(all) = profile_faults(alloc, given) else {
+        return lines.text.fail();
+    };
+    if all.is_empty() {
+        return push_unplaced(lines, error, told);
+    }
+    let mut ordered = Ordered::new(alloc, given);
+    for fault in &all {
+        ordered.push(alloc, &fault.path, None);
+    }
+    for nth in ordered.places.values().take(MOST) {
+        if let Some(fault) = all.get(*nth) {
+            push_profile_fault(lines, fault);
+        }
+    }
+    push_more(lines, &ordered);
+}
+
+// Adds what is said of a fault of a text that is no profile.
+fn push_profile_fault(lines: &mut Lines<'_>, fault: &ProfileFault) {
+    let alloc = lines.text.alloc();
+    if let CheckFormat::Text = lines.format {
+        let told = match profile_fault_text(alloc, fault) {
+            Ok(told) => readable(alloc, told.as_bytes(), TextKind::Line),
+            Err(error) => Err(error),
+        };
+        return note(&mut lines.notes, lines.file, told);
+    }
+    go_along(lines, &fault.path);
+    lines.push("error", "not-a-profile", fault.words.as_str());
+}
+
+// Faults in the order of their places in a text.
+#[derive(Drop)]
+struct Ordered {
+    // Where the values of the text stand.
+    outline: Outline,
+    // Of each fault its line, its column and how many stand in front of it, and this again.
+    places: BTreeMap<(usize, usize, usize), usize>,
+    // Whether memory ran out.
+    is_missing: bool,
+}
+
+impl Ordered {
+    fn new(alloc: Global, given: &[u8]) -> Ordered {
+        Ordered {
+            outline: Outline::of(alloc, given),
+            places: BTreeMap::new(alloc),
+            is_missing: false,
+        }
+    }
+
+    // Adds a fault of the value to which this way leads, or of the key of this name there.
+    fn push(&mut self, alloc: Global, path: &[Step], strange: Option<&str>) {
+        let mut value = self.outline.whole;
+        for step in path {
+            value = match step {
+                Step::Key(key) => self.inner(alloc, value, format!(in alloc; ".{key}")),
+                Step::Item(place) => self.inner(alloc, value, format!(in alloc; "[{place}]")),
+            };
+        }
+        let Position { line, column } = match strange {
+            Some(key) => self.inner(alloc, value, format!(in alloc; ".{key}")).key,
+            None => value.begins,
+        };
+        let nth = self.places.len();
+        if self.places.insert((line, column, nth), nth).is_err() {
+            self.is_missing = true;
+        }
+    }
+
+    // The value to which a step leads.
+    fn inner(
+        &mut self,
+        alloc: Global,
+        outer: Located,
+        step: Result<String, AllocError>,
+    ) -> Located {
+        match step {
+            Ok(step) => self.outline.inner(alloc, outer, step.as_str()),
+            Err(_) => {
+                self.is_missing = true;
+                outer
+            }
+        }
+    }
+}
+
+// Adds that there are more errors than are told, if there are some.
+fn push_more(lines: &mut Lines<'_>, ordered: &Ordered) {
+    let alloc = lines.text.alloc();
+    if ordered.is_missing {
+        lines.text.fail();
+    }
+    let said = match ordered.places.len().saturating_sub(MOST) {
+        0 => return,
+        1 => String::from_str(alloc, "1 more error"),
+        more => format!(in alloc; "{more} more errors"),
+    };
+    if let CheckFormat::Text = lines.format {
+        return note(&mut lines.notes, lines.file, said);
+    }
+    lines.place = Place::At(None);
+    match said {
+        Ok(said) => lines.push("error", "more-errors", said.as_str()),
+        Err(_) => lines.text.fail(),
+    }
+}
+
+// Adds what is said of an error of this text, which has no place of its own.
+fn push_unplaced(lines: &mut Lines<'_>, error: &AnswerError, told: &str) {
+    lines.place = Place::At(None);
+    let code = match error {
+        AnswerError::Library(Error::JsonFrontend(JsonFrontendError::RepeatedKey)) => {
+            // Where it stands the second time.
+            if let Some((path, position)) = lines.outline.repeated.take() {
+                lines.path = path;
+                lines.place = Place::At(Some(position));
+            }
+            "repeated-key"
+        }
+        AnswerError::Profile(CompileError::Profile(ProfileError::NotAProfile(_))) => {
+            lines.place = Place::Value;
+            "not-a-profile"
+        }
+        AnswerError::Profile(CompileError::TooLarge) => "program-too-large",
+        AnswerError::Program(_) => "not-a-program",
+        _ => "wrong-value",
+    };
+    lines.push("error", code, told);
+}
+
+// Goes on along this way.
+fn go_along(lines: &mut Lines<'_>, path: &[Step]) {
+    for step in path {
+        match step {
+            Step::Key(key) => lines.key(key.as_str()),
+            Step::Item(place) => lines.item(*place),
+        }
+    }
+}
+
+// Adds what is said of a fault of a policy. An unknown key is found where the key is.
+fn push_fault(lines: &mut Lines<'_>, fault: &Fault) {
+    let alloc = lines.text.alloc();
+    if let CheckFormat::Text = lines.format {
+        let told = match fault_text(alloc, fault) {
+            Ok(told) => readable(alloc, &told, TextKind::Line),
+            Err(error) => Err(error),
+        };
+        return note(&mut lines.notes, lines.file, told);
+    }
+    go_along(lines, &fault.path);
+    let code = match &fault.problem {
+        Problem::Stands(_, Expected::Call(_), near) => {
+            lines.suggestion = *near;
+            "unknown-call"
+        }
+        Problem::Stands(_, _, _) => "wrong-value",
+        Problem::Strange(key, _) => {
+            // Where the key is, on the path of its object.
+            let path = mem::replace(&mut lines.path, String::new(alloc));
+            lines.key(key.as_str());
+            lines.path = path;
+            lines.place = Place::At(Some(lines.value.key));
+            "unexpected-key"
+        }
+        Problem::Missing(_) | Problem::Neither(_, _) => "missing-key",
+        Problem::Both(_, _) => "both-keys",
+        Problem::SameActions => "identical-actions",
+        Problem::TooLong(_, _, _) => "program-too-large",
+    };
+    let mut message = Vec::new(alloc);
+    let added = push_problem(&mut message, alloc, &fault.problem);
+    match String::from_utf8_lossy(alloc, &message) {
+        Ok(message) if added.is_ok() => lines.push("error", code, message.as_str()),
+        _ => lines.text.fail(),
+    }
+}

@@ -1,0 +1,280 @@
+// What is said of the warnings of a profile.
+
+use crate::check::format::{Lines, Place, said_of_calls};
+use crate::lines::push_example;
+use crate::text::Text;
+use seccomp_answers::check::CheckedProfile;
+use seccomp_answers::findings::parts::name_of;
+use seccomp_profile_checks::{Clash, Doubt, Effect, Origin, ProfileWarning, code_of};
+use seccomp_warnings::{Code, Comparison, Subject, said_text};
+use seccompiler::TargetArch;
+use seccompiler::record::word_at;
+use std::alloc::{AllocError, Global};
+use std::collections::BTreeMap;
+
+// What a line is about: the entry, or none of the profile itself; where the line stands among those of the entry or the profile; the
+// part of it; and the name of the call, if it is one of several.
+type Spot<'a> = (
+    Option<usize>,
+    (usize, usize),
+    Part<'a>,
+    Option<&'static str>,
+);
+
+// A part of a profile or of an entry.
+#[derive(Clone, Copy)]
+enum Part<'a> {
+    // All of it.
+    Whole,
+    // What is under this key.
+    Under(&'a str),
+    // This key, which is passed over.
+    Key(&'a str),
+    // The condition at this place.
+    Condition(usize),
+    // The architecture at this place.
+    Architecture(usize),
+}
+
+/// Adds what is said of the warnings of a profile, in the order of their places: once for each code of a place, and for each pair of
+/// entries.
+pub fn push_profile_warnings(lines: &mut Lines<'_>, target: TargetArch, checked: &CheckedProfile) {
+    let alloc = lines.text.alloc();
+    let mut ordered = BTreeMap::new(alloc);
+    // Backwards, since the first of those with one place and code counts.
+    for nth in (0..checked.warnings.len()).rev() {
+        let warning = &checked.warnings[nth];
+        let (entry, rank, _, _) = spot_of(target, checked, warning);
+        let order = (entry, rank, code_of(warning).name());
+        if ordered.insert(order, nth).is_err() {
+            lines.text.fail();
+        }
+    }
+    for nth in ordered.values() {
+        let Some(warning) = checked.warnings.get(*nth) else {
+            continue;
+        };
+        let (entry, _, part, call) = spot_of(target, checked, warning);
+        if let Some(entry) = entry {
+            lines.key("syscalls");
+            lines.item(entry);
+        }
+        let code = code_of(warning);
+        go_to(lines, part, code);
+        lines.call = call;
+        match said_of(alloc, target, warning) {
+            Ok(said) => lines.push("warning", code.name(), said.as_str()),
+            Err(_) => lines.text.fail(),
+        }
+    }
+}
+
+// Goes on to a part, and to the one in it that a code is about.
+fn go_to(lines: &mut Lines<'_>, part: Part<'_>, code: Code) {
+    match part {
+        Part::Whole => {}
+        Part::Under(key) => lines.key(key),
+        Part::Key(key) => {
+            lines.key(key);
+            lines.place = Place::Key;
+        }
+        Part::Condition(place) => {
+            lines.key("args");
+            lines.item(place);
+            if let Code::ValueOutsideMask = code {
+                lines.key("valueTwo");
+            }
+        }
+        Part::Architecture(place) => {
+            lines.key("architectures");
+            lines.item(place);
+        }
+    }
+}
+
+// What a warning is about.
+fn spot_of<'a>(
+    target: TargetArch,
+    checked: &'a CheckedProfile,
+    warning: &ProfileWarning,
+) -> Spot<'a> {
+    let (default, action) = (Part::Under("defaultAction"), Part::Under("action"));
+    match warning {
+        ProfileWarning::Doubtful(doubt) => match *doubt {
+            Doubt::LargeDefaultErrno | Doubt::NotifiesByDefault => (None, (0, 0), default, None),
+            Doubt::EqualsDefault { place }
+            | Doubt::LargeErrno { place }
+            | Doubt::NoListener { place } => (Some(place), (0, 0), action, None),
+            Doubt::NotifiesWrite { place } => (Some(place), (0, 1), action, None),
+            Doubt::Behind { second, number, .. } => {
+                let call = name_of(target, number);
+                (Some(second), (1, number as usize), Part::Whole, call)
+            }
+            Doubt::ManyConditions { place } => (Some(place), (2, 0), Part::Under("args"), None),
+            Doubt::OpenOrder {
+                first,
+                second,
+                call,
+            } => {
+                let call = name_of(target, word_at(&call, 0));
+                (Some(second), (3, first), Part::Whole, call)
+            }
+        },
+        ProfileWarning::Clashing(clash) => {
+            let call = name_of(target, clash.number);
+            (
+                Some(clash.place),
+                (4, clash.number as usize),
+                Part::Whole,
+                call,
+            )
+        }
+        ProfileWarning::Flags => (None, (2, 0), Part::Under("flags"), None),
+        ProfileWarning::UnknownKey(place) => {
+            let part = match checked.compiled.profile.unknown_keys.get(*place) {
+                Some(key) => Part::Key(key.as_str()),
+                None => Part::Whole,
+            };
+            (None, (3, *place), part, None)
+        }
+        ProfileWarning::UnknownArchitecture(place) => {
+            (None, (4, 0), Part::Architecture(*place), None)
+        }
+        ProfileWarning::OfEntries(warning, origin) => spot_in(target, *origin, warning.subject),
+        ProfileWarning::Evaded(evasion, origin) => {
+            let subject = Subject::Condition(evasion.comparison);
+            spot_in(target, Some(*origin), subject)
+        }
+    }
+}
+
+// What a warning of a filter is about: the default action, or a rule that is from here.
+fn spot_in(target: TargetArch, origin: Option<Origin>, subject: Subject) -> Spot<'static> {
+    let default = Part::Under("defaultAction");
+    match (origin, subject) {
+        (None, Subject::MismatchCall(call)) => {
+            (None, (1, call as usize), default, Some(call.name()))
+        }
+        (None, _) => (None, (0, 0), default, None),
+        (Some(origin), Subject::MatchAction(_)) => {
+            (Some(origin.entry), (0, 0), Part::Under("action"), None)
+        }
+        (Some(origin), subject) => match (origin.condition, subject) {
+            (Some(place), _) | (None, Subject::Condition(Comparison { place, .. })) => {
+                (Some(origin.entry), (2, place), Part::Condition(place), None)
+            }
+            (None, _) => {
+                let call = name_of(target, origin.number);
+                (
+                    Some(origin.entry),
+                    (1, origin.number as usize),
+                    Part::Whole,
+                    call,
+                )
+            }
+        },
+    }
+}
+
+// What is doubtful or so, and what to write instead.
+fn said_of(
+    alloc: Global,
+    target: TargetArch,
+    warning: &ProfileWarning,
+) -> Result<String, AllocError> {
+    match warning {
+        ProfileWarning::Doubtful(Doubt::Behind { first, .. }) => {
+            format!(in alloc;
+                "syscalls[{first}] decides each of these calls, since it tests no argument; leave the call out here, or correct that entry"
+            )
+        }
+        ProfileWarning::Doubtful(Doubt::OpenOrder { first, call, .. }) => {
+            let mut said = Text::new(alloc);
+            said.push_format(format!(in alloc; "syscalls[{first}] matches "));
+            push_example(&mut said, target, false, call);
+            said.push_str(
+                " too and has another action, and the profile doesn't say which counts; write args that exclude each other",
+            );
+            said.finish_string()
+        }
+        ProfileWarning::Clashing(Clash { effect, beside, .. }) => match effect {
+            Effect::Rejected(_) => {
+                format!(in alloc;
+                    "syscalls[{beside}] has these args and maybe more, and another action, so no container starts; leave the call out of one of them"
+                )
+            }
+            Effect::Miscompiled => {
+                format!(in alloc;
+                    "syscalls[{beside}] compares the same argument, and libseccomp may make another program or come to no end; write SCMP_CMP_EQ alone, or run the command by jail --oci"
+                )
+            }
+        },
+        ProfileWarning::Doubtful(Doubt::NotifiesByDefault) => String::from_str(
+            alloc,
+            "runc starts no container with SCMP_ACT_NOTIFY as the default action; list the calls that the supervisor decides",
+        ),
+        ProfileWarning::Doubtful(Doubt::NoListener { .. }) => String::from_str(
+            alloc,
+            "without \"listenerPath\" runc starts no container, and under crun these calls fail with ENOSYS; write where the supervisor listens",
+        ),
+        ProfileWarning::Doubtful(Doubt::NotifiesWrite { .. }) => String::from_str(
+            alloc,
+            "runc starts no container with SCMP_ACT_NOTIFY for write; leave the call out here",
+        ),
+        ProfileWarning::Evaded(evasion, _) => {
+            said_of_calls(alloc, target, evasion, said_of_code(evasion.code))
+        }
+        ProfileWarning::Flags => String::from_str(
+            alloc,
+            "crun sets them, and runc 1.1 starts no container with them; leave them out for runc",
+        ),
+        ProfileWarning::UnknownArchitecture(_) => String::from_str(
+            alloc,
+            "the OCI runtime specification has no such architecture, so runc starts no container; correct it, also its letter case, or leave it out",
+        ),
+        other => String::from_str(alloc, said_of_code(code_of(other))),
+    }
+}
+
+// What is so if a warning has this code, and what to write instead: of a code that has no words for a policy, or whose words don't
+// fit, in words for a profile.
+fn said_of_code(code: Code) -> &'static str {
+    match code {
+        Code::NoEffect => {
+            "it is the default action, so runtimes pass over the entry; leave the entry out"
+        }
+        Code::RefusedByLibseccomp => {
+            "an errno of 4095 or more is rejected, so no container starts; write one from 1 to 4094"
+        }
+        Code::RuntimesDiffer =>
+            "crun takes 6 conditions of an entry, and runc all; write at most 6",
+        Code::UnknownKey => {
+            "the key is passed over; leave it out, or correct it, also its letter case"
+        }
+        Code::FakeSuccess => {
+            "the call isn't made, and returns 0 as if it had succeeded; write an errno from 1 to 4094"
+        }
+        Code::TraceWithoutTracer => {
+            "if no tracer is attached, the call fails with ENOSYS; write SCMP_ACT_ERRNO or SCMP_ACT_ALLOW if there is none"
+        }
+        Code::ValueOutsideMask => {
+            "it has bits outside the mask \"value\", which aren't compared; write it without them, or a mask that has them"
+        }
+        Code::HighHalfEvades => {
+            "the same call if the argument has 32 bits; then write SCMP_CMP_MASKED_EQ with the mask 4294967295"
+        }
+        Code::FlagEvades => {
+            "the same but for a flag that changes nothing of it; write SCMP_CMP_MASKED_EQ with a mask of the flags that count"
+        }
+        Code::SignedCompared => {
+            "the argument is signed, and a filter takes negative numbers for large ones; write SCMP_CMP_EQ or SCMP_CMP_NE, or a second condition that bounds it"
+        }
+        Code::CloneByClone3 => {
+            "clone is denied or restricted, and clone3, whose flags no filter sees, is let through; deny clone3 with errno 38"
+        }
+        Code::UndecidedEntry => {
+            "it wasn't decided whether a call needs this entry; use fewer masks in it"
+        }
+        other => said_text(other),
+    }
+}

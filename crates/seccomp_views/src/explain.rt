@@ -1,0 +1,294 @@
+// What is written of what is decided on records.
+
+ghost use Rattle.std.specs.Prelude.{◌<◌};
+
+use crate::json::{Object, call_name, or_null, push_item, written};
+use crate::lines::{push_word, word_value};
+use crate::log::Caller;
+use crate::text::Text;
+use seccomp_answers::explain::{Explained, Explanation, Why};
+use seccomp_answers::findings::parts::name_of;
+use seccomp_answers::layers::Layer;
+use seccomp_entries::{Entry, Reason};
+use seccomp_text::readable::TextKind;
+use seccompiler::TargetArch;
+use std::alloc::{AllocError, Global};
+
+/// The lines of what is decided on records of an architecture, one for each, after who made the call; as JSON their list.
+///
+/// A line has the action by its name in a policy: `allow`, `log`, `trap`, `kill_thread`, `kill_process` and `user_notif`, a space and
+/// the low 16 bits in decimal after `errno` and `trace`, and the name of an errno that has one in brackets; a value that is none of
+/// these is written in hexadecimal digits after `0x`. The reason follows, by paths in the policy or the profile, or by the path of the
+/// layer that decides, and the call by its name and number.
+pub fn explained_text(
+    alloc: Global,
+    target: TargetArch,
+    json: bool,
+    layers: &[Layer<'_>],
+    explanation: &Explanation,
+    callers: &[Caller<'_>],
+) -> Result<Vec<u8>, AllocError> {
+    let (mut text, mut callers) = (Text::new(alloc), callers.iter());
+    for explained in &explanation.records {
+        let (written, process) = callers.next().copied().unwrap_or_default();
+        let program = program_name(alloc, written)?;
+        let caller = (program.as_str(), process);
+        let reason = parts_of(explanation, *explained);
+        let path = path_of(alloc, layers, explanation, reason)?;
+        if json {
+            push_item(
+                &mut text,
+                value_of(alloc, target, path.as_str(), caller, *explained, reason),
+            );
+        } else {
+            push_line(
+                &mut text,
+                target,
+                path.as_str(),
+                caller,
+                explained.word,
+                reason,
+            );
+        }
+    }
+    written(text, json, "decisions")
+}
+
+// The kinds of reasons, each with what a line has in front of its path and the call.
+const KINDS: [(&str, &str); 9] = [
+    ("another-architecture", ""),
+    ("no-entry", "no entry of "),
+    ("no-match", "no match: "),
+    ("entry", ""),
+    ("no-entry", "defaultAction of "),
+    ("program", ""),
+    ("no-entry", "libseccomp, for x32: "),
+    ("no-entry", "runc, above all calls that are named: "),
+    ("layer", ""),
+];
+
+// What a line says of a reason: where its kind stands, the number of the call that it is about, if it is of the architecture, the
+// places of its entry and of its condition, if it has one, and how many entries of the text are for the call.
+#[derive(Clone, Copy)]
+struct Told {
+    kind: usize,
+    number: Option<u32>,
+    entry: Option<usize>,
+    condition: Option<usize>,
+    entries: usize,
+    // The place of the layer that decides.
+    layer: Option<usize>,
+}
+
+// What is said of a reason.
+fn parts_of(explanation: &Explanation, explained: Explained) -> Told
+    ensures { result.kind < 9 }
+{
+    let mut told = Told {
+        kind: 0,
+        number: None,
+        entry: None,
+        condition: None,
+        entries: 0,
+        layer: None,
+    };
+    let reason = match explained.why {
+        Why::Entries(reason) => reason,
+        Why::Program { number, .. } => {
+            told.kind = 5;
+            told.number = number;
+            return told;
+        }
+        Why::Layer { number, place, .. } => {
+            told.kind = 8;
+            told.number = number;
+            told.layer = place;
+            return told;
+        }
+    };
+    let entries = explanation.entries.as_slice();
+    match reason {
+        Reason::AnotherArchitecture => {}
+        Reason::NoEntry { number } => {
+            told.kind = match explanation.default {
+                None => 1,
+                Some(word) if word == explained.word => 4,
+                // The thread is killed, since the number is one of x32; else it is runc's answer.
+                Some(_) if explained.word == 0 => 6,
+                Some(_) => 7,
+            };
+            told.number = Some(number);
+        }
+        Reason::NoMatch {
+            number,
+            nearest,
+            ..
+        } => {
+            told.kind = 2;
+            told.number = Some(number);
+            told.entries = count_for(entries, number);
+            if let Some(entry) = entries.get(nearest.entry) {
+                told.entry = Some(entry.place);
+                told.condition = Some(entry.alternative.unwrap_or(nearest.condition));
+            }
+        }
+        Reason::Entry { number, index } => {
+            told.kind = 3;
+            told.number = Some(number);
+            if let Some(entry) = entries.get(index) {
+                told.entry = Some(entry.place);
+            }
+        }
+    }
+    told
+}
+
+// How many entries of the text are for the calls of a number: one of which each condition has an entry of its own is one.
+fn count_for(entries: &[Entry], number: u32) -> usize {
+    let mut count = 0usize;
+    for entry in entries {
+        let is_further = matches!(entry.alternative, Some(1..));
+        if entry.number == number && !is_further {
+            count = count.saturating_add(1);
+        }
+    }
+    count
+}
+
+// The path of what is the reason, in the filter of this name or in a profile, or of the layer: nothing if it is none of these.
+fn path_of(
+    alloc: Global,
+    layers: &[Layer<'_>],
+    explanation: &Explanation,
+    told: Told,
+) -> Result<String, AllocError> {
+    let mut path = Text::new(alloc);
+    if let Some(place) = told.layer
+        && let Some(layer) = layers.get(place)
+    {
+        path.push_str(layer.path);
+    }
+    if let Some(entry) = told.entry {
+        match &explanation.name {
+            None => path.push_str("syscalls["),
+            Some(name) => {
+                path.push_str(name.as_str());
+                path.push_str(".filter[");
+            }
+        }
+        path.push_display(&entry);
+        if let Some(condition) = told.condition {
+            path.push_str("].args[");
+            path.push_display(&condition);
+        }
+        path.push_str("]");
+    }
+    path.finish_string()
+}
+
+// Adds the line of a decision, whose reason has this path, after who made the call.
+fn push_line(
+    text: &mut Text,
+    target: TargetArch,
+    path: &str,
+    caller: (&str, &str),
+    word: u32,
+    told: Told,
+)
+    requires { told.kind < 9 }
+{
+    push_caller(text, caller);
+    push_word(text, word);
+    text.push_str(": ");
+    let Some(number) = told.number else {
+        return text.push_str("another architecture\n");
+    };
+    text.push_str(KINDS[told.kind].1);
+    if !path.is_empty() {
+        text.push_readable(path, TextKind::Name);
+        text.push_str(" of ");
+    }
+    if let Some(name) = name_of(target, number) {
+        text.push_str(name);
+        text.push_str(" (");
+        text.push_display(&number);
+        text.push_str(")");
+    } else {
+        text.push_str("call ");
+        text.push_display(&number);
+    }
+    if told.condition.is_some() {
+        text.push_str(" does not hold");
+        if told.entries > 1 {
+            text.push_str(", the nearest of ");
+            text.push_display(&told.entries);
+            text.push_str(" entries");
+        }
+    }
+    text.push_str("\n");
+}
+
+// Adds who made a call, as far as a line said it: the program, and the number of the process in brackets, or alone.
+fn push_caller(text: &mut Text, (program, process): (&str, &str)) {
+    match (program, process) {
+        ("", "") => return,
+        ("", _) => text.push_str(process),
+        (_, "") => text.push_str(program),
+        _ => {
+            text.push_str(program);
+            text.push_str("[");
+            text.push_str(process);
+            text.push_str("]");
+        }
+    }
+    text.push_str(": ");
+}
+
+// The name of a program. Linux writes it in quotes, or, if it has blanks or other such bytes, in upper-case hexadecimal digits.
+fn program_name(alloc: Global, written: &str) -> Result<String, AllocError> {
+    let plain = written.trim_matches('"');
+    if written.contains(|c: char| c.is_ascii_lowercase()) {
+        return String::from_str(alloc, plain);
+    }
+    match hex::decode(alloc, written.as_bytes()) {
+        Ok(bytes) => String::from_utf8_lossy(alloc, &bytes),
+        Err(_) => String::from_str(alloc, plain),
+    }
+}
+
+// A decision as an object.
+fn value_of(
+    alloc: Global,
+    target: TargetArch,
+    path: &str,
+    caller: (&str, &str),
+    explained: Explained,
+    told: Told,
+) -> Object
+    requires { told.kind < 9 }
+{
+    let Explained { word, why } = explained;
+    let Told {
+        kind,
+        number,
+        entry,
+        condition,
+        ..
+    } = told;
+    let steps = match why {
+        Why::Program { steps, .. } | Why::Layer { steps, .. } => Some(steps),
+        _ => None,
+    };
+    let mut object = Object::new(alloc);
+    object.field("action", word_value(alloc, word));
+    object.field("call", call_name(target, number));
+    object.field("number", number);
+    object.field("reason", KINDS[kind].0);
+    object.field("path", or_null(path));
+    object.field("entry", entry);
+    object.field("condition", condition);
+    object.field("steps", steps);
+    object.field("program", or_null(caller.0));
+    object.field("process", or_null(caller.1));
+    object
+}

@@ -1,7 +1,0 @@
-use Rattle.seccomptool.proofs.check.profile.profile_checked.Goals as goal
-
-pub returns-clause-checked : goal.returns-clause-checked
-returns-clause-checked c = record {
-  compiled = c.in_ok-compiled.ensures.compiled;
-  warnings = c.in-Ok.ensures;
-}

@@ -1,8 +1,0 @@
-use Rattle.std.proofs.Common.{◌≡◌, drop}
-use Rattle.seccomptool.specs.Diff.{verdict_all}
-use Rattle.seccomptool.specs.Findings.{worse}
-use Rattle.seccomptool.proofs.diff.Diff.verdict.Given as goal
-
--- with the rest it is the verdict of all
-abbrev pub invariant-loop-named : goal.invariant-loop-named
-invariant-loop-named l = worse l.verdict (verdict_all (drop l.named-index l.named-items)) ≡ verdict_all l.named-items

@@ -1,7 +1,0 @@
-use Rattle.seccomptool.proofs.Causes.{refused_for}
-use Rattle.seccomptool.proofs.explain.refuse_faulty.Goals as goal
-
-pub returns : goal.returns
-returns c =
-    let is = c.in-Err.ensures in
-    rw c.into.ensures (refused_for c.args.target c.args.text.now c.in-Err.refusal is.fault is.no_reader is.memory)

@@ -1,7 +1,0 @@
-use Rattle.seccomptool.proofs.findings.Ending.{same_found}
-use Rattle.seccomptool.proofs.findings.answer_on.Goals as goal
-
-pub returns-then-is_same : goal.returns-then-is_same
-returns-then-is_same c =
-    same_found c.args.terms.target c.args.terms.relation c.args.part c.args.new.now c.args.old.now c.requires.new_checked
-    (c.requires.same c.if-is_same.true)

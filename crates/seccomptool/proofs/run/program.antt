@@ -1,2 +1,0 @@
--- Lemmas for the functions of `run::program`.
-pub mod Misplaced

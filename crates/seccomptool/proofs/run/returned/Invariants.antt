@@ -1,8 +1,0 @@
-use Rattle.std.proofs.Common.{take}
-use Rattle.std.specs.List.{AllZip}
-use Rattle.seccomptool.specs.Explain.{IsReturned}
-use Rattle.seccomptool.proofs.run.returned.Given as goal
-
--- the records so far are explained
-abbrev pub invariant-loop-call : goal.invariant-loop-call
-invariant-loop-call l = AllZip (IsReturned l.target l.program) (take l.call-index l.records) l.all.items

@@ -1,8 +1,0 @@
-use Rattle.std.proofs.Common.{take}
-use Rattle.std.specs.List.{AllZip}
-use Rattle.seccomptool.specs.Explain.{IsOfStack}
-use Rattle.seccomptool.proofs.stack.decided_on.Given as goal
-
--- the records so far are decided
-abbrev pub invariant-loop-call : goal.invariant-loop-call
-invariant-loop-call l = AllZip (IsOfStack l.target l.programs) (take l.call-index l.records) l.all.items

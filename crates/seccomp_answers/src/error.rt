@@ -65,7 +65,7 @@ impl Drop for AnswerError {
 }
 
 impl AnswerError {
-    // An error of the second one of what is read.
+    /// The error as one of the second of what is read, by its text; lack of memory stays that.
     pub fn in_second(alloc: Global, error: AnswerError) -> AnswerError
         ensures { IsOfSecond error result }
     {
@@ -80,7 +80,7 @@ impl AnswerError {
         }
     }
 
-    // An error of what is at a path, which its text names.
+    /// The error with the path of what it is about in front of its text; lack of memory stays that.
     pub fn at_path(alloc: Global, path: &str, error: AnswerError) -> AnswerError
         ensures { IsAtPath error result }
     {

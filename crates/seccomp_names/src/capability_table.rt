@@ -1,7 +1,7 @@
 // Names of capabilities.
 
 ghost use Rattle.std.specs.Prelude.{◌≡◌, ◌↔◌, All, Contains, IfSome, IfNone, IsTrue, map};
-ghost use Rattle.seccomp_names.specs.Capabilities.{IsCalled, IsShort, capability_names};
+ghost use Rattle.seccomp_names.specs.Capabilities.{IsCalled, capability_names};
 
 // Linux's capabilities, by their numbers from 0 on (capabilities(7)).
 const CAPABILITIES: [&str; 41] = [
@@ -77,19 +77,13 @@ fn called_in(names: &[&'static str], name: &str) -> Option<&'static str>
     None
 }
 
-// Whether the capability is called so, with or without what each name begins with, in any case.
+// Whether the capability is called so, in any case: by its whole name, or without its first four bytes.
 fn is_called(own: &str, name: &str) -> bool
     ensures { IsTrue result ↔ IsCalled own.now name.now }
 {
-    own.eq_ignore_ascii_case(name) || is_short(own, name)
-}
-
-// Whether the name is what stands behind the first four bytes, in any case.
-fn is_short(own: &str, name: &str) -> bool
-    ensures { IsTrue result ↔ IsShort own.now name.now }
-{
-    match own.as_bytes().get(4..) {
+    let is_short = match own.as_bytes().get(4..) {
         Some(short) => short.eq_ignore_ascii_case(name.as_bytes()),
         None => false,
-    }
+    };
+    is_short || own.eq_ignore_ascii_case(name)
 }

@@ -1,6 +1,6 @@
 // Names of errnos.
 
-ghost use Rattle.std.specs.Prelude.{◌≡◌, ◌↔◌, ℕ, List, All, Any, IfSome, IfNone, IsTrue, map};
+ghost use Rattle.std.specs.Prelude.{◌≡◌, ℕ, List, All, Any, IfSome, IfNone, map};
 ghost use Rattle.std.specs.Map.{lookup};
 ghost use Rattle.std.specs.Str.{bytes_eq};
 ghost use Rattle.seccomp_names.specs.Errnos.{IsErrorName, error_names};
@@ -165,17 +165,11 @@ fn name_in(errors: &[(&'static str, u32)], number: u32) -> Option<&'static str>
     ensures none { IfNone result (All (λ (error : List ℕ × ℕ). error.1 ≡ number → ⊥) (map (λ error. (error.0.now, error.1)) errors.now)) }
 {
     for error in errors {
-        if has_number(error, number) {
+        if error.1 == number {
             return Some(error.0);
         }
     }
     None
-}
-
-fn has_number(error: &(&str, u32), number: u32) -> bool
-    ensures { IsTrue result ↔ (error.now.1 ≡ number) }
-{
-    error.1 == number
 }
 
 /// The number of the errno of this name, as 38 for `ENOSYS`; none if Linux has no errno of this name. It takes no memory.

@@ -1,7 +1,7 @@
 // Listings of programs.
 
 ghost use Rattle.std.specs.Prelude.{◌≡◌, ◌++◌, OnOk};
-ghost use Rattle.seccomp_text.specs.Listing.{header_of, instruction_line, instruction_lines, listing_of};
+ghost use Rattle.seccomp_text.specs.Listing.{instruction_line, listing_of};
 
 use crate::hexadecimal::{eight_digits, four_digits, two_digits};
 use crate::names::push_escaped;
@@ -31,25 +31,11 @@ pub fn push_listing(
 ) -> Result<(), AllocError>
     ensures { OnOk result (text.new.items ≡ text.old.items ++ listing_of (name.now, program.now)) }
 {
-    push_header(text, program.len(), name)?;
-    push_instructions(text, program)
-}
-
-// Adds the line in front of a program.
-fn push_header(text: &mut Vec<u8>, count: usize, name: &str) -> Result<(), AllocError>
-    ensures { OnOk result (text.new.items ≡ text.old.items ++ header_of count name.now) }
-{
     text.extend_from_slice(b"filter ")?;
-    text.extend_from_slice(Buffer::new().format(count).as_bytes())?;
+    text.extend_from_slice(Buffer::new().format(program.len()).as_bytes())?;
     text.extend_from_slice(b" ")?;
     push_escaped(text, name.as_bytes())?;
-    text.extend_from_slice(b"\n")
-}
-
-// Adds the lines of a program's instructions.
-fn push_instructions(text: &mut Vec<u8>, program: BpfProgramRef<'_>) -> Result<(), AllocError>
-    ensures { OnOk result (text.new.items ≡ text.old.items ++ instruction_lines program.now) }
-{
+    text.extend_from_slice(b"\n")?;
     for instruction in program {
         text.extend_from_slice(&line(instruction))?;
     }

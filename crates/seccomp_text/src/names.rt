@@ -1,7 +1,7 @@
 // Names of filters, as listings have them.
 
 ghost use Rattle.std.specs.Prelude.{◌≡◌, ◌++◌, OnOk};
-ghost use Rattle.seccomp_text.specs.Names.{is_escaped, byte_number, escaped_byte, escaped};
+ghost use Rattle.seccomp_text.specs.Names.{byte_number, escaped};
 
 use crate::hexadecimal::two_digits;
 use std::alloc::AllocError;
@@ -18,27 +18,13 @@ pub fn push_escaped(text: &mut Vec<u8>, name: &[u8]) -> Result<(), AllocError>
     ensures { OnOk result (text.new.items ≡ text.old.items ++ escaped name.now) }
 {
     for byte in name {
-        push_byte(text, *byte)?;
+        if byte.is_ascii_control() || *byte == b'\\' {
+            push_number(text, *byte)?;
+        } else {
+            text.push(*byte)?;
+        }
     }
     Ok(())
-}
-
-// Whether a byte is written by its number.
-fn is_escaped(byte: u8) -> bool
-    ensures { result ≡ is_escaped byte }
-{
-    byte.is_ascii_control() || byte == b'\\'
-}
-
-// Adds a byte of a name.
-fn push_byte(text: &mut Vec<u8>, byte: u8) -> Result<(), AllocError>
-    ensures { OnOk result (text.new.items ≡ text.old.items ++ escaped_byte byte) }
-{
-    if is_escaped(byte) {
-        push_number(text, byte)
-    } else {
-        text.extend_from_slice(&[byte])
-    }
 }
 
 // Adds a byte by its number.

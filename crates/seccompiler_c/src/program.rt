@@ -1,16 +1,13 @@
 // The program that a caller asks for.
 
-ghost use Rattle.std.specs.Prelude.{◌≡◌, ◌≤◌, All, length, IfOk, IfErr};
-ghost use Rattle.seccomp_tree.specs.Layouts.{IsCompiledIn};
-ghost use Rattle.seccompiler.specs.Compiled.{numbers_of};
-ghost use Rattle.seccompiler.specs.SyscallTable.{IsTableNumber};
-ghost use Rattle.seccompiler_c.specs.Programs.{IsUncompiledIn, OfProgram, IsRefusal};
+ghost use Rattle.std.specs.Prelude.{◌≡◌, ◌≤◌, length, IfOk, IfErr};
+ghost use Rattle.seccompiler_c.specs.Programs.{OfProgram, IsRefusal};
 
 use crate::arguments::{architecture_of, layout_of};
 use crate::fault::Fault;
 use crate::policy::policy_of;
-use seccomp_tree::{Layout, to_bpf_in};
-use seccompiler::{BpfProgram, SeccompFilter};
+use seccomp_tree::to_bpf_in;
+use seccompiler::BpfProgram;
 use std::alloc::Global;
 
 // The program of the filter of a name in a text, for the architecture of a word, in the layout of a
@@ -34,18 +31,9 @@ pub(crate) fn program_of(
         return Err(Fault::UnknownLayout);
     };
     let policy = policy_of(alloc, text, target, name)?;
-    let program = program_in(alloc, layout, &policy)?;
+    let program = to_bpf_in(alloc, &policy, layout)?;
     if program.len() > capacity {
         return Err(Fault::NoRoom(program.len()));
     }
     Ok(program)
-}
-
-// A policy's program in a layout.
-fn program_in(alloc: Global, layout: Layout, policy: &SeccompFilter) -> Result<BpfProgram, Fault>
-    requires numbers { All IsTableNumber (numbers_of policy.now.chains) }
-    ensures program { IfOk result (λ found. IsCompiledIn layout policy.now found.items) }
-    ensures refused { IfErr result (IsUncompiledIn layout policy.now) }
-{
-    Ok(to_bpf_in(alloc, policy, layout)?)
 }

@@ -102,13 +102,9 @@ impl Walk {
         self.in_key("archMap", Form::List, value)?;
         self.in_list("flags", Form::Flag, value)?;
         self.in_key("syscalls", Form::List, value)?;
-        match value.get("syscalls") {
-            Some(Value::Array(items)) => self.in_entries(items.as_slice()),
-            _ => Ok(()),
-        }
-    }
-
-    fn in_entries(&mut self, items: &[Value]) -> Result<(), AllocError> {
+        let Some(Value::Array(items)) = value.get("syscalls") else {
+            return Ok(());
+        };
         self.enter("syscalls")?;
         for (place, item) in items.iter().enumerate() {
             self.path.push(Step::Item(place))?;
@@ -154,21 +150,16 @@ impl Walk {
             None | Some(Value::Null) => Ok(()),
             Some(inner) => {
                 self.enter(key)?;
-                self.in_criteria(inner)?;
+                let keys = ["caps", "arches", "minKernel"];
+                if self.in_object(&keys, "caps, arches or minKernel", inner)? {
+                    self.in_list("caps", Form::Text, inner)?;
+                    self.in_list("arches", Form::Text, inner)?;
+                    self.in_key("minKernel", Form::Version, inner)?;
+                }
                 self.leave();
                 Ok(())
             }
         }
-    }
-
-    fn in_criteria(&mut self, value: &Value) -> Result<(), AllocError> {
-        let keys = ["caps", "arches", "minKernel"];
-        if !self.in_object(&keys, "caps, arches or minKernel", value)? {
-            return Ok(());
-        }
-        self.in_list("caps", Form::Text, value)?;
-        self.in_list("arches", Form::Text, value)?;
-        self.in_key("minKernel", Form::Version, value)
     }
 
     fn in_condition(&mut self, value: &Value) -> Result<(), AllocError> {
@@ -218,18 +209,10 @@ impl Walk {
     // The list under a name, if one is there, and its items.
     fn in_list(&mut self, key: &str, of: Form, value: &Value) -> Result<(), AllocError> {
         self.in_key(key, Form::List, value)?;
-        match value.get(key) {
-            Some(Value::Array(items)) => {
-                self.enter(key)?;
-                self.in_items(of, items.as_slice())?;
-                self.leave();
-                Ok(())
-            }
-            _ => Ok(()),
-        }
-    }
-
-    fn in_items(&mut self, of: Form, items: &[Value]) -> Result<(), AllocError> {
+        let Some(Value::Array(items)) = value.get(key) else {
+            return Ok(());
+        };
+        self.enter(key)?;
         for (place, item) in items.iter().enumerate() {
             self.path.push(Step::Item(place))?;
             match of {
@@ -240,6 +223,7 @@ impl Walk {
             }
             self.leave();
         }
+        self.leave();
         Ok(())
     }
 
@@ -316,11 +300,15 @@ impl Walk {
 
     // Adds what is wrong with the value where the walk is.
     fn refuse(&mut self, words: &str) -> Result<(), AllocError> {
-        let fault = ProfileFault {
-            path: copied(self.alloc, self.path.as_slice())?,
-            words: String::from_str(self.alloc, words)?,
-        };
-        Ok(self.found.push(fault)?)
+        let mut path = Vec::with_capacity(self.alloc, self.path.len())?;
+        for step in &self.path {
+            path.push(match step {
+                Step::Key(key) => Step::Key(String::from_str(self.alloc, key.as_str())?),
+                Step::Item(place) => Step::Item(*place),
+            })?;
+        }
+        let words = String::from_str(self.alloc, words)?;
+        Ok(self.found.push(ProfileFault { path, words })?)
     }
 }
 
@@ -334,16 +322,4 @@ fn is_no_whole(form: Form, value: &Value) -> bool {
         }
         _ => false,
     }
-}
-
-// The same way.
-fn copied(alloc: Global, path: &[Step]) -> Result<Vec<Step>, AllocError> {
-    let mut copied = Vec::with_capacity(alloc, path.len())?;
-    for step in path {
-        copied.push(match step {
-            Step::Key(key) => Step::Key(String::from_str(alloc, key.as_str())?),
-            Step::Item(place) => Step::Item(*place),
-        })?;
-    }
-    Ok(copied)
 }

@@ -1,6 +1,6 @@
 // What a profile lists as architectures: whether x86 is among them, and the first that no runtime knows.
 
-ghost use Rattle.std.specs.Prelude.{◌≡◌, ◌↔◌, IsTrue, Some, codes, option_map};
+ghost use Rattle.std.specs.Prelude.{◌≡◌, ◌↔◌, IsTrue, codes, option_map};
 ghost use Rattle.serde_json.specs.Data.{string};
 ghost use Rattle.serde_json.specs.Find.{get};
 ghost use Rattle.serde_json.specs.View.{items_view, view};
@@ -60,17 +60,10 @@ fn has_x86_map(items: &[Value]) -> bool
 fn is_x86_map(value: &Value) -> bool
     ensures { IsTrue result ↔ IsX86Map (view value.now) }
 {
-    is_text_there(value.get("architecture"), "SCMP_ARCH_X86_64")
-        && has_x86(items_there(value.get("subArchitectures")))
-}
-
-fn is_text_there(value: Option<&Value>, text: &str) -> bool
-    ensures { IsTrue result ↔ (option_map (λ v. view v.now) value.entry ≡ Some (string text.now)) }
-{
-    match value {
-        Some(value) => is_text(value, text),
-        None => false,
-    }
+    let Some(architecture) = value.get("architecture") else {
+        return false;
+    };
+    is_text(architecture, "SCMP_ARCH_X86_64") && has_x86(items_there(value.get("subArchitectures")))
 }
 
 fn is_text(value: &Value, text: &str) -> bool
@@ -131,19 +124,12 @@ fn first_unknown(items: &[Value]) -> Option<usize>
     None
 }
 
-// Whether it is the name of an architecture.
+// Whether it is the name of an architecture that the specification has.
 fn is_architecture(value: &Value) -> bool
     ensures { result ≡ spec.is_architecture (view value.now) }
 {
     match value {
-        Value::String(name) => is_known(name.as_str()),
+        Value::String(name) => is_among(name.as_str(), &ARCHITECTURES),
         _ => false,
     }
-}
-
-// Whether the specification has this architecture.
-fn is_known(name: &str) -> bool
-    ensures { result ≡ spec.is_known name.now }
-{
-    is_among(name, &ARCHITECTURES)
 }

@@ -1,6 +1,6 @@
 // What the readers of a JSON object share: its names, its numbers, its lists and its comment.
 
-ghost use Rattle.std.specs.Prelude.{◌≡◌, ◌↔◌, ℕ, [], IsTrue, IfSome, IfNone, Some, map, option_map};
+ghost use Rattle.std.specs.Prelude.{◌≡◌, ◌↔◌, ℕ, IsTrue, IfSome, IfNone, Some, map, option_map};
 ghost use Rattle.std.specs.List.{list_any};
 ghost use Rattle.std.specs.Str.{bytes_eq};
 ghost use Rattle.serde_json.specs.Data.{no_items, object};
@@ -100,12 +100,6 @@ pub(crate) fn has_no_items(value: Option<&Value>) -> bool
 
 fn are_none(items: &[Value]) -> bool
     ensures { IsTrue result ↔ (items_view items.now ≡ no_items) }
-{
-    is_nil(items)
-}
-
-fn is_nil(items: &[Value]) -> bool
-    ensures { IsTrue result ↔ (items.now ≡ []) }
 {
     items.is_empty()
 }

@@ -40,10 +40,15 @@ fn read_plain_action(text: &str, number: Option<u32>) -> Option<Action>
     }
 }
 
-fn action_of_text(text: &str, number: Option<u32>) -> Option<Action>
-    ensures found { IfSome result (IsAction (string text.now) number) }
-    ensures none { IfNone result ((a : Action) → IsAction (string text.now) number a → ⊥) }
+/// The action that a JSON value is, with this number beside it; `None` if it is none.
+///
+/// `SCMP_ACT_ERRNO` and `SCMP_ACT_TRACE` take a number; if none is given, it is 1, which is `EPERM`. Beside any other action
+/// none may stand. `SCMP_ACT_KILL` is `SCMP_ACT_KILL_THREAD`. It takes no memory.
+pub(crate) fn read_action(value: &Value, number: Option<u32>) -> Option<Action>
+    ensures found { IfSome result (IsAction (view value.now) number) }
+    ensures none { IfNone result ((a : Action) → IsAction (view value.now) number a → ⊥) }
 {
+    let text = value.as_str()?;
     if text == "SCMP_ACT_ERRNO" {
         return Some(Action::Own(SeccompAction::Errno(number.unwrap_or(1))));
     }
@@ -53,22 +58,12 @@ fn action_of_text(text: &str, number: Option<u32>) -> Option<Action>
     read_plain_action(text, number)
 }
 
-/// The action that a JSON value is, with this number beside it; `None` if it is none.
-///
-/// `SCMP_ACT_ERRNO` and `SCMP_ACT_TRACE` take a number; if none is given, it is 1, which is `EPERM`. Beside any other action
-/// none may stand. `SCMP_ACT_KILL` is `SCMP_ACT_KILL_THREAD`. It takes no memory.
-pub(crate) fn read_action(value: &Value, number: Option<u32>) -> Option<Action>
-    ensures found { IfSome result (IsAction (view value.now) number) }
-    ensures none { IfNone result ((a : Action) → IsAction (view value.now) number a → ⊥) }
+/// The operator that a JSON value is, or `None` if it is none.
+pub(crate) fn read_operator(value: &Value) -> Option<Operator>
+    ensures found { IfSome result (IsOperator (view value.now)) }
+    ensures none { IfNone result ((o : Operator) → IsOperator (view value.now) o → ⊥) }
 {
-    action_of_text(value.as_str()?, number)
-}
-
-fn operator_of_text(text: &str) -> Option<Operator>
-    ensures found { IfSome result (IsOperator (string text.now)) }
-    ensures none { IfNone result ((o : Operator) → IsOperator (string text.now) o → ⊥) }
-{
-    match text {
+    match value.as_str()? {
         "SCMP_CMP_NE" => Some(Operator::Ne),
         "SCMP_CMP_LT" => Some(Operator::Lt),
         "SCMP_CMP_LE" => Some(Operator::Le),
@@ -78,14 +73,6 @@ fn operator_of_text(text: &str) -> Option<Operator>
         "SCMP_CMP_MASKED_EQ" => Some(Operator::MaskedEq),
         _ => None,
     }
-}
-
-/// The operator that a JSON value is, or `None` if it is none.
-pub(crate) fn read_operator(value: &Value) -> Option<Operator>
-    ensures found { IfSome result (IsOperator (view value.now)) }
-    ensures none { IfNone result ((o : Operator) → IsOperator (view value.now) o → ⊥) }
-{
-    operator_of_text(value.as_str()?)
 }
 
 // The index of an argument, from 0 to 5.
@@ -119,19 +106,6 @@ pub(crate) fn read_argument(value: &Value) -> Option<Argument>
     })
 }
 
-fn flag_of_text(text: &str) -> Option<Flag>
-    ensures found { IfSome result (IsFlag (string text.now)) }
-    ensures none { IfNone result ((f : Flag) → IsFlag (string text.now) f → ⊥) }
-{
-    match text {
-        "SECCOMP_FILTER_FLAG_TSYNC" => Some(Flag::Tsync),
-        "SECCOMP_FILTER_FLAG_LOG" => Some(Flag::Log),
-        "SECCOMP_FILTER_FLAG_SPEC_ALLOW" => Some(Flag::SpecAllow),
-        "SECCOMP_FILTER_FLAG_WAIT_KILLABLE_RECV" => Some(Flag::WaitKillableRecv),
-        _ => None,
-    }
-}
-
 /// The flag that a JSON value is, or `None` if it is none of those that leave decisions as they are.
 ///
 /// It takes no memory.
@@ -139,5 +113,11 @@ pub(crate) fn read_flag(value: &Value) -> Option<Flag>
     ensures found { IfSome result (IsFlag (view value.now)) }
     ensures none { IfNone result ((f : Flag) → IsFlag (view value.now) f → ⊥) }
 {
-    flag_of_text(value.as_str()?)
+    match value.as_str()? {
+        "SECCOMP_FILTER_FLAG_TSYNC" => Some(Flag::Tsync),
+        "SECCOMP_FILTER_FLAG_LOG" => Some(Flag::Log),
+        "SECCOMP_FILTER_FLAG_SPEC_ALLOW" => Some(Flag::SpecAllow),
+        "SECCOMP_FILTER_FLAG_WAIT_KILLABLE_RECV" => Some(Flag::WaitKillableRecv),
+        _ => None,
+    }
 }

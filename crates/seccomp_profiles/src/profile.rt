@@ -42,20 +42,13 @@ const KEYS: [&str; 11] = [
     "comment",
 ];
 
-// Whether no profile has the key.
-fn is_unknown(key: &str) -> bool
-    ensures { result ≡ is_unknown key.now }
-{
-    !is_among(key, &KEYS)
-}
-
 // The keys of an object that no profile has.
 fn unknown_keys(alloc: Global, members: &Map<String, Value>) -> Result<Vec<String>, AllocError>
     ensures { IfOk result (λ keys. map string_bytes keys.items ≡ filter is_unknown (keys_of (members_view members.now.entries))) }
 {
     let mut found = Vec::new(alloc);
     for (key, _) in members.iter() {
-        if is_unknown(key.as_str()) {
+        if !is_among(key.as_str(), &KEYS) {
             found.push(String::from_str(alloc, key.as_str())?)?;
         }
     }

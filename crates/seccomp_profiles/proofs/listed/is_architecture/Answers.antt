@@ -1,4 +1,4 @@
-use Rattle.std.proofs.Common.{◌≡◌, ◌∙◌, ap, arith, String, Global, string_bytes, sym}
+use Rattle.std.proofs.Common.{◌≡◌, ◌∙◌, ap, arith, rules, String, Global, string_bytes, sym}
 use Rattle.serde_json.specs.Data.{string}
 use Rattle.serde_json.specs.View.{view}
 use Rattle.serde_json.specs.declared.value.Value.{the_lemmas}
@@ -11,5 +11,7 @@ text_is : (name : String Global) → view (v.String name) ≡ string (string_byt
 text_is name = grind (arith, the_lemmas)
 
 pub returns-in-String : goal.returns-in-String
-returns-in-String c = c.is_known.ensures ∙ ap spec.is_known c.as_str.ensures.value
+returns-in-String c =
+    let known : c.is_among.result ≡ spec.is_known c.as_str.result.now = search rules in
+    known ∙ ap spec.is_known c.as_str.ensures.value
     ∙ ap spec.is_architecture (sym (ap view c.in-String.is ∙ text_is c.in-String.name))

@@ -1,8 +1,7 @@
 // From the text of a profile to its program.
 
-ghost use Rattle.std.specs.Prelude.{◌≡◌, [], IfErr, IfOk, map, string_bytes, true};
-ghost use Rattle.seccomp_oci.specs.CompiledProfile.{IsCompileFault, IsCompiledProfile, IsNamesFault, IsOwnProgram, IsProfileProgram, IsProgramFault};
-ghost use Rattle.seccomp_oci.specs.LeftOut.{AreLeftOut};
+ghost use Rattle.std.specs.Prelude.{◌≡◌, IfErr, IfOk};
+ghost use Rattle.seccomp_oci.specs.CompiledProfile.{IsCompileFault, IsCompiledProfile};
 ghost use Rattle.seccomp_profiles.specs.Types.{AllOnArguments};
 
 use crate::decisions::decisions_of_profile;
@@ -69,49 +68,17 @@ pub fn compile_profile(
     ensures arguments { IfOk result (λ compiled. AllOnArguments compiled.profile.entries) }
 {
     let profile = profile_of(alloc, text)?;
-    let left_out = names_left_out(alloc, arch, container, strict, &profile)?;
-    let program = program_for(alloc, arch, container, &profile)?;
-    Ok(CompiledProfile {
-        profile,
-        program,
-        left_out,
-    })
-}
-
-// The names that are left out of a profile; an error where there are some, and they are asked not to be left out.
-fn names_left_out(
-    alloc: Global,
-    arch: TargetArch,
-    container: &Container,
-    strict: bool,
-    profile: &Profile,
-) -> Result<Vec<String>, CompileError>
-    ensures names { IfOk result (λ names. AreLeftOut arch container.now profile.now.entries (map string_bytes names.items)) }
-    ensures none { IfOk result (λ names. strict ≡ true → map string_bytes names.items ≡ []) }
-    ensures fault { IfErr result (IsNamesFault arch container.now strict profile.now) }
-{
-    let names = unknown_names(alloc, arch, container, profile)?;
-    if strict && !names.is_empty() {
-        return Err(CompileError::UnknownNames(names));
+    let left_out = unknown_names(alloc, arch, container, &profile)?;
+    if strict && !left_out.is_empty() {
+        return Err(CompileError::UnknownNames(left_out));
     }
-    Ok(names)
-}
-
-// The program of a profile whose conditions are on arguments that a call has.
-fn program_for(
-    alloc: Global,
-    arch: TargetArch,
-    container: &Container,
-    profile: &Profile,
-) -> Result<BpfProgram, CompileError>
-    requires { AllOnArguments profile.now.entries }
-    ensures program { IfOk result (λ program. IsProfileProgram arch container.now profile.now program.items) }
-    ensures own { IfOk result (λ program. IsOwnProgram arch container.now profile.now program.items) }
-    ensures fault { IfErr result (IsProgramFault arch container.now profile.now) }
-{
-    let decisions = decisions_of_profile(alloc, arch, container, profile)?;
+    let decisions = decisions_of_profile(alloc, arch, container, &profile)?;
     match decisions.to_bpf(alloc) {
-        Ok(program) => Ok(program),
+        Ok(program) => Ok(CompiledProfile {
+            profile,
+            program,
+            left_out,
+        }),
         Err(TreeError::TooLarge) => Err(CompileError::TooLarge),
         Err(TreeError::OutOfMemory) => Err(CompileError::OutOfMemory),
     }
@@ -124,7 +91,13 @@ impl fmt::Display for CompileError {
             CompileError::Profile(error) => error.fmt(f),
             CompileError::UnknownNames(names) => {
                 f.write_str("No system call of this architecture has these names")?;
-                write_names(f, names.as_slice())?;
+                // They stand behind a colon, with a comma between each two.
+                let mut sign = ": ";
+                for name in names {
+                    f.write_str(sign)?;
+                    f.write_str(name.as_str())?;
+                    sign = ", ";
+                }
                 f.write_str(".")
             }
             CompileError::TooLarge => {
@@ -133,17 +106,6 @@ impl fmt::Display for CompileError {
             CompileError::OutOfMemory => f.write_str("Out of memory."),
         }
     }
-}
-
-// Writes names behind a colon, with a comma between each two.
-fn write_names<W: fmt::Write>(f: &mut fmt::Formatter<W>, names: &[String]) -> fmt::Result {
-    let mut sign = ": ";
-    for name in names {
-        f.write_str(sign)?;
-        f.write_str(name.as_str())?;
-        sign = ", ";
-    }
-    Ok(())
 }
 
 impl error::Error for CompileError {}

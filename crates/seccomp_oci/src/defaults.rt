@@ -1,10 +1,9 @@
 // What a profile decides where no entry matches.
 
-ghost use Rattle.std.specs.Prelude.{◌≡◌, ◌↔◌, ◌<◌, ◌≤◌, ◌⊎◌, ℕ, Any, IfOk, IfSome, IsTrue, map, string_bytes};
+ghost use Rattle.std.specs.Prelude.{◌≡◌, ◌↔◌, ◌<◌, ℕ, Any, IfOk, IfSome, IsTrue, map, string_bytes};
 ghost use Rattle.seccomp_entries.specs.Entries.{value_of};
 ghost use Rattle.seccomp_tree.specs.Decided.{AscendFromZero, default_for};
-ghost use Rattle.seccomp_oci.specs.Decision.{Applies, IsAbove, IsDefault, IsNameOf, IsNamed, default_of, lets};
-ghost use Rattle.seccomp_profiles.specs.declared.types.Runtime.TheVariants.{Runc};
+ghost use Rattle.seccomp_oci.specs.Decision.{IsAbove, IsDefault, IsNameOf, IsNamed, default_of, lets};
 ghost use Rattle.seccomp_oci.specs.Defaults.{IsGreatest, is_above};
 
 use crate::concerns::number_of;
@@ -68,9 +67,9 @@ fn named_in(arch: TargetArch, container: &Container, profile: &Profile) -> Optio
     ensures above { (n : ℕ) → IsTrue (is_above result n) ↔ IsAbove arch container.now profile.now n }
     ensures small { IfSome result (λ g. g < 463) }
 {
-    if !is_runc(container) {
+    let Runtime::Runc = container.runtime else {
         return None;
-    }
+    };
     if lets(profile.default) {
         return None;
     }
@@ -79,15 +78,6 @@ fn named_in(arch: TargetArch, container: &Container, profile: &Profile) -> Optio
         return None;
     }
     Some(greatest)
-}
-
-fn is_runc(container: &Container) -> bool
-    ensures { IsTrue result ↔ (container.now.runtime ≡ Runc) }
-{
-    match container.runtime {
-        Runtime::Runc => true,
-        Runtime::Crun => false,
-    }
 }
 
 // Whether an action lets a call be made.
@@ -104,48 +94,26 @@ fn lets(action: Action) -> bool
 fn greatest_in(arch: TargetArch, container: &Container, entries: &[Entry]) -> u32
     ensures { IsGreatest (IsNamed arch container.now entries.now) result }
 {
-    let mut greatest = 0;
+    let mut greatest: u32 = 0;
     for entry in entries {
-        greatest = greater(greatest, greatest_by(arch, container, entry));
+        if !applies(arch, container, entry) {
+            continue;
+        }
+        greatest = greatest.max(greatest_of(arch, entry.names.as_slice()));
     }
     greatest
-}
-
-// The greatest number that an entry names, if it applies.
-fn greatest_by(arch: TargetArch, container: &Container, entry: &Entry) -> u32
-    ensures { IsGreatest (λ n. Applies arch container.now entry.now × Any (IsNameOf arch n) entry.now.names) result }
-{
-    if !applies(arch, container, entry) {
-        return 0;
-    }
-    greatest_of(arch, entry.names.as_slice())
 }
 
 // The greatest number of the names; 0 where none has one.
 fn greatest_of(arch: TargetArch, names: &[String]) -> u32
     ensures { IsGreatest (λ n. Any (IsNameOf arch n) (map string_bytes names.now)) result }
 {
-    let mut greatest = 0;
+    let mut greatest: u32 = 0;
     for name in names {
-        greatest = greater(greatest, known_number(arch, name.as_str()));
+        let Some(number) = number_of(arch, name.as_str()) else {
+            continue;
+        };
+        greatest = greatest.max(number);
     }
     greatest
-}
-
-// The number of the call of this name; 0 where there is none.
-fn known_number(arch: TargetArch, name: &str) -> u32
-    ensures { IsGreatest (λ n. IsNameOf arch n name.now) result }
-{
-    match number_of(arch, name) {
-        Some(number) => number,
-        None => 0,
-    }
-}
-
-fn greater(one: u32, other: u32) -> u32
-    ensures least { one ≤ result }
-    ensures least_too { other ≤ result }
-    ensures own { (result ≡ one) ⊎ (result ≡ other) }
-{
-    if one < other { other } else { one }
 }

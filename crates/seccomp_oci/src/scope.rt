@@ -1,6 +1,6 @@
 // Whether an entry of a profile applies.
 
-ghost use Rattle.std.specs.Prelude.{◌≡◌, ◌↔◌, ◌⊎◌, ◌&&◌, not, [], IsTrue, IfSome, map, string_bytes, All, Contains};
+ghost use Rattle.std.specs.Prelude.{◌≡◌, ◌↔◌, ◌⊎◌, ◌&&◌, not, [], IsTrue, IfSome, map, string_bytes, Contains};
 ghost use Rattle.std.specs.List.{list_all, list_any};
 ghost use Rattle.std.specs.Str.{bytes_eq};
 ghost use Rattle.seccomp_oci.specs.Decision.{go_name, Applies, IsAtLeast};
@@ -62,20 +62,6 @@ pub fn has_text(texts: &[String], text: &str) -> bool
     is_listed(text, texts)
 }
 
-// Whether each of the texts is one of these names.
-fn has_all(names: &[String], texts: &[String]) -> bool
-    ensures { IsTrue result ↔ All (λ text. Contains (map string_bytes names.now) text) (map string_bytes texts.now) }
-{
-    are_all_among(texts, names)
-}
-
-// Whether none of the texts is one of these names.
-fn has_none(names: &[String], texts: &[String]) -> bool
-    ensures { IsTrue result ↔ All (λ text. Contains (map string_bytes names.now) text → ⊥) (map string_bytes texts.now) }
-{
-    !is_any_among(texts, names)
-}
-
 // Whether the architectures are none, or the text is one of them.
 fn is_included(arches: &[String], text: &str) -> bool
     ensures { IsTrue result ↔ ((map string_bytes arches.now ≡ []) ⊎ Contains (map string_bytes arches.now) text.now) }
@@ -96,31 +82,19 @@ fn is_at_least(kernel: Option<Kernel>, least: Kernel) -> bool
     least.major < kernel.major || (kernel.major == least.major && least.minor <= kernel.minor)
 }
 
-// Whether the kernel is the one that is included or a newer one, if one is.
-fn is_from(kernel: Option<Kernel>, least: Option<Kernel>) -> bool
-    ensures { IsTrue result ↔ IfSome least (IsAtLeast kernel) }
-{
-    let Some(least) = least else {
-        return true;
-    };
-    is_at_least(kernel, least)
-}
-
-// Whether the kernel is older than the one that is excluded, if one is.
-fn is_before(kernel: Option<Kernel>, least: Option<Kernel>) -> bool
-    ensures { IsTrue result ↔ IfSome least (λ k. IsAtLeast kernel k → ⊥) }
-{
-    let Some(least) = least else {
-        return true;
-    };
-    !is_at_least(kernel, least)
-}
-
-// Whether the kernel is one that the entry is for.
+// Whether the kernel is the one that is included or a newer one, if one is, and older than the one that is excluded, if one is.
 fn is_for_kernel(kernel: Option<Kernel>, entry: &Entry) -> bool
     ensures { IsTrue result ↔ (IfSome entry.now.includes.min_kernel (IsAtLeast kernel) × IfSome entry.now.excludes.min_kernel (λ k. IsAtLeast kernel k → ⊥)) }
 {
-    is_from(kernel, entry.includes.min_kernel) && is_before(kernel, entry.excludes.min_kernel)
+    if let Some(least) = entry.includes.min_kernel {
+        if !is_at_least(kernel, least) {
+            return false;
+        }
+    }
+    match entry.excludes.min_kernel {
+        Some(least) => !is_at_least(kernel, least),
+        None => true,
+    }
 }
 
 // Whether all are so, but the fourth isn't.
@@ -141,10 +115,11 @@ pub fn applies(arch: TargetArch, container: &Container, entry: &Entry) -> bool
     ensures { IsTrue result ↔ Applies arch container.now entry.now }
 {
     let name = go_name(arch);
+    let caps = container.caps.as_slice();
     are_five(
-        has_all(container.caps.as_slice(), entry.includes.caps.as_slice()),
+        are_all_among(entry.includes.caps.as_slice(), caps),
         is_included(entry.includes.arches.as_slice(), name),
-        has_none(container.caps.as_slice(), entry.excludes.caps.as_slice()),
+        !is_any_among(entry.excludes.caps.as_slice(), caps),
         has_text(entry.excludes.arches.as_slice(), name),
         is_for_kernel(container.kernel, entry),
     )

@@ -1,14 +1,20 @@
--- For the functions of `compiled`: the program of decisions is that of a profile, and why there is none.
-use Rattle.std.proofs.Common.{ℕ, Bool, List}
+-- For `compile_profile`: the program of decisions is that of a profile, and no name is left out of an empty list.
+use Rattle.std.proofs.Common.{◌≡◌, ℕ, Bool, true, List, [], ◌∷◌, length, map, String, Global, string_bytes, arith, refl}
+use Rattle.std.specs.Prelude.{◌==◌}
+use Rattle.std.proofs.lemmas.Bool.Decides.{nat_tests}
 use Rattle.seccompiler.specs.declared.backend.TargetArch.{TargetArch}
 use Rattle.seccompiler.specs.declared.bpf.sock_filter.{sock_filter}
 use Rattle.seccomp_tree.specs.Decided.{DecisionSet}
 use Rattle.seccomp_tree.specs.TreeProgram.{IsTreeProgram}
-use Rattle.seccomp_oci.specs.declared.compiled.CompileError.{CompileError}
-use Rattle.seccomp_oci.specs.declared.compiled.CompileError.TheVariants as e
-use Rattle.seccomp_oci.specs.CompiledProfile.{IsCompileFault, IsProfileProgram, IsProgramFault, IsRead}
+use Rattle.seccomp_oci.specs.CompiledProfile.{IsProfileProgram}
 use Rattle.seccomp_oci.specs.ProfileDecisions.{DecideAs}
 use Rattle.seccomp_profiles.specs.Types.{Container, Profile}
+
+-- If the list's length is tested to be 0, there are no names.
+pub no_names : (names : List (String Global)) (n : ℕ) (r : Bool) → n ≡ length names → r ≡ (n == 0) → r ≡ true
+    → map string_bytes names ≡ []
+no_names [] n r same is empty = refl
+no_names (name ∷ names) n r same is empty = absurd (grind (arith, nat_tests, same, is, empty))
 
 module _ (arch : TargetArch) (container : Container) (p : Profile) where
   -- A program of decisions that decide as the profile is the profile's.
@@ -20,10 +26,3 @@ module _ (arch : TargetArch) (container : Container) (p : Profile) where
         let found = is.decides r record_is in
         record { word = found.word; decided = decide.decide r found.word found.decided; ends = found.ends };
   }
-
-  -- Why the profile has no program is why its text isn't compiled.
-  pub compile_fault : (strict : Bool) (text : List ℕ) (left_out : List (List ℕ)) → IsRead arch container strict text p left_out
-      → (error : CompileError) → IsProgramFault arch container p error → IsCompileFault arch container strict text error
-  compile_fault strict text left_out read e.TooLarge fault = record { profile = p; left_out = left_out; read = read; large = fault }
-  compile_fault strict text left_out read e.OutOfMemory fault = tt
-  compile_fault strict text left_out read error fault = absurd fault

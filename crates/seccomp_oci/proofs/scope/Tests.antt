@@ -1,4 +1,4 @@
--- For `has_text`, `has_all` and `has_none`: what tests of lists of texts say.
+-- For `has_text` and `applies`: what tests of lists of texts say.
 use Rattle.std.proofs.Common.{◌≡◌, ◌↔◌, ℕ, Option, List, [], ◌∷◌, Bool, true, false, not, ◌&&◌, ◌||◌, ◌⊎◌, refl, subst}
 use Rattle.std.specs.Prelude.{All, Contains, IfSome, IsTrue}
 use Rattle.std.specs.List.{list_all, list_any}

@@ -1,7 +1,9 @@
-use Rattle.std.proofs.Common.{◌∙◌, ◌∷◌, [], ap, sym}
+use Rattle.std.proofs.Common.{◌∙◌, ◌∷◌, [], ap, map, sym}
 use Rattle.std.proofs.lemmas.Bool.{true≢false}
+use Rattle.std.proofs.lemmas.List.{take_all}
 use Rattle.std.proofs.lemmas.Result.{IfOk-weaker}
 use Rattle.seccomp_oci.specs.Concerns.{apart, together}
+use Rattle.seccomp_oci.specs.Conditions.{condition_of}
 use Rattle.seccomp_oci.proofs.concerns.Conditions.{lists_of}
 use Rattle.seccomp_oci.proofs.concerns.alternatives_of.Goals as goal
 
@@ -11,4 +13,5 @@ returns-then-share_argument c = IfOk-weaker c.each_alone.result _ _
 
 pub returns : goal.returns
 returns c = together (λ share. true≢false (sym (c.share_argument.ensures.1 share) ∙ c.if-share_argument.false))
-    (ap lists_of c.in_ok-vec.ensures.items ∙ ap (λ cs. cs ∷ []) c.in_ok-all.ensures)
+    (ap lists_of c.in_ok-vec.ensures.items ∙ ap (λ cs. cs ∷ []) (c.loop-argument.invariant
+    ∙ ap (map condition_of) (take_all c.loop-argument.argument-index c.args.args.now c.loop-argument-test.false)))

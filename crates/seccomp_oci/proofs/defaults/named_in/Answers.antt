@@ -43,5 +43,5 @@ pub returns-clause-above : goal.returns-clause-above
 returns-clause-above c = λ n. above_is c.args.arch c.args.container.now c.args.profile.now c.greatest_in-greatest.result
     (subst (λ es. IsGreatest (IsNamed c.args.arch c.args.container.now es) c.greatest_in-greatest.result)
     (c.as_slice.ensures.value ∙ ap (λ (p : Profile). p.entries) c.profile.view_is) c.greatest_in-greatest.ensures)
-    n (c.is_runc.ensures.0 c.if-not-is_runc.false)
+    n (sym (ap (λ (k : Container). k.runtime) c.container.view_is) ∙ c.in-Runc.is)
     (sym (ap (λ (p : Profile). lets p.default) c.profile.view_is) ∙ sym c.lets.ensures ∙ c.if-lets.false) c.if-greatest-eq0.false

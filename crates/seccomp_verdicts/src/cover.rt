@@ -83,20 +83,7 @@ fn filter_with(
     )
 }
 
-// The filter that kills at all calls.
-fn filter_without(alloc: Global, arch: TargetArch) -> Result<SeccompFilter, BackendError>
-    ensures { IfOk result (λ f. f ≡ filter_with arch []) }
-{
-    let chains = BTreeMap::new(alloc);
-    SeccompFilter::new(
-        chains,
-        SeccompAction::KillProcess,
-        SeccompAction::Allow,
-        arch,
-    )
-}
-
-// The filter of rules, perhaps of none.
+// The filter of rules, perhaps of none. Without a rule it kills at all calls.
 fn filter_of(
     alloc: Global,
     arch: TargetArch,
@@ -105,11 +92,16 @@ fn filter_of(
 ) -> Result<SeccompFilter, BackendError>
     ensures { IfOk result (λ f. f ≡ filter_of arch number rules.items) }
 {
-    if rules.is_empty() {
-        filter_without(alloc, arch)
-    } else {
-        filter_with(alloc, arch, number, rules)
+    if !rules.is_empty() {
+        return filter_with(alloc, arch, number, rules);
     }
+    let chains = BTreeMap::new(alloc);
+    SeccompFilter::new(
+        chains,
+        SeccompAction::KillProcess,
+        SeccompAction::Allow,
+        arch,
+    )
 }
 
 // Whether at each call of the number at which these conditions hold one of the rules does.

@@ -55,48 +55,16 @@ pub fn verdicts_of(
     ensures verdicts { IfOk result (λ verdicts. spec.AreTrue arch entries.now verdicts.items) }
     ensures decisions { IfOk result (λ verdicts. SayOfEntries arch entries.now verdicts.items) }
 {
-    let verdicts = verdicts_in(alloc, arch, entries)?;
-    Ok(verdicts)
-}
-
-// The verdict of each, in their order.
-fn verdicts_in(
-    alloc: Global,
-    arch: TargetArch,
-    entries: &[Entry],
-) -> Result<Vec<Verdict>, AllocError>
-    ensures { IfOk result (λ verdicts. spec.AreTrue arch entries.now verdicts.items) }
-{
     let drawers = index_of(alloc, entries)?;
-    let most = share_of(entries.len());
+    // How many sets are looked at for each entry.
+    let most = (MOST_SETS / entries.len().max(1)).max(1);
     let mut verdicts = Vec::with_capacity(alloc, entries.len())?;
     for place in 0..entries.len() {
-        let verdict = verdict_at(alloc, arch, entries, &drawers, place, most)?;
+        let own = &entries[place];
+        let verdict = verdict_of(alloc, arch, own, entries, &drawers, place, most)?;
         verdicts.push(verdict)?;
     }
     Ok(verdicts)
-}
-
-// How many sets are looked at for each of so many entries.
-fn share_of(entries: usize) -> usize {
-    (MOST_SETS / entries.max(1)).max(1)
-}
-
-// The verdict of the entry at a place.
-fn verdict_at(
-    alloc: Global,
-    arch: TargetArch,
-    entries: &[Entry],
-    drawers: &[Vec<usize>],
-    place: usize,
-    most: usize,
-) -> Result<Verdict, AllocError>
-    requires place { place < length entries.now }
-    requires index { IsIndex drawers.now entries.now }
-    ensures { IfOk result (spec.IsVerdictAt arch entries.now place) }
-{
-    let verdict = verdict_of(alloc, arch, &entries[place], entries, drawers, place, most)?;
-    Ok(verdict)
 }
 
 // The verdict of an entry beside those at other places than this one.

@@ -102,11 +102,6 @@ module _ (allowed : List Code) (judgements : List Judgement) (p : Part) where
       subst (λ (l : List Warning). AddsPicked allowed judgements p l begun new) (sym all)
       (adds_more (IsGiven allowed judgements p) (map (about what) (take at codes)) (about what code ∷ []) begun old new so_far own)
 
-  -- Those of codes that are these.
-  pub of_codes : (what : Subject) (found codes : List Code) (old new : List Warning) → found ≡ codes
-      → AddsPicked allowed judgements p (map (about what) found) old new → AddsPicked allowed judgements p (map (about what) codes) old new
-  of_codes what found codes old new same adds = subst (λ ks. AddsPicked allowed judgements p (map (about what) ks) old new) same adds
-
 -- ---- what is asked of more
 
 -- All codes of a call that no entry is for.

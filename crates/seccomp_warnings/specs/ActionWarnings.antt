@@ -21,13 +21,9 @@ IsErrnoTooLarge action = ⊥
 abbrev pub Traces : Action → Type 0
 Traces action = (n : ℕ) × (action ≡ Own (Trace n))
 
--- The action leaves a call to a tracer or a supervisor.
-abbrev pub Asks : Action → Type 0
-Asks action = Traces action ⊎ (action ≡ Notify)
-
--- The action denies a call, whoever is there.
+-- The action denies a call, whoever is there: it leaves none to a tracer or a supervisor.
 abbrev pub Denies : Action → Type 0
-Denies action = (Permits action → ⊥) × (Asks action → ⊥)
+Denies action = (Permits action → ⊥) × (Traces action → ⊥) × (action ≡ Notify → ⊥)
 
 -- What a code says of an action is so. Of FakeSuccess and EndlessRetry: its return value is SECCOMP_RET_ERRNO with errno 0, or 4.
 abbrev pub IsSoOfAction : Code → Action → Type 0

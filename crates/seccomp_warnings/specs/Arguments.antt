@@ -1,5 +1,5 @@
 -- What is so of the arguments of calls, by the manual pages of the calls (section 2), that the author of a filter may not mean.
-use Rattle.std.specs.Prelude.{◌≢◌, ◌==◌, if◌then◌else◌, ℕ, pos, List, [], ◌∷◌, Bool, IsTrue, codes, ⊤}
+use Rattle.std.specs.Prelude.{◌≢◌, ◌==◌, ◌&&◌, if◌then◌else◌, ℕ, pos, List, [], ◌∷◌, Bool, IsTrue, codes, ⊤}
 use Rattle.std.specs.List.{list_any}
 use Rattle.seccompiler.specs.Architecture.{table_of}
 use Rattle.seccompiler.specs.JsonPolicyOf.{is_number}
@@ -74,12 +74,6 @@ files_calls index =
     else if index == 3 then codes "mount" ∷ []
     else []
 
--- The calls that take MFD_CLOEXEC in the argument of this index.
-abbrev pub memory_calls : ℕ → List (List ℕ)
-memory_calls index =
-    if index == 1 then codes "memfd_create" ∷ []
-    else []
-
 -- The calls that take PROT_READ, and PROT_SEM, in the argument of this index.
 abbrev pub read_calls : ℕ → List (List ℕ)
 read_calls index =
@@ -94,12 +88,12 @@ abbrev pub IsAmong : TargetArch → ℕ → List (List ℕ) → Type 0
 IsAmong arch number names = IsTrue (is_among arch number names)
 
 -- A flag that the call of this number takes in the argument of this index, and that changes nothing of what it is denied for; 0 if
--- none is known.
+-- none is known. That of memfd_create is MFD_CLOEXEC.
 abbrev pub flag_of : TargetArch → (number index : ℕ) → ℕ
 flag_of arch number index =
     if is_among arch number (close_on_exec_calls index) then 0x80000
     else if is_among arch number (files_calls index) then 0x400
-    else if is_among arch number (memory_calls index) then 1
+    else if (index == 1) && is_among arch number (codes "memfd_create" ∷ []) then 1
     else if is_among arch number (read_calls index) then 1
     else 0
 

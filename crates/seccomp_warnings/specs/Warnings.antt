@@ -31,44 +31,30 @@ use Rattle.seccomp_warnings.specs.declared.judgement.Judgement.{Judgement}
 
 -- ---- what is so of a condition
 
--- The low half of the argument is compared, and the value has bits above it.
-abbrev pub HasIgnoredHalf : Comparison → Type 0
-HasIgnoredHalf c = (c.arg_len ≡ Dword) × (2 ^ 32 ≤ c.value)
-
 -- The value has bits that the mask, as far as it is compared, doesn't have.
 abbrev pub IsOutside : SeccompCmpArgLen → SeccompCmpOp → ℕ → Type 0
 IsOutside length (MaskedEq mask) value = bit_and value (part_of length mask) ≢ value
 IsOutside length operator value = ⊥
 
-abbrev pub HasValueOutside : Comparison → Type 0
-HasValueOutside c = IsOutside c.arg_len c.operator c.value
-
--- What a code says of a condition is so.
+-- What a code says of a condition is so. Of HighHalfIgnored: the low half of the argument is compared, and the value has bits above it.
 abbrev pub IsSoOfCondition : Code → Comparison → Type 0
-IsSoOfCondition code.HighHalfIgnored c = HasIgnoredHalf c
-IsSoOfCondition code.ValueOutsideMask c = HasValueOutside c
+IsSoOfCondition code.HighHalfIgnored c = (c.arg_len ≡ Dword) × (2 ^ 32 ≤ c.value)
+IsSoOfCondition code.ValueOutsideMask c = IsOutside c.arg_len c.operator c.value
 IsSoOfCondition code.AlwaysHolds c = HoldsForAll (condition_in c)
 IsSoOfCondition code.NeverHolds c = HoldsForNone (condition_in c)
 IsSoOfCondition other c = ⊥
 
 -- ---- what is so of a part
 
--- What a code says of a condition on an argument of its entry's call is so.
-abbrev pub IsSoOfEntryArgument : Code → Part → Comparison → Type 0
-IsSoOfEntryArgument kind p c =
-    IsSomeAnd (slice_get p.entries c.entry) (λ e. IsSoOfArgument kind p.target_arch e.number c)
-
--- What a code says of a subject is so, if these are the judgements of the entries.
+-- What a code says of a subject is so, if these are the judgements of the entries. Of a condition, by itself or on the argument of its
+-- entry's call.
 abbrev pub IsSoOf : List Judgement → Part → Code → Subject → Type 0
 IsSoOf judgements p kind (subject.MismatchAction action) = IsSoOfAction kind action
 IsSoOf judgements p kind (subject.MismatchCall call) = IsSoOfUnlisted kind p call
 IsSoOf judgements p kind (subject.MatchAction action) = IsSoOfAction kind action ⊎ IsSoOfBoth kind p.actions
 IsSoOf judgements p kind (subject.Entry place) = IsSoOfEntry kind p place ⊎ IsJudged kind judgements place
-IsSoOf judgements p kind (subject.Condition c) = IsSoOfCondition kind c ⊎ IsSoOfEntryArgument kind p c
-
--- The warning is true of the part.
-abbrev pub IsSo : List Judgement → Part → Warning → Type 0
-IsSo judgements p w = IsSoOf judgements p w.code w.subject
+IsSoOf judgements p kind (subject.Condition c) = IsSoOfCondition kind c
+    ⊎ IsSomeAnd (slice_get p.entries c.entry) (λ e. IsSoOfArgument kind p.target_arch e.number c)
 
 -- ---- what is asked of a part, in the order of its entries
 
@@ -113,7 +99,7 @@ asked_of p = map (about (subject.MismatchAction p.actions.mismatch)) mismatch_co
 
 -- The warning is true of the part, and its code isn't allowed.
 abbrev pub IsGiven : List Code → List Judgement → Part → Warning → Type 0
-IsGiven allowed judgements p w = IsSo judgements p w × (Contains allowed w.code → ⊥)
+IsGiven allowed judgements p w = IsSoOf judgements p w.code w.subject × (Contains allowed w.code → ⊥)
 
 -- The warnings of a part with these judgements: exactly those that are true of it and whose codes aren't allowed, in the order
 -- of its entries.

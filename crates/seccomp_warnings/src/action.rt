@@ -1,7 +1,7 @@
 // What is so of an action.
 
 ghost use Rattle.std.specs.Prelude.{◌↔◌, IsTrue};
-ghost use Rattle.seccomp_warnings.specs.ActionWarnings.{Asks, Denies, IsSoOfAction, IsSoOfBoth, Permits};
+ghost use Rattle.seccomp_warnings.specs.ActionWarnings.{Denies, IsSoOfAction, IsSoOfBoth, Permits};
 
 use crate::code::Code;
 use crate::warning::Actions;
@@ -27,21 +27,14 @@ pub(crate) fn permits(action: Action) -> bool
     )
 }
 
-// Whether the action leaves a call to a tracer or a supervisor.
-fn asks(action: Action) -> bool
-    ensures { IsTrue result ↔ Asks action }
-{
-    matches!(
-        action,
-        Action::Own(SeccompAction::Trace(_)) | Action::Notify
-    )
-}
-
-// Whether the action denies a call, whoever is there.
+// Whether the action denies a call, whoever is there: it leaves none to a tracer or a supervisor.
 fn denies(action: Action) -> bool
     ensures { IsTrue result ↔ Denies action }
 {
-    !permits(action) && !asks(action)
+    match action {
+        Action::Own(SeccompAction::Trace(_)) | Action::Notify => false,
+        other => !permits(other),
+    }
 }
 
 // Whether what a code says is so of both actions together.

@@ -3,7 +3,6 @@
 ghost use Rattle.std.specs.Prelude.{◌≡◌, ◌↔◌, IsTrue, map};
 ghost use Rattle.seccomp_warnings.specs.Arguments as spec;
 
-use crate::call::is_number_of;
 use crate::code::Code;
 use crate::pointers::pointer_calls;
 use crate::warning::Comparison;
@@ -63,13 +62,6 @@ fn files_calls(index: u8) -> &'static [&'static str]
     }
 }
 
-// The calls that take MFD_CLOEXEC in the argument of this index.
-fn memory_calls(index: u8) -> &'static [&'static str]
-    ensures { map (λ n. n.now) result.now ≡ spec.memory_calls index }
-{
-    if index == 1 { &["memfd_create"] } else { &[] }
-}
-
 // The calls that take PROT_READ, and PROT_SEM, in the argument of this index.
 fn read_calls(index: u8) -> &'static [&'static str]
     ensures { map (λ n. n.now) result.now ≡ spec.read_calls index }
@@ -81,20 +73,8 @@ fn read_calls(index: u8) -> &'static [&'static str]
     }
 }
 
-// Whether the call of this number has one of these names.
+// Whether the call of this number has one of these names: one pass over the table takes less than a look-up of each.
 fn is_among(arch: TargetArch, number: u32, names: &[&str]) -> bool
-    ensures { result ≡ spec.is_among arch number (map (λ n. n.now) names.now) }
-{
-    for name in names {
-        if is_number_of(arch, name, number) {
-            return true;
-        }
-    }
-    false
-}
-
-// The same of many names: one pass over the table takes less than a look-up of each.
-fn is_among_many(arch: TargetArch, number: u32, names: &[&str]) -> bool
     ensures { result ≡ spec.is_among arch number (map (λ n. n.now) names.now) }
 {
     for pair in SyscallTable::new(arch).pairs() {
@@ -113,7 +93,7 @@ pub(crate) fn flag_of(arch: TargetArch, number: u32, index: u8) -> u64
         0x8_0000
     } else if is_among(arch, number, files_calls(index)) {
         0x400
-    } else if is_among(arch, number, memory_calls(index)) {
+    } else if index == 1 && is_among(arch, number, &["memfd_create"]) {
         0x1
     } else if is_among(arch, number, read_calls(index)) {
         1
@@ -133,16 +113,6 @@ pub(crate) fn further_flag_of(arch: TargetArch, number: u32, index: u8) -> u64
     }
 }
 
-// Whether the operator asks for the order of numbers.
-fn is_order(operator: SeccompCmpOp) -> bool
-    ensures { IsTrue result ↔ spec.IsOrder operator }
-{
-    matches!(
-        operator,
-        SeccompCmpOp::Ge | SeccompCmpOp::Gt | SeccompCmpOp::Le | SeccompCmpOp::Lt
-    )
-}
-
 // Whether what a code says is so of a condition on an argument of the call of this number.
 pub(crate) fn is_so_of_call(
     code: Code,
@@ -155,11 +125,15 @@ pub(crate) fn is_so_of_call(
     let index = comparison.arg_index;
     match code {
         Code::PointerCompared => {
-            comparison.value != 0 && is_among_many(arch, number, pointer_calls(index))
+            comparison.value != 0 && is_among(arch, number, pointer_calls(index))
         }
-        Code::SignedCompared => {
-            is_order(comparison.operator) && is_among(arch, number, signed_calls(index))
-        }
+        // The operator asks for the order of numbers.
+        Code::SignedCompared => match comparison.operator {
+            SeccompCmpOp::Ge | SeccompCmpOp::Gt | SeccompCmpOp::Le | SeccompCmpOp::Lt => {
+                is_among(arch, number, signed_calls(index))
+            }
+            _ => false,
+        },
         _ => false,
     }
 }

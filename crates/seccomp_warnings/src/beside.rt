@@ -1,7 +1,7 @@
 // What the filters of one text mean for the warnings of each other.
 
-ghost use Rattle.std.specs.Prelude.{◌≡◌, ◌↔◌, ◌⊎◌, Any, Contains, IfOk, IsTrue, OnOk};
-ghost use Rattle.seccomp_warnings.specs.Beside.{AreCodesBeside, DoesMore, HasArgs, HidesAlone, HidesByEntry, HidesClone3, HidesUnlisted, IsBeside, NamesClone3};
+ghost use Rattle.std.specs.Prelude.{◌≡◌, ◌↔◌, ◌⊎◌, Contains, IfOk, IsTrue, OnOk};
+ghost use Rattle.seccomp_warnings.specs.Beside.{AreCodesBeside, DoesMore, HasArgs, HidesAlone, HidesByEntry, HidesClone3, IsBeside, NamesClone3};
 ghost use Rattle.seccomp_warnings.specs.declared.code.Code.{Code as CodeValue};
 
 use crate::action::permits;
@@ -39,34 +39,13 @@ fn has_args(rule: &JsonRule) -> bool
     }
 }
 
-// Whether some entry is for clone3.
-fn any_names_clone3(rules: &[JsonRule]) -> bool
-    ensures { IsTrue result ↔ Any NamesClone3 rules.now }
-{
-    rules.iter().any(names_clone3)
-}
-
-// Whether some entry matches each clone3.
-fn any_matches_clone3(rules: &[JsonRule]) -> bool
-    ensures { IsTrue result ↔ Any (λ rule. NamesClone3 rule × (HasArgs rule → ⊥)) rules.now }
-{
-    rules
-        .iter()
-        .any(|rule| names_clone3(rule) && !has_args(rule))
-}
-
 // Whether the entries of a filter match each clone3, and it answers what they match by errno 38.
 fn hides_by_entry(filter: &JsonFilter) -> bool
     ensures { IsTrue result ↔ HidesByEntry filter.now }
 {
-    u32::from(filter.match_action) == ERRNO_ENOSYS && any_matches_clone3(&filter.rules)
-}
-
-// Whether no entry of a filter is for clone3, and it answers what it doesn't list by errno 38.
-fn hides_unlisted(filter: &JsonFilter) -> bool
-    ensures { IsTrue result ↔ HidesUnlisted filter.now }
-{
-    u32::from(filter.mismatch_action) == ERRNO_ENOSYS && !any_names_clone3(&filter.rules)
+    let mut rules = filter.rules.iter();
+    u32::from(filter.match_action) == ERRNO_ENOSYS
+        && rules.any(|rule| names_clone3(rule) && !has_args(rule))
 }
 
 /// Whether a filter answers each `clone3` by errno 38, `ENOSYS`, as a kernel that hasn't the call: by an entry without
@@ -74,7 +53,10 @@ fn hides_unlisted(filter: &JsonFilter) -> bool
 pub fn hides_clone3(filter: &JsonFilter) -> bool
     ensures { IsTrue result ↔ HidesClone3 filter.now }
 {
-    hides_by_entry(filter) || hides_unlisted(filter)
+    if hides_by_entry(filter) {
+        return true;
+    }
+    u32::from(filter.mismatch_action) == ERRNO_ENOSYS && !filter.rules.iter().any(names_clone3)
 }
 
 // Whether a filter answers each clone3 by errno 38, and lets all other calls through.
@@ -111,13 +93,6 @@ pub fn beside_of(filters: &JsonFilterMap) -> Beside
     beside
 }
 
-// Whether a filter answers each clone3 by errno 38 and does nothing else, beside one that does more.
-fn is_of_pair(beside: Beside, filter: &JsonFilter) -> bool
-    ensures { IsTrue result ↔ (IsTrue beside.does_more × HidesAlone filter.now) }
-{
-    beside.does_more && hides_alone(filter)
-}
-
 // Adds a code if something is so.
 fn push_if(codes: &mut Vec<Code>, is_so: bool, code: Code) -> Result<(), AllocError>
     ensures { OnOk result ((kind : CodeValue) → Contains codes.new.items kind ↔ (Contains codes.old.items kind ⊎ ((kind ≡ code) × IsTrue is_so))) }
@@ -145,7 +120,7 @@ pub fn codes_beside(
 {
     let mut codes = allowed.to_vec(alloc)?;
     push_if(&mut codes, beside.hides_clone3, Code::CloneByClone3)?;
-    let of_pair = is_of_pair(beside, filter);
+    let of_pair = beside.does_more && hides_alone(filter);
     push_if(&mut codes, of_pair, Code::AllowsByDefault)?;
     Ok(codes)
 }

@@ -1,11 +1,10 @@
 // What is so of the calls that entries are for, and of those that none is for.
 
-ghost use Rattle.std.specs.Prelude.{◌≡◌, ◌↔◌, ℤ, pos, Any, IsTrue};
+ghost use Rattle.std.specs.Prelude.{◌≡◌, ◌↔◌, pos, IsTrue};
 ghost use Rattle.seccompiler.specs.Architecture.{table_of};
 ghost use Rattle.seccompiler.specs.JsonPolicyOf.{is_number};
 ghost use Rattle.seccompiler.specs.SyscallTable.{number_of};
-ghost use Rattle.seccomp_warnings.specs.ActionWarnings.{Permits};
-ghost use Rattle.seccomp_warnings.specs.CallWarnings.{DeniesEach, HasNoArgs, IsCloneEvaded, IsDeniedAlone, IsDeniedUnlisted, IsExit, IsJudged, IsNumberOf, IsOfJudgement, IsSoOfEntry, IsSoOfRule, IsSoOfUnlisted, IsUnrestartable, IsUnstartable, KillsAtExit, LetsClone3Through, MatchesEach, MatchesEachCall, Names, NamesCall};
+ghost use Rattle.seccomp_warnings.specs.CallWarnings.{DeniesEach, HasNoArgs, IsDeniedUnlisted, IsExit, IsJudged, IsNumberOf, IsSoOfEntry, IsSoOfUnlisted, IsUnrestartable, IsUnstartable, LetsClone3Through, MatchesEachCall, Names, NamesCall};
 
 use crate::action::permits;
 use crate::code::Code;
@@ -38,42 +37,15 @@ pub(crate) fn has_no_args(entry: &Entry) -> bool
     entry.conditions.is_empty()
 }
 
-// Whether the entry matches every call of this name.
-fn matches_each(arch: TargetArch, entry: &Entry, name: &str) -> bool
-    ensures { IsTrue result ↔ MatchesEach arch name.now entry.now }
-{
-    names(arch, entry, name) && has_no_args(entry)
-}
-
-// Whether the entry is for the calls of this number.
-fn is_of(entry: &Entry, number: i64) -> bool
-    ensures { IsTrue result ↔ (pos entry.now.number ≡ number) }
-{
-    i64::from(entry.number) == number
-}
-
-// Whether some entry is for the calls of this number.
-fn has_number(entries: &[Entry], number: i64) -> bool
-    ensures { IsTrue result ↔ Any (λ e. pos e.number ≡ number) entries.now }
-{
-    entries.iter().any(|entry| is_of(entry, number))
-}
-
-// Whether some entry matches every call of this number.
-fn has_each(entries: &[Entry], number: i64) -> bool
-    ensures { IsTrue result ↔ Any (λ e. (pos e.number ≡ number) × HasNoArgs e) entries.now }
-{
-    entries
-        .iter()
-        .any(|entry| is_of(entry, number) && has_no_args(entry))
-}
-
 // Whether some entry is for the call.
 fn names_call(part: &Part, name: &str) -> bool
     ensures { IsTrue result ↔ NamesCall part.now name.now }
 {
     match SyscallTable::new(part.target_arch).get_syscall_nr(name) {
-        Some(number) => has_number(part.entries.as_slice(), number),
+        Some(number) => {
+            let mut entries = part.entries.iter();
+            entries.any(|entry| i64::from(entry.number) == number)
+        }
         None => false,
     }
 }
@@ -83,7 +55,10 @@ fn matches_each_call(part: &Part, name: &str) -> bool
     ensures { IsTrue result ↔ MatchesEachCall part.now name.now }
 {
     match SyscallTable::new(part.target_arch).get_syscall_nr(name) {
-        Some(number) => has_each(part.entries.as_slice(), number),
+        Some(number) => {
+            let mut entries = part.entries.iter();
+            entries.any(|entry| i64::from(entry.number) == number && has_no_args(entry))
+        }
         None => false,
     }
 }
@@ -92,14 +67,8 @@ fn matches_each_call(part: &Part, name: &str) -> bool
 pub fn denies_each(part: &Part, name: &str) -> bool
     ensures { IsTrue result ↔ DeniesEach name.now part.now }
 {
-    is_denied_by_entry(part, name) || is_denied_unlisted(part, name)
-}
-
-// Whether calls that entries match are denied, and an entry matches every call of this name.
-fn is_denied_by_entry(part: &Part, name: &str) -> bool
-    ensures { IsTrue result ↔ ((Permits part.now.actions.matching → ⊥) × MatchesEachCall part.now name.now) }
-{
-    !permits(part.actions.matching) && matches_each_call(part, name)
+    (!permits(part.actions.matching) && matches_each_call(part, name))
+        || is_denied_unlisted(part, name)
 }
 
 // Whether calls that no entry matches are denied, and no entry is for the call.
@@ -131,16 +100,6 @@ fn is_unrestartable(part: &Part) -> bool
             || names_call(part, "futex"))
 }
 
-// Whether clone is denied by entries, and clone3 is let through as no entry is for it.
-fn is_clone_evaded(part: &Part) -> bool
-    ensures { IsTrue result ↔ IsCloneEvaded part.now }
-{
-    permits(part.actions.mismatch)
-        && !permits(part.actions.matching)
-        && names_call(part, "clone")
-        && !names_call(part, "clone3")
-}
-
 // Whether what a code says is so of a call that no entry is for.
 pub(crate) fn is_so_of_unlisted(code: Code, part: &Part, call: Unlisted) -> bool
     ensures { IsTrue result ↔ IsSoOfUnlisted code part.now call }
@@ -149,7 +108,13 @@ pub(crate) fn is_so_of_unlisted(code: Code, part: &Part, call: Unlisted) -> bool
         (Code::KillsExit, Unlisted::Exit) => is_denied_unlisted(part, "exit"),
         (Code::KillsExit, Unlisted::ExitGroup) => is_denied_unlisted(part, "exit_group"),
         (Code::KillsExit, Unlisted::RtSigreturn) => is_denied_unlisted(part, "rt_sigreturn"),
-        (Code::CloneByClone3, Unlisted::Clone3) => is_clone_evaded(part),
+        // clone is denied by entries, and clone3 is let through as no entry is for it.
+        (Code::CloneByClone3, Unlisted::Clone3) => {
+            permits(part.actions.mismatch)
+                && !permits(part.actions.matching)
+                && names_call(part, "clone")
+                && !names_call(part, "clone3")
+        }
         (Code::NoExecve, Unlisted::Execve) => is_unstartable(part),
         (Code::NoRestart, Unlisted::RestartSyscall) => is_unrestartable(part),
         _ => false,
@@ -165,61 +130,33 @@ fn is_exit(arch: TargetArch, entry: &Entry) -> bool
         || names(arch, entry, "rt_sigreturn")
 }
 
-// Whether the entry denies each call by which a thread or a process ends, or a signal handler returns.
-fn kills_at_exit(part: &Part, entry: &Entry) -> bool
-    ensures { IsTrue result ↔ KillsAtExit part.now entry.now }
-{
-    !permits(part.actions.matching) && has_no_args(entry) && is_exit(part.target_arch, entry)
-}
-
 // Whether the entry lets every clone3 through, if not every clone is let through.
 fn lets_clone3_through(part: &Part, entry: &Entry) -> bool
     ensures { IsTrue result ↔ LetsClone3Through part.now entry.now }
 {
-    permits(part.actions.matching)
-        && !permits(part.actions.mismatch)
-        && matches_each(part.target_arch, entry, "clone3")
-        && !matches_each_call(part, "clone")
-}
-
-// Whether what entries match is denied and the rest let through, and the entry matches each of its calls.
-pub(crate) fn is_denied_alone(part: &Part, entry: &Entry) -> bool
-    ensures { IsTrue result ↔ IsDeniedAlone part.now entry.now }
-{
-    !permits(part.actions.matching) && permits(part.actions.mismatch) && has_no_args(entry)
-}
-
-// Whether what a code says is so of an entry of the part.
-fn is_so_of_rule(code: Code, part: &Part, entry: &Entry) -> bool
-    ensures { IsTrue result ↔ IsSoOfRule code part.now entry.now }
-{
-    match code {
-        Code::KillsExit => kills_at_exit(part, entry),
-        Code::CloneByClone3 => lets_clone3_through(part, entry),
-        _ => false,
+    if !permits(part.actions.matching) || permits(part.actions.mismatch) {
+        return false;
     }
+    names(part.target_arch, entry, "clone3")
+        && has_no_args(entry)
+        && !matches_each_call(part, "clone")
 }
 
 // Whether the part has an entry at the place, of which what a code says is so.
 pub(crate) fn is_so_of_entry(code: Code, part: &Part, place: usize) -> bool
     ensures { IsTrue result ↔ IsSoOfEntry code part.now place }
 {
-    match part.entries.get(place) {
-        Some(entry) => is_so_of_rule(code, part, entry),
-        None => false,
-    }
-}
-
-// Whether what a code says is so of an entry with this judgement.
-fn is_of_judgement(code: Code, judgement: Judgement) -> bool
-    ensures { IsTrue result ↔ IsOfJudgement code judgement }
-{
+    let Some(entry) = part.entries.get(place) else {
+        return false;
+    };
     match code {
-        Code::SiblingAllowed => judgement.sibling.is_some(),
-        Code::CrateDiffers => judgement.differs,
-        Code::UnreachableEntry => matches!(judgement.verdict, Verdict::Unreachable),
-        Code::RedundantEntry => matches!(judgement.verdict, Verdict::Redundant),
-        Code::UndecidedEntry => matches!(judgement.verdict, Verdict::Undecided),
+        // It denies each call by which a thread or a process ends, or a signal handler returns.
+        Code::KillsExit => {
+            !permits(part.actions.matching)
+                && has_no_args(entry)
+                && is_exit(part.target_arch, entry)
+        }
+        Code::CloneByClone3 => lets_clone3_through(part, entry),
         _ => false,
     }
 }
@@ -228,8 +165,15 @@ fn is_of_judgement(code: Code, judgement: Judgement) -> bool
 pub(crate) fn is_judged(code: Code, judgements: &[Judgement], place: usize) -> bool
     ensures { IsTrue result ↔ IsJudged code judgements.now place }
 {
-    match judgements.get(place) {
-        Some(judgement) => is_of_judgement(code, *judgement),
-        None => false,
+    let Some(judgement) = judgements.get(place) else {
+        return false;
+    };
+    match code {
+        Code::SiblingAllowed => judgement.sibling.is_some(),
+        Code::CrateDiffers => judgement.differs,
+        Code::UnreachableEntry => matches!(judgement.verdict, Verdict::Unreachable),
+        Code::RedundantEntry => matches!(judgement.verdict, Verdict::Redundant),
+        Code::UndecidedEntry => matches!(judgement.verdict, Verdict::Undecided),
+        _ => false,
     }
 }

@@ -3,7 +3,7 @@
 ghost use Rattle.std.specs.Prelude.{◌≡◌, ◌↔◌, IsTrue, IsFalse};
 ghost use Rattle.seccompiler.specs.Policy.{part_of};
 ghost use Rattle.seccomp_warnings.specs.AnyArgument.{HoldsForAll, HoldsForNone, HoldsForSome, FailsForSome, comparison_at, condition_in};
-ghost use Rattle.seccomp_warnings.specs.Warnings.{IsSoOfCondition, HasIgnoredHalf, HasValueOutside};
+ghost use Rattle.seccomp_warnings.specs.Warnings.{IsSoOfCondition};
 
 use crate::code::Code;
 use crate::warning::Comparison;
@@ -23,31 +23,6 @@ pub(crate) fn comparison_at(entry: usize, place: usize, condition: &SeccompCondi
         arg_len: condition.arg_len(),
         operator: condition.operator(),
         value: condition.value(),
-    }
-}
-
-// Whether the value has bits in the high half, which isn't compared.
-fn has_ignored_half(comparison: Comparison) -> bool
-    ensures { IsTrue result ↔ HasIgnoredHalf comparison }
-{
-    match comparison.arg_len {
-        SeccompCmpArgLen::Dword => comparison.value > LOW_HALF,
-        SeccompCmpArgLen::Qword => false,
-    }
-}
-
-// Whether the value has bits that what is compared of the mask doesn't have.
-fn has_value_outside(comparison: Comparison) -> bool
-    ensures { IsTrue result ↔ HasValueOutside comparison }
-{
-    match (comparison.operator, comparison.arg_len) {
-        (SeccompCmpOp::MaskedEq(mask), SeccompCmpArgLen::Dword) => {
-            comparison.value & (mask & LOW_HALF) != comparison.value
-        }
-        (SeccompCmpOp::MaskedEq(mask), SeccompCmpArgLen::Qword) => {
-            comparison.value & mask != comparison.value
-        }
-        _ => false,
     }
 }
 
@@ -104,8 +79,18 @@ pub(crate) fn is_so_of_condition(code: Code, comparison: Comparison) -> bool
     ensures { IsTrue result ↔ IsSoOfCondition code comparison }
 {
     match code {
-        Code::HighHalfIgnored => has_ignored_half(comparison),
-        Code::ValueOutsideMask => has_value_outside(comparison),
+        // The value has bits in the high half, which isn't compared.
+        Code::HighHalfIgnored => match comparison.arg_len {
+            SeccompCmpArgLen::Dword => comparison.value > LOW_HALF,
+            SeccompCmpArgLen::Qword => false,
+        },
+        // The value has bits that what is compared of the mask doesn't have.
+        Code::ValueOutsideMask => match comparison.operator {
+            SeccompCmpOp::MaskedEq(mask) => {
+                comparison.value & part_of(comparison.arg_len, mask) != comparison.value
+            }
+            _ => false,
+        },
         Code::AlwaysHolds => always_holds(comparison),
         Code::NeverHolds => never_holds(comparison),
         _ => false,

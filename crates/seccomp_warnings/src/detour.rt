@@ -111,7 +111,11 @@ fn detour_pair(
     ensures pair { result ≡ pairs.detour_pair call.now arch own.now entry place condition.now (spec.read detour.now) }
     ensures condition { IfSome result (λ v. condition_of v.comparison ≡ condition.now) }
 {
-    if !is_asked(detour, arch, own, condition) {
+    // What is let through is to be the detour's call, by a condition on the argument that says what is asked.
+    let is_asked = is_permitting(u32::from(own.action))
+        && condition.arg_index() == detour.index
+        && is_number_of(arch, detour.call, own.number);
+    if !is_asked {
         return None;
     }
     let Some(number) = SyscallTable::new(arch).get_syscall_nr(detour.other) else {
@@ -136,13 +140,4 @@ fn asked_of(bits: u64, condition: &SeccompCondition) -> u64
         SeccompCmpOp::Ge | SeccompCmpOp::Gt | SeccompCmpOp::Ne => edge,
         _ => edge | bits,
     }
-}
-
-// Whether what is let through is the detour's call, by a condition on the argument that says what is asked.
-fn is_asked(detour: &Detour, arch: TargetArch, own: &Entry, condition: &SeccompCondition) -> bool
-    ensures { result ≡ spec.is_asked (spec.read detour.now) arch own.now condition.now }
-{
-    is_permitting(u32::from(own.action))
-        && condition.arg_index() == detour.index
-        && is_number_of(arch, detour.call, own.number)
 }

@@ -7,7 +7,7 @@ ghost use Rattle.seccomp_tree.specs.Decided.{AscendFromZero};
 ghost use Rattle.seccomp_warnings.specs.AnyArgument.{condition_of};
 ghost use Rattle.seccomp_warnings.specs.Detours as detours;
 ghost use Rattle.seccomp_warnings.specs.Evasions as spec;
-ghost use Rattle.seccomp_warnings.specs.Evasions.{AreEvasions, DeniesCall, IsApart, IsApartBy, IsPermitting, IsShown, LetsThrough, blank_call, entry_pairs, own_pairs, with_argument, with_bytes};
+ghost use Rattle.seccomp_warnings.specs.Evasions.{AreEvasions, DeniesCall, IsApartBy, IsPermitting, IsShown, LetsThrough, blank_call, entry_pairs, own_pairs, with_argument, with_bytes};
 ghost use Rattle.seccomp_warnings.specs.Walks.{Adds, AreDecisionsOf};
 
 use crate::argument::{flag_of, further_flag_of};
@@ -163,18 +163,8 @@ fn is_apart_by(
 {
     match code {
         Code::ConditionEvaded => !condition.holds(denied),
-        _ => is_apart(condition, denied, passed),
-    }
-}
-
-// Whether the condition holds for one of two calls alone.
-fn is_apart(condition: &SeccompCondition, denied: &[u8; 64], passed: &[u8; 64]) -> bool
-    ensures { IsTrue result ↔ IsApart condition.now denied.now passed.now }
-{
-    if condition.holds(denied) {
-        !condition.holds(passed)
-    } else {
-        condition.holds(passed)
+        // It holds for one of them alone.
+        _ => condition.holds(denied) != condition.holds(passed),
     }
 }
 
@@ -266,24 +256,19 @@ pub(crate) fn edge_of(condition: &SeccompCondition) -> u64
     }
 }
 
-// A number for which the condition holds, if it does for any.
-fn likely(condition: &SeccompCondition) -> u64
-    ensures { result ≡ spec.likely condition.now }
-{
-    let edge = edge_of(condition);
-    match condition.operator() {
-        SeccompCmpOp::Ge | SeccompCmpOp::Gt | SeccompCmpOp::Ne => edge.wrapping_add(1),
-        _ => edge,
-    }
-}
-
 // The call of this number that likely meets the conditions.
 fn likely_call(arch: TargetArch, number: u32, conditions: &[SeccompCondition]) -> [u8; 64]
     ensures { result ≡ spec.likely_call arch number conditions.now }
 {
     let mut call = blank_call(arch, number);
     for condition in conditions {
-        call = with_argument(&call, condition.arg_index(), likely(condition));
+        // A number for which the condition holds, if it does for any.
+        let edge = edge_of(condition);
+        let argument = match condition.operator() {
+            SeccompCmpOp::Ge | SeccompCmpOp::Gt | SeccompCmpOp::Ne => edge.wrapping_add(1),
+            _ => edge,
+        };
+        call = with_argument(&call, condition.arg_index(), argument);
     }
     call
 }

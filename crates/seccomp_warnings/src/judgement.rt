@@ -1,10 +1,10 @@
 // What is so of the entries of a part beside each other.
 
-ghost use Rattle.std.specs.Prelude.{◌≡◌, ◌↔◌, ℕ, ℤ, IfNone, IfOk, IfSome, IsTrue, List, Some, false, true};
-ghost use Rattle.seccomp_entries.specs.Entries.{Entry as EntryValue};
-ghost use Rattle.seccomp_warnings.specs.Judgements.{AreJudgements, AreVerdicts, IsJudgement, IsOfNumber, IsSetOf, IsUndoneBy, IsWithAndWithoutArgs};
+ghost use Rattle.std.specs.Prelude.{◌≡◌, ℕ, IfNone, IfOk, IfSome, List, false, true};
+ghost use Rattle.seccomp_warnings.specs.Judgements.{AreJudgements, IsJudgement, IsSetOf, IsUndoneBy};
 
-use crate::call::{has_no_args, is_denied_alone};
+use crate::action::permits;
+use crate::call::has_no_args;
 use crate::part::Part;
 use crate::sibling::unnamed_sibling;
 use seccomp_entries::Entry;
@@ -33,18 +33,6 @@ pub(crate) fn judgements_of(alloc: Global, part: &Part) -> Result<Vec<Judgement>
     ensures { IfOk result (λ judgements. AreJudgements part.now judgements.items) }
 {
     let verdicts = verdicts_of(alloc, part.target_arch, part.entries.as_slice())?;
-    judgements_by(alloc, part, &verdicts)
-}
-
-// The judgements with these verdicts.
-fn judgements_by(
-    alloc: Global,
-    part: &Part,
-    verdicts: &[Verdict],
-) -> Result<Vec<Judgement>, AllocError>
-    requires { AreVerdicts part.now verdicts.now }
-    ensures { IfOk result (λ judgements. AreJudgements part.now judgements.items) }
-{
     let named = numbers_of(alloc, false, &part.entries)?;
     let with_args = numbers_of(alloc, true, &part.entries)?;
     let mut judgements = Vec::with_capacity(alloc, verdicts.len())?;
@@ -54,16 +42,6 @@ fn judgements_by(
         judgements.push(judgement)?;
     }
     Ok(judgements)
-}
-
-// The number of the entry; none if only an entry with conditions is asked for and it has none.
-fn number_asked(with_args: bool, entry: &Entry) -> Option<i64>
-    ensures { (number : ℤ) → (result ≡ Some number) ↔ IsOfNumber with_args number entry.now }
-{
-    if with_args && has_no_args(entry) {
-        return None;
-    }
-    Some(i64::from(entry.number))
 }
 
 // The numbers of entries, or of those alone that have conditions.
@@ -76,8 +54,8 @@ fn numbers_of(
 {
     let mut numbers = Vec::with_capacity(alloc, entries.len())?;
     for entry in entries {
-        if let Some(number) = number_asked(with_args, entry) {
-            numbers.push(number)?;
+        if !with_args || !has_no_args(entry) {
+            numbers.push(i64::from(entry.number))?;
         }
     }
     Ok(numbers.into_iter().collect(alloc)?)
@@ -98,16 +76,9 @@ fn judgement_of(
 {
     Judgement {
         verdict,
-        differs: is_differing(with_args, entry),
+        differs: has_no_args(entry) && with_args.contains(&i64::from(entry.number)),
         sibling: sibling_of(part, named, entry),
     }
-}
-
-// Whether the entry has no conditions, and its number is among these.
-fn is_differing(with_args: &BTreeSet<i64>, entry: &Entry) -> bool
-    ensures { (entries : List EntryValue) → IsSetOf true entries with_args.now → (IsTrue result ↔ IsWithAndWithoutArgs entries entry.now) }
-{
-    has_no_args(entry) && with_args.contains(&i64::from(entry.number))
 }
 
 // A call that is let through, and by which the same can be done as by those that the entry denies.
@@ -116,7 +87,8 @@ fn sibling_of(part: &Part, named: &BTreeSet<i64>, entry: &Entry) -> Option<&'sta
     ensures found { IfSome result (λ other. IsUndoneBy part.now entry.now other.now) }
     ensures none { IfNone result ((other : List ℕ) → IsUndoneBy part.now entry.now other → ⊥) }
 {
-    if !is_denied_alone(part, entry) {
+    let is_denied = !permits(part.actions.matching) && permits(part.actions.mismatch);
+    if !is_denied || !has_no_args(entry) {
         return None;
     }
     unnamed_sibling(part.target_arch, named, entry.number)

@@ -1,10 +1,8 @@
 // The parts of policies and profiles of which warnings are told.
 
-ghost use Rattle.seccomp_warnings.specs.Parts.{IsPartOfPolicy};
-
 use crate::warning::Actions;
-use seccomp_entries::{Action, Entry, Lowered};
-use seccompiler::{JsonFilter, TargetArch};
+use seccomp_entries::Entry;
+use seccompiler::TargetArch;
 use std::marker::Model;
 
 /// Entries that stand beside each other, with two actions: that of the calls that some entry matches, and that of the rest.
@@ -24,18 +22,4 @@ impl Model for Part {
     ghost Value = { Part };
 
     ghost view = { λ p. record { target_arch = p.target_arch; actions = p.actions; entries = p.entries.items } };
-}
-
-// A filter of a policy as a part, of its entries in one form.
-pub(crate) fn part_by(target: TargetArch, filter: &JsonFilter, lowered: Lowered) -> Part
-    ensures { IsPartOfPolicy target filter.now lowered result }
-{
-    Part {
-        target_arch: target,
-        actions: Actions {
-            mismatch: Action::Own(filter.mismatch_action),
-            matching: Action::Own(filter.match_action),
-        },
-        entries: lowered.entries,
-    }
 }

@@ -1,10 +1,9 @@
 // Calls by which the same can be done.
 
-ghost use Rattle.std.specs.Prelude.{◌≡◌, ◌↔◌, ℕ, All, Any, Contains, IfNone, IfSome, IsTrue, List, false, map};
+ghost use Rattle.std.specs.Prelude.{◌≡◌, ◌↔◌, ℕ, All, Contains, IfNone, IfSome, IsTrue, List, false, map};
 ghost use Rattle.seccomp_entries.specs.Entries.{Entry};
-ghost use Rattle.seccomp_warnings.specs.CallWarnings.{IsNumberOf};
 ghost use Rattle.seccomp_warnings.specs.Judgements as spec;
-ghost use Rattle.seccomp_warnings.specs.Judgements.{HasNoneUnnamed, IsSetOf, IsSibling, IsUnnamed};
+ghost use Rattle.seccomp_warnings.specs.Judgements.{IsSetOf, IsSibling, IsUnnamed};
 
 use crate::call::is_number_of;
 use seccompiler::{SyscallTable, TargetArch};
@@ -84,46 +83,14 @@ fn is_unnamed(arch: TargetArch, named: &BTreeSet<i64>, name: &str) -> bool
     }
 }
 
-// The first of these names of which that is so.
-fn first_unnamed(
-    arch: TargetArch,
-    named: &BTreeSet<i64>,
-    names: &[&'static str],
-) -> Option<&'static str>
-    ensures found { (entries : List Entry) → IsSetOf false entries named.now → IfSome result (λ other. Contains names.now other × IsUnnamed arch entries other.now) }
-    ensures none { (entries : List Entry) → IsSetOf false entries named.now → IfNone result (All (λ other. IsUnnamed arch entries other.now → ⊥) names.now) }
-{
-    for name in names {
-        if is_unnamed(arch, named, name) {
-            return Some(*name);
-        }
-    }
-    None
-}
-
 // The first call by which what the call of this name does can be done too, and of which that is so.
 fn unnamed_of(arch: TargetArch, named: &BTreeSet<i64>, name: &str) -> Option<&'static str>
     ensures found { (entries : List Entry) → IsSetOf false entries named.now → IfSome result (λ other. Contains (spec.siblings_of name.now) other.now × IsUnnamed arch entries other.now) }
     ensures none { (entries : List Entry) → IsSetOf false entries named.now → IfNone result (All (λ other. IsUnnamed arch entries other → ⊥) (spec.siblings_of name.now)) }
 {
-    first_unnamed(arch, named, siblings_of(name))
-}
-
-// The first such call, if the call of this number has one of these names.
-fn first_sibling(
-    arch: TargetArch,
-    named: &BTreeSet<i64>,
-    number: u32,
-    names: &[&'static str],
-) -> Option<&'static str>
-    ensures found { (entries : List Entry) → IsSetOf false entries named.now → IfSome result (λ other. Any (λ name. IsNumberOf arch name.now number × Contains (spec.siblings_of name.now) other.now) names.now × IsUnnamed arch entries other.now) }
-    ensures none { (entries : List Entry) → IsSetOf false entries named.now → IfNone result (All (λ name. HasNoneUnnamed arch number entries name.now) names.now) }
-{
-    for name in names {
-        if is_number_of(arch, name, number) {
-            if let Some(found) = unnamed_of(arch, named, name) {
-                return Some(found);
-            }
+    for other in siblings_of(name) {
+        if is_unnamed(arch, named, other) {
+            return Some(*other);
         }
     }
     None
@@ -138,5 +105,12 @@ pub(crate) fn unnamed_sibling(
     ensures found { (entries : List Entry) → IsSetOf false entries named.now → IfSome result (λ other. IsSibling arch number other.now × IsUnnamed arch entries other.now) }
     ensures none { (entries : List Entry) → IsSetOf false entries named.now → IfNone result ((other : List ℕ) → IsSibling arch number other → IsUnnamed arch entries other → ⊥) }
 {
-    first_sibling(arch, named, number, all_undone())
+    for name in all_undone() {
+        if is_number_of(arch, name, number) {
+            if let Some(found) = unnamed_of(arch, named, name) {
+                return Some(found);
+            }
+        }
+    }
+    None
 }

@@ -1,12 +1,11 @@
 // The warnings of a part, in the order of its entries.
 
-ghost use Rattle.std.specs.Prelude.{◌≡◌, ◌↔◌, ◌⊎◌, map, IfErr, IfOk, OnOk, IsTrue};
+ghost use Rattle.std.specs.Prelude.{◌↔◌, map, IfErr, IfOk, OnOk, IsTrue};
 ghost use Rattle.seccompiler.specs.JsonPolicyOf.{IsPolicyOf};
 ghost use Rattle.seccompiler.specs.JsonSteps.{IsPolicyRefusal};
 ghost use Rattle.seccompiler.specs.Policy.{Filter};
-ghost use Rattle.seccomp_warnings.specs.Warnings.{AreTrueWarnings, AreWarned, AreWarnings, IsGiven, IsSo, IsSoOfEntryArgument, about, calls_asked, entry_asked};
-ghost use Rattle.seccomp_warnings.specs.Picked.{numbered};
-ghost use Rattle.seccomp_warnings.specs.CallWarnings.{IsJudged, IsSoOfEntry, all_unlisted};
+ghost use Rattle.seccomp_warnings.specs.Warnings.{AreTrueWarnings, AreWarned, IsGiven, about, calls_asked, entry_asked};
+ghost use Rattle.seccomp_warnings.specs.CallWarnings.{all_unlisted};
 ghost use Rattle.seccomp_warnings.specs.Walks.{AddsPicked};
 
 use crate::action::{is_so_of_action, is_so_of_both};
@@ -16,12 +15,59 @@ use crate::code::{Code, is_among};
 use crate::condition::{comparison_at, is_so_of_condition};
 use crate::evasion::evasions_of;
 use crate::judgement::{Judgement, judgements_of};
-use crate::part::{Part, part_by};
+use crate::part::Part;
 use crate::unlisted::Unlisted;
-use crate::warning::{Comparison, FilterWarned, Subject, Warned, Warning};
-use seccomp_entries::{Entry, lowered_policy};
+use crate::warning::{Actions, FilterWarned, Subject, Warned, Warning};
+use seccomp_entries::{Action, Entry, lowered_policy};
 use seccompiler::{JsonFilter, JsonFrontendError, TargetArch};
 use std::alloc::{AllocError, Global};
+
+// The codes of the action for calls that no entry matches.
+const MISMATCH_CODES: [Code; 5] = [
+    Code::FakeSuccess,
+    Code::ErrnoTooLarge,
+    Code::EndlessRetry,
+    Code::TraceWithoutTracer,
+    Code::AllowsByDefault,
+];
+
+// The codes of the calls that no entry names.
+const UNLISTED_CODES: [Code; 4] = [
+    Code::KillsExit,
+    Code::CloneByClone3,
+    Code::NoExecve,
+    Code::NoRestart,
+];
+
+// The codes of the action for calls that some entry matches.
+const MATCH_CODES: [Code; 5] = [
+    Code::FakeSuccess,
+    Code::ErrnoTooLarge,
+    Code::EndlessRetry,
+    Code::TraceWithoutTracer,
+    Code::DeniesEverything,
+];
+
+// The codes of entries.
+const ENTRY_CODES: [Code; 7] = [
+    Code::KillsExit,
+    Code::CloneByClone3,
+    Code::SiblingAllowed,
+    Code::CrateDiffers,
+    Code::UnreachableEntry,
+    Code::RedundantEntry,
+    Code::UndecidedEntry,
+];
+
+// The codes of conditions.
+const CONDITION_CODES: [Code; 6] = [
+    Code::HighHalfIgnored,
+    Code::ValueOutsideMask,
+    Code::AlwaysHolds,
+    Code::NeverHolds,
+    Code::PointerCompared,
+    Code::SignedCompared,
+];
 
 /// The warnings of a filter of a policy: those of its part, and its evasions.
 ///
@@ -40,7 +86,14 @@ pub fn policy_warnings_of(
 {
     let lowered = lowered_policy(alloc, target, filter)?;
     let evasions = evasions_of(alloc, &lowered, allowed)?;
-    let part = part_by(target, filter, lowered);
+    let part = Part {
+        target_arch: target,
+        actions: Actions {
+            mismatch: Action::Own(filter.mismatch_action),
+            matching: Action::Own(filter.match_action),
+        },
+        entries: lowered.entries,
+    };
     let of_part = warnings_of(alloc, &part, allowed)?;
     Ok(FilterWarned { of_part, evasions })
 }
@@ -58,86 +111,56 @@ pub fn warnings_of(alloc: Global, part: &Part, allowed: &[Code]) -> Result<Warne
     ensures { IfOk result (AreWarned allowed.now part.now) }
 {
     let judgements = judgements_of(alloc, part)?;
-    let warnings = warnings_with(alloc, part, &judgements, allowed)?;
+    let judged = judgements.as_slice();
+    let mut warnings = Vec::new(alloc);
+    let mismatch = Subject::MismatchAction(part.actions.mismatch);
+    push_those(
+        &mut warnings,
+        allowed,
+        judged,
+        part,
+        &MISMATCH_CODES,
+        mismatch,
+    )?;
+    push_calls(&mut warnings, allowed, judged, part)?;
+    let matching = Subject::MatchAction(part.actions.matching);
+    push_those(&mut warnings, allowed, judged, part, &MATCH_CODES, matching)?;
+    for (place, entry) in part.entries.iter().enumerate() {
+        push_entry(&mut warnings, allowed, judged, part, place, entry)?;
+    }
     Ok(Warned {
         judgements,
         warnings,
     })
 }
 
-// The warnings of a part with these judgements.
-fn warnings_with(
-    alloc: Global,
-    part: &Part,
-    judgements: &[Judgement],
-    allowed: &[Code],
-) -> Result<Vec<Warning>, AllocError>
-    ensures { IfOk result (λ warnings. AreWarnings allowed.now judgements.now part.now warnings.items) }
-{
-    let mut warnings = Vec::new(alloc);
-    let mismatch = Subject::MismatchAction(part.actions.mismatch);
-    push_those(
-        &mut warnings,
-        allowed,
-        judgements,
-        part,
-        Code::of_mismatch(),
-        mismatch,
-    )?;
-    push_calls(&mut warnings, allowed, judgements, part)?;
-    let matching = Subject::MatchAction(part.actions.matching);
-    push_those(
-        &mut warnings,
-        allowed,
-        judgements,
-        part,
-        Code::of_match(),
-        matching,
-    )?;
-    push_entries(&mut warnings, allowed, judgements, part, &part.entries)?;
-    Ok(warnings)
-}
-
-// Whether what a code says is so of the entry at a place, by itself or by its judgement.
-fn is_so_of_place(code: Code, judgements: &[Judgement], part: &Part, place: usize) -> bool
-    ensures { IsTrue result ↔ (IsSoOfEntry code part.now place ⊎ IsJudged code judgements.now place) }
-{
-    is_so_of_entry(code, part, place) || is_judged(code, judgements, place)
-}
-
-// Whether what a code says is so of the argument of a condition of the part.
-fn is_so_of_argument(code: Code, part: &Part, comparison: Comparison) -> bool
-    ensures { IsTrue result ↔ IsSoOfEntryArgument code part.now comparison }
-{
-    match part.entries.get(comparison.entry) {
-        Some(entry) => is_so_of_call(code, part.target_arch, entry.number, comparison),
-        None => false,
-    }
-}
-
-// Whether a warning is true of the part.
-fn is_so(judgements: &[Judgement], part: &Part, warning: Warning) -> bool
-    ensures { IsTrue result ↔ IsSo judgements.now part.now warning }
-{
-    match warning.subject {
-        Subject::MismatchAction(action) => is_so_of_action(warning.code, action),
-        Subject::MatchAction(action) => {
-            is_so_of_action(warning.code, action) || is_so_of_both(warning.code, part.actions)
-        }
-        Subject::MismatchCall(call) => is_so_of_unlisted(warning.code, part, call),
-        Subject::Entry(place) => is_so_of_place(warning.code, judgements, part, place),
-        Subject::Condition(comparison) => {
-            is_so_of_condition(warning.code, comparison)
-                || is_so_of_argument(warning.code, part, comparison)
-        }
-    }
-}
-
 // Whether a warning is true of the part, and its code isn't allowed.
 fn is_given(allowed: &[Code], judgements: &[Judgement], part: &Part, warning: Warning) -> bool
     ensures { IsTrue result ↔ IsGiven allowed.now judgements.now part.now warning }
 {
-    is_so(judgements, part, warning) && !is_among(allowed, warning.code)
+    let code = warning.code;
+    if is_among(allowed, code) {
+        return false;
+    }
+    match warning.subject {
+        Subject::MismatchAction(action) => is_so_of_action(code, action),
+        Subject::MatchAction(action) => {
+            is_so_of_action(code, action) || is_so_of_both(code, part.actions)
+        }
+        Subject::MismatchCall(call) => is_so_of_unlisted(code, part, call),
+        Subject::Entry(place) => {
+            is_so_of_entry(code, part, place) || is_judged(code, judgements, place)
+        }
+        Subject::Condition(comparison) => {
+            if is_so_of_condition(code, comparison) {
+                return true;
+            }
+            match part.entries.get(comparison.entry) {
+                Some(entry) => is_so_of_call(code, part.target_arch, entry.number, comparison),
+                None => false,
+            }
+        }
+    }
 }
 
 // Adds the warnings of these codes that are so of a part of the part.
@@ -179,7 +202,7 @@ fn push_calls(
             allowed,
             judgements,
             part,
-            Code::of_unlisted(),
+            &UNLISTED_CODES,
             subject,
         )?;
     }
@@ -198,14 +221,7 @@ fn push_entry(
     ensures { OnOk result (AddsPicked allowed.now judgements.now part.now (entry_asked entry own.now) warnings.old.items warnings.new.items) }
 {
     let subject = Subject::Entry(entry);
-    push_those(
-        warnings,
-        allowed,
-        judgements,
-        part,
-        Code::of_entries(),
-        subject,
-    )?;
+    push_those(warnings, allowed, judgements, part, &ENTRY_CODES, subject)?;
     for (place, condition) in own.conditions.iter().enumerate() {
         let subject = Subject::Condition(comparison_at(entry, place, condition));
         push_those(
@@ -213,25 +229,9 @@ fn push_entry(
             allowed,
             judgements,
             part,
-            Code::of_conditions(),
+            &CONDITION_CODES,
             subject,
         )?;
-    }
-    Ok(())
-}
-
-// Adds the warnings of all entries.
-fn push_entries(
-    warnings: &mut Vec<Warning>,
-    allowed: &[Code],
-    judgements: &[Judgement],
-    part: &Part,
-    entries: &[Entry],
-) -> Result<(), AllocError>
-    ensures { OnOk result (AddsPicked allowed.now judgements.now part.now (numbered entry_asked 0 entries.now) warnings.old.items warnings.new.items) }
-{
-    for (place, entry) in entries.iter().enumerate() {
-        push_entry(warnings, allowed, judgements, part, place, entry)?;
     }
     Ok(())
 }

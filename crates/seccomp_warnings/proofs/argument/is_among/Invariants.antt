@@ -1,7 +1,12 @@
-use Rattle.std.proofs.Common.{◌≡◌, map, drop}
+use Rattle.std.proofs.Common.{◌≡◌, drop, map, pos}
+use Rattle.std.specs.List.{list_any}
+use Rattle.seccompiler.specs.SyscallTable.{pairs_of}
 use Rattle.seccomp_warnings.specs.Arguments.{is_among}
+use Rattle.seccomp_warnings.proofs.Rows.{is_named}
 use Rattle.seccomp_warnings.proofs.argument.is_among.Given as goal
 
-abbrev pub invariant-loop-name : goal.invariant-loop-name
-invariant-loop-name l =
-    is_among l.arch l.number (map (λ n. n.now) (drop l.name-index l.names)) ≡ is_among l.arch l.number (map (λ n. n.now) l.names)
+-- no row so far
+abbrev pub invariant-loop-pair : goal.invariant-loop-pair
+invariant-loop-pair l =
+    list_any (is_named (pos l.fn.number) l.fn.names) (pairs_of (drop l.pair-index l.pair-items))
+    ≡ is_among l.fn.arch l.fn.number (map (λ n. n.now) l.fn.names)

@@ -1,5 +1,6 @@
-use Rattle.std.proofs.Common.{◌≡◌, List, inl, inr, rules, subst, sym}
+use Rattle.std.proofs.Common.{◌≡◌, ◌↔◌, IsTrue, List, inl, inr, rules, subst, sym}
 use Rattle.std.specs.Prelude.{Contains}
+use Rattle.seccomp_warnings.specs.Beside.{HidesAlone}
 use Rattle.seccomp_warnings.specs.declared.code.Code.{Code}
 use Rattle.seccomp_warnings.proofs.beside.codes_beside.Goals as goal
 
@@ -8,7 +9,7 @@ returns c = λ kind.
     let base : c.in_ok-codes.codes.items ≡ c.args.allowed.now = search rules in
     let first = c.in_ok-push_if.ensures kind in
     let second = c.in_ok-push_if-2.ensures kind in
-    let both = c.is_of_pair-of_pair.ensures in (
+    let both : IsTrue c.if-beside.of_pair ↔ (IsTrue c.args.beside.does_more × HidesAlone c.args.filter.now) = search rules in (
       λ has. elim (second.0 has) [
         | inl before ↦ elim (first.0 before) [
           | inl old ↦ inl (subst (λ (codes : List Code). Contains codes kind) base old)

@@ -11,7 +11,7 @@ use Rattle.seccomp_warnings.proofs.judgement.sibling_of.Goals as goal
 pub returns-clause-found : goal.returns-clause-found
 returns-clause-found c =
     let entries = c.args.part.now.entries in
-    let alone : IsDeniedAlone c.args.part.now c.args.entry.now = c.is_denied_alone.ensures.0 (search rules) in
+    let alone : IsDeniedAlone c.args.part.now c.args.entry.now = search rules in
     let found : TargetArch → ℕ → Type 0 = λ arch number.
     IfSome c.unnamed_sibling.result (λ other. IsSibling arch number other.now × IsUnnamed arch entries other.now) in
     if_some c.unnamed_sibling.result (λ other is. record { denied = alone; sibling = is.0; unnamed = is.1 })

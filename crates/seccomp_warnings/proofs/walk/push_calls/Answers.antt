@@ -3,7 +3,7 @@ use Rattle.std.proofs.lemmas.List.{take_all}
 use Rattle.seccomp_warnings.specs.Warnings.{IsGiven, calls_asked}
 use Rattle.seccomp_warnings.specs.Walks.{AddsPicked}
 use Rattle.seccomp_warnings.specs.declared.warning.Warning.{Warning}
-use Rattle.seccomp_warnings.proofs.Picked.{adds_none, calls_more, of_codes}
+use Rattle.seccomp_warnings.proofs.Picked.{adds_none, calls_more}
 use Rattle.seccomp_warnings.proofs.walk.push_calls.Goals as goal
 
 pub loop-call-init : goal.loop-call-init
@@ -21,8 +21,7 @@ loop-call-preserved c =
     record {
       whole = c.loop-call.invariant.whole;
       adds = calls_more allowed judgements part c.all-call-items.result.now c.loop-call.call-index _ c.args.warnings.now.items old new
-          c.loop-call-test.true c.loop-call.invariant.adds
-          (of_codes allowed judgements part _ _ _ old new c.of_unlisted.ensures c.in_ok-push_those.ensures);
+          c.loop-call-test.true c.loop-call.invariant.adds c.in_ok-push_those.ensures;
     }
 
 pub returns : goal.returns

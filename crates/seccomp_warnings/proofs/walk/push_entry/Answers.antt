@@ -8,7 +8,7 @@ use Rattle.seccomp_warnings.specs.Walks.{AddsPicked}
 use Rattle.seccomp_warnings.specs.declared.warning.Comparison.{Comparison}
 use Rattle.seccomp_warnings.specs.declared.warning.Subject.TheVariants as subject
 use Rattle.seccomp_warnings.specs.declared.warning.Warning.{Warning}
-use Rattle.seccomp_warnings.proofs.Picked.{adds_more, numbered_more, of_codes}
+use Rattle.seccomp_warnings.proofs.Picked.{adds_more, numbered_more}
 use Rattle.seccomp_warnings.proofs.walk.push_entry.Goals as goal
 
 pub loop-place-preserved : goal.loop-place-preserved
@@ -18,13 +18,11 @@ loop-place-preserved c =
     let part = c.args.part.now in
     let old : List Warning = c.loop-place.warnings.items in
     let new : List Warning = c.push_those-in-loop-place.new.warnings.items in
-    let own = of_codes allowed judgements part (subject.Condition c.comparison_at.result) _ condition_codes old new
-    c.of_conditions.ensures c.in_ok-push_those-2.ensures in
     numbered_more (IsGiven allowed judgements part) (condition_asked c.args.entry) c.loop-place.place
     c.deref-condition-items.result.now c.condition-item.result c.push_those.new.warnings.items old new c.loop-place-test.true
     c.condition-item.is c.loop-place.invariant
     (subst (λ (v : Comparison). AddsPicked allowed judgements part (map (about (subject.Condition v)) condition_codes) old new)
-    c.comparison_at.ensures own)
+    c.comparison_at.ensures c.in_ok-push_those-2.ensures)
 
 pub returns : goal.returns
 returns c =
@@ -40,6 +38,6 @@ returns c =
     c.deref-condition-items.ensures.value ∙ ap (λ (e : entries.Entry). e.conditions) c.own.view_is in
     let asked = numbered (condition_asked c.args.entry) 0 in
     adds_more (IsGiven allowed judgements part) (map (about what) entry_codes) (asked c.args.own.now.conditions) begun old new
-    (of_codes allowed judgements part what _ entry_codes begun old c.of_entries.ensures c.in_ok-push_those.ensures)
+    c.in_ok-push_those.ensures
     (subst (λ (cs : List Condition). AddsPicked allowed judgements part (asked cs) old new)
     (take_all c.loop-place.place items c.loop-place-test.false ∙ same) c.loop-place.invariant)

@@ -3,7 +3,7 @@ use Rattle.std.specs.List.{list_any}
 use Rattle.seccompiler.specs.Architecture.{table_of}
 use Rattle.seccompiler.specs.SyscallTable.{IsCallTable}
 use Rattle.seccomp_warnings.proofs.Rows.{by_rows, is_named}
-use Rattle.seccomp_warnings.proofs.argument.is_among_many.Goals as goal
+use Rattle.seccomp_warnings.proofs.argument.is_among.Goals as goal
 
 pub loop-pair-init : goal.loop-pair-init
 loop-pair-init c =

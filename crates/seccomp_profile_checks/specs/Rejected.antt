@@ -48,13 +48,9 @@ pub record AreOne (reading : Reading) (c d : Condition) : Type 0 where
 unfoldable pub IsOwn : Reading → List Condition → Condition → Type 0
 IsOwn reading cs c = (Counts reading c → ⊥) ⊎ Any (AreOne reading c) cs
 
--- The condition isn't tested, or before that one.
-abbrev pub IsBefore : Reading → Condition → Condition → Type 0
-IsBefore reading d c = (Counts reading c → ⊥) ⊎ (c.arg_index < d.arg_index)
-
--- The condition is tested behind all of these.
+-- The condition is tested behind all of these that are tested.
 abbrev pub IsPast : Reading → List Condition → Condition → Type 0
-IsPast reading cs d = All (IsBefore reading d) cs
+IsPast reading cs d = All (λ c. (Counts reading c → ⊥) ⊎ (c.arg_index < d.arg_index)) cs
 
 unfoldable pub IsOwnOrPast : Reading → List Condition → Condition → Type 0
 IsOwnOrPast reading cs d = IsOwn reading cs d ⊎ IsPast reading cs d
@@ -96,13 +92,9 @@ pub record RejectsAs (reading : Reading) (all : List Entry) (e f : Entry) : Type
 abbrev pub IsOfX86 : ℕ → Type 0
 IsOfX86 n = All (λ m. n ≢ m) (184 ∷ 185 ∷ 214 ∷ 215 ∷ 262 ∷ 320 ∷ [])
 
--- The entry stands in front of the place from which on these calls are settled.
-abbrev pub IsUnsettled : X86 → Entry → Type 0
-IsUnsettled x86 e = IfSome x86.settled_from (λ place. e.place < place)
-
--- x86 has the calls of the entry by one of them, and they aren't settled.
+-- x86 has the calls of the entry by one of them, and the entry stands in front of the place from which on they are settled.
 abbrev pub IsMultiplexed : X86 → Entry → Type 0
-IsMultiplexed x86 e = (IsOfIpc e.number ⊎ IsOfSockets e.number) × IsUnsettled x86 e
+IsMultiplexed x86 e = (IsOfIpc e.number ⊎ IsOfSockets e.number) × IfSome x86.settled_from (λ place. e.place < place)
 
 -- libseccomp rejects the first entry behind the second, one of these, in the program of x86, in which this is so of its calls.
 abbrev pub RejectsOnX86 : X86 → List Entry → Entry → Entry → Type 0

@@ -1,8 +1,8 @@
 // Entries that libseccomp may get wrong beside each other, or rejects.
 
-ghost use Rattle.std.specs.Prelude.{◌≡◌, ◌≢◌, ◌<◌, ◌↔◌, ◌⊎◌, Any, IfNone, IfOk, IfSome, IsFalse, IsTrue, length, nat_eq};
+ghost use Rattle.std.specs.Prelude.{◌≡◌, ◌↔◌, Any, IfNone, IfOk, IfSome, IsFalse, IsTrue};
 ghost use Rattle.seccomp_profile_checks.specs.Clashes as spec;
-ghost use Rattle.seccomp_profile_checks.specs.Clashes.{Affects, AreClashes, AreOne, AreRejected, AreRejectedIn, Clashes, HasSame, IsAnother, IsClashOf, IsDelicate, IsOrderBeside, IsOrderOn, IsOtherOf, Repeats, entries_of};
+ghost use Rattle.seccomp_profile_checks.specs.Clashes.{Affects, AreClashes, AreOne, AreRejected, AreRejectedIn, Clashes, HasSame, IsAnother, IsClashOf, IsDelicate, IsOrderBeside, IsOtherOf, Repeats, entries_of};
 
 use crate::effective::copy_of;
 use crate::multiplexed::{X86, x86_of};
@@ -83,17 +83,11 @@ fn entries_of_number(
 {
     let mut own = Vec::new(alloc);
     for entry in entries {
-        if is_of(entry, number) {
+        if entry.number == number {
             own.push(copy_of(alloc, entry)?)?;
         }
     }
     Ok(own)
-}
-
-fn is_of(entry: &Entry, number: u32) -> bool
-    ensures { result ≡ nat_eq entry.now.number number }
-{
-    entry.number == number
 }
 
 /// Of these entries those to which libseccomp does this beside each other.
@@ -119,35 +113,23 @@ fn clash_of(effect: Effect, entries: &[Entry], entry: &Entry) -> Option<Clash>
     ensures some { IfSome result (IsClashOf effect entries.now entry.now) }
     ensures none { IfNone result (Any (Affects effect entries.now entry.now) entries.now → ⊥) }
 {
-    let Some(beside) = beside(effect, entries, entry) else {
-        return None;
-    };
-    let (place, number) = (entry.place, entry.number);
-    Some(Clash {
-        effect,
-        place,
-        beside,
-        number,
-    })
-}
-
-// The place of one of the entries beside which libseccomp does it to this one.
-fn beside(effect: Effect, entries: &[Entry], entry: &Entry) -> Option<usize>
-    ensures some { IfSome result (λ place. Any (λ f. Affects effect entries.now entry.now f × (f.place ≡ place)) entries.now) }
-    ensures none { IfNone result (Any (Affects effect entries.now entry.now) entries.now → ⊥) }
-{
     if !may_be_affected(effect, entries, entry) {
         return None;
     }
     for other in entries {
         if affects(effect, entries, entry, other) {
-            return Some(other.place);
+            return Some(Clash {
+                effect,
+                place: entry.place,
+                beside: other.place,
+                number: entry.number,
+            });
         }
     }
     None
 }
 
-// Most entries can't be miscompiled, and need no search.
+// Most entries can't be miscompiled, and need no search: none of their conditions may be the one by which they clash.
 fn may_be_affected(effect: Effect, entries: &[Entry], entry: &Entry) -> bool
     ensures { IsFalse result → Any (Affects effect entries.now entry.now) entries.now → ⊥ }
 {
@@ -172,29 +154,21 @@ fn has_delicate(entries: &[Entry], entry: &Entry) -> bool
     ensures { IsTrue result ↔ Any (IsDelicate entries.now entry.now.number) entry.now.conditions }
 {
     let number = entry.number;
-    entry
-        .conditions
-        .iter()
-        .any(|condition| is_delicate(entries, number, condition))
-}
-
-fn is_delicate(entries: &[Entry], number: u32, condition: &SeccompCondition) -> bool
-    ensures { IsTrue result ↔ IsDelicate entries.now number condition.now }
-{
-    is_order(condition.operator()) || has_other(entries, number, condition)
+    entry.conditions.iter().any(|condition| is_order(condition.operator())
+        || has_other(entries, number, condition))
 }
 
 // Whether libseccomp may get the first wrong, since the second is beside it.
 fn clashes(entries: &[Entry], entry: &Entry, other: &Entry) -> bool
     ensures { IsTrue result ↔ Clashes entries.now entry.now other.now }
 {
-    is_another(entry, other) && is_beside(entries, entry, other)
-}
-
-fn is_beside(entries: &[Entry], entry: &Entry, other: &Entry) -> bool
-    ensures { IsTrue result ↔ (IsOrderBeside entry.now other.now ⊎ Any (Repeats entries.now entry.now other.now) entry.now.conditions) }
-{
-    is_order_beside(entry, other) || is_repeated(entries, entry, other)
+    if !is_another(entry, other) {
+        return false;
+    }
+    if is_order_beside(entry, other) {
+        return true;
+    }
+    any_repeats(entries, entry, other, entry.conditions.as_slice())
 }
 
 fn is_another(entry: &Entry, other: &Entry) -> bool
@@ -209,16 +183,8 @@ fn is_order_beside(entry: &Entry, other: &Entry) -> bool
     ensures { IsTrue result ↔ IsOrderBeside entry.now other.now }
 {
     other.number == entry.number
-        && entry
-            .conditions
-            .iter()
-            .any(|condition| is_order_on(condition, other))
-}
-
-fn is_order_on(condition: &SeccompCondition, other: &Entry) -> bool
-    ensures { IsTrue result ↔ IsOrderOn condition.now other.now }
-{
-    is_order(condition.operator()) && compares(other, condition.arg_index())
+        && entry.conditions.iter().any(|condition| is_order(condition.operator())
+            && compares(other, condition.arg_index()))
 }
 
 fn is_order(operator: SeccompCmpOp) -> bool
@@ -237,12 +203,6 @@ fn compares(entry: &Entry, index: u8) -> bool
         .any(|condition| condition.arg_index() == index)
 }
 
-fn is_repeated(entries: &[Entry], entry: &Entry, other: &Entry) -> bool
-    ensures { IsTrue result ↔ Any (Repeats entries.now entry.now other.now) entry.now.conditions }
-{
-    any_repeats(entries, entry, other, entry.conditions.as_slice())
-}
-
 fn any_repeats(
     entries: &[Entry],
     entry: &Entry,
@@ -259,16 +219,10 @@ fn any_repeats(
 fn repeats(entries: &[Entry], entry: &Entry, other: &Entry, condition: &SeccompCondition) -> bool
     ensures { IsTrue result ↔ Repeats entries.now entry.now other.now condition.now }
 {
-    if !may_repeat(condition, entry, other) {
+    if !is_masked(condition.operator()) && other.number == entry.number {
         return false;
     }
     has_same(condition, other) && has_other(entries, entry.number, condition)
-}
-
-fn may_repeat(condition: &SeccompCondition, entry: &Entry, other: &Entry) -> bool
-    ensures { IsTrue result ↔ (IsTrue (spec.is_masked condition.now.operator) ⊎ (other.now.number ≢ entry.now.number)) }
-{
-    is_masked(condition.operator()) || other.number != entry.number
 }
 
 fn is_masked(operator: SeccompCmpOp) -> bool
@@ -295,20 +249,10 @@ fn has_other(entries: &[Entry], number: u32, condition: &SeccompCondition) -> bo
 fn is_other_of(number: u32, condition: &SeccompCondition, entry: &Entry) -> bool
     ensures { IsTrue result ↔ IsOtherOf number condition.now entry.now }
 {
-    is_of_several(number, entry) && compares_otherwise(condition, entry)
-}
-
-fn is_of_several(number: u32, entry: &Entry) -> bool
-    ensures { IsTrue result ↔ ((entry.now.number ≡ number) × (1 < length entry.now.conditions)) }
-{
-    entry.number == number && entry.conditions.len() > 1
-}
-
-fn compares_otherwise(condition: &SeccompCondition, entry: &Entry) -> bool
-    ensures { IsTrue result ↔ Any (λ d. (d.arg_index ≡ condition.now.arg_index) × (AreOne condition.now d → ⊥)) entry.now.conditions }
-{
-    entry.conditions.iter().any(|own| own.arg_index() == condition.arg_index()
-        && !are_one(condition, own))
+    entry.number == number
+        && entry.conditions.len() > 1
+        && entry.conditions.iter().any(|own| own.arg_index() == condition.arg_index()
+            && !are_one(condition, own))
 }
 
 fn are_one(one: &SeccompCondition, other: &SeccompCondition) -> bool

@@ -1,9 +1,9 @@
 // From which entry of a profile on libseccomp adds nothing for calls that x86 has by socketcall(2) and ipc(2).
 
-ghost use Rattle.std.specs.Prelude.{◌≡◌, ◌≢◌, ◌<◌, ◌≤◌, ◌↔◌, Contains, IsTrue, MatchOption, [], codes, length, map, string_bytes};
+ghost use Rattle.std.specs.Prelude.{◌↔◌, Contains, IsTrue, MatchOption, map, string_bytes};
 ghost use Rattle.seccompiler.specs.declared.backend.TargetArch.TheVariants.{x86_64};
 ghost use Rattle.seccomp_oci.specs.Decision.{Applies, IsNameOf};
-ghost use Rattle.seccomp_profile_checks.specs.Multiplexed.{IsOfIpc, IsOfSockets, IsSettled, IsSettledBy, IsSettler, IsX86Of, NoneSettles, Settles, StandsInFront, has_x86};
+ghost use Rattle.seccomp_profile_checks.specs.Multiplexed.{IsOfIpc, IsOfSockets, IsSettled, IsSettledBy, IsSettler, IsX86Of, NoneSettles, Settles, StandsInFront};
 
 use seccomp_entries::Action;
 use seccomp_oci::{Container, Entry, Profile, applies, has_text};
@@ -26,21 +26,12 @@ pub(crate) fn x86_of(
 ) -> Option<X86>
     ensures { IsX86Of target container.now profile.now number result }
 {
-    if has_x86(target, profile) {
-        let settled_from = settled_from(container, profile, number);
-        Some(X86 { settled_from })
-    } else {
-        None
-    }
-}
-
-// Whether libseccomp makes a program for x86 too.
-fn has_x86(target: TargetArch, profile: &Profile) -> bool
-    ensures { result ≡ has_x86 target profile.now }
-{
     match target {
-        TargetArch::x86_64 => profile.lists_x86,
-        TargetArch::aarch64 | TargetArch::riscv64 => false,
+        TargetArch::x86_64 if profile.lists_x86 => {
+            let settled_from = settled_from(container, profile, number);
+            Some(X86 { settled_from })
+        }
+        _ => None,
     }
 }
 
@@ -61,20 +52,14 @@ fn settled_from(container: &Container, profile: &Profile, number: u32) -> Option
 pub(crate) fn is_of_ipc(number: u32) -> bool
     ensures { IsTrue result ↔ IsOfIpc number }
 {
-    is_in(29, 31, number) || (is_in(64, 71, number) || number == 220)
+    matches!(number, 29..=31 | 64..=71 | 220)
 }
 
 /// Whether x86 has them by `socketcall`.
 pub(crate) fn is_of_sockets(number: u32) -> bool
     ensures { IsTrue result ↔ IsOfSockets number }
 {
-    is_in(41, 55, number) || matches!(number, 288 | 299 | 307)
-}
-
-fn is_in(first: u32, last: u32, number: u32) -> bool
-    ensures { IsTrue result ↔ ((first ≤ number) × (number ≤ last)) }
-{
-    first <= number && number <= last
+    matches!(number, 41..=55 | 288 | 299 | 307)
 }
 
 // The place from which on they are settled by the entries that settle this name.

@@ -1,10 +1,10 @@
 // The parts of a profile of which warnings are told.
 
-ghost use Rattle.std.specs.Prelude.{◌≡◌, ◌↔◌, ◌⊎◌, Contains, IfOk, IsFalse, IsTrue};
+ghost use Rattle.std.specs.Prelude.{◌≡◌, ◌↔◌, ◌⊎◌, Contains, IfOk, IsTrue};
 ghost use Rattle.std.specs.List.{AllZip};
 ghost use Rattle.seccomp_entries.specs.declared.entry.Action.TheVariants.{Own};
 ghost use Rattle.seccompiler.specs.declared.backend.SeccompAction.TheVariants.{Allow};
-ghost use Rattle.seccomp_profile_checks.specs.Parts.{AreActionsOf, AreOfAction, AreParts, AreWithDefault, IsPartOfAction, IsPartOfDefault, origin_of};
+ghost use Rattle.seccomp_profile_checks.specs.Parts.{AreActionsOf, AreOfAction, AreParts, AreWithDefault, IsPartOfAction, origin_of};
 
 use crate::effective::copy_of;
 use seccomp_entries::{Action, Entry};
@@ -70,7 +70,14 @@ fn with_default(
         return Ok(own);
     }
     let mut parts = own;
-    parts.push(default_part(target, default, effective))?;
+    parts.push(Part {
+        target_arch: target,
+        actions: Actions {
+            mismatch: default,
+            matching: Action::Own(SeccompAction::Allow),
+        },
+        entries: effective,
+    })?;
     Ok(parts)
 }
 
@@ -94,20 +101,12 @@ fn actions_of(alloc: Global, entries: &[Entry]) -> Result<Vec<Action>, AllocErro
 {
     let mut actions = Vec::new(alloc);
     for entry in entries {
-        let action = action_of(entry);
-        if is_known(&actions, action) {
+        if is_known(&actions, entry.action) {
             continue;
         }
-        actions.push(action)?;
+        actions.push(entry.action)?;
     }
     Ok(actions)
-}
-
-// The action of an entry.
-fn action_of(entry: &Entry) -> Action
-    ensures { result ≡ entry.now.action }
-{
-    entry.action
 }
 
 // The parts of these actions.
@@ -121,50 +120,17 @@ fn parts_of_actions(
 {
     let mut parts = Vec::new(alloc);
     for action in actions {
-        parts.push(part_of_action(alloc, target, effective, *action)?)?;
+        let entries = entries_of_action(alloc, effective, *action)?;
+        parts.push(Part {
+            target_arch: target,
+            actions: Actions {
+                mismatch: Action::Own(SeccompAction::Allow),
+                matching: *action,
+            },
+            entries,
+        })?;
     }
     Ok(parts)
-}
-
-// The part of an action.
-fn part_of_action(
-    alloc: Global,
-    target: TargetArch,
-    effective: &[Entry],
-    action: Action,
-) -> Result<Part, AllocError>
-    ensures { IfOk result (IsPartOfAction target effective.now action) }
-{
-    let entries = entries_of_action(alloc, effective, action)?;
-    Ok(Part {
-        target_arch: target,
-        actions: Actions {
-            mismatch: Action::Own(SeccompAction::Allow),
-            matching: action,
-        },
-        entries,
-    })
-}
-
-// The part of the default action.
-fn default_part(target: TargetArch, default: Action, effective: Vec<Entry>) -> Part
-    ensures { IsPartOfDefault target effective.items default result }
-{
-    Part {
-        target_arch: target,
-        actions: Actions {
-            mismatch: default,
-            matching: Action::Own(SeccompAction::Allow),
-        },
-        entries: effective,
-    }
-}
-
-// Whether the entry has another action.
-fn is_other(entry: &Entry, action: Action) -> bool
-    ensures { IsFalse result ↔ (entry.now.action ≡ action) }
-{
-    !is_same(entry.action, action)
 }
 
 // Of the entries those with this action.
@@ -177,7 +143,7 @@ fn entries_of_action(
 {
     let mut own = Vec::new(alloc);
     for entry in entries {
-        if is_other(entry, action) {
+        if !is_same(entry.action, action) {
             continue;
         }
         own.push(copy_of(alloc, entry)?)?;

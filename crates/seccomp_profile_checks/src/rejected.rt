@@ -1,10 +1,8 @@
 // Entries that libseccomp rejects behind others, so that no container starts.
 
-ghost use Rattle.std.specs.Prelude.{◌≡◌, ◌≢◌, ◌<◌, ◌≤◌, ◌↔◌, ◌⊎◌, All, Any, IsTrue, unwrap_or};
-ghost use Rattle.seccomp_profile_checks.specs.Multiplexed.{IsOfIpc, IsOfSockets};
+ghost use Rattle.std.specs.Prelude.{◌≡◌, ◌<◌, ◌↔◌, ◌⊎◌, Any, IsTrue};
 ghost use Rattle.seccomp_profile_checks.specs.Rejected as spec;
-ghost use Rattle.seccompiler.specs.declared.backend.SeccompCmpOp.TheVariants.{MaskedEq};
-ghost use Rattle.seccomp_profile_checks.specs.Rejected.{AreOne, Begins, Counts, IsBefore, IsInFront, IsMultiplexed, IsOfX86, IsOther, IsOwn, IsOwnOrPast, IsPast, IsShorter, IsUnsettled, Rejects, RejectsAs, RejectsByAny, RejectsOnX86};
+ghost use Rattle.seccomp_profile_checks.specs.Rejected.{AreOne, Begins, Counts, IsInFront, IsMultiplexed, IsOfX86, IsOwn, IsOwnOrPast, IsShorter, Rejects, RejectsAs, RejectsOnX86};
 
 use crate::multiplexed::{X86, is_of_ipc, is_of_sockets};
 use crate::parts::is_same;
@@ -38,35 +36,10 @@ const MULTIPLEXED: Reading = Reading {
 pub(crate) fn rejects(x86: Option<X86>, entries: &[Entry], entry: &Entry, other: &Entry) -> bool
     ensures { IsTrue result ↔ Rejects x86 entries.now entry.now other.now }
 {
-    is_other(entry, other) && rejects_by_any(x86, entries, entry, other)
-}
-
-fn is_other(entry: &Entry, other: &Entry) -> bool
-    ensures { IsTrue result ↔ IsOther entry.now other.now }
-{
-    other.number == entry.number
-        && is_in_front(other, entry)
-        && !is_same(other.action, entry.action)
-}
-
-// Whether runtimes add the first before the second.
-fn is_in_front(one: &Entry, other: &Entry) -> bool
-    ensures { IsTrue result ↔ IsInFront one.now other.now }
-{
-    one.place < other.place
-        || one.place == other.place && alternative_of(one) < alternative_of(other)
-}
-
-fn alternative_of(entry: &Entry) -> usize
-    ensures { result ≡ unwrap_or entry.now.alternative 0 }
-{
-    entry.alternative.unwrap_or(0)
-}
-
-// Whether it is rejected in the program of one of the architectures.
-fn rejects_by_any(x86: Option<X86>, entries: &[Entry], entry: &Entry, other: &Entry) -> bool
-    ensures { IsTrue result ↔ RejectsByAny x86 entries.now entry.now other.now }
-{
+    let is_same_call = other.number == entry.number;
+    if !is_same_call || !is_in_front(other, entry) || is_same(other.action, entry.action) {
+        return false;
+    }
     match x86 {
         None => rejects_as(WHOLE, entries, entry, other),
         Some(x86) => {
@@ -75,21 +48,20 @@ fn rejects_by_any(x86: Option<X86>, entries: &[Entry], entry: &Entry, other: &En
     }
 }
 
+// Whether runtimes add the first before the second.
+fn is_in_front(one: &Entry, other: &Entry) -> bool
+    ensures { IsTrue result ↔ IsInFront one.now other.now }
+{
+    one.place < other.place
+        || one.place == other.place && one.alternative.unwrap_or(0) < other.alternative.unwrap_or(0)
+}
+
 fn rejects_on_x86(x86: X86, entries: &[Entry], entry: &Entry, other: &Entry) -> bool
     ensures { IsTrue result ↔ RejectsOnX86 x86 entries.now entry.now other.now }
 {
-    rejects_low(entries, entry, other) || rejects_multiplexed(x86, entries, entry, other)
-}
-
-fn rejects_low(entries: &[Entry], entry: &Entry, other: &Entry) -> bool
-    ensures { IsTrue result ↔ (IsOfX86 entry.now.number × RejectsAs spec.low entries.now entry.now other.now) }
-{
-    is_of_x86(entry.number) && rejects_as(LOW, entries, entry, other)
-}
-
-fn rejects_multiplexed(x86: X86, entries: &[Entry], entry: &Entry, other: &Entry) -> bool
-    ensures { IsTrue result ↔ (IsMultiplexed x86 entry.now × RejectsAs spec.multiplexed entries.now entry.now other.now) }
-{
+    if is_of_x86(entry.number) && rejects_as(LOW, entries, entry, other) {
+        return true;
+    }
     is_multiplexed(x86, entry) && rejects_as(MULTIPLEXED, entries, entry, other)
 }
 
@@ -104,12 +76,9 @@ fn is_of_x86(number: u32) -> bool
 fn is_multiplexed(x86: X86, entry: &Entry) -> bool
     ensures { IsTrue result ↔ IsMultiplexed x86 entry.now }
 {
-    (is_of_ipc(entry.number) || is_of_sockets(entry.number)) && is_unsettled(x86, entry)
-}
-
-fn is_unsettled(x86: X86, entry: &Entry) -> bool
-    ensures { IsTrue result ↔ IsUnsettled x86 entry.now }
-{
+    if !is_of_ipc(entry.number) && !is_of_sockets(entry.number) {
+        return false;
+    }
     match x86.settled_from {
         None => true,
         Some(place) => entry.place < place,
@@ -121,7 +90,9 @@ fn rejects_as(reading: Reading, entries: &[Entry], entry: &Entry, other: &Entry)
 {
     has_tests(reading, entry)
         && begins(reading, entry, other)
-        && !has_shorter(reading, entries, entry, other)
+        && !entries
+            .iter()
+            .any(|third| is_shorter(reading, entry, other, third))
 }
 
 fn has_tests(reading: Reading, entry: &Entry) -> bool
@@ -134,90 +105,47 @@ fn has_tests(reading: Reading, entry: &Entry) -> bool
             .any(|condition| counts(reading, condition))
 }
 
-fn has_shorter(reading: Reading, entries: &[Entry], entry: &Entry, other: &Entry) -> bool
-    ensures { IsTrue result ↔ Any (IsShorter reading entry.now other.now) entries.now }
-{
-    entries
-        .iter()
-        .any(|third| is_shorter(reading, entry, other, third))
-}
-
 fn is_shorter(reading: Reading, entry: &Entry, other: &Entry, third: &Entry) -> bool
     ensures { IsTrue result ↔ IsShorter reading entry.now other.now third.now }
 {
     third.number == entry.number
         && is_in_front(third, entry)
-        && begins_and_has_less(reading, third, other)
+        && begins(reading, third, other)
+        && !begins(reading, other, third)
 }
 
-fn begins_and_has_less(reading: Reading, one: &Entry, other: &Entry) -> bool
-    ensures { IsTrue result ↔ (Begins reading one.now.conditions other.now.conditions × (Begins reading other.now.conditions one.now.conditions → ⊥)) }
-{
-    begins(reading, one, other) && !begins(reading, other, one)
-}
-
-// Whether the tests of the other begin with those of the first.
+// Whether the tests of the other begin with those of the first: each of the first is one of the other, whose other tests are behind all
+// of the first.
 fn begins(reading: Reading, one: &Entry, other: &Entry) -> bool
     ensures { IsTrue result ↔ Begins reading one.now.conditions other.now.conditions }
-{
-    are_there(reading, one, other) && are_behind(reading, one, other)
-}
-
-// Whether each test of the first is one of the other.
-fn are_there(reading: Reading, one: &Entry, other: &Entry) -> bool
-    ensures { IsTrue result ↔ All (IsOwn reading other.now.conditions) one.now.conditions }
 {
     one.conditions
         .iter()
         .all(|condition| is_own(reading, other, condition))
+        && other
+            .conditions
+            .iter()
+            .all(|condition| is_own_or_past(reading, one, condition))
 }
 
 #[tactic(auto, unfolding(crate::specs::Rejected::IsOwn))]
 fn is_own(reading: Reading, entry: &Entry, condition: &SeccompCondition) -> bool
     ensures { IsTrue result ↔ IsOwn reading entry.now.conditions condition.now }
 {
-    !counts(reading, condition) || has_same(reading, entry, condition)
-}
-
-// Whether each other test of the other is behind all of the first.
-fn are_behind(reading: Reading, one: &Entry, other: &Entry) -> bool
-    ensures { IsTrue result ↔ All (IsOwnOrPast reading one.now.conditions) other.now.conditions }
-{
-    other
-        .conditions
-        .iter()
-        .all(|condition| is_own_or_past(reading, one, condition))
+    !counts(reading, condition)
+        || entry
+            .conditions
+            .iter()
+            .any(|own| are_one(reading, condition, own))
 }
 
 #[tactic(auto, unfolding(crate::specs::Rejected::IsOwnOrPast))]
 fn is_own_or_past(reading: Reading, entry: &Entry, condition: &SeccompCondition) -> bool
     ensures { IsTrue result ↔ IsOwnOrPast reading entry.now.conditions condition.now }
 {
-    is_own(reading, entry, condition) || is_past(reading, entry, condition)
-}
-
-fn is_past(reading: Reading, entry: &Entry, condition: &SeccompCondition) -> bool
-    ensures { IsTrue result ↔ IsPast reading entry.now.conditions condition.now }
-{
-    entry
-        .conditions
-        .iter()
-        .all(|own| is_before(reading, own, condition))
-}
-
-fn is_before(reading: Reading, one: &SeccompCondition, other: &SeccompCondition) -> bool
-    ensures { IsTrue result ↔ IsBefore reading other.now one.now }
-{
-    !counts(reading, one) || one.arg_index() < other.arg_index()
-}
-
-fn has_same(reading: Reading, entry: &Entry, condition: &SeccompCondition) -> bool
-    ensures { IsTrue result ↔ Any (AreOne reading condition.now) entry.now.conditions }
-{
-    entry
-        .conditions
-        .iter()
-        .any(|own| are_one(reading, condition, own))
+    is_own(reading, entry, condition)
+        || entry.conditions.iter().all(|own| !counts(reading, own)
+            || own.arg_index() < condition.arg_index())
 }
 
 fn are_one(reading: Reading, one: &SeccompCondition, other: &SeccompCondition) -> bool
@@ -232,13 +160,8 @@ fn are_one(reading: Reading, one: &SeccompCondition, other: &SeccompCondition) -
 fn counts(reading: Reading, condition: &SeccompCondition) -> bool
     ensures { IsTrue result ↔ Counts reading condition.now }
 {
-    reading.first <= condition.arg_index() && has_mask(reading.bits, condition)
-}
-
-fn has_mask(bits: u64, condition: &SeccompCondition) -> bool
-    ensures { IsTrue result ↔ (spec.seen_operator bits condition.now.operator ≢ MaskedEq 0) }
-{
-    seen_operator(bits, condition) != SeccompCmpOp::MaskedEq(0)
+    reading.first <= condition.arg_index()
+        && seen_operator(reading.bits, condition) != SeccompCmpOp::MaskedEq(0)
 }
 
 fn seen_operator(bits: u64, condition: &SeccompCondition) -> SeccompCmpOp

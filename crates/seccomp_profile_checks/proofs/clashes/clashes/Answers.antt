@@ -1,7 +1,20 @@
+use Rattle.std.proofs.Common.{◌∙◌, ap, inl, inr, subst, sym}
+use Rattle.std.specs.Prelude.{Any}
+use Rattle.std.proofs.lemmas.Bool.{false≢true}
+use Rattle.seccomp_entries.specs.Entries.{Entry}
+use Rattle.seccomp_profile_checks.specs.Clashes.{Repeats}
 use Rattle.seccomp_profile_checks.proofs.clashes.clashes.Goals as goal
 
-pub returns-then-is_another : goal.returns-then-is_another
-returns-then-is_another c = (
-  λ yes. record { another = c.is_another.ensures.0 c.if-is_another.true; beside = c.is_beside.ensures.0 yes },
-  λ is. c.is_beside.ensures.1 is.beside,
-)
+pub returns : goal.returns
+returns c =
+    let P = Repeats c.args.entries.now c.args.entry.now c.args.other.now in
+    let conditions = c.as_slice.ensures.value ∙ ap (λ (e : Entry). e.conditions) c.entry.view_is in (
+      λ yes. record {
+        another = c.is_another.ensures.0 c.if-not-is_another.false;
+        beside = inr (subst (λ cs. Any P cs) conditions (c.any_repeats.ensures.0 yes));
+      },
+      λ is. c.any_repeats.ensures.1 (elim is.beside [
+        | inl order ↦ absurd (false≢true (sym c.if-is_order_beside.false ∙ c.is_order_beside.ensures.1 order))
+        | inr any ↦ subst (λ cs. Any P cs) (sym conditions) any
+      ]),
+    )

@@ -21,9 +21,10 @@ loop-entry-preserved-then-is_known c =
     let front : List Entry = take l.entry-index es in
     let longer : take (l.entry-index + 1) es ≡ front ++ e ∷ [] =
     take_more es l.entry-index e c.loop-entry-test.true ∙ ap (λ (x : Entry). front ++ x ∷ []) (sym c.entry-item.is) in
+    let action_is : c.entry.inside.action ≡ e.action = ap (λ (x : Entry). x.action) c.entry.view_is in
     let known : (e.action ≡ Own Allow) ⊎ Contains l.actions.items e.action =
-    subst (λ (a : Action). (a ≡ Own Allow) ⊎ Contains l.actions.items a) c.action_of-action.ensures
-    (subst (λ (each : List Action). (c.action_of-action.result ≡ Own Allow) ⊎ Contains each c.action_of-action.result)
+    subst (λ (a : Action). (a ≡ Own Allow) ⊎ Contains l.actions.items a) action_is
+    (subst (λ (each : List Action). (c.entry.inside.action ≡ Own Allow) ⊎ Contains each c.entry.inside.action)
     c.deref.ensures.value (c.is_known.ensures.0 c.if-is_known.true)) in
     subst (λ (xs : List Entry). AreActionsOf xs l.actions.items) (sym longer) (actions_same front l.actions.items e l.invariant known)
 
@@ -35,11 +36,12 @@ loop-entry-preserved c =
     let front : List Entry = take l.entry-index es in
     let longer : take (l.entry-index + 1) es ≡ front ++ e ∷ [] =
     take_more es l.entry-index e c.loop-entry-test.true ∙ ap (λ (x : Entry). front ++ x ∷ []) (sym c.entry-item.is) in
+    let action_is : c.entry.inside.action ≡ e.action = ap (λ (x : Entry). x.action) c.entry.view_is in
     let pushed : c.push.new.self.items ≡ l.actions.items ++ e.action ∷ [] =
-    c.in_ok-push.ensures.items ∙ ap (λ (a : Action). l.actions.items ++ a ∷ []) c.action_of-action.ensures in
+    c.in_ok-push.ensures.items ∙ ap (λ (a : Action). l.actions.items ++ a ∷ []) action_is in
     subst (λ (xs : List Entry). AreActionsOf xs c.push.new.self.items) (sym longer)
     (actions_more front l.actions.items e l.invariant c.push.new.self.items pushed
-    (λ same. false≢true (sym c.if-is_known.false ∙ c.is_known.ensures.1 (inl (c.action_of-action.ensures ∙ same)))))
+    (λ same. false≢true (sym c.if-is_known.false ∙ c.is_known.ensures.1 (inl (action_is ∙ same)))))
 
 pub returns : goal.returns
 returns c = subst (λ (xs : List Entry). AreActionsOf xs c.loop-entry.actions.items)

@@ -1,4 +1,4 @@
-use Rattle.std.proofs.Common.{List, subst}
+use Rattle.std.proofs.Common.{List, refl, subst}
 use Rattle.std.specs.List.{AllZip}
 use Rattle.std.proofs.lemmas.List.{take_all}
 use Rattle.seccomp_entries.specs.declared.entry.Action.{Action}
@@ -9,8 +9,8 @@ use Rattle.seccomp_profile_checks.proofs.parts.parts_of_actions.Goals as goal
 pub loop-action-preserved : goal.loop-action-preserved
 loop-action-preserved c =
     zip_more (IsPartOfAction c.args.target c.args.effective.now) c.args.actions.now c.loop-action.action-index _ c.loop-action.parts.items
-    c.push.new.self.items c.in_ok-part_of_action.field-0 c.loop-action-test.true c.in_ok-push.ensures.items c.loop-action.invariant
-    c.in_ok-part_of_action.ensures
+    c.push.new.self.items _ c.loop-action-test.true c.in_ok-push.ensures.items c.loop-action.invariant
+    (record { target_arch = refl; mismatch = refl; matching = refl; entries = c.in_ok-entries.ensures })
 
 pub returns : goal.returns
 returns c =

@@ -1,4 +1,4 @@
-use Rattle.std.proofs.Common.{List, subst, sym, ◌∙◌}
+use Rattle.std.proofs.Common.{List, refl, subst, sym, ◌∙◌}
 use Rattle.std.proofs.lemmas.Bool.{false≢true}
 use Rattle.seccomp_profile_checks.specs.Parts.{AreWithDefault, allows, denies}
 use Rattle.seccomp_warnings.specs.Parts.{Part}
@@ -11,4 +11,5 @@ pub returns : goal.returns
 returns c =
     subst (λ (parts : List Part). AreWithDefault c.args.target c.args.effective.items c.args.default c.args.own.items parts)
     (sym c.in_ok-push.ensures.items)
-    (denies (λ same. false≢true (sym c.if-is_same.false ∙ c.is_same.ensures.1 same)) c.default_part.result c.default_part.ensures)
+    (denies (λ same. false≢true (sym c.if-is_same.false ∙ c.is_same.ensures.1 same)) _
+    (record { target_arch = refl; mismatch = refl; matching = refl; entries = refl }))

@@ -6,7 +6,7 @@ use Rattle.std.proofs.lemmas.List.Elements.{All-push}
 use Rattle.seccomp_entries.specs.Entries.{Entry}
 use Rattle.seccomp_profile_checks.specs.Clashes.{Affects}
 use Rattle.seccomp_profile_checks.proofs.Places.{none_any}
-use Rattle.seccomp_profile_checks.proofs.clashes.beside.Goals as goal
+use Rattle.seccomp_profile_checks.proofs.clashes.clash_of.Goals as goal
 
 pub loop-other-preserved : goal.loop-other-preserved
 loop-other-preserved c =

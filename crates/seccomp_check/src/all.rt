@@ -7,7 +7,6 @@ ghost use Rattle.serde_json.specs.View.{view, items_view, members_view};
 ghost use Rattle.seccompiler.specs.JsonShape.{Has};
 ghost use Rattle.seccomp_check.specs.Faults.{IsFaultOf, Tells};
 ghost use Rattle.seccomp_check.specs.Parts.{part_in, part_under};
-ghost use Rattle.seccomp_check.specs.declared.fault.Cause.{Cause};
 ghost use Rattle.seccomp_check.specs.declared.fault.Cause.TheVariants as cause;
 ghost use Rattle.seccomp_check.specs.declared.part.Kind.TheVariants as kind;
 ghost use Rattle.seccomp_check.specs.declared.part.Part.{Part};
@@ -358,21 +357,14 @@ fn first_of(cause: Cause, faults: Vec<Fault>) -> Result<(), Finding>
     Ok(())
 }
 
-// Faults of a policy, all of this kind among them.
-fn all_of_kind(alloc: Global, cause: Cause, value: &Value) -> Result<Vec<Fault>, AllocError>
-    ensures { IfOk result (λ all. All (IsFaultOf parts.Policy (view value.now)) all.items) }
-{
-    match cause {
-        Cause::Length(target) => all_of_lengths(alloc, target, value),
-        Cause::Call(target) => all_of_policy(alloc, target, 1, value),
-        // Those of names of calls are passed over.
-        _ => all_of_policy(alloc, TargetArch::x86_64, 0, value),
-    }
-}
-
 /// The first fault of this kind in a policy.
 pub(crate) fn first_in_policy(alloc: Global, cause: Cause, value: &Value) -> Result<(), Finding>
     ensures found { IfErr result (Tells cause parts.Policy (view value.now)) }
 {
-    first_of(cause, all_of_kind(alloc, cause, value)?)
+    match cause {
+        Cause::Length(target) => first_of(cause, all_of_lengths(alloc, target, value)?),
+        Cause::Call(target) => first_of(cause, all_of_policy(alloc, target, 1, value)?),
+        // Those of names of calls are passed over.
+        _ => first_of(cause, all_of_policy(alloc, TargetArch::x86_64, 0, value)?),
+    }
 }

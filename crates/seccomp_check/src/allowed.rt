@@ -1,18 +1,18 @@
 // What may stand at a place of a policy. docs/JSON.md has the format.
 
-ghost use Rattle.std.specs.Prelude.{◌≡◌, ◌↔◌, ℕ, Some, IsTrue, IfSome, IfNone, map, option_map};
+ghost use Rattle.std.specs.Prelude.{◌≡◌, ◌↔◌, ℕ, IsTrue, IfSome, IfNone, map, option_map};
 ghost use Rattle.std.specs.List.{list_any};
 ghost use Rattle.std.specs.Str.{bytes_eq};
-ghost use Rattle.serde_json.specs.Data.{null, array, no_items};
+ghost use Rattle.serde_json.specs.Data.{array, no_items};
 ghost use Rattle.serde_json.specs.View.{view};
-ghost use Rattle.seccompiler.specs.JsonShape.{IsObject, IsWhole, IsOneAction, IsComment};
+ghost use Rattle.seccompiler.specs.JsonShape.{IsObject, IsWhole, IsOneAction};
 ghost use Rattle.seccomp_check.specs.Faults.{IsAllowed};
-ghost use Rattle.seccomp_check.specs.Parts.{IsPart, IsArray, IsText, IsCallOf};
+ghost use Rattle.seccomp_check.specs.Parts.{IsPart, IsArray};
 
 use crate::fault::Expected;
 use crate::part::Part;
 use seccompiler::json::{read_action, read_arg_len, read_operator};
-use seccompiler::{SeccompAction, SyscallTable, TargetArch};
+use seccompiler::{SeccompAction, SyscallTable};
 use serde_json::Value;
 
 // Whether the name is one of these.
@@ -61,34 +61,6 @@ fn is_array(value: &Value) -> bool
     matches!(value, Value::Array(_))
 }
 
-fn is_null(value: &Value) -> bool
-    ensures { IsTrue result ↔ (view value.now ≡ null) }
-{
-    matches!(value, Value::Null)
-}
-
-fn is_text(value: &Value) -> bool
-    ensures { IsTrue result ↔ IsText (view value.now) }
-{
-    matches!(value, Value::String(_))
-}
-
-fn is_comment(value: &Value) -> bool
-    ensures { IsTrue result ↔ IsComment (Some (view value.now)) }
-{
-    matches!(value, Value::Null | Value::String(_))
-}
-
-// Whether the value is the name of a call.
-fn is_call(target: TargetArch, value: &Value) -> bool
-    ensures { IsTrue result ↔ IsCallOf target (view value.now) }
-{
-    match value {
-        Value::String(text) => SyscallTable::new(target).get_syscall_nr(text).is_some(),
-        _ => false,
-    }
-}
-
 // Whether the value is an array without values.
 fn is_empty(value: &Value) -> bool
     ensures { IsTrue result ↔ (view value.now ≡ array no_items) }
@@ -107,9 +79,9 @@ fn is_part(part: Part, value: &Value) -> bool
         Part::Policy | Part::Object(_) => is_object(value),
         Part::Action => read_action(value).is_some(),
         Part::Entries => is_array(value),
-        Part::Name => is_text(value),
-        Part::Comment => is_comment(value),
-        Part::Conditions => is_null(value) || is_array(value),
+        Part::Name => matches!(value, Value::String(_)),
+        Part::Comment => matches!(value, Value::Null | Value::String(_)),
+        Part::Conditions => matches!(value, Value::Null) || is_array(value),
         Part::Index => whole_of(value, 255).is_some(),
         Part::Length => read_arg_len(value).is_some(),
         Part::Operator => read_operator(value).is_some(),
@@ -124,7 +96,10 @@ pub(crate) fn is_allowed(expected: Expected, value: &Value) -> bool
 {
     match expected {
         Expected::Form(part) => is_part(part, value),
-        Expected::Call(target) => is_call(target, value),
+        Expected::Call(target) => match value {
+            Value::String(text) => SyscallTable::new(target).get_syscall_nr(text).is_some(),
+            _ => false,
+        },
         Expected::Argument => whole_of(value, 5).is_some(),
         Expected::SomeConditions => !is_empty(value),
     }

@@ -107,25 +107,18 @@ impl<T: Drop> From<AllocFailed<T>> for Finding {
     }
 }
 
-// The kind of fault that a problem is, where something else may stand.
-fn cause_of_expected(expected: Expected) -> Cause
-    ensures { result ≡ spec.cause_of_expected expected }
-{
-    match expected {
-        Expected::Form(Part::Policy) => Cause::Top,
-        Expected::Form(_) => Cause::Shape,
-        Expected::Call(target) => Cause::Call(target),
-        Expected::Argument => Cause::Argument,
-        Expected::SomeConditions => Cause::Empty,
-    }
-}
-
 // The kind of fault that a problem is.
 pub(crate) fn cause_of(problem: &Problem) -> Cause
     ensures { result ≡ spec.cause_of problem.now }
 {
     match problem {
-        Problem::Stands(_, expected, _) => cause_of_expected(*expected),
+        Problem::Stands(_, expected, _) => match expected {
+            Expected::Form(Part::Policy) => Cause::Top,
+            Expected::Form(_) => Cause::Shape,
+            Expected::Call(target) => Cause::Call(*target),
+            Expected::Argument => Cause::Argument,
+            Expected::SomeConditions => Cause::Empty,
+        },
         Problem::SameActions => Cause::Actions,
         Problem::TooLong(_, _, target) => Cause::Length(*target),
         Problem::Strange(_, _)

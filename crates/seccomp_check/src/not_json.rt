@@ -133,7 +133,17 @@ impl Reading {
         let is_object = self.is_in_object();
         let wanted = match (self.wanted, *first) {
             (_, b' ' | b'\t' | b'\r' | b'\n') => return Ok(None),
-            (Wanted::Value | Wanted::ValueOrEnd, b'{' | b'[') => return self.open(alloc, *first),
+            (Wanted::Value | Wanted::ValueOrEnd, b'{' | b'[') => {
+                if self.open.len() >= DEEPEST {
+                    return Ok(Some(String::from_str(alloc, "nested more than 127 deep")?));
+                }
+                self.open.push(*first == b'{')?;
+                if *first == b'{' {
+                    Wanted::NameOrEnd
+                } else {
+                    Wanted::ValueOrEnd
+                }
+            }
             (Wanted::ValueOrEnd, b']') | (Wanted::NameOrEnd, b'}') => self.close(),
             (Wanted::CommaOrEnd, b'}') if is_object => self.close(),
             (Wanted::CommaOrEnd, b']') if !is_object => self.close(),
@@ -153,20 +163,6 @@ impl Reading {
             _ => return expected(alloc, self.expected(), piece),
         };
         self.wanted = wanted;
-        Ok(None)
-    }
-
-    // Takes the beginning of an array or an object.
-    fn open(&mut self, alloc: Global, first: u8) -> Result<Option<String>, AllocError> {
-        if self.open.len() >= DEEPEST {
-            return Ok(Some(String::from_str(alloc, "nested more than 127 deep")?));
-        }
-        self.open.push(first == b'{')?;
-        self.wanted = if first == b'{' {
-            Wanted::NameOrEnd
-        } else {
-            Wanted::ValueOrEnd
-        };
         Ok(None)
     }
 

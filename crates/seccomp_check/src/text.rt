@@ -1,31 +1,23 @@
 // The text of a fault.
 
-ghost use Rattle.std.specs.Prelude.{◌≡◌, ◌++◌, IfOk, OnOk, codes, decimal, option_map, string_bytes};
+ghost use Rattle.std.specs.Prelude.{◌≡◌, ◌++◌, IfOk, OnOk, codes, decimal, option_map};
 ghost use Rattle.std.specs.List.{flat_map};
 ghost use Rattle.seccomp_text.specs.Readable.{readable};
 ghost use Rattle.seccomp_text.specs.declared.readable.TextKind.TheVariants.{Name};
 ghost use Rattle.seccomp_check.specs.Texts as spec;
-ghost use Rattle.seccomp_check.specs.declared.fault.Expected.TheVariants.{Call};
 
 use crate::fault::{Expected, Fault, Problem};
 use crate::part::{Kind, Part};
 use seccomp_text::readable::{TextKind, push_readable};
 use seccomp_text::steps::Step;
-use seccompiler::TargetArch;
 use std::alloc::{AllocError, Global};
 
 // Adds a number in decimal digits.
 fn push_decimal(text: &mut Vec<u8>, alloc: Global, number: usize) -> Result<(), AllocError>
     ensures { OnOk result (text.new.items ≡ text.old.items ++ decimal number) }
 {
-    let number = decimal_digits(alloc, number)?;
-    text.extend_from_slice(number.as_bytes())
-}
-
-fn decimal_digits(alloc: Global, number: usize) -> Result<String, AllocError>
-    ensures { IfOk result (λ digits. string_bytes digits ≡ decimal number) }
-{
-    format!(in alloc; "{number}")
+    let digits = format!(in alloc; "{number}")?;
+    text.extend_from_slice(digits.as_bytes())
 }
 
 // Adds a place in brackets.
@@ -37,35 +29,18 @@ fn push_place(text: &mut Vec<u8>, alloc: Global, place: usize) -> Result<(), All
     text.extend_from_slice(b"]")
 }
 
-// Adds the first step of a path.
-fn push_first(text: &mut Vec<u8>, alloc: Global, step: &Step) -> Result<(), AllocError>
-    ensures { OnOk result (text.new.items ≡ text.old.items ++ spec.first_text step.now) }
-{
-    match step {
-        Step::Key(key) => push_readable(text, key.as_str(), TextKind::Name),
-        Step::Item(place) => push_place(text, alloc, *place),
-    }
-}
-
-// Adds a step of a path after the first.
-fn push_step(text: &mut Vec<u8>, alloc: Global, step: &Step) -> Result<(), AllocError>
-    ensures { OnOk result (text.new.items ≡ text.old.items ++ spec.step_text step.now) }
-{
-    match step {
-        Step::Key(key) => {
-            text.extend_from_slice(b".")?;
-            push_readable(text, key.as_str(), TextKind::Name)
-        }
-        Step::Item(place) => push_place(text, alloc, *place),
-    }
-}
-
 // Adds the steps of a path after the first.
 fn push_steps(text: &mut Vec<u8>, alloc: Global, path: &[Step]) -> Result<(), AllocError>
     ensures { OnOk result (text.new.items ≡ text.old.items ++ flat_map spec.step_text path.now) }
 {
     for step in path {
-        push_step(text, alloc, step)?;
+        match step {
+            Step::Key(key) => {
+                text.extend_from_slice(b".")?;
+                push_readable(text, key.as_str(), TextKind::Name)?;
+            }
+            Step::Item(place) => push_place(text, alloc, *place)?,
+        }
     }
     Ok(())
 }
@@ -74,10 +49,14 @@ fn push_steps(text: &mut Vec<u8>, alloc: Global, path: &[Step]) -> Result<(), Al
 fn push_path(text: &mut Vec<u8>, alloc: Global, path: &[Step]) -> Result<(), AllocError>
     ensures { OnOk result (text.new.items ≡ text.old.items ++ spec.path_text path.now) }
 {
-    match path.split_first() {
-        None => text.extend_from_slice(b"the policy"),
-        Some((first, path)) => {
-            push_first(text, alloc, first)?;
+    match path {
+        [] => text.extend_from_slice(b"the policy"),
+        [Step::Key(key), path @ ..] => {
+            push_readable(text, key.as_str(), TextKind::Name)?;
+            push_steps(text, alloc, path)
+        }
+        [Step::Item(place), path @ ..] => {
+            push_place(text, alloc, *place)?;
             push_steps(text, alloc, path)
         }
     }
@@ -107,16 +86,6 @@ fn form_text(part: Part) -> &'static str
     }
 }
 
-// Adds that the value of a call's name is none of an architecture.
-fn push_unknown_call(text: &mut Vec<u8>, shown: &str, target: TargetArch) -> Result<(), AllocError>
-    ensures { OnOk result (text.new.items ≡ text.old.items ++ spec.stands_text shown.now (Call target)) }
-{
-    text.extend_from_slice(b"unknown system call ")?;
-    text.extend_from_slice(shown.as_bytes())?;
-    text.extend_from_slice(b" on ")?;
-    text.extend_from_slice(target.name().as_bytes())
-}
-
 // Adds what may stand at a place, and the value that is there.
 fn push_found(text: &mut Vec<u8>, shown: &str, expected: &str) -> Result<(), AllocError>
     ensures { OnOk result (text.new.items ≡ text.old.items ++ codes "expected " ++ expected.now ++ codes ", found " ++ shown.now) }
@@ -133,7 +102,12 @@ fn push_stands(text: &mut Vec<u8>, shown: &str, expected: Expected) -> Result<()
 {
     match expected {
         Expected::Form(part) => push_found(text, shown, form_text(part)),
-        Expected::Call(target) => push_unknown_call(text, shown, target),
+        Expected::Call(target) => {
+            text.extend_from_slice(b"unknown system call ")?;
+            text.extend_from_slice(shown.as_bytes())?;
+            text.extend_from_slice(b" on ")?;
+            text.extend_from_slice(target.name().as_bytes())
+        }
         Expected::Argument => push_found(text, shown, "0 to 5"),
         Expected::SomeConditions => push_found(text, shown, "null or at least one condition"),
     }
@@ -179,17 +153,6 @@ fn push_strange(text: &mut Vec<u8>, key: &str, kind: Kind) -> Result<(), AllocEr
     text.extend_from_slice(keys_text(kind).as_bytes())
 }
 
-// Adds that both of two names are missing.
-fn push_neither(text: &mut Vec<u8>, key: &str, other: &str) -> Result<(), AllocError>
-    ensures { OnOk result (text.new.items ≡ text.old.items ++ codes "missing \"" ++ key.now ++ codes "\" or \"" ++ other.now ++ codes "\"") }
-{
-    text.extend_from_slice(b"missing \"")?;
-    text.extend_from_slice(key.as_bytes())?;
-    text.extend_from_slice(b"\" or \"")?;
-    text.extend_from_slice(other.as_bytes())?;
-    text.extend_from_slice(b"\"")
-}
-
 // Adds that both of two names stand.
 fn push_both(text: &mut Vec<u8>, key: &str, other: &str) -> Result<(), AllocError>
     ensures { OnOk result (text.new.items ≡ text.old.items ++ codes "expected one of \"" ++ key.now ++ codes "\" and \"" ++ other.now ++ codes "\", found both") }
@@ -199,15 +162,6 @@ fn push_both(text: &mut Vec<u8>, key: &str, other: &str) -> Result<(), AllocErro
     text.extend_from_slice(b"\" and \"")?;
     text.extend_from_slice(other.as_bytes())?;
     text.extend_from_slice(b"\", found both")
-}
-
-// Adds that a name is missing.
-fn push_missing(text: &mut Vec<u8>, key: &str) -> Result<(), AllocError>
-    ensures { OnOk result (text.new.items ≡ text.old.items ++ codes "missing \"" ++ key.now ++ codes "\"") }
-{
-    text.extend_from_slice(b"missing \"")?;
-    text.extend_from_slice(key.as_bytes())?;
-    text.extend_from_slice(b"\"")
 }
 
 // Adds that a program would be too long.
@@ -247,8 +201,18 @@ pub fn push_problem(text: &mut Vec<u8>, alloc: Global, problem: &Problem) -> Res
             push_suggested(text, *near)
         }
         Problem::Strange(key, kind) => push_strange(text, key.as_str(), *kind),
-        Problem::Missing(key) => push_missing(text, key),
-        Problem::Neither(key, other) => push_neither(text, key, other),
+        Problem::Missing(key) => {
+            text.extend_from_slice(b"missing \"")?;
+            text.extend_from_slice(key.as_bytes())?;
+            text.extend_from_slice(b"\"")
+        }
+        Problem::Neither(key, other) => {
+            text.extend_from_slice(b"missing \"")?;
+            text.extend_from_slice(key.as_bytes())?;
+            text.extend_from_slice(b"\" or \"")?;
+            text.extend_from_slice(other.as_bytes())?;
+            text.extend_from_slice(b"\"")
+        }
         Problem::Both(key, other) => push_both(text, key, other),
         Problem::SameActions => {
             text.extend_from_slice(b"expected two actions that differ, found the same one twice")

@@ -143,27 +143,20 @@ pub(crate) fn check_key(
     }
 }
 
-// That the number inside an action or an operator, which is an object of one name, is one.
-fn check_number(alloc: Global, part: Part, value: &Value) -> Result<(), Finding>
+// That the value is of the part's form. Of an action or an operator that is an object of one name, the number inside comes first.
+fn check_form(alloc: Global, part: Part, value: &Value) -> Result<(), Finding>
     ensures found { IfErr result (Tells (cause_of_expected (Form part)) part (view value.now)) }
 {
     match (part, value) {
         (Part::Action, Value::Object(members)) if members.len() == 1 => {
             check_key(alloc, "errno", Expected::Form(Part::ActionNumber), value)?;
-            check_key(alloc, "trace", Expected::Form(Part::ActionNumber), value)
+            check_key(alloc, "trace", Expected::Form(Part::ActionNumber), value)?;
         }
         (Part::Operator, Value::Object(members)) if members.len() == 1 => {
-            check_key(alloc, "masked_eq", Expected::Form(Part::Number), value)
+            check_key(alloc, "masked_eq", Expected::Form(Part::Number), value)?;
         }
-        _ => Ok(()),
+        _ => {}
     }
-}
-
-// That the value is of the part's form.
-fn check_form(alloc: Global, part: Part, value: &Value) -> Result<(), Finding>
-    ensures found { IfErr result (Tells (cause_of_expected (Form part)) part (view value.now)) }
-{
-    check_number(alloc, part, value)?;
     check(alloc, Expected::Form(part), value)
 }
 
@@ -182,16 +175,6 @@ pub(crate) fn check_inner(
     }
 }
 
-// That the object has this name.
-fn check_there(alloc: Global, key: &'static str, value: &Value) -> Result<(), Finding>
-    ensures found { (kind : Kind) → Contains (required_of kind) key.now → IsObject (view value.now) → IfErr result (Tells cause.Shape (parts.Object kind) (view value.now)) }
-{
-    match value.get(key) {
-        Some(_) => Ok(()),
-        None => refuse(alloc, Problem::Missing(key)),
-    }
-}
-
 // That the object has this name, and that what is there is of the part's form.
 pub(crate) fn check_part(
     alloc: Global,
@@ -201,8 +184,10 @@ pub(crate) fn check_part(
 ) -> Result<(), Finding>
     ensures found { (kind : Kind) → Contains (required_of kind) key.now → part_under (parts.Object kind) key.now ≡ Some part → cause_of_expected (Form part) ≡ cause.Shape → IsObject (view value.now) → IfErr result (Tells cause.Shape (parts.Object kind) (view value.now)) }
 {
-    check_there(alloc, key, value)?;
-    check_inner(alloc, key, part, value)
+    match value.get(key) {
+        Some(_) => check_inner(alloc, key, part, value),
+        None => refuse(alloc, Problem::Missing(key)),
+    }
 }
 
 // That the object has exactly one of two names, and an action there.

@@ -118,11 +118,11 @@ pub fn call_name(target: TargetArch, number: Option<u32>) -> OrNull<&'static str
     })
 }
 
-/// Adds an object, in ASCII. What isn't stands in strings alone, and is written there by its number, so that no character of it
+/// Adds a value, in ASCII. What isn't stands in strings alone, and is written there by its number, so that no character of it
 /// steers a terminal.
-pub fn push_object(text: &mut Text, object: Object) {
+pub fn push_value<T: ToValue>(text: &mut Text, part: T) {
     let alloc = text.alloc();
-    let Ok(value) = object.to_value(alloc) else {
+    let Ok(value) = part.to_value(alloc) else {
         return text.fail();
     };
     let json = value.to_string(alloc);
@@ -142,7 +142,7 @@ pub fn push_object(text: &mut Text, object: Object) {
 
 /// Adds an item of a list: an object in a line, with a comma behind it.
 pub fn push_item(text: &mut Text, object: Object) {
-    push_object(text, object);
+    push_value(text, object);
     text.push_bytes(b",\n");
 }
 

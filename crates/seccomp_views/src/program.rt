@@ -6,7 +6,7 @@ ghost use Rattle.std.specs.Prelude.{◌≡◌, IfOk};
 ghost use Rattle.seccomp_answers.specs.Compiled.{instruction_bytes, program_bytes};
 ghost use Rattle.seccomp_views.specs.Written.{IsWrittenAs};
 
-use crate::json::{List, Object, OrNull, or_null, push_item, push_object};
+use crate::json::{List, Object, OrNull, or_null, push_item, push_value};
 use crate::lines::push_filter;
 use crate::text::Text;
 use seccomp_answers::measures::{FilterStats, Measure};
@@ -58,7 +58,7 @@ pub fn program_text(
         }
         ProgramFormat::Json => {
             let mut text = Text::new(alloc);
-            push_object(&mut text, program_value(alloc, name, program, &[]));
+            push_value(&mut text, program_value(alloc, name, program, &[]));
             text.push_str("\n");
             text.finish()
         }

@@ -50,11 +50,6 @@ impl Text {
         }
     }
 
-    /// Takes the last byte off.
-    pub fn pop(&mut self) {
-        let _last = self.bytes.pop();
-    }
-
     /// Adds what this shows.
     pub fn push_display<T: fmt::Display>(&mut self, part: &T) {
         self.push_format(format!(in self.alloc(); "{part}"));

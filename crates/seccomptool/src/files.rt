@@ -47,14 +47,11 @@ pub(crate) fn write_whole(rt: &HostRuntime, path: &str, bytes: &[u8]) -> io::Res
     match fs::canonicalize(rt, path) {
         Ok(older) if older.is_file(rt) => replace(rt, older.as_str(), bytes),
         Ok(_) => fs::write(rt, path, bytes),
-        Err(_) if is_link(rt, path) => write_through(rt, path, bytes),
-        Err(_) => replace(rt, path, bytes),
+        Err(_) => match fs::symlink_metadata(rt, path) {
+            Ok(found) if found.is_symlink() => write_through(rt, path, bytes),
+            _ => replace(rt, path, bytes),
+        },
     }
-}
-
-// Whether a symbolic link is at a path.
-fn is_link(rt: &HostRuntime, path: &str) -> bool {
-    matches!(fs::symlink_metadata(rt, path), Ok(found) if found.is_symlink())
 }
 
 // Writes the file to which a symbolic link leads and which isn't there yet: it is empty at first. Nothing is left of it where anything

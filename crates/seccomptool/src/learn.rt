@@ -229,17 +229,10 @@ fn push_second(
     if !is_asked {
         return Ok(());
     }
-    let second = second_name(alloc, name)?;
+    let second = format!(in alloc; "{name}_clone3")?;
     let filter = second_filter(alloc)?;
     drop(others.0.insert(second, filter)?);
     Ok(())
-}
-
-// The name of that filter.
-fn second_name(alloc: Global, name: &str) -> Result<String, AllocError>
-    ensures { IfOk result (λ second. string_bytes second ≡ name.now ++ codes "_clone3") }
-{
-    format!(in alloc; "{name}_clone3")
 }
 
 // The filter that answers `clone3` with ENOSYS.

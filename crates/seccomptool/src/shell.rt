@@ -249,21 +249,13 @@ fn write_made<O: Outside>(
     if gathers(asked) {
         return Ok(gathered.extend_from_slice(text)?);
     }
-    if writes_bytes(asked) || is_plain(text) {
+    // Lines in ASCII, as most texts are, need no change.
+    let is_plain = text.iter().all(|byte| matches!(*byte, b'\n' | b' '..=b'~'));
+    if writes_bytes(asked) || is_plain {
         return out.write(asked.output, text);
     }
     let text = readable(alloc, text, TextKind::Lines)?;
     out.write(asked.output, text.as_bytes())
-}
-
-// Whether a text has no bytes but those of lines in ASCII.
-fn is_plain(text: &[u8]) -> bool {
-    for byte in text {
-        if !matches!(*byte, b'\n' | b' '..=b'~') {
-            return false;
-        }
-    }
-    true
 }
 
 // Refuses to write bytes to a terminal, and to write over what is read.
@@ -364,20 +356,17 @@ fn trace_of(rt: &HostRuntime, asked: &Asked<'_>, path: Option<&str>) -> Result<T
 
 // Whether a command reads the file at a path.
 fn is_read(rt: &HostRuntime, asked: &Asked<'_>, inputs: Inputs<'_>, path: &str) -> bool {
-    for further in &asked.further {
-        if is_same(rt, path_of(asked, further), path) {
+    for text in asked.further.iter().chain(inputs.first.as_ref()) {
+        // Behind the path `stack` has the name of a filter.
+        let read = match asked.verb {
+            Verb::Stack => named_in(text).0,
+            _ => *text,
+        };
+        if is_same(rt, read, path) {
             return true;
         }
     }
-    matches!(inputs.first, Some(first) if is_same(rt, path_of(asked, first), path))
-}
-
-// The path of what is read, behind which `stack` has the name of a filter.
-fn path_of<'a>(asked: &Asked<'_>, text: &'a str) -> &'a str {
-    match asked.verb {
-        Verb::Stack => named_in(text).0,
-        _ => text,
-    }
+    false
 }
 
 // Whether a command writes bytes that are no text.

@@ -296,7 +296,9 @@ fn asked_of<'a>(
 ) -> Result<Asked<'a>, clap::Error> {
     let matches = program.try_get_matches_from_mut(words)?;
     let mut wrong = Text::new(alloc);
-    let asked = asked_in(&matches, &mut wrong);
+    // clap lets no words pass without a subcommand.
+    let (name, found) = matches.subcommand().unwrap_or(("", &matches));
+    let asked = asked_for(name, found, &mut wrong);
     // Here, so that no branch below has to.
     drop(matches);
     let asked = asked?;
@@ -313,14 +315,7 @@ fn asked_of<'a>(
     }
 }
 
-// What the matches of a subcommand ask for. What clap can't check is checked here: each fault is a line of `wrong`.
-fn asked_in<'a>(matches: &ArgMatches<'a>, wrong: &mut Text) -> Result<Asked<'a>, AllocError> {
-    // clap lets no words pass without one.
-    let (name, found) = matches.subcommand().unwrap_or(("", matches));
-    asked_for(name, found, wrong)
-}
-
-// What the matches of the subcommand of this name ask for.
+// What the matches of the subcommand of this name ask for. What clap can't check is checked here: each fault is a line of `wrong`.
 fn asked_for<'a>(
     name: &str,
     found: &ArgMatches<'a>,

@@ -9,7 +9,7 @@ use seccomp_answers::error::AnswerError;
 use seccomp_answers::findings::parts::name_of;
 use seccomp_learn::{Kept, Observation, StrangeLine, Trace};
 use seccomp_text::readable::TextKind;
-use seccomp_views::json::{List, Object, call_name, push_object};
+use seccomp_views::json::{List, Object, call_name, push_value};
 use seccomp_views::notes::note;
 use seccomp_views::text::Text;
 use seccompiler::{SeccompCmpArgLen, TargetArch};
@@ -142,7 +142,7 @@ pub(super) fn refuse_trace(
     ensures understood { OnOk result (IsUnderstood asked.now.strict trace.now) }
     ensures cause { IfErr result (IsStrange asked.now.strict trace.now) }
 {
-    if is_understood(asked.strict, trace) {
+    if trace.is_trace && (!asked.strict || (trace.strange.is_empty() && trace.rest == 0)) {
         return Ok(());
     }
     let mut told = Text::new(alloc);
@@ -161,13 +161,6 @@ pub(super) fn refuse_trace(
             of_path(alloc, path, told.as_str())
         }
     })
-}
-
-// Whether it is a trace, and all of it is understood, if that is asked for.
-fn is_understood(strict: bool, trace: &Trace) -> bool
-    ensures { IsTrue result ↔ IsUnderstood strict trace.now }
-{
-    trace.is_trace && (!strict || (trace.strange.is_empty() && trace.rest == 0))
 }
 
 // Adds what of a trace isn't understood: the first line, or the bytes behind the last record.
@@ -229,17 +222,15 @@ pub(super) fn learned_json(
     notes: &str,
     text: &[u8],
 ) -> Result<Vec<u8>, AllocError> {
-    let mut object = Object::new(alloc);
-    object.field("kept", kept_list(alloc, asked.arch, observed, all));
     let mut lines = List::new(alloc);
     for line in notes.lines() {
         lines.item(line);
     }
-    object.field("notes", lines);
     let mut json = Text::new(alloc);
-    push_object(&mut json, object);
-    // The text takes the place of the brace.
-    json.pop();
+    json.push_str("{\"kept\":");
+    push_value(&mut json, kept_list(alloc, asked.arch, observed, all));
+    json.push_str(",\"notes\":");
+    push_value(&mut json, lines);
     json.push_str(if asked.as_profile {
         ",\"policy\":null,\"profile\":"
     } else {

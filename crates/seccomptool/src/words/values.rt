@@ -92,18 +92,9 @@ pub(crate) fn named_in(text: &str) -> (&str, Option<&str>)
 {
     match text.rsplit_once(':') {
         None => (text, None),
-        Some((path, name)) => (path, given_name(name)),
+        Some((path, name)) if name.is_empty() => (path, None),
+        Some((path, name)) => (path, Some(name)),
     }
-}
-
-// The name of a filter that is given, if it isn't empty.
-fn given_name(name: &str) -> Option<&str>
-    ensures { text_of result ≡ name_given name.now }
-{
-    if name.is_empty() {
-        return None;
-    }
-    Some(name)
 }
 
 // Where the calls are that are explained.

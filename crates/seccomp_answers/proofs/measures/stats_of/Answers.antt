@@ -8,9 +8,9 @@ use Rattle.std.proofs.lemmas.Result.{err_from_is_err_and}
 use Rattle.std.proofs.lemmas.Slice.Zip.{all_zipped_more}
 use Rattle.seccompiler.specs.Architecture.{table_of}
 use Rattle.seccompiler.specs.JsonAnswers.{ArePoliciesOf, HasPolicy, OfValue, TellsFrontendFault}
+use Rattle.seccompiler.specs.JsonFilters.{AreNamed}
 use Rattle.seccompiler.specs.Policy.{Filter}
 use Rattle.seccompiler.specs.SyscallTable.{IsCallTable}
-use Rattle.seccomp_answers.proofs.ByName.{by_text}
 use Rattle.seccomp_tree.specs.declared.layout.Layout.TheVariants.{Linear, Tree}
 use Rattle.seccomp_answers.specs.Chosen.{text_of}
 use Rattle.seccomp_answers.specs.Measures.{HasStats}
@@ -45,14 +45,15 @@ returns-clause-stats c =
     let table = subst (λ t. IsCallTable (table_of t)) c.new-table.ensures.arch c.new-table.ensures.table in
     let filters = c.in_ok-filters.filters in
     let of = c.in_ok-filters.ensures.policies in
-    let are = subst (λ t. ArePoliciesOf t (get_by_text filters) of.0) c.new.ensures of.2 in
-    let order : IsStrictlySortedBy string_cmp (keys_of filters.entries) = search rules in
+    let named = (c.in_ok-filters.ensures.read_back of.0 of.2).entries in
     let all : filters.entries ≡ l.yielded = sym c.into_iter-name-iterator.ensures.into_iter_gives.0 ∙ l.invariant.whole
     ∙ ap (λ es. l.yielded ++ es) c.in-None-2.ensures.steps.0 ∙ append-nil l.yielded in (
       of.0,
       of.1,
-      are_named (HasPolicy target) (get_by_text filters) of.0 are filters.entries order
-          (λ name. by_text name filters.entries) (λ (s : FilterStats). string_bytes s.name) (IsMeasured target) (HasStats target)
+      are_named (HasPolicy target) of.0 filters.entries
+          (subst (λ t. AreNamed (λ (f : String Global × Filter). string_bytes f.0) (λ f value. HasPolicy t value f.1) of.0 filters.entries)
+          c.new.ensures named)
+          (λ (s : FilterStats). string_bytes s.name) (IsMeasured target) (HasStats target)
           (λ e s is. ap string_bytes is.name) (has_stats target table) l.all.items
           (subst (λ es. AllZip (IsMeasured target) es l.all.items) (sym all) l.invariant.measured),
     )

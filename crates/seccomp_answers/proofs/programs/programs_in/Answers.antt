@@ -6,8 +6,8 @@ use Rattle.std.specs.List.Sorted.{IsStrictlySortedBy}
 use Rattle.std.specs.Map.{keys_of}
 use Rattle.std.proofs.lemmas.Slice.Zip.{all_zipped_more}
 use Rattle.seccompiler.specs.JsonAnswers.{ArePoliciesOf, HasPolicy, OfValue, TellsFrontendFault}
+use Rattle.seccompiler.specs.JsonFilters.{AreNamed}
 use Rattle.seccompiler.specs.Policy.{Filter}
-use Rattle.seccomp_answers.proofs.ByName.{by_text}
 use Rattle.seccomp_answers.specs.declared.programs.NamedProgram.{NamedProgram}
 use Rattle.seccomp_answers.proofs.Named.{are_named}
 use Rattle.seccomp_answers.proofs.programs.programs_in.Invariants.{IsCompiledAs}
@@ -42,14 +42,15 @@ returns-clause-programs c =
     let l = c.loop-name in
     let filters = c.in_ok-filters.filters in
     let of = c.in_ok-filters.ensures.policies in
-    let are = subst (λ target. ArePoliciesOf target (get_by_text filters) of.0) c.new.ensures of.2 in
-    let order : IsStrictlySortedBy string_cmp (keys_of filters.entries) = search rules in
+    let named = (c.in_ok-filters.ensures.read_back of.0 of.2).entries in
     let all : filters.entries ≡ l.yielded = sym c.into_iter-name-iterator.ensures.into_iter_gives.0 ∙ l.invariant.whole
     ∙ ap (λ es. l.yielded ++ es) c.in-None.ensures.steps.0 ∙ append-nil l.yielded in (
       of.0,
       of.1,
-      are_named (HasPolicy c.args.target) (get_by_text filters) of.0 are filters.entries order
-          (λ name. by_text name filters.entries) name_of (IsCompiledAs c.args.layout)
+      are_named (HasPolicy c.args.target) of.0 filters.entries
+          (subst (λ t. AreNamed (λ (f : String Global × Filter). string_bytes f.0) (λ f value. HasPolicy t value f.1) of.0 filters.entries)
+          c.new.ensures named)
+          name_of (IsCompiledAs c.args.layout)
           (λ made value. HasProgram c.args.layout c.args.target value made.program.items) (λ e made is. ap string_bytes is.name)
           (λ e made value is has. record { policy = e.1; is_policy = has; compiled = is.compiled })
           l.programs.items (subst (λ fs. AllZip (IsCompiledAs c.args.layout) fs l.programs.items) (sym all) l.invariant.compiled),

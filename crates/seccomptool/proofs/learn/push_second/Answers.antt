@@ -18,7 +18,7 @@ returns c =
     let filter = c.in_ok-filter.filter in
     let at : (other : List ℕ) → get_by_text new other ≡ with_second c.args.is_asked name (found_in c.args.others.now) other = λ other.
     btree_map_updates_text key old new (Some filter) c.in_ok-insert.ensures.updates other
-    ∙ ap (λ (own : List ℕ). update bytes_eq (get_by_text old) own (Some filter) other) c.in_ok-second.ensures
+    ∙ ap (λ (own : List ℕ). update bytes_eq (get_by_text old) own (Some filter) other) c.in_ok-second.ensures.ok
     ∙ ap (λ (own : JsonFilter). beside (found_in c.args.others.now) (name ++ codes "_clone3") own other) c.in_ok-filter.ensures
     ∙ ap (λ (b : Bool). with_second b name (found_in c.args.others.now) other) (sym asked) in
     λ i other. at other i

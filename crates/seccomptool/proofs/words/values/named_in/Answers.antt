@@ -1,5 +1,5 @@
-use Rattle.std.proofs.Common.{List, Option, refl, subst, sym, ℕ}
-use Rattle.seccomptool.specs.Arguments.{IsPathAndName, alone}
+use Rattle.std.proofs.Common.{◌≡◌, List, None, Option, Some, refl, rules, subst, ℕ}
+use Rattle.seccomptool.specs.Arguments.{IsPathAndName, alone, name_given}
 use Rattle.seccomptool.proofs.words.Parts.{no_colon, parted}
 use Rattle.seccomptool.proofs.words.values.named_in.Goals as goal
 
@@ -8,5 +8,12 @@ returns-in-None c = alone (no_colon c.args.text.now c.in-None.ensures.cases) ref
 
 pub returns-in-Some : goal.returns-in-Some
 returns-in-Some c =
-    subst (λ (name : Option (List ℕ)). IsPathAndName c.args.text.now c.in-Some.path.now name) (sym c.given_name.ensures)
+    let none : name_given c.in-Some.name.now ≡ None = search rules in
+    subst (λ (name : Option (List ℕ)). IsPathAndName c.args.text.now c.in-Some.path.now name) none
+    (parted c.args.text.now c.in-Some.path.now c.in-Some.name.now c.in-Some.ensures.cases)
+
+pub returns-in-Some-2 : goal.returns-in-Some-2
+returns-in-Some-2 c =
+    let some : name_given c.in-Some.name.now ≡ Some c.in-Some.name.now = search rules in
+    subst (λ (name : Option (List ℕ)). IsPathAndName c.args.text.now c.in-Some.path.now name) some
     (parted c.args.text.now c.in-Some.path.now c.in-Some.name.now c.in-Some.ensures.cases)

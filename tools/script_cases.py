@@ -10,10 +10,11 @@ from running import TOP, run, text_of
 # The crates are seccompiler and seccompc.
 BUILDS = "seccompc: proving and building seccompiler seccompc\n"
 UNBUILT = "seccompc: the program can't be built; the whole log is .."
-# What rt prints as it proves a library in parts, and then the program.
+# What rt prints as it proves a library in parts, and then the program; it prints lines at once only if Python is asked to.
 PROVES = "rt: chose --jobs 2 for seccompiler\nso far: 0 of 2 functions checked; the verdict comes last\nchecked it, 1 of 2\n" \
     "so far: 2 of 2 functions checked\nlogic=proved\nrt: chose --jobs 1 for seccompc\n"
-PROVING = f"printf '{PROVES}' > said; echo 'cat ../../said' > bin/rt;"
+PROVING = f"printf '{PROVES}' > said; echo '[ -z \"$PYTHONUNBUFFERED\" ] || cat ../../said' > bin/rt;"
+OF_LIBRARY, OF_PROGRAM = "seccompc: crate 1 of 2: proving seccompiler", "seccompc: crate 2 of 2: proving seccompc"
 ONCE = "(PATH=$PWD/bin:$PATH ./seccompc list; rm bin/rt) > /dev/null 2>&1; "
 TOLD = "tools/run-program --built seccompc; rm bin/rt; "
 FAILS = "mkdir -p crates/seccompc/out/seccompc.checksums.new; "
@@ -40,7 +41,7 @@ SCRIPT_CASES = [
     ("not built before, and rt fails behind many lines", "echo 'seq 100; exit 1' > bin/rt;", LIST, 3, "",
      BUILDS + "".join(f"{it}\n" for it in range(81, 101)) + UNBUILT),
     ("not built before, and rt says how far it is", PROVING, LIST, 7, RAN,
-     BUILDS + "seccompc: proving seccompiler\nseccompc: proving seccompc\n"),
+     BUILDS + f"{OF_LIBRARY}\n{OF_PROGRAM}\n"),
     ("missing, asked for help", "rm crates/seccompc/out/seccompc bin/rt;", "--help", 3, "", THERE_IS_NO_RT),
     ("missing, and rt builds none", "rm crates/seccompc/out/seccompc;", LIST, 3, "", BUILDS + UNBUILT),
     ("without what it runs", "rm tools/run-program;", LIST, 3, "", ".."),
@@ -49,8 +50,7 @@ SCRIPT_CASES = [
 
 # What a terminal gets of the script if rt proves a library in parts: a line, and one that is written anew.
 ON_TERMINAL = BUILDS.replace("\n", "\r\n") + "".join(
-    f"\r{it:72}" for it in ("seccompc: proving seccompiler", "seccompc: proving seccompiler, 0 of 2 functions",
-                            "seccompc: proving seccompiler, 2 of 2 functions", "seccompc: proving seccompc", "")) + "\r"
+    f"\r{it:72}" for it in (OF_LIBRARY, OF_LIBRARY + ", 0 of 2 functions", OF_LIBRARY + ", 2 of 2 functions", OF_PROGRAM, "")) + "\r"
 
 
 def fill_for_script(room, before):

@@ -4,9 +4,11 @@ pub mod Ends
 pub mod OfSeven
 pub mod Words
 pub mod Masks
+pub mod KnownBits
 pub mod StepsOnSets
 pub mod RecordSets
 pub mod TasksLeft
 pub mod ArgumentFacts
 pub mod Zipped
 pub mod RulesUnder
+pub mod SetsLeft

@@ -22,7 +22,7 @@ use Rattle.seccomp_compare.specs.declared.spans.Span.{Span}
 
 -- ---- conditions
 
-argument_fits : (r : List ℕ) (i : ℕ) → IsRecord r → i ≤ 5 → argument_at r i < 2 ^ 64
+pub argument_fits : (r : List ℕ) (i : ℕ) → IsRecord r → i ≤ 5 → argument_at r i < 2 ^ 64
 argument_fits r i rec few =
     let long = rec.long in
     let a = rec.bytes (16 + 8 * i) 0 (omega arith) in

@@ -4,9 +4,11 @@
 pub mod Machine
 pub mod Compare
 pub mod CompareFilters
+pub mod Cover
 -- Between layers: what private functions promise each other.
 pub mod WordSets
 pub mod RecordSets
 pub mod CompareTasks
 pub mod Spans
 pub mod Rules
+pub mod Known

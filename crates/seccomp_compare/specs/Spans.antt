@@ -1,5 +1,5 @@
 -- What conditions say of arguments, in one form.
-use Rattle.std.specs.Prelude.{ℕ, ◌≤◌, List, Vec, All, Bool, true, false, bit_and}
+use Rattle.std.specs.Prelude.{◌≡◌, ℕ, ◌≤◌, List, Vec, All, Bool, true, false, bit_and}
 use Rattle.std.specs.declared.alloc.Global.{Global}
 use Rattle.seccompiler.specs.Machine.{IsRecord, argument_at}
 use Rattle.seccompiler.specs.Policy.{Compares, Condition, operator_part, part_of}
@@ -8,6 +8,10 @@ use Rattle.seccomp_compare.specs.declared.spans.Span.{Span}
 -- The number's bits under the mask lie within the bounds.
 abbrev pub LiesWithin : Span → ℕ → Type 0
 LiesWithin s x = (s.least ≤ bit_and x s.mask) × (bit_and x s.mask ≤ s.most)
+
+-- The span has one value of the bits.
+abbrev pub IsPoint : Span → Type 0
+IsPoint s = (s.is_outside ≡ false) × (s.least ≡ s.most)
 
 -- The number is one of the span.
 abbrev pub Says : Span → ℕ → Type 0

@@ -29,9 +29,11 @@
 
 mod calls;
 mod cover;
+mod covered;
 mod facts;
 mod filters;
 mod follow;
+mod known;
 pub mod machine;
 mod rules;
 mod sets;
@@ -45,6 +47,7 @@ ghost use Rattle.seccomp_compare.specs.Machine.{IsChecked};
 ghost use Rattle.seccomp_compare.specs.Compare.{Compares, EndsFor, Related, rank};
 
 pub use calls::Calls;
+pub use covered::{Cover, cover_of};
 pub use filters::{compare_filters, compare_program};
 pub use rules::is_related_on;
 use seccompiler::BackendError;

@@ -60,7 +60,7 @@ pub(crate) fn member(part: &[Values; 16]) -> [u8; 64]
 }
 
 // Writes a word of a record.
-fn write_word(call: &mut [u8; 64], word: usize, value: u32)
+pub(crate) fn write_word(call: &mut [u8; 64], word: usize, value: u32)
     requires word { word < 16 }
     requires record_was { IsRecord call.old }
     ensures record_is { IsRecord call.new }

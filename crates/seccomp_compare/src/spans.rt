@@ -2,7 +2,8 @@
 
 ghost use Rattle.std.specs.Prelude.{◌≡◌, ℕ, ◌^◌, ◌<◌, ◌≤◌, ◌↔◌, IsTrue, IsSome, IfSome, bit_and, false, true};
 ghost use Rattle.seccompiler.specs.Policy.{part_of};
-ghost use Rattle.seccomp_compare.specs.Spans.{HoldsFor, Says};
+ghost use Rattle.seccomp_compare.specs.Cover.{compared, is_equality};
+ghost use Rattle.seccomp_compare.specs.Spans.{HoldsFor, IsPoint, Says};
 
 use seccompiler::{SeccompCmpArgLen, SeccompCmpOp, SeccompCondition};
 
@@ -23,6 +24,8 @@ pub struct Span {
 
 /// The numbers at which a condition holds.
 pub(crate) fn span_of(condition: &SeccompCondition) -> Span
+    ensures mask { result.mask ≡ compared condition.now }
+    ensures point { IsTrue (is_equality condition.now.operator) → IsPoint result }
     ensures index { result.index ≡ condition.now.arg_index }
     ensures within { result.index ≤ 5 }
     ensures same { (x : ℕ) → x < 2 ^ 64 → (Says result x ↔ HoldsFor condition.now x) }
@@ -32,6 +35,8 @@ pub(crate) fn span_of(condition: &SeccompCondition) -> Span
 
 // The same numbers, by the bounds that the operator names.
 fn bounds_of(condition: &SeccompCondition) -> Span
+    ensures mask { result.mask ≡ compared condition.now }
+    ensures point { IsTrue (is_equality condition.now.operator) → IsPoint result }
     ensures index { result.index ≡ condition.now.arg_index }
     ensures within { result.index ≤ 5 }
     ensures same { (x : ℕ) → x < 2 ^ 64 → (Says result x ↔ HoldsFor condition.now x) }
@@ -68,7 +73,8 @@ fn spanning(index: u8, mask: u64, least: u64, most: u64, is_outside: bool) -> Sp
 
 // The bits that are compared.
 fn size_of(length: SeccompCmpArgLen) -> u64
-    ensures { (x : ℕ) → x < 2 ^ 64 → bit_and x result ≡ part_of length x }
+    ensures all { result ≡ part_of length 0xffff_ffff_ffff_ffff }
+    ensures cuts { (x : ℕ) → x < 2 ^ 64 → bit_and x result ≡ part_of length x }
 {
     match length {
         SeccompCmpArgLen::Dword => 0xffff_ffff,
@@ -78,6 +84,8 @@ fn size_of(length: SeccompCmpArgLen) -> u64
 
 // The same numbers, within bounds if all others lie below them or above them.
 fn plain(span: Span) -> Span
+    ensures mask { result.mask ≡ span.mask }
+    ensures point { IsPoint span → IsPoint result }
     ensures index { result.index ≡ span.index }
     ensures same { (x : ℕ) → (Says result x ↔ Says span x) }
 {

@@ -13,7 +13,7 @@ use seccompiler::{SeccompCmpOp, SeccompCondition, TargetArch};
 use std::alloc::{AllocError, Global};
 
 /// What libseccomp does to an entry, since another one is beside it.
-#[derive(Clone, Copy, Debug)]
+#[derive(Clone, Copy)]
 pub enum Effect {
     /// Its program may decide otherwise than the profile, or it may come to no end.
     Miscompiled,
@@ -23,7 +23,7 @@ pub enum Effect {
 }
 
 /// An entry to which libseccomp does this, since another one is beside it.
-#[derive(Clone, Copy, Debug)]
+#[derive(Clone, Copy)]
 pub struct Clash {
     /// What it does.
     pub effect: Effect,

@@ -10,7 +10,7 @@ use seccomp_oci::{Container, Entry, Profile, applies, has_text};
 use seccompiler::{SyscallTable, TargetArch};
 
 /// What is so of the calls of a number in libseccomp's program for x86.
-#[derive(Clone, Copy, Debug)]
+#[derive(Clone, Copy)]
 pub struct X86 {
     /// The place of the first entry that changes nothing of these calls any more, if there is one, from 0: x86 has them by `socketcall`
     /// or `ipc`, and an entry without `args` gives that another action than the default one.

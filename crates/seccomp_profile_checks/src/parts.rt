@@ -13,7 +13,7 @@ use seccompiler::{SeccompAction, TargetArch};
 use std::alloc::{AllocError, Global};
 
 /// Where an entry is from.
-#[derive(Clone, Copy, Debug)]
+#[derive(Clone, Copy)]
 pub struct Origin {
     /// The place of its entry in the profile, from 0.
     pub entry: usize,

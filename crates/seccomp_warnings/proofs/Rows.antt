@@ -1,10 +1,12 @@
 -- For `argument`: whether a call has one of some names, by the rows of a table.
 use Rattle.std.proofs.Common.{◌≡◌, ◌≢◌, ◌&&◌, ◌||◌, ℕ, zero, suc, ℤ, List, [], ◌∷◌, Bool, false, bytes_eq, map, refl, ap, ◌∙◌}
+use Rattle.std.proofs.Common.{◌+◌, ◌<◌, drop, get_or, length}
 use Rattle.std.proofs.Common.{arith, subst}
 use Rattle.std.specs.Borrow.{Bor}
 use Rattle.std.specs.List.{list_any}
 use Rattle.std.specs.Ordering.{int_eq}
 use Rattle.std.specs.Prelude.{All, AllPairs}
+use Rattle.std.proofs.Math.Seq.{drop-cons}
 use Rattle.std.proofs.lemmas.List.Elements.{All-head, All-tail}
 use Rattle.std.proofs.lemmas.Slice.Eq.{bytes_eq-Decides}
 use Rattle.seccompiler.specs.JsonPolicyOf.{is_number}
@@ -57,3 +59,10 @@ module _ (number : ℤ) where
       let ahead : All (λ p. pair.0 ≢ p.0) table = λ k d within. distinct zero (suc k) d (omega arith) (omega arith) in
       let behind : AllPairs (λ p q. p.0 ≢ q.0) table = λ i j d less within. distinct (suc i) (suc j) d (omega arith) (omega arith) in
       ap (λ b. is_named names pair || b) (by_rows table names behind) ∙ one_row pair table ahead names
+
+-- From a place on, a row passes a test if the one there does or one behind it.
+pub next_row : (p : Pair → Bool) (table : List Pair) (place : ℕ) (d : Pair) → place < length table
+    → list_any p (drop place table) ≡ (p (get_or table place d) || list_any p (drop (place + 1) table))
+next_row p table place d within =
+    let next : place + 1 ≡ suc place = omega arith in
+    rw next (ap (list_any p) (drop-cons table place d within))

@@ -4,7 +4,7 @@ use Rattle.seccompiler.specs.declared.backend.TargetArch.{TargetArch}
 use Rattle.seccompiler.specs.Architecture.{table_of}
 use Rattle.seccompiler.specs.SyscallTable.{number_of}
 use Rattle.seccomp_entries.specs.Entries.{Entry}
-use Rattle.seccomp_verdicts.specs.declared.verdict.Verdict.TheVariants as verdict
+use Rattle.seccomp_entries.specs.declared.verdict.Verdict.TheVariants as verdict
 use Rattle.seccomp_warnings.specs.ActionWarnings.{Permits}
 use Rattle.seccomp_warnings.specs.Parts.{Part}
 use Rattle.seccomp_warnings.specs.declared.code.Code.{Code}

@@ -8,9 +8,7 @@ use Rattle.seccompiler.specs.Architecture.{table_of}
 use Rattle.seccompiler.specs.SyscallTable.{number_of}
 use Rattle.seccompiler.specs.declared.backend.TargetArch.{TargetArch}
 use Rattle.seccomp_entries.specs.Entries.{Entry}
-use Rattle.seccomp_verdicts.specs.Verdicts.{AreTrue}
-use Rattle.seccomp_verdicts.specs.WithoutEntry.{SayOfEntries}
-use Rattle.seccomp_verdicts.specs.declared.verdict.Verdict.{Verdict}
+use Rattle.seccomp_entries.specs.Verdicts.{AreVerdicts}
 use Rattle.seccomp_warnings.specs.CallWarnings.{HasNoArgs, IsDeniedAlone, IsNumberOf}
 use Rattle.seccomp_warnings.specs.Parts.{Part}
 use Rattle.seccomp_warnings.specs.declared.judgement.Judgement.{Judgement}
@@ -84,14 +82,8 @@ pub record IsJudgement (p : Part) (e : Entry) (own : Judgement) : Type 0 where
   pub found : IfSome own.sibling (λ other. IsUndoneBy p e other.now)
   pub none : IfNone own.sibling ((other : List ℕ) → IsUndoneBy p e other → ⊥)
 
--- There is a verdict for each of the entries of a part, in their order. Each is true, and says what is decided with and without the
--- entry.
-pub record AreVerdicts (p : Part) (verdicts : List Verdict) : Type 0 where
-  pub are_true : AreTrue p.target_arch p.entries verdicts
-  pub decide : SayOfEntries p.target_arch p.entries verdicts
-
 -- There is a judgement for each of the entries of a part, in their order, and each is true.
 pub record AreJudgements (p : Part) (judgements : List Judgement) : Type 0 where
-  pub verdicts : AreVerdicts p (map (λ own. own.verdict) judgements)
+  pub verdicts : AreVerdicts p.target_arch p.entries (map (λ own. own.verdict) judgements)
   pub each : (place : ℕ) (own : Judgement) → slice_get judgements place ≡ Some own
       → IsSomeAnd (slice_get p.entries place) (λ e. IsJudgement p e own)

@@ -77,8 +77,10 @@ fn read_calls(index: u8) -> &'static [&'static str]
 fn is_among(arch: TargetArch, number: u32, names: &[&str]) -> bool
     ensures { result ≡ spec.is_among arch number (map (λ n. n.now) names.now) }
 {
-    for pair in SyscallTable::new(arch).pairs() {
-        if i64::from(number) == pair.1 && names.contains(&pair.0) {
+    let table = SyscallTable::new(arch);
+    let numbers = table.numbers();
+    for place in 0..numbers.len() {
+        if i64::from(number) == numbers[place] && names.contains(&table.name(place)) {
             return true;
         }
     }

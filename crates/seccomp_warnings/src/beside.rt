@@ -14,7 +14,7 @@ use std::alloc::{AllocError, Global};
 const ERRNO_ENOSYS: u32 = 0x0005_0026;
 
 /// What is so of some filter of a text.
-#[derive(Clone, Copy, Debug)]
+#[derive(Clone, Copy)]
 pub struct Beside {
     /// It answers each `clone3` by errno 38, `ENOSYS`.
     pub hides_clone3: bool,

@@ -11,8 +11,7 @@ use crate::code::Code;
 use crate::judgement::Judgement;
 use crate::part::Part;
 use crate::unlisted::Unlisted;
-use seccomp_entries::Entry;
-use seccomp_verdicts::Verdict;
+use seccomp_entries::{Entry, Verdict};
 use seccompiler::{SyscallTable, TargetArch};
 
 // Whether the call of this name has this number.

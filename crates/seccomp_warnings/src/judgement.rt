@@ -7,13 +7,12 @@ use crate::action::permits;
 use crate::call::has_no_args;
 use crate::part::Part;
 use crate::sibling::unnamed_sibling;
-use seccomp_entries::Entry;
-use seccomp_verdicts::{Verdict, verdicts_of};
+use seccomp_entries::{Entry, Verdict, verdicts_of};
 use std::alloc::{AllocError, Global};
 use std::collections::BTreeSet;
 
 /// What is so of an entry beside the others.
-#[derive(Clone, Copy, Debug)]
+#[derive(Clone, Copy)]
 pub struct Judgement {
     /// Whether it is needed.
     pub verdict: Verdict,

@@ -6,7 +6,7 @@ use seccompiler::TargetArch;
 use std::marker::Model;
 
 /// Entries that stand beside each other, with two actions: that of the calls that some entry matches, and that of the rest.
-#[derive(Debug, Drop)]
+#[derive(Drop)]
 pub struct Part {
     /// The architecture.
     pub target_arch: TargetArch,

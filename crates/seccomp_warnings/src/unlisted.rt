@@ -4,7 +4,7 @@ ghost use Rattle.std.specs.Prelude.{◌≡◌};
 ghost use Rattle.seccomp_warnings.specs.CallWarnings.{all_unlisted};
 
 /// A call that it matters of whether a filter has an entry for it.
-#[derive(Clone, Copy, Debug)]
+#[derive(Clone, Copy)]
 pub enum Unlisted {
     /// `exit`, by which a thread ends.
     Exit,

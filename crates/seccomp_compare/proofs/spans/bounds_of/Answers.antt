@@ -31,7 +31,7 @@ returns-in-MaskedEq-clause-same c = λ x fits.
     let size = c.size_of-size.result in
     let span = c.spanning-in-MaskedEq.ensures in
     let parts : (n : ℕ) → n < 2 ^ 64 → bit_and n size ≡ part_of condition.arg_len n =
-    λ n few. c.size_of-size.ensures n few ∙ ap (λ l. part_of l n) c.arg_len.ensures in
+    λ n few. c.size_of-size.ensures.cuts n few ∙ ap (λ l. part_of l n) c.arg_len.ensures in
     let shape = c.spanning-in-MaskedEq.ensures in
     let bits : bit_and (bit_and c.value.result size) (bit_and m size) ≡ bit_and (bit_and condition.value size) (bit_and m size) =
     ap (λ n. bit_and (bit_and n size) (bit_and m size)) c.value.ensures in

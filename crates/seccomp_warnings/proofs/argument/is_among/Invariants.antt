@@ -1,12 +1,12 @@
 use Rattle.std.proofs.Common.{◌≡◌, drop, map, pos}
 use Rattle.std.specs.List.{list_any}
-use Rattle.seccompiler.specs.SyscallTable.{pairs_of}
+use Rattle.seccompiler.specs.Architecture.{table_of}
 use Rattle.seccomp_warnings.specs.Arguments.{is_among}
 use Rattle.seccomp_warnings.proofs.Rows.{is_named}
 use Rattle.seccomp_warnings.proofs.argument.is_among.Given as goal
 
 -- no row so far
-abbrev pub invariant-loop-pair : goal.invariant-loop-pair
-invariant-loop-pair l =
-    list_any (is_named (pos l.fn.number) l.fn.names) (pairs_of (drop l.pair-index l.pair-items))
+abbrev pub invariant-loop-place : goal.invariant-loop-place
+invariant-loop-place l =
+    list_any (is_named (pos l.fn.number) l.fn.names) (drop l.place (table_of l.fn.arch))
     ≡ is_among l.fn.arch l.fn.number (map (λ n. n.now) l.fn.names)

@@ -5,24 +5,19 @@ use Rattle.std.proofs.lemmas.List.{map-append, take_all, take_more}
 use Rattle.std.proofs.lemmas.Option.{slice_get_read}
 use Rattle.seccompiler.specs.declared.backend.TargetArch.{TargetArch}
 use Rattle.seccomp_entries.specs.Entries.{Entry}
-use Rattle.seccomp_verdicts.specs.Verdicts.{AreTrue}
-use Rattle.seccomp_verdicts.specs.WithoutEntry.{SayOfEntries}
-use Rattle.seccomp_verdicts.specs.declared.verdict.Verdict.{Verdict}
+use Rattle.seccomp_entries.specs.Verdicts.{AreVerdicts}
+use Rattle.seccomp_entries.specs.declared.verdict.Verdict.{Verdict}
 use Rattle.seccomp_warnings.specs.Parts.{Part}
-use Rattle.seccomp_warnings.specs.Judgements.{AreVerdicts, IsJudgement, IsSetOf}
+use Rattle.seccomp_warnings.specs.Judgements.{IsJudgement, IsSetOf}
 use Rattle.seccomp_warnings.specs.declared.judgement.Judgement.{Judgement}
 use Rattle.seccomp_warnings.proofs.Judged.{each_push}
 use Rattle.seccomp_warnings.proofs.judgement.judgements_of.Goals as goal
 
 -- Verdicts of a part's entries are those of the part.
 of_part : (part : Part) (arch : TargetArch) (entries : List Entry) (verdicts : List Verdict) → arch ≡ part.target_arch
-    → entries ≡ part.entries → AreTrue arch entries verdicts → SayOfEntries arch entries verdicts → AreVerdicts part verdicts
-of_part part arch entries verdicts same_arch same are_true decide = record {
-  are_true = subst (λ a. AreTrue a part.entries verdicts) same_arch
-      (subst (λ (es : List Entry). AreTrue arch es verdicts) same are_true);
-  decide = subst (λ a. SayOfEntries a part.entries verdicts) same_arch
-      (subst (λ (es : List Entry). SayOfEntries arch es verdicts) same decide);
-}
+    → entries ≡ part.entries → AreVerdicts arch entries verdicts → AreVerdicts part.target_arch part.entries verdicts
+of_part part arch entries verdicts same_arch same are =
+    subst (λ a. AreVerdicts a part.entries verdicts) same_arch (subst (λ (es : List Entry). AreVerdicts arch es verdicts) same are)
 
 pub judgement_of-judgement-requires-clause-named : goal.judgement_of-judgement-requires-clause-named
 judgement_of-judgement-requires-clause-named c =
@@ -49,9 +44,8 @@ loop-place-preserved c =
     let many : length js ≡ place = c.loop-place.invariant.many in
     let before : place < length vs = omega (arith, c.loop-place-test.true) in
     let are = of_part part _ _ vs (ap (λ (p : Part). p.target_arch) c.part.view_is)
-    (c.as_slice.ensures.value ∙ ap (λ (p : Part). p.entries) c.part.view_is) c.in_ok-verdicts.ensures.verdicts
-    c.in_ok-verdicts.ensures.decisions in
-    let as_many : length vs ≡ length entries = are.are_true.many in
+    (c.as_slice.ensures.value ∙ ap (λ (p : Part). p.entries) c.part.view_is) c.in_ok-verdicts.ensures in
+    let as_many : length vs ≡ length entries = are.long in
     let within : place < length entries = omega arith in
     let entry : Entry = c.index.result.now in
     let is : entry ≡ get_or entries place entry =
@@ -73,9 +67,9 @@ returns c =
     let part : Part = c.args.part.now in
     let vs : List Verdict = c.in_ok-verdicts.verdicts.items in
     let are = of_part part _ _ vs (ap (λ (p : Part). p.target_arch) c.part.view_is)
-    (c.as_slice.ensures.value ∙ ap (λ (p : Part). p.entries) c.part.view_is) c.in_ok-verdicts.ensures.verdicts
-    c.in_ok-verdicts.ensures.decisions in
+    (c.as_slice.ensures.value ∙ ap (λ (p : Part). p.entries) c.part.view_is) c.in_ok-verdicts.ensures in
     record {
-      verdicts = subst (AreVerdicts part) (sym (c.loop-place.invariant.verdicts ∙ take_all c.loop-place.place vs (omega arith))) are;
+      verdicts = subst (AreVerdicts part.target_arch part.entries)
+          (sym (c.loop-place.invariant.verdicts ∙ take_all c.loop-place.place vs (omega arith))) are;
       each = c.loop-place.invariant.each;
     }

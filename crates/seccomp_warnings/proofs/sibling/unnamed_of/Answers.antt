@@ -5,6 +5,8 @@ use Rattle.std.proofs.lemmas.List.{get_or_default, take_all}
 use Rattle.std.proofs.lemmas.List.Elements.{All-map}
 use Rattle.seccomp_warnings.specs.Judgements.{IsUnnamed}
 use Rattle.seccomp_warnings.proofs.Numbered.{contained_now}
+use Rattle.std.proofs.Common.{arith}
+use Rattle.std.proofs.lemmas.Grind.{common_steps}
 use Rattle.seccomp_warnings.proofs.sibling.unnamed_of.Goals as goal
 
 -- The name at a place is one of these. The default is any.
@@ -29,3 +31,6 @@ returns-clause-none c = λ entries set.
     (All-map of (λ name. name.now) found
     (subst (λ (all : List (Bor (List ℕ))). All (λ (other : Bor (List ℕ)). of other.now) all)
     (take_all c.loop-other.other-index found c.loop-other-test.false) (c.loop-other.invariant entries set)))
+
+pub loop-other-preserved : goal.loop-other-preserved
+loop-other-preserved c = grind (arith, common_steps)

@@ -26,9 +26,10 @@ SHARED = 280
 ABSENT = ("", "zz", "closd", "closf", "blose", "close1", "clos", "lose", " close", "close ", "close\0", "Close", "closE", "CLOSE",
           "_sysctk", "writew", "nosyscall")
 
-# A row of the constant of a table, and what a look-up answers.
-ROW = re.compile(r'^    \("(\w+)", (\d+)\),$', re.M)
-FOUND = re.compile(r"(none|[0-9]+), ([0-9]+) compared")
+# The constants of a table, and what a look-up answers: the number, if there is one, and how many names are compared.
+TEXT = re.compile(r'_NAMES: &str = "(.*?)";$', re.M | re.S)
+NUMBERS = re.compile(r"_NUMBERS: .* = \[(.*?)\];$", re.M | re.S)
+FOUND = re.compile(r"(?:([0-9]+) )?([0-9]+)")
 
 # What a header defines that is no call.
 BORDERS = {"arch_specific_syscall", "syscalls"}
@@ -73,22 +74,27 @@ def compare_with(results, what, pairs, other):
     results.compare(f"{what}: other names of the table's numbers", ([],), ([it for it in others if it not in BORDERS],))
 
 
+def pairs_in(path):
+    """Returns the pairs of an architecture's file of constants."""
+    text = path.read_text(encoding="ascii")
+    names = TEXT.search(text)[1].replace("\\\n", " ").split()
+    numbers = NUMBERS.search(text)[1].replace(",", " ").split()
+    return [(name, int(number)) for name, number in zip(names, numbers, strict=True)]
+
+
 def compare_table(results, arch):
     """Compares an architecture's table with the file of its pairs, and looks up each name, each name without its last letter, and texts
     that are no name. A look-up compares at most 9 names, and at least 8 if none is found at an end of the table."""
     pairs = [(name, int(number)) for name, number in map(str.split, (NAMES / arch).read_text(encoding="ascii").splitlines())]
     numbers = dict(pairs)
     results.compare(f"{arch}: names, numbers", (len(pairs),) * 2, (len(numbers), len(set(numbers.values()))))
-    table = ROW.findall((driver_rows.TOP / f"crates/seccomp_tables/src/{arch}.rt").read_text(encoding="ascii"))
-    results.compare(f"{arch}: the table's pairs", (sorted(pairs),), ([(name, int(number)) for name, number in table],))
+    results.compare(f"{arch}: the table's pairs", (sorted(pairs),), (pairs_in(driver_rows.TOP / f"crates/seccomp_tables/src/{arch}.rt"),))
     asked = [*dict.fromkeys([*numbers, *(name[:-1] for name in numbers), *ABSENT])]
-    rows = "\n".join(f"lookup {arch} {name} =>" for name in asked)
-    ran = subprocess.run([driver_rows.PROGRAM], input=rows, capture_output=True, text=True)
-    told = ran.stdout.removesuffix("\n").split("\n")
-    results.compare(f"{arch}: look-ups", (0, len(asked)), (ran.returncode, len(told)))
+    status, told = driver_rows.ask([f"number of call {arch} {name}" for name in asked])
+    results.compare(f"{arch}: look-ups", (0, len(asked)), (status, len(told)))
     for name, row in zip(asked, told):
-        found = FOUND.fullmatch(row.partition(" => ")[2])
-        number, compared = (found[1], int(found[2])) if found else (row, 0)
+        found = FOUND.fullmatch(row)
+        number, compared = (found[1] or "none", int(found[2])) if found else (row, 0)
         least = 8 if name in ABSENT else 1
         results.compare(f"{arch}: {name!r}", (str(numbers.get(name, "none")), True), (number, least <= compared <= 9))
 

@@ -1,19 +1,23 @@
 -- What holds of each table, from tests that are computed over the whole of it.
 use Rattle.std.proofs.Common.{◌≡◌, ◌≢◌, ◌<◌, ◌≤◌, pos, ◌&&◌, List, [], ◌∷◌, Bool, true, false, Ordering, Less, Equal, Greater, nat_cmp}
-use Rattle.std.proofs.Common.{length, All, AllPairs, slice_index_or, refl, ap, ◌∙◌, arith}
+use Rattle.std.proofs.Common.{ℕ, ℤ, ◌+◌, ◌-◌, zero, suc, length, take, drop, All, AllPairs, slice_index_or, refl, ap, subst, ◌∙◌, arith}
 use Rattle.std.specs.Cmp.Lexicographic.{slice_cmp}
 use Rattle.std.specs.List.{list_all}
 use Rattle.std.specs.Ordering.{is_lt}
 use Rattle.std.specs.Int.Signed.{le_z, le_z_yes}
-use Rattle.std.proofs.Math.Dec.{ltb}
-use Rattle.std.proofs.lemmas.Bool.{ltb-true}
+use Rattle.std.proofs.Math.Dec.{leb, ltb}
+use Rattle.std.proofs.lemmas.Bool.{leb-true, ltb-true}
 use Rattle.std.proofs.lemmas.Cmp.{nat_list_cmp_total}
 use Rattle.std.proofs.lemmas.Float.{T_from_true}
 use Rattle.std.proofs.lemmas.List.Elements.{All-nil, All-cons, All-weaker}
 use Rattle.std.proofs.lemmas.List.Kept.{AllPairs-cons}
 use Rattle.std.proofs.lemmas.List.Sums.{AllPass-from_list_all}
-use Rattle.seccomp_tables.specs.Tables.{Pair, greatest_number, IsTableNumber, IsCallTable, StandsBefore, x86_64_pairs, aarch64_pairs}
-use Rattle.seccomp_tables.specs.Tables.{riscv64_pairs}
+use Rattle.std.proofs.lemmas.Str.Ascii.{IsAscii-from_all}
+use Rattle.seccomp_tables.specs.Tables.{Pair, greatest_number, IsTableNumber, IsCallTable, StandsBefore, words, numbered, IsWord, AreStarts}
+use Rattle.seccomp_tables.specs.Tables.{x86_64_pairs, aarch64_pairs, riscv64_pairs}
+use Rattle.seccomp_tables.specs.declared.x86_64.TheConstants.{X86_64_NAMES, X86_64_STARTS}
+use Rattle.seccomp_tables.specs.declared.aarch64.TheConstants.{AARCH64_NAMES, AARCH64_STARTS}
+use Rattle.seccomp_tables.specs.declared.riscv64.TheConstants.{RISCV64_NAMES, RISCV64_STARTS}
 
 -- a test of two parts passes only if both do
 both : (a b : Bool) → (a && b) ≡ true → (a ≡ true) × (b ≡ true)
@@ -92,10 +96,65 @@ is_table table long short names order range =
           (AllPass-from_list_all is_in_range table range);
     }
 
+-- the words of a text by their starts
+abbrev cut : List ℕ → List ℕ → List (List ℕ)
+cut text [] = []
+cut text (start ∷ []) = []
+cut text (start ∷ next ∷ starts) = take (next - 1 - start) (drop start text) ∷ cut text (next ∷ starts)
+
+-- whether each start comes before the next, and none is past this end
+abbrev are_apart : ℕ → List ℕ → Bool
+are_apart end [] = true
+are_apart end (start ∷ []) = true
+are_apart end (start ∷ next ∷ starts) = ltb start next && (leb next end && are_apart end (next ∷ starts))
+
+-- starts that are apart cut a word off at each place
+word_at : (text starts : List ℕ) (place : ℕ) (word : List ℕ) → are_apart (length text + 1) starts ≡ true → place < length (cut text starts)
+    → IsWord text (slice_index_or starts place 0) (slice_index_or starts (suc place) 0) (slice_index_or (cut text starts) place word)
+word_at text [] place word passed within = absurd (omega (arith, within))
+word_at text (start ∷ []) place word passed within = absurd (omega (arith, within))
+word_at text (start ∷ next ∷ starts) place word passed within =
+    let parts = both (ltb start next) (leb next (length text + 1) && are_apart (length text + 1) (next ∷ starts)) passed in
+    let rest = both (leb next (length text + 1)) (are_apart (length text + 1) (next ∷ starts)) parts.1 in
+    elim place as (λ place. place < length (cut text (start ∷ next ∷ starts))
+    → IsWord text (slice_index_or (start ∷ next ∷ starts) place 0) (slice_index_or (next ∷ starts) place 0)
+    (slice_index_or (cut text (start ∷ next ∷ starts)) place word)) [
+      | zero ↦ λ within.
+          record { apart = ltb-true start next parts.0; inside = leb-true next (length text + 1) rest.0; here = refl }
+      | suc place ↦ λ within. word_at text (next ∷ starts) place word rest.1 (omega (arith, within))
+    ] within
+
+-- what passes the tests are the starts of a text's words
+are_starts : (text starts : List ℕ) → list_all (λ byte. ltb byte 128) text ≡ true → cut text starts ≡ words text
+    → are_apart (length text + 1) starts ≡ true → length starts ≡ length (words text) + 1 → AreStarts text starts
+are_starts text starts plain same apart long = record {
+  ascii = IsAscii-from_all text (All-weaker (λ byte. ltb byte 128 ≡ true) (λ byte. byte < 128) (λ byte. ltb-true byte 128) text
+      (AllPass-from_list_all (λ byte. ltb byte 128) text plain));
+  long = long;
+  each = λ place word within.
+      let next : place + 1 ≡ suc place = omega arith in
+      rw next (subst (λ (cuts : List (List ℕ)). place < length cuts
+      → IsWord text (slice_index_or starts place 0) (slice_index_or starts (suc place) 0) (slice_index_or cuts place word)) same
+      (word_at text starts place word apart) within);
+}
+
+-- the name in a pair is the word at its place
+pub name_at : (names : List (List ℕ)) (numbers : List ℤ) (place : ℕ) (name : List ℕ) (pair : Pair) → place < length names
+    → length names ≤ length numbers → (slice_index_or (numbered names numbers) place pair).0 ≡ slice_index_or names place name
+name_at [] numbers place name pair within short = absurd (omega (arith, within))
+name_at (first ∷ names) [] place name pair within short = absurd (omega (arith, short))
+name_at (first ∷ names) (number ∷ numbers) zero name pair within short = refl
+name_at (first ∷ names) (number ∷ numbers) (suc place) name pair within short =
+    name_at names numbers place name pair (omega (arith, within)) (omega (arith, short))
+
 -- the tests, computed
 pub x86_64_table : IsCallTable x86_64_pairs
 unfolding x86_64_pairs
 x86_64_table = is_table x86_64_pairs (omega arith) (omega arith) refl refl refl
+
+-- the tests, computed
+pub x86_64_starts : AreStarts X86_64_NAMES.now X86_64_STARTS
+x86_64_starts = are_starts X86_64_NAMES.now X86_64_STARTS refl refl refl refl
 
 -- the tests, computed
 pub aarch64_table : IsCallTable aarch64_pairs
@@ -103,9 +162,17 @@ unfolding aarch64_pairs
 aarch64_table = is_table aarch64_pairs (omega arith) (omega arith) refl refl refl
 
 -- the tests, computed
+pub aarch64_starts : AreStarts AARCH64_NAMES.now AARCH64_STARTS
+aarch64_starts = are_starts AARCH64_NAMES.now AARCH64_STARTS refl refl refl refl
+
+-- the tests, computed
 pub riscv64_table : IsCallTable riscv64_pairs
 unfolding riscv64_pairs
 riscv64_table = is_table riscv64_pairs (omega arith) (omega arith) refl refl refl
+
+-- the tests, computed
+pub riscv64_starts : AreStarts RISCV64_NAMES.now RISCV64_STARTS
+riscv64_starts = are_starts RISCV64_NAMES.now RISCV64_STARTS refl refl refl refl
 
 -- what holds of each table, for a proof by cases of architectures
 pub ruleset each_table = (x86_64_table, aarch64_table, riscv64_table)

@@ -1,32 +1,52 @@
 -- Tables of system calls: each architecture's pairs of a name and a number, and what every table is.
-use Rattle.std.specs.Prelude.{◌≡◌, ◌≢◌, ℕ, ℤ, pos, ◌≤ℤ◌, List, All, AllPairs, map, length, ◌<◌, ◌≤◌}
-use Rattle.std.specs.Borrow.{Bor}
+use Rattle.std.specs.Prelude.{◌≡◌, ◌≢◌, ℕ, ℤ, pos, ◌≤ℤ◌, List, [], ◌∷◌, All, AllPairs, IsAscii, length, take, drop, slice_index_or}
+use Rattle.std.specs.Prelude.{◌+◌, ◌-◌, ◌<◌, ◌≤◌, eqb}
 use Rattle.std.specs.Cmp.Lexicographic.{slice_cmp}
+use Rattle.std.specs.List.{slice_split}
 use Rattle.std.specs.Ordering.{nat_cmp}
 use Rattle.std.specs.declared.cmp.Ordering.TheVariants.{Less}
-use Rattle.seccomp_tables.specs.declared.x86_64.TheConstants.{X86_64}
-use Rattle.seccomp_tables.specs.declared.aarch64.TheConstants.{AARCH64}
-use Rattle.seccomp_tables.specs.declared.riscv64.TheConstants.{RISCV64}
+use Rattle.seccomp_tables.specs.declared.x86_64.TheConstants.{X86_64_NAMES, X86_64_NUMBERS}
+use Rattle.seccomp_tables.specs.declared.aarch64.TheConstants.{AARCH64_NAMES, AARCH64_NUMBERS}
+use Rattle.seccomp_tables.specs.declared.riscv64.TheConstants.{RISCV64_NAMES, RISCV64_NUMBERS}
 
 -- A system call's name, as bytes, and its number.
 abbrev pub Pair : Type 0
 Pair = List ℕ × ℤ
 
--- The pairs of an array of the program.
-abbrev pub pairs_of : List (Bor (List ℕ) × ℤ) → List Pair
-pairs_of pairs = map (λ pair. (pair.0.now, pair.1)) pairs
+-- The words of a text, each up to the next space.
+abbrev pub words : List ℕ → List (List ℕ)
+words text = slice_split (λ byte. eqb byte 32) text
+
+-- In a text this word stands from one start to the space before the next.
+pub record IsWord (text : List ℕ) (start next : ℕ) (word : List ℕ) : Type 0 where
+  pub apart : start < next
+  pub inside : next ≤ length text + 1
+  pub here : take (next - 1 - start) (drop start text) ≡ word
+
+-- The starts of the words of an ASCII text, and where one more would begin.
+pub record AreStarts (text starts : List ℕ) : Type 0 where
+  pub ascii : IsAscii text
+  pub long : length starts ≡ length (words text) + 1
+  pub each : (place : ℕ) (word : List ℕ) → place < length (words text)
+      → IsWord text (slice_index_or starts place 0) (slice_index_or starts (place + 1) 0) (slice_index_or (words text) place word)
+
+-- Each name with the number at its place.
+abbrev pub numbered : List (List ℕ) → List ℤ → List Pair
+numbered [] numbers = []
+numbered (name ∷ names) [] = []
+numbered (name ∷ names) (number ∷ numbers) = (name, number) ∷ numbered names numbers
 
 -- The table of x86_64: the pairs that the Rust crate seccompiler has for it, in byte order of names.
 unfoldable pub x86_64_pairs : List Pair
-x86_64_pairs = map (λ pair. (pair.0.now, pair.1)) X86_64
+x86_64_pairs = numbered (words X86_64_NAMES.now) X86_64_NUMBERS
 
 -- The table of aarch64, likewise.
 unfoldable pub aarch64_pairs : List Pair
-aarch64_pairs = map (λ pair. (pair.0.now, pair.1)) AARCH64
+aarch64_pairs = numbered (words AARCH64_NAMES.now) AARCH64_NUMBERS
 
 -- The table of riscv64, likewise.
 unfoldable pub riscv64_pairs : List Pair
-riscv64_pairs = map (λ pair. (pair.0.now, pair.1)) RISCV64
+riscv64_pairs = numbered (words RISCV64_NAMES.now) RISCV64_NUMBERS
 
 -- The first pair's name comes before the second's in byte order.
 abbrev pub StandsBefore : Pair → Pair → Type 0

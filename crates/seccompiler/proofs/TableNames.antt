@@ -1,6 +1,6 @@
 -- What `number_of` gives, in the words of the table.
-use Rattle.std.proofs.Common.{◌≡◌, ◌≢◌, ℕ, ℤ, List, [], ◌∷◌, true, false, Option, Some, None, IfSome, All, refl, sym, ap, subst, bytes_eq}
-use Rattle.std.proofs.Common.{arith}
+use Rattle.std.proofs.Common.{◌≡◌, ◌≢◌, ℕ, ℤ, List, [], ◌∷◌, true, false, Option, Some, None, IfSome, IfNone, All, refl, sym, ap, subst}
+use Rattle.std.proofs.Common.{arith, bytes_eq}
 use Rattle.std.proofs.lemmas.Bool.Decides.{not_from_Decides}
 use Rattle.std.proofs.lemmas.List.Elements.{All-nil, All-cons, All-head, All-tail}
 use Rattle.std.specs.Option.{MatchOption}
@@ -43,8 +43,10 @@ number_of-all P (pair ∷ table) name all = let here = All-head (λ pair. P pair
     let rest = number_of-all P table name (All-tail (λ pair. P pair.1) pair table all) in grind arith
 
 -- the number that a look-up gives is that of the first pair with the name
-pub found_first : (table : List Pair) (name : List ℕ) (number : ℤ) → Some number ≡ number_of table name → IsFirstNumber table name number
-found_first table name number is = subst (Tells table name) (sym is) (number_of-tells table name)
+pub found_first : (table : List Pair) (name : List ℕ) (found : Option ℤ) → found ≡ number_of table name
+    → IfSome found (IsFirstNumber table name)
+found_first table name None is = tt
+found_first table name (Some number) is = subst (Tells table name) (sym is) (number_of-tells table name)
 
 -- a fact on all numbers of a table holds of the one that a look-up gives
 pub found_among : (P : ℤ → Type 0) (table : List Pair) (name : List ℕ) (number : ℤ) → All (λ pair. P pair.1) table
@@ -52,5 +54,7 @@ pub found_among : (P : ℤ → Type 0) (table : List Pair) (name : List ℕ) (nu
 found_among P table name number all is = subst (λ found. IfSome found P) (sym is) (number_of-all P table name all)
 
 -- where a look-up gives no number, no pair has the name
-pub found_nowhere : (table : List Pair) (name : List ℕ) → None ≡ number_of table name → All (λ pair. pair.0 ≢ name) table
-found_nowhere table name is = subst (Tells table name) (sym is) (number_of-tells table name)
+pub found_nowhere : (table : List Pair) (name : List ℕ) (found : Option ℤ) → found ≡ number_of table name
+    → IfNone found (All (λ pair. pair.0 ≢ name) table)
+found_nowhere table name None is = subst (Tells table name) (sym is) (number_of-tells table name)
+found_nowhere table name (Some number) is = tt

@@ -4,7 +4,7 @@ use Rattle.std.specs.Cmp.Lexicographic.{slice_cmp}
 use Rattle.std.specs.Ordering.{nat_cmp}
 use Rattle.std.specs.Str.{bytes_eq}
 use Rattle.std.specs.declared.cmp.Ordering.TheVariants.{Less}
-pub use Rattle.seccomp_tables.specs.Tables.{Pair, pairs_of, StandsBefore, IsTableNumber, IsCallTable}
+pub use Rattle.seccomp_tables.specs.Tables.{Pair, StandsBefore, IsTableNumber, IsCallTable}
 
 -- The number of the first pair with this name, if there is one.
 abbrev pub number_of : List Pair → List ℕ → Option ℤ

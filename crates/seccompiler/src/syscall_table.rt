@@ -1,12 +1,14 @@
 // From the names of system calls to their numbers.
 
-ghost use Rattle.std.specs.Prelude.{◌≡◌, ◌≢◌, ℕ, ◌≤◌, All, IfSome, IfNone};
+ghost use Rattle.std.specs.Prelude.{◌≡◌, ◌≢◌, ℕ, ◌<◌, ◌≤◌, All, IfSome, IfNone, length, map, slice_index_or};
 ghost use Rattle.seccompiler.specs.Architecture.{table_of};
-ghost use Rattle.seccompiler.specs.SyscallTable.{HalvingCompares, IsTableNumber, IsCallTable, IsFirstNumber, number_of, pairs_of};
+ghost use Rattle.seccompiler.specs.SyscallTable.{HalvingCompares, IsTableNumber, IsCallTable, IsFirstNumber, Pair, number_of};
 
 use crate::backend::TargetArch;
 use crate::equality::EqualByParts;
-use seccomp_tables::{aarch64_calls, riscv64_calls, x86_64_calls};
+use seccomp_tables::{
+    aarch64_name, aarch64_numbers, riscv64_name, riscv64_numbers, x86_64_name, x86_64_numbers,
+};
 use std::cmp::Ordering;
 use std::marker::Model;
 
@@ -64,16 +66,30 @@ impl SyscallTable {
         SyscallTable { arch }
     }
 
-    /// Gives the name and the number of each system call, in byte order of names.
+    /// Gives the numbers of the system calls, in byte order of the calls' names.
     ///
-    /// No name comes twice. It takes no memory.
-    pub fn pairs(&self) -> &'static [(&'static str, i64)]
-        ensures { pairs_of result.now ≡ table_of self.now }
+    /// [`name`](Self::name) gives the name to each. It takes no memory.
+    pub fn numbers(&self) -> &'static [i64]
+        ensures { result.now ≡ map (λ pair. pair.1) (table_of self.now) }
     {
         match self.arch {
-            TargetArch::x86_64 => x86_64_calls(),
-            TargetArch::aarch64 => aarch64_calls(),
-            TargetArch::riscv64 => riscv64_calls(),
+            TargetArch::x86_64 => x86_64_numbers(),
+            TargetArch::aarch64 => aarch64_numbers(),
+            TargetArch::riscv64 => riscv64_numbers(),
+        }
+    }
+
+    /// Gives the name of the system call whose number stands at this place of [`numbers`](Self::numbers).
+    ///
+    /// No name stands at two places. It takes no memory, and the same time for every place.
+    pub fn name(&self, place: usize) -> &'static str
+        requires { place < length (table_of self.now) }
+        ensures { (pair : Pair) → result.now ≡ (slice_index_or (table_of self.now) place pair).0 }
+    {
+        match self.arch {
+            TargetArch::x86_64 => x86_64_name(place),
+            TargetArch::aarch64 => aarch64_name(place),
+            TargetArch::riscv64 => riscv64_name(place),
         }
     }
 
@@ -94,27 +110,35 @@ impl SyscallTable {
         ensures few { (1 ≤ result.compared) × (result.compared ≤ 9) }
         ensures missed { IfNone result.number (8 ≤ result.compared) }
     {
-        let mut part = self.pairs();
+        let (_, found) = self.find(name);
+        found
+    }
+
+    // The same, with the place where the search ended: that of the name, or else where it would stand.
+    fn find(&self, name: &str) -> (usize, Lookup)
+        ensures number { result.1.number ≡ number_of (table_of self.now) name.now }
+        ensures compared { HalvingCompares name.now (table_of self.now) result.1.compared }
+        ensures few { (1 ≤ result.1.compared) × (result.1.compared ≤ 9) }
+        ensures missed { IfNone result.1.number (8 ≤ result.1.compared) }
+    {
+        let numbers = self.numbers();
+        let mut start = 0;
+        let mut end = numbers.len();
         let mut compared = 0;
-        while !part.is_empty() {
-            let middle = part.len() / 2;
-            let pair = &part[middle];
+        while start < end {
+            let middle = start + (end - start) / 2;
             compared += 1;
-            part = match name.cmp(pair.0) {
-                Ordering::Less => &part[..middle],
-                Ordering::Greater => &part[middle + 1..],
+            match name.cmp(self.name(middle)) {
+                Ordering::Less => end = middle,
+                Ordering::Greater => start = middle + 1,
                 Ordering::Equal => {
-                    return Lookup {
-                        number: Some(pair.1),
-                        compared,
-                    };
+                    let number = Some(numbers[middle]);
+                    return (middle, Lookup { number, compared });
                 }
-            };
+            }
         }
-        Lookup {
-            number: None,
-            compared,
-        }
+        let number = None;
+        (start, Lookup { number, compared })
     }
 
     /// Gives the number of the system call with exactly this name, case included.
@@ -144,24 +168,16 @@ impl SyscallTable {
     pub(crate) fn number_near(&self, near: &mut usize, name: &str) -> Option<i64>
         ensures { result ≡ number_of (table_of self.now) name.now }
     {
-        let pairs = self.pairs();
+        let numbers = self.numbers();
         let last = *near;
         for place in [last.wrapping_add(1), last] {
-            if place < pairs.len() {
-                let pair = &pairs[place];
-                if pair.0 == name {
-                    *near = place;
-                    return Some(pair.1);
-                }
+            if place < numbers.len() && self.name(place) == name {
+                *near = place;
+                return Some(numbers[place]);
             }
         }
-        *near = pairs.partition_point(|pair| pair.0 < name);
-        if *near < pairs.len() {
-            let pair = &pairs[*near];
-            if pair.0 == name {
-                return Some(pair.1);
-            }
-        }
-        self.get_syscall_nr(name)
+        let (place, found) = self.find(name);
+        *near = place;
+        found.number
     }
 }

@@ -1,22 +1,21 @@
 -- For `SyscallTable::lookup`: what one comparison with the middle of a part of a table tells of the look-up in it.
 use Rattle.std.proofs.Common.{◌≡◌, ◌≢◌, ℕ, zero, suc, ◌+◌, ◌-◌, ◌*◌, ◌/◌, ◌^◌, ◌<◌, ◌≤◌, ℤ, pos, List, [], ◌∷◌, false, Option, Some, None}
-use Rattle.std.proofs.Common.{Ordering, Less, Equal, Greater, nat_cmp, length, take, drop, get_or, AllPairs, bytes_eq, if◌then◌else◌, inl}
-use Rattle.std.proofs.Common.{inr, refl, sym, ap, ◌∙◌, subst, arith, Bool, nat_eq, w64}
+use Rattle.std.proofs.Common.{Ordering, Less, Equal, Greater, nat_cmp, length, map, take, drop, get_or, AllPairs, bytes_eq, if◌then◌else◌}
+use Rattle.std.proofs.Common.{inl, inr, refl, sym, ap, ◌∙◌, subst, arith, w64}
 use mir.Val.{to_z, of_z}
-use Rattle.std.specs.Borrow.{Bor}
 use Rattle.std.specs.Cmp.Lexicographic.{slice_cmp}
 use Rattle.std.specs.Ordering.{is_eq}
 use Rattle.std.proofs.Math.Nat.{pow-succ'}
-use Rattle.std.proofs.Math.Seq.{drop-cons}
-use Rattle.std.proofs.lemmas.Bool.{cases_lt, eqb-false, false_from_ne_true}
+use Rattle.std.proofs.Math.Seq.{drop-cons, drop-drop}
+use Rattle.std.proofs.lemmas.Bool.{cases_lt, false_from_ne_true}
 use Rattle.std.proofs.lemmas.Cmp.{nat_list_cmp_total, tied_itself}
 use Rattle.std.proofs.lemmas.Int.{to_z-of_z, ints}
-use Rattle.std.proofs.lemmas.List.{take-append-drop, get_or-take, get_or-drop, get_or-map, take-map, drop-map, length-take-le, length-drop}
-use Rattle.std.proofs.lemmas.List.{length-map}
+use Rattle.std.proofs.lemmas.List.{take-append-drop, get_or-take, get_or-drop, get_or-map, drop-take, length-drop}
+use Rattle.std.proofs.lemmas.List.{length-take-le, take_rest}
 use Rattle.std.proofs.lemmas.Map.Text.{is_eq-slice_cmp}
 use Rattle.std.proofs.lemmas.Nat.{pow_pos}
 use Rattle.std.proofs.lemmas.Slice.Eq.{bytes_eq-Decides}
-use Rattle.seccompiler.specs.SyscallTable.{Pair, IsCallTable, StandsBefore, number_of, pairs_of, ComesBefore, IsMiddle, HalvingCompares}
+use Rattle.seccompiler.specs.SyscallTable.{Pair, IsCallTable, StandsBefore, number_of, ComesBefore, IsMiddle, HalvingCompares}
 use Rattle.seccompiler.specs.SyscallTable.{none_left, at_middle, before_middle, behind_middle, IsTableNumber}
 use Rattle.seccompiler.proofs.TableNames.{found_among}
 
@@ -63,7 +62,7 @@ turned : (first second : List ℕ) → slice_cmp nat_cmp first second ≡ Greate
 turned first second greater = let mirrored = nat_list_cmp_total.antisymm second first in rw greater at mirrored
 
 -- names that compare as equal are one name
-tied : (first second : List ℕ) → slice_cmp nat_cmp first second ≡ Equal → first ≡ second
+pub tied : (first second : List ℕ) → slice_cmp nat_cmp first second ≡ Equal → first ≡ second
 tied first second equal = (bytes_eq-Decides first second).0 (sym (is_eq-slice_cmp first second) ∙ ap is_eq equal)
 
 -- behind a name that the asked one comes before, and at it, no name is the asked one
@@ -123,25 +122,62 @@ halved table name compared part half is some same ascends most least counts = re
   counted = λ n compares. grind (arith, is.counted (suc n) (counts n compares));
 }
 
--- A part as the program holds it, its names behind references.
-abbrev Slice : Type 0
-Slice = List (Bor (List ℕ) × ℤ)
+-- the part of a table from one place to before another
+abbrev pub between : List Pair → ℕ → ℕ → List Pair
+between table start end = take (end - start) (drop start table)
 
--- what a read past the end would give
-abbrev pub nothing : Bor (List ℕ) × ℤ
-nothing = (record { ref_ptr = (0, 0); now = [] }, pos 0)
+-- the whole table
+pub between_all : (table : List Pair) → between table 0 (length table) ≡ table
+between_all table = take_rest table 0
+
+-- as many pairs as there are places
+pub long : (table : List Pair) (start end : ℕ) → end ≤ length table → length (between table start end) ≡ end - start
+long table start end within =
+    length-take-le (end - start) (drop start table) (omega (arith, within, length-drop start table))
+
+-- the first of fewer pairs
+take_fewer : (m n : ℕ) (table : List Pair) → m ≤ n → take m (take n table) ≡ take m table
+take_fewer zero n table fewer = refl
+take_fewer (suc m) zero table fewer = absurd (omega arith)
+take_fewer (suc m) (suc n) [] fewer = refl
+take_fewer (suc m) (suc n) (pair ∷ table) fewer = ap (λ pairs. pair ∷ pairs) (take_fewer m n table (omega arith))
+
+-- the front of a part
+front : (table : List Pair) (start middle end : ℕ) → start + middle ≤ end
+    → take middle (between table start end) ≡ between table start (start + middle)
+front table start middle end within =
+    let same : start + middle - start ≡ middle = omega arith in
+    rw same (take_fewer middle (end - start) (drop start table) (omega arith))
+
+-- the back of a part
+back : (table : List Pair) (start middle end : ℕ) → start + middle ≤ end
+    → drop middle (between table start end) ≡ between table (start + middle) end
+back table start middle end within =
+    let split : end - start ≡ middle + (end - (start + middle)) = omega arith in
+    rw split (drop-take middle (end - (start + middle)) (drop start table)
+    ∙ ap (take (end - (start + middle))) (drop-drop middle start table))
 
 -- the comparison of the asked name with the one in the middle of a part, of two or more names or one
-pub record IsCompared (part : Slice) (name : List ℕ) (middle : ℕ) (answer : Ordering) : Type 0 where
-  pub here : middle < length (pairs_of part)
-  pub half : middle ≡ length (pairs_of part) / 2
-  pub order : (d : Pair) → slice_cmp nat_cmp name (get_or (pairs_of part) middle d).0 ≡ answer
+pub record IsCompared (part : List Pair) (name : List ℕ) (middle : ℕ) (answer : Ordering) : Type 0 where
+  pub here : middle < length part
+  pub half : middle ≡ length part / 2
+  pub order : (d : Pair) → slice_cmp nat_cmp name (get_or part middle d).0 ≡ answer
 
--- the comparison, of a pair of the program, by the answers of its calls
-pub compared_with : (part : Slice) (name : List ℕ) {empty : Bool} {order answer : Ordering} → empty ≡ false → empty ≡ nat_eq (length part) 0
-    → order ≡ answer → order ≡ slice_cmp nat_cmp name (get_or part (length part / 2) nothing).0.now
-    → IsCompared part name (length part / 2) answer
-compared_with part name some tested is compared = grind (arith, length-map, eqb-false, get_or-map)
+-- the comparison, with the name at a place of the table
+pub compared_with : (table : List Pair) (name : List ℕ) (start end : ℕ) {other : List ℕ} {order answer : Ordering} → start < end
+    → end ≤ length table → ((d : Pair) → other ≡ (get_or table (start + (end - start) / 2) d).0) → order ≡ answer
+    → order ≡ slice_cmp nat_cmp name other → IsCompared (between table start end) name ((end - start) / 2) answer
+compared_with table name start end some within there is compared =
+    let many = long table start end within in
+    record {
+      here = omega (arith, many);
+      half = ap (λ n. n / 2) (sym many);
+      order = λ d.
+          let read : get_or (between table start end) ((end - start) / 2) d ≡ get_or table (start + (end - start) / 2) d =
+          get_or-take (end - start) (drop start table) ((end - start) / 2) d (omega arith)
+          ∙ get_or-drop start table ((end - start) / 2) d in
+          rw read (ap (slice_cmp nat_cmp name) (sym (there d)) ∙ sym compared ∙ is);
+    }
 
 -- the pair at half the length is the middle one
 middle_of : (pairs : List Pair) (middle : ℕ) (d : Pair) → middle < length pairs → middle ≡ length pairs / 2
@@ -149,77 +185,67 @@ middle_of : (pairs : List Pair) (middle : ℕ) (d : Pair) → middle < length pa
 middle_of pairs middle d here half = grind (arith, length-take-le, length-drop, drop-cons, take-append-drop, cases_lt)
 
 -- what is left where the asked name comes before the middle one
-pub lower : (table : List Pair) (name : List ℕ) (compared middle : ℕ) (part : Slice)
-    → IsHalf table name compared (pairs_of part) → IsCompared part name middle Less
-    → IsHalf table name (compared + 1) (pairs_of (take middle part))
-lower table name compared middle part is less =
-    let pairs : List Pair = pairs_of part in
+pub lower : (table : List Pair) (name : List ℕ) (compared start middle end : ℕ) → start + middle ≤ end
+    → IsHalf table name compared (between table start end) → IsCompared (between table start end) name middle Less
+    → IsHalf table name (compared + 1) (between table start (start + middle))
+lower table name compared start middle end within is less =
+    let part : List Pair = between table start end in
     let d : Pair = ([], pos 0) in
-    let long : length (take middle pairs) ≡ middle = length-take-le middle pairs (omega (arith, less.here)) in
-    subst (IsHalf table name (compared + 1)) (take-map _ middle part) (halved table name compared pairs (take middle pairs) is
-    (omega (arith, less.here)) (number_of-take pairs name middle (none_from pairs name middle is.ascending less.order less.here))
-    (λ i j d i<j inside. rw (get_or-take middle pairs i d (omega arith), get_or-take middle pairs j d (omega arith))
+    let few : length (take middle part) ≡ middle = length-take-le middle part (omega (arith, less.here)) in
+    subst (IsHalf table name (compared + 1)) (front table start middle end within) (halved table name compared part (take middle part) is
+    (omega (arith, less.here)) (number_of-take part name middle (none_from part name middle is.ascending less.order less.here))
+    (λ i j d i<j inside. rw (get_or-take middle part i d (omega arith), get_or-take middle part j d (omega arith))
     (is.ascending i j d i<j (omega (arith, less.here)))) (omega (arith, less.half)) (omega (arith, less.half))
-    (λ n compares. before_middle (middle_of pairs middle d less.here less.half) (less.order d) compares))
+    (λ n compares. before_middle (middle_of part middle d less.here less.half) (less.order d) compares))
 
 -- what is left where the asked name comes after the middle one
-pub upper : (table : List Pair) (name : List ℕ) (compared middle : ℕ) (part : Slice)
-    → IsHalf table name compared (pairs_of part) → IsCompared part name middle Greater
-    → IsHalf table name (compared + 1) (pairs_of (drop (middle + 1) part))
-upper table name compared middle part is greater =
-    let pairs : List Pair = pairs_of part in
+pub upper : (table : List Pair) (name : List ℕ) (compared start middle end : ℕ) → start + middle < end
+    → IsHalf table name compared (between table start end) → IsCompared (between table start end) name middle Greater
+    → IsHalf table name (compared + 1) (between table (start + middle + 1) end)
+upper table name compared start middle end within is greater =
+    let part : List Pair = between table start end in
     let d : Pair = ([], pos 0) in
-    let long : length (drop (middle + 1) pairs) ≡ length pairs - (middle + 1) = length-drop (middle + 1) pairs in
-    let after = λ (d : Pair). turned name (get_or pairs middle d).0 (greater.order d) in
-    let passed : HasNot pairs name (λ k. k < suc middle) = none_to pairs name middle is.ascending after greater.here in
-    subst (IsHalf table name (compared + 1)) (drop-map _ (middle + 1) part) (halved table name compared pairs (drop (middle + 1) pairs) is
-    (omega (arith, greater.here)) (number_of-drop pairs name (middle + 1) (λ k d before inside. passed k d (omega arith) inside))
-    (λ i j d i<j inside. rw (get_or-drop (middle + 1) pairs i d, get_or-drop (middle + 1) pairs j d)
+    let many : length (drop (middle + 1) part) ≡ length part - (middle + 1) = length-drop (middle + 1) part in
+    let after = λ (d : Pair). turned name (get_or part middle d).0 (greater.order d) in
+    let passed : HasNot part name (λ k. k < suc middle) = none_to part name middle is.ascending after greater.here in
+    let next : start + (middle + 1) ≡ start + middle + 1 = omega arith in
+    subst (IsHalf table name (compared + 1)) (back table start (middle + 1) end (omega (arith, within))
+    ∙ ap (λ place. between table place end) next)
+    (halved table name compared part (drop (middle + 1) part) is
+    (omega (arith, greater.here)) (number_of-drop part name (middle + 1) (λ k d before inside. passed k d (omega arith) inside))
+    (λ i j d i<j inside. rw (get_or-drop (middle + 1) part i d, get_or-drop (middle + 1) part j d)
     (is.ascending (middle + 1 + i) (middle + 1 + j) d (omega arith) (omega arith)))
     (omega (arith, greater.half)) (omega (arith, greater.half))
-    (λ n compares. behind_middle (middle_of pairs middle d greater.here greater.half) (after d) compares))
+    (λ n compares. behind_middle (middle_of part middle d greater.here greater.half) (after d) compares))
 
 -- the number of a name that stands at some place
-pub number_of-there : (part : Slice) (name : List ℕ) (i : ℕ) (e : Bor (List ℕ) × ℤ) → AllPairs StandsBefore (pairs_of part)
-    → i < length part → (get_or part i e).0.now ≡ name → number_of (pairs_of part) name ≡ Some (get_or part i e).1
-number_of-there part name i e ascends within here =
-    let pairs : List Pair = pairs_of part in
-    let long : length pairs ≡ length part = length-map part _ in
-    let read : (d : Pair) → get_or pairs i d ≡ ((get_or part i e).0.now, (get_or part i e).1) = λ d.
-    get_or-map (λ (pair : Bor (List ℕ) × ℤ). (pair.0.now, pair.1)) part i e d within in
-    let named : (d : Pair) → (get_or pairs i d).0 ≡ name = λ d. ap (λ (pair : Pair). pair.0) (read d) ∙ here in
-    let before : HasNot pairs name (λ k. k < i) = λ k d ahead inside same.
-    differs (get_or pairs k d).0 (get_or pairs i d).0 (ascends k i d ahead (omega arith)) (same ∙ sym (named d)) in
-    let same = (bytes_eq-Decides (get_or part i e).0.now name).1 here in
-    rw (← number_of-drop pairs name i before, drop-cons pairs i ([], pos 0) (omega arith), read ([], pos 0), same) refl
-
--- the number where the asked name is the middle one
-pub found : (table : List Pair) (name : List ℕ) (compared middle : ℕ) (part : Slice) → IsCallTable table
-    → IsHalf table name compared (pairs_of part) → IsCompared part name middle Equal
-    → Some (to_z w64 (of_z w64 (get_or part middle nothing).1)) ≡ number_of table name
-found table name compared middle part table_is is equal =
+pub number_at : (table : List Pair) (name : List ℕ) (place : ℕ) (numbers : List ℤ) → IsCallTable table
+    → numbers ≡ map (λ pair. pair.1) table → place < length table → ((d : Pair) → name ≡ (get_or table place d).0)
+    → Some (to_z w64 (of_z w64 (get_or numbers place (pos 0)))) ≡ number_of table name
+number_at table name place numbers is same within named =
     let d : Pair = ([], pos 0) in
-    let long : length (pairs_of part) ≡ length part = length-map part _ in
-    let inside : middle < length part = omega (arith, equal.here) in
-    let read = get_or-map (λ (pair : Bor (List ℕ) × ℤ). (pair.0.now, pair.1)) part middle nothing d inside in
-    let named = sym (tied name (get_or (pairs_of part) middle d).0 (equal.order d)) in
-    let number : Some (get_or part middle nothing).1 ≡ number_of table name =
-    sym (number_of-there part name middle nothing is.ascending inside (sym (ap (λ (pair : Pair). pair.0) read) ∙ named)) ∙ is.same in
-    let range = found_among IsTableNumber table name (get_or part middle nothing).1 table_is.in_range number in
-    ap Some (to_z-of_z w64 (get_or part middle nothing).1 (grind (arith, ints, range.0, range.1))) ∙ number
+    let before : HasNot table name (λ k. k < place) = λ k d ahead inside equal.
+    differs (get_or table k d).0 (get_or table place d).0 (is.ascending k place d ahead within) (equal ∙ named d) in
+    let here = (bytes_eq-Decides (get_or table place d).0 name).1 (sym (named d)) in
+    let first : number_of table name ≡ Some (get_or table place d).1 =
+    rw (← number_of-drop table name place before, drop-cons table place d within, here) refl in
+    let read : get_or numbers place (pos 0) ≡ (get_or table place d).1 =
+    rw same (get_or-map (λ (pair : Pair). pair.1) table place d (pos 0) within) in
+    let number : Some (get_or numbers place (pos 0)) ≡ number_of table name = ap Some read ∙ sym first in
+    let range = found_among IsTableNumber table name _ is.in_range number in
+    ap Some (to_z-of_z w64 (get_or numbers place (pos 0)) (grind (arith, ints, range.0, range.1))) ∙ number
 
 -- an empty part is left where the table has no such name
-pub absent : (table : List Pair) (name : List ℕ) (compared : ℕ) (part : Slice) → IsHalf table name compared (pairs_of part)
+pub absent : (table : List Pair) (name : List ℕ) (compared : ℕ) (part : List Pair) → IsHalf table name compared part
     → length part ≡ 0 → None ≡ number_of table name
 absent table name compared [] is none = is.same
 absent table name compared (pair ∷ part) is none = absurd (omega arith)
 
 -- an empty part is left by eight comparisons at least
-pub missed : (table : List Pair) (name : List ℕ) (compared : ℕ) (part : Slice) → IsHalf table name compared (pairs_of part)
+pub missed : (table : List Pair) (name : List ℕ) (compared : ℕ) (part : List Pair) → IsHalf table name compared part
     → length part ≡ 0 → 8 ≤ compared
 missed table name compared part is none = elim (cases_lt compared 8) [
   | inl below ↦
-      let same : length (pairs_of part) ≡ length part = length-map part _ in
       let some : 8 - compared ≡ suc (7 - compared) = omega arith in
       let double = rw (some, pow-succ') at is.least in
       absurd (omega (arith, pow_pos (7 - compared)))
@@ -227,15 +253,15 @@ missed table name compared part is none = elim (cases_lt compared 8) [
 ]
 
 -- how many names were compared where the asked name is the middle one
-pub counted_here : (table : List Pair) (name : List ℕ) (compared middle : ℕ) (part : Slice) → IsHalf table name compared (pairs_of part)
+pub counted_here : (table : List Pair) (name : List ℕ) (compared middle : ℕ) (part : List Pair) → IsHalf table name compared part
     → IsCompared part name middle Equal → HalvingCompares name table (compared + 1)
 counted_here table name compared middle part is equal =
     let d : Pair = ([], pos 0) in
-    let same = tied name (get_or (pairs_of part) middle d).0 (equal.order d) in
-    is.counted 1 (at_middle (middle_of (pairs_of part) middle d equal.here equal.half) same)
+    let same = tied name (get_or part middle d).0 (equal.order d) in
+    is.counted 1 (at_middle (middle_of part middle d equal.here equal.half) same)
 
 -- how many names were compared where nothing is left
-pub counted_all : (table : List Pair) (name : List ℕ) (compared : ℕ) (part : Slice) → IsHalf table name compared (pairs_of part)
+pub counted_all : (table : List Pair) (name : List ℕ) (compared : ℕ) (part : List Pair) → IsHalf table name compared part
     → length part ≡ 0 → HalvingCompares name table compared
 counted_all table name compared [] is none =
     let same : compared + 0 ≡ compared = omega arith in

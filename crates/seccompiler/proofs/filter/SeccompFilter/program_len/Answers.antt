@@ -6,6 +6,8 @@ use Rattle.std.specs.Map.{values_of}
 use Rattle.seccompiler.specs.Policy.{Filter}
 use Rattle.seccompiler.proofs.ChainNumbers.{numbers_ascend, no_numbers_ascend}
 use Rattle.seccompiler.proofs.CappedLengths.{capped_filter, empty_filter}
+use Rattle.std.proofs.Common.{arith}
+use Rattle.std.proofs.lemmas.Grind.{common_steps}
 use Rattle.seccompiler.proofs.filter.SeccompFilter.program_len.Goals as goal
 
 pub returns-then-is_empty : goal.returns-then-is_empty
@@ -25,3 +27,6 @@ returns c = let f = c.args.self.now in
           (λ none. false≢true (c.if-is_empty.ensures.1 none)) whole.0 c.loop-chain.invariant;
       ordered = numbers_ascend f entries chains c.values-chain-items.ensures.ordered;
     }
+
+pub loop-chain-preserved : goal.loop-chain-preserved
+loop-chain-preserved c = grind (arith, common_steps)

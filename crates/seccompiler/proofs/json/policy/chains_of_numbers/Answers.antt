@@ -5,6 +5,7 @@ use Rattle.seccompiler.specs.JsonGathered.{chain_of, rules_at}
 use Rattle.seccompiler.proofs.ByName.{collected_of}
 use Rattle.seccompiler.proofs.json.policy.EntryChains.{made_at, made_found, made_of_rules}
 use Rattle.seccompiler.proofs.json.policy.ToldNumbers.{told_all, told_start}
+use Rattle.std.proofs.lemmas.Grind.{common_steps}
 use Rattle.seccompiler.proofs.json.policy.chains_of_numbers.Goals as goal
 
 pub loop-number-init : goal.loop-number-init
@@ -25,3 +26,6 @@ returns c =
           ∙ ap (λ b. chain_of b (rules_at c.args.gathered q)) (told_all told _ q (omega (arith, long, c.loop-number-test.false)));
       ordered = made.1;
     }
+
+pub loop-number-preserved : goal.loop-number-preserved
+loop-number-preserved c = grind (arith, common_steps)

@@ -706,6 +706,13 @@ static int64_t named(void)
     return answer;
 }
 
+static int64_t compared_alike(void)
+{
+    static const struct sock_filter SAME[4] = {{0x20, 0, 0, 0}, {0x15, 0, 1, 39}, {0x06, 0, 0, 1}, {0x06, 0, 0, 2}};
+    struct seccomp_data record;
+    return seccompiler_compare(SAME, 4, SAME, 4, SECCOMPILER_ALIKE, SECCOMPILER_ALL_CALLS, 0, 0, 1000, &record);
+}
+
 static int64_t compared(void)
 {
     static const struct seccomp_data zero;
@@ -808,6 +815,7 @@ int main(void)
     sweep(rules_long, tree, SECCOMPILER_OUT_OF_MEMORY);
     sweep(named, FILTERS[0].bytes, SECCOMPILER_OUT_OF_MEMORY);
     sweep(compared, 0, SECCOMPILER_OUT_OF_MEMORY);
+    sweep(compared_alike, 1, SECCOMPILER_OUT_OF_MEMORY);
     sweep(steering, SECCOMPILER_REJECTED, SECCOMPILER_OUT_OF_MEMORY);
     sweep(shape, SECCOMPILER_REJECTED, SECCOMPILER_OUT_OF_MEMORY);
     without_room();

@@ -1,97 +1,276 @@
-"""Rows that the program of crates/seccomp_vectors answers: what no other program of the repository can be asked about the libraries.
+#!/usr/bin/env python3
+"""What the program of crates/seccomp_vectors is asked: questions of rows (tools/row_grammar.py) that no other program can answer, about
+scripted kernels and readers, copies, counts of comparisons, and values that no program shows; and each question of tools/rows/memory.
 
-`stdout` of that crate has the rows with their answers, and `stdin` the same without. `rt ci` runs the program, as two compilers
-build it, and compares its output. Here each row is compared by itself. Rows of tools/rows/memory are asked while requests for memory
-fail. Statements are
-
-    policy ARCH MISMATCH MATCH    a filter of no calls, of which the next rows ask; an action is `allow` or `errno(1)`
-    call NUMBER[: RULE | RULE]    one call more of it, with its rules; `813 times RULE` is a rule so many times
-    calls FIRST STEP COUNT        so many calls without rules
-    decisions ARCH START=VALUE .. decisions of the crate `seccomp_tree`, with the values of calls that have none
-    call NUMBER: RULE gives VALUE | RULE gives VALUE
-                                  one call more of them
-    keep                          the filter above is compared with the next ones
-
-RULE is one condition or several with `&` between, each maybe so many times, as in `42 x 0 qword masked_eq(10) 14`: argument,
-length, operator and value. Questions are
-
-    ASKED of CODE                 ASKED is `instructions`, `instructions 0 to 7`, `length`, `relays`, `fields` of the first instruction,
-                                  `check`, `record NUMBER [a0=..] [arch=..] [ip=..]` for the value and the steps of a run, `returns ..` for
-                                  the value alone, or `install FLAGS CODE ERRNO CODE ERRNO` with what the kernel's two calls answer.
-                                  CODE is `linear`, `tree`, `decisions`, `rule RULE`, `condition CONDITION @ OFFSET`, `guard ARCH`,
-                                  `part-of-rule RULE` and `part-of-condition CONDITION @ OFFSET` for code in the caller's buffer, or
-                                  instructions, each maybe so many times, or `none`
-    decide, copy, program_len     of the filter
-    made_by TEXT, made_of TEXT    whether the filter `a` of a policy's text is equal, and the one that `make_seccomp_filter` makes of it
-    decided NUMBER ..             of the decisions
-    equal, compare_filters RELATION SETS [ARCH [LEAST GREATEST]]
-                                  of the kept filter and the one above; RELATION is `alike` or `at_most`
-    compare_program RELATION .., compare_tree RELATION ..
-                                  of the filter's linear program or its tree, and the filter
-    compare RELATION ..: CODE with CODE
-    condition, copied_rule, equal_rules, holds, action, architecture
-                                  of what stands after
-    lookup ARCH NAME              the number of a call, and how many names were compared with its name
-    compile_from_json, programs_of, compile, policies_of, filters_of ARCH TEXT
-                                  programs or filters by name, with their lengths, or JSON filters with the number of their entries
-    failing FAULT CALL ..         the same of readers that give a byte at a time and fail after each; FAULT may be `never`
-    make_seccomp_filter, widened ARCH TEXT; read_filters, repeats_key TEXT
-
-If a call is rejected the answer is the error's text. In a TEXT `<3 x ENTRY>` stands for an entry three times.
+A question is a line `ASKED of KIND ..`, with numbers in place of most words. `stdin` of that crate has the lines of tools/rows, and
+`stdout` what is answered, which `rt ci` compares as two compilers build the program; but no long lines, and of readers that fail only the
+first and the last. `tools/driver_rows.py --write` writes both anew.
 """
 
 import collections
+import pathlib
 import re
+import struct
 import subprocess
+import sys
+import tempfile
 
+import row_grammar
+from library_calls import OPERATORS, RELATIONS
+from row_grammar import NoRow, conditions, numbers_in, record_of, rows_of, runs, runs_of, shown_as
 from running import PROGRAMS, TOP, run_refused
 
 CRATE = TOP / "crates/seccomp_vectors"
 PROGRAM = PROGRAMS["seccomp_vectors"]
 MEMORY = TOP / "tools/rows/memory"
 
-STATEMENTS = ("#", "policy", "call", "calls", "decisions", "keep")
-OUT_OF_MEMORY = " => Out of memory."
+ACTIONS = ("allow", "errno", "kill_process", "kill_thread", "log", "trap")
 COUNTED = re.compile(r"(.*?)(?: \[([0-9]+|\+)\])?")
+OUT_OF_MEMORY = "Out of memory."
 
 # What tools/short-calls.c is told, and with which number the first request fails: it alone, or with all after it.
 REFUSALS = (("REFUSED", 1), ("GRANTED", 0))
 
+# A stored line has fewer characters.
+LONGEST = 4000
 
-def lines_of(path):
-    """Returns the lines of a file."""
-    return path.read_text(encoding="utf-8").split("\n")
-
-
-def question_of(row):
-    """Returns what a row asks, or a statement."""
-    question, is_asked, _ = row.partition(" =>")
-    return question + is_asked
+# How an answer of numbers reads; any other is an error's text.
+NUMBERS = re.compile(r"-?\d+(?: -?\d+)*")
+CODE = re.compile(r"(?:\d+ \d+ \d+ \d+;)*")
+COUNT = re.compile(r"\d+ instructions")
 
 
-def fault_of(row):
-    """Returns what is wrong with a row by itself, or nothing."""
-    is_statement = not row or row.split()[0] in STATEMENTS
-    if is_statement == (" =>" in row):
-        return "a statement with an answer" if is_statement else "a question without an answer"
-    if is_statement or re.search(r" => \S", row):
-        return "it isn't to be understood" if row.endswith(" => not understood") else None
-    return "no answer is stated"
+def action_words(action):
+    """Returns the number of an action's kind, and its own."""
+    name, number = next(iter(action.items())) if isinstance(action, dict) else (action, 0)
+    return f"{ACTIONS.index(name)} {number}"
 
 
-def compare_rows(results):
-    """Asks the built program each row of its stored run, without the answers."""
-    rows = lines_of(CRATE / "stdout")
-    results.compare("crates/seccomp_vectors/stdin has the questions", ([],), ([
-        it for it, other in zip(map(question_of, rows), lines_of(CRATE / "stdin")) if it != other],))
-    # It is proved and built first, if it isn't.
-    words = [TOP / "tools/run-program", CRATE.name]
-    ran = subprocess.run(words, input="\n".join(map(question_of, rows)), capture_output=True, text=True)
-    told = ran.stdout.split("\n")
-    results.compare("crates/seccomp_vectors: status, and lines", (0, len(rows)), (ran.returncode, len(told)))
-    for number, (row, found) in enumerate(zip(rows, told), 1):
-        if " =>" in row or fault_of(row):
-            results.compare(f"crates/seccomp_vectors/stdout:{number}: {row[:100]}", (row,), (fault_of(row) or found,))
+def condition_words(it):
+    """Returns the numbers of a condition."""
+    operator, mask = ("masked_eq", it["op"]["masked_eq"]) if isinstance(it["op"], dict) else (it["op"], 0)
+    return f"{it['index']} {4 if it['type'] == 'dword' else 8} {OPERATORS.index(operator)} {mask} {it['val']}"
+
+
+def rule_words(rule):
+    """Returns the numbers of a rule."""
+    return "&".join(f"{count} {condition_words(it)}" for count, it in runs(rule))
+
+
+def filter_words(filter):
+    """Returns the numbers of a filter."""
+    if filter.entries:
+        calls = [(number, 1, 1, rules) for number, rules in filter.chains().items()]
+    else:
+        calls = [(*it, ()) for it in filter.steps]
+    chains = [f";{first} {step} {count}" + "".join(f"|{times}:{rule_words(it)}" for times, it in runs(rules))
+              for first, step, count, rules in calls]
+    return f"{filter.arch} {action_words(filter.mismatch)} {action_words(filter.match)}{''.join(chains)}"
+
+
+def decisions_words(decisions):
+    """Returns the numbers of decisions."""
+    defaults = ["=".join(str(int(it, 0)) for it in word.split("=")) for word in decisions.defaults]
+    calls = [f";{number}|" + "|".join(f"{value}:{rule_words(rule)}" for rule, value in rulings)
+             for number, rulings in decisions.calls.items()]
+    return " ".join([decisions.arch, *defaults]) + "".join(calls)
+
+
+def about(it):
+    """Returns what a question about a filter or decisions ends with."""
+    return f"filter {filter_words(it)}" if isinstance(it, row_grammar.Filter) else f"decisions {decisions_words(it)}"
+
+
+def record_words(record):
+    """Returns the numbers of a record."""
+    return " ".join(map(str, struct.unpack("<8Q", record_of(record))))
+
+
+def code_words(text):
+    """Returns the numbers of instructions."""
+    return ";".join(" ".join(map(str, (count, code, k, *distances))) for count, code, k, *distances in runs_of(text))
+
+
+def comparison_words(text):
+    """Returns the numbers of a comparison, and the architecture."""
+    relation, *rest = text.split()
+    return " ".join([str(RELATIONS[relation]), *rest])
+
+
+def in_numbers(form):
+    """Returns what reads an answer of numbers, and gives another back as it is."""
+    def read(told, _):
+        return form(*map(int, told.split())) if NUMBERS.fullmatch(told) else told
+    return read
+
+
+def code_in(told, wanted):
+    """Reads instructions."""
+    if not CODE.fullmatch(told):
+        return told
+    parts = [tuple(map(int, it.split())) for it in told.split(";")[:-1]]
+    return shown_as(wanted, parts)
+
+
+def fields_in(told, _):
+    """Reads the fields of the first instruction."""
+    code, *rest = map(int, told.split(";")[0].split())
+    return f"{code:#06x} " + " ".join(map(str, rest))
+
+
+def architecture_in(told, _):
+    """Reads a name and a value."""
+    name, _, value = told.partition(" ")
+    return f"{name} {int(value):#010x}" if value.isdigit() else told
+
+
+def named_in(told, _):
+    """Reads names with numbers."""
+    return told.removesuffix(", ") or "none"
+
+
+def as_it_is(told, _):
+    """Reads a text."""
+    return told
+
+
+number_in = in_numbers(str)
+value_in = in_numbers(lambda value, *_: f"{value:#010x}")
+outcome_in = in_numbers(lambda value, steps: f"{value:#010x} {steps}")
+yes_in = in_numbers(lambda it: ("no", "yes")[it])
+check_in = in_numbers(lambda taken, *place: "checked" if taken else f"unfit at {place[0]}")
+facts_in = in_numbers(lambda high, low, *rest: "offsets {} {}, value {} {}, length {}".format(high, low, *rest))
+comparison_in = in_numbers(lambda *it: ("undecided", "holds")[it[0]] if len(it) == 1 else " and ".join(f"{word:#010x}" for word in it))
+count_in = in_numbers(lambda length: f"{length} instructions")
+bytes_in = in_numbers(lambda length: f"{length} bytes")
+
+# What is asked of a filter or of decisions: the question before `of`, from what stands in the row, and what reads the answer.
+OF_FILTER = {
+    "program_len": (lambda _: "length", number_in),
+    "copy": (lambda _: "copy", yes_in),
+    "decide": (lambda rest: f"decide {record_words(rest)}", value_in),
+    "to_bpf": (lambda _: "linear code", code_in),
+    "to_tree_bpf": (lambda _: "tree code", code_in),
+    "check program": (lambda _: "linear check", check_in),
+    "check tree": (lambda _: "tree check", check_in),
+    "record": (lambda rest: f"linear run {record_words(rest)}", outcome_in),
+    "tree record": (lambda rest: f"tree run {record_words(rest)}", outcome_in),
+    "compare_program": (lambda rest: f"linear compare {comparison_words(rest)}", comparison_in),
+    "compare_tree": (lambda rest: f"tree compare {comparison_words(rest)}", comparison_in),
+}
+OF_DECISIONS = {
+    "decide": OF_FILTER["decide"],
+    "to_bpf": (lambda _: "code", code_in),
+    "check program": (lambda _: "check", check_in),
+    "record": (lambda rest: f"run {record_words(rest)}", outcome_in),
+    "returns": (lambda rest: f"run {record_words(rest)}", value_in),
+}
+
+# What is asked of a text: the question, and what reads the answer.
+OF_TEXT = {
+    **{it: (f"{it} of text", named_in) for it in ("compile_from_json", "programs_of", "compile", "policies_of", "filters_of")},
+    "text_of": ("text_of of text", bytes_in),
+    "make_seccomp_filter": ("length of entries", number_in),
+    "widened": ("widened of entries", as_it_is),
+    "read_filters": ("read of value", named_in),
+    "repeats_key": ("repeats_key of text x86_64", yes_in),
+}
+
+
+def of_part(kind, rest):
+    """Returns the line about a condition at an offset, or a rule, and what reads the answer."""
+    text, has_offset, offset = rest.partition(" @ ")
+    if has_offset:
+        (condition,) = conditions(text)
+        return f"{'code' if kind == 'code' else 'buffer'} {offset} of condition {condition_words(condition)}", code_in
+    return f"{'code' if kind == 'rule' else 'buffer'} of rule {rule_words(conditions(rest))}", code_in
+
+
+def of_row(kind, rest):
+    """Returns the line of a question that has all that it asks about in its row, and what reads the answer."""
+    first, _, second = rest.partition({"holds": " on ", "run": " for ", "install": " of ", "equal": " with "}.get(kind, "\n"))
+    if kind in ("code", "rule", "buffer"):
+        return of_part(kind, rest)
+    made = {
+        "architecture": (lambda: f"value of architecture {rest}", architecture_in),
+        "guard": (lambda: f"code of guard {rest}", code_in),
+        "action": (lambda: f"word of action {action_words(row_grammar.action(rest))}", value_in),
+        "fields": (lambda: f"code of code {code_words(rest)}", fields_in),
+        "check": (lambda: f"check of code {code_words(rest)}", check_in),
+        "run": (lambda: f"run {record_words(second)} of code {code_words(first)}", outcome_in),
+        "install": (lambda: f"install {first} of code {code_words(second)}", as_it_is),
+        "condition": (lambda: f"facts of condition {condition_words(*conditions(rest))}", facts_in),
+        "copy": (lambda: f"copy of rule {rule_words(conditions(rest))}", yes_in),
+        "holds": (lambda: f"holds {record_words(second)} of rule {rule_words(conditions(first))}", yes_in),
+        "equal": (lambda: f"equal of rules {rule_words(conditions(first))} with {rule_words(conditions(second))}", yes_in),
+    }
+    if kind not in made:
+        raise NoRow(f"not understood: {kind}")
+    line, read = made[kind]
+    return line(), read
+
+
+def question(asked, above, kept, wanted=""):
+    """Returns the lines of a question about its row, or what stands above it, and what reads an answer to one. If the number of
+    instructions is wanted alone, they aren't printed."""
+    lines, read = asked_in(asked, above, kept)
+    if read is code_in and COUNT.fullmatch(wanted) and re.match("(linear |tree )?code of (rule|filter|decisions)", lines[0]):
+        return [lines[0].replace("code of", "count of", 1)], count_in
+    return lines, read
+
+
+def asked_in(asked, above, kept):
+    """Returns the lines of a question, and what reads an answer to one."""
+    kind, _, rest = asked.partition(" ")
+    two = " ".join(asked.split()[:2])
+    of_above = OF_FILTER if isinstance(above, row_grammar.Filter) else OF_DECISIONS
+    if kind == "failing":
+        fault, call, text = rest.split(" ", 2)
+        text = text if text.partition(" ")[1] else f"{text} "
+        count = len(row_grammar.expanded(text.partition(" ")[2]).encode()) + 1
+        line, read = OF_TEXT[call]
+        return [line.replace(" of ", f" {fault} {before} of ") + f" {row_grammar.expanded(text)}" for before in range(count)], read
+    if kind in OF_TEXT:
+        line, read = OF_TEXT[kind]
+        return [f"{line} {row_grammar.expanded(rest)}"], read
+    if kind in ("made_by", "made_of"):
+        return [f"{filter_words(above)} of {'text' if kind == 'made_by' else 'entries'} {above.arch} {rest}"], yes_in
+    if kind == "compare_filters" or asked == "equal":
+        line = "equal" if asked == "equal" else comparison_words(rest)
+        return [f"{line} of filters {filter_words(kept)} with {filter_words(above)}"], yes_in if asked == "equal" else comparison_in
+    for word, of_rest in ((two, asked[len(two) + 1:]), (kind, rest)):
+        if word in of_above and (kind != "copy" or not rest):
+            line, read = of_above[word]
+            return [f"{line(of_rest)} of {about(above)}"], read
+    line, read = of_row(kind, rest)
+    return [line], read
+
+
+def ask(lines, **how):
+    """Has the built program answer lines; returns its status and its own lines. It is proved and built first, if it isn't."""
+    ran = subprocess.run([TOP / "tools/run-program", CRATE.name], input="\n".join(lines), capture_output=True, text=True, **how)
+    return ran.returncode, ran.stdout.removesuffix("\n").split("\n")
+
+
+def read_alike(read, told, wanted):
+    """Reads answers that have to be the same."""
+    found = list(dict.fromkeys(read(it, wanted) for it in told))
+    return found[0] if len(found) == 1 else f"several answers: {found[:3]}"
+
+
+def stored(lines):
+    """Returns the lines of a question that are kept for `rt ci`."""
+    kept = lines if len(lines) < 3 else [lines[0], lines[-1]]
+    return [it for it in kept if len(it) < LONGEST]
+
+
+def compare_stored(results, asked):
+    """Compares the stored run with questions, and with what is answered to them: each its lines, and their answers."""
+    kept = [it for lines, told in asked for it in zip(lines, told) if it[0] in stored(lines)]
+    for name, place in (("stdin", 0), ("stdout", 1)):
+        text = "".join(f"{it[place]}\n" for it in kept)
+        is_same = (CRATE / name).read_text(encoding="utf-8") == text
+        results.tell(f"crates/seccomp_vectors/{name} is as tools/driver_rows.py --write makes it", is_same, ())
 
 
 class Refused:
@@ -99,12 +278,22 @@ class Refused:
 
     def __init__(self, results, name, folder):
         self.results, self.name, self.folder = results, name, folder
-        rows = [COUNTED.fullmatch(row).groups() for row in lines_of(MEMORY / name)]
-        self.rows, self.counts = [row for row, _ in rows], [count for _, count in rows]
+        self.rows, lines, above, kept = [], [], None, None
+        for number, row in rows_of(MEMORY / name):
+            row, count = COUNTED.fullmatch(row).groups()
+            asked, is_asked, wanted = row.partition(" => ")
+            if is_asked:
+                (line,), read = question(asked, above, kept, wanted)
+                lines.append(line)
+                self.rows.append((number, row, wanted, read, count))
+            elif row == "keep":
+                kept = above
+            else:
+                above = row_grammar.stated(row, above)
         # How often each row is answered by that memory ran out, while one request fails alone.
         self.found = collections.Counter()
         self.given = folder / f"{name}.asked"
-        self.given.write_text("\n".join(map(question_of, self.rows)), encoding="utf-8")
+        self.given.write_text("\n".join(lines), encoding="utf-8")
 
     def told(self, how, number):
         """Returns whether a request failed, the status and the lines."""
@@ -112,20 +301,23 @@ class Refused:
             is_refused, (status, output, _) = run_refused([PROGRAM], self.folder, {how: number}, stdin=given)
         return is_refused, status, output.decode().split("\n")
 
+    def differing(self, told):
+        """Returns rows that are answered otherwise."""
+        pairs = ((row, wanted, read(line, wanted)) for (_, row, wanted, read, _), line in zip(self.rows, told))
+        return [(row, found) for row, wanted, found in pairs if numbers_in(wanted) != numbers_in(found)]
+
     def check(self, how, number):
         """Has a request fail; returns whether one did. All rows are answered as ever, and one maybe by that memory ran out before; or none
         is, if the program has no memory for the rows themselves. If there is no more memory at all, the rows may end early."""
         is_refused, status, told = self.told(how, number)
-        rows = [row for row in told if not row.endswith(OUT_OF_MEMORY)]
-        short = [place - before for before, place in
-                 enumerate(place for place, row in enumerate(told) if row.endswith(OUT_OF_MEMORY))]
+        lines = [line for line in told if line != OUT_OF_MEMORY]
+        short = [place - before for before, place in enumerate(place for place, line in enumerate(told) if line == OUT_OF_MEMORY)]
+        differ = self.differing(lines[:-1])
         if status == 0:
-            well = rows == self.rows and len(short) <= is_refused
+            well = len(lines) == len(self.rows) + 1 and len(short) <= is_refused
         else:
-            well = is_refused and status == 1 and rows[-1:] == [""] and rows[:-1] == self.rows[:len(rows) - 1]
-            well = well and (how == "GRANTED" or told == [""])
-        differ = [found for row, found in zip(self.rows, rows) if row != found]
-        self.results.tell(f"rows of {self.name}, {how}={number}", well, (status, len(rows), *differ[:3]))
+            well = is_refused and status == 1 and lines[-1:] == [""] and (how == "GRANTED" or told == [""])
+        self.results.tell(f"rows of {self.name}, {how}={number}", well and not differ, (status, len(lines), *differ[:3]))
         if how == "REFUSED":
             self.found.update(short)
         return is_refused
@@ -137,15 +329,31 @@ class Refused:
             while self.check(how, number):
                 number += step
             print(f"rows of {self.name}: {(number - first) // step} runs of {how} in steps of {step}", flush=True)
-        for place, (row, count) in enumerate(zip(self.rows, self.counts)):
-            if count is not None:
-                found = self.found[place]
-                well = found > 0 if count == "+" else found == int(count)
-                self.results.tell(f"{self.name}:{place + 1}: {row[:100]}: {count} requests", well, (found,))
-            elif " =>" in row:
-                self.results.tell(f"{self.name}:{place + 1}: {row[:100]}: a number of requests", False, ())
+        for place, (number, row, _, _, count) in enumerate(self.rows):
+            found = self.found[place]
+            well = count is not None and (found > 0 if count == "+" else found == int(count))
+            self.results.tell(f"{self.name}:{number}: {row[:100]}: {count} requests", well, (found,))
 
 
 def check_refused(results, name, folder, step):
     """Asks rows while requests for memory fail, one of so many."""
     Refused(results, name, folder).check_all(step)
+
+
+def main():
+    """Writes the stored run anew."""
+    import row_cases
+    with tempfile.TemporaryDirectory() as room:
+        folder = pathlib.Path(room)
+        for name in ("seccompc", "seccomptool"):
+            (folder / name).symlink_to(PROGRAMS[name])
+        asked = row_cases.asked_of_driver(folder)
+    lines = [line for it in asked for line in stored(it)]
+    status, told = ask(lines)
+    (CRATE / "stdin").write_text("".join(f"{it}\n" for it in lines), encoding="utf-8")
+    (CRATE / "stdout").write_text("".join(f"{it}\n" for it in told), encoding="utf-8")
+    return status
+
+
+if __name__ == "__main__":
+    sys.exit(main() if sys.argv[1:] == ["--write"] else __doc__)

@@ -1,5 +1,5 @@
-"""Rows of programs and policies that are compared, for the program of crates/seccomp_vectors: made at random, the same each time, and
-of programs in files. If the answer isn't known the row says `decided`: any but `undecided`."""
+"""Rows (tools/row_grammar.py) of programs and policies that are compared: made at random, the same each time, and of programs in files.
+If the answer isn't known the row says `decided`: any but `undecided`."""
 
 import random
 import struct
@@ -21,7 +21,7 @@ def shown(code):
 def compared(first, second, told):
     """Returns the row that compares the programs of two files."""
     first, second = (shown(struct.iter_unpack("<HBBI", path.read_bytes())) for path in (first, second))
-    return f"compare alike {MOST}: {first} with {second} => {told}"
+    return f"compare_code alike {MOST}: {first} with {second} => {told}"
 
 
 def instruction(numbers, room):
@@ -39,7 +39,7 @@ def of_programs(numbers):
     first = [*(instruction(numbers, room) for room in rooms), (0x06, 0, 0, 0)]
     place = numbers.randrange(PROGRAM_LEN - 1)
     second = [*first[:place], instruction(numbers, rooms[place]), *first[place + 1:]]
-    return f"compare alike {MOST}: {shown(first)} with {shown(second)} => decided"
+    return f"compare_code alike {MOST}: {shown(first)} with {shown(second)} => decided"
 
 
 def condition(numbers):

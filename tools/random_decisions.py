@@ -7,14 +7,15 @@ more. The records lie at the values of the conditions and beside them. `try_on_k
 """
 
 import ctypes
+import functools
 import os
 import random
 import struct
-import subprocess
+import sys
 
 import driver_rows
 from model import ARCHITECTURES, DWORD, OPERATORS, QWORD, holds, instructions_of, numbers_of, record_of, run
-from row_cases import instructions
+from row_grammar import instructions, stated
 from running_kernel import under
 
 COUNT, SEED, RECORDS, ASKED = 10_000, 57, 24, 1
@@ -90,7 +91,7 @@ def records_of(draw, decisions, count):
 
 
 def statements_of(decisions):
-    """The statements of crates/seccomp_vectors."""
+    """The statements of rows."""
     arch, defaults, calls = decisions
     yield f"decisions {arch} " + " ".join(f"{start}={value:#x}" for start, value in defaults)
     for number, rulings in calls.items():
@@ -109,15 +110,17 @@ def words_of(record):
 
 def ask(all_of):
     """Asks crates/seccomp_vectors about decisions with records; returns the answers of each."""
-    rows = []
+    asked = []
     for decisions, records in all_of:
-        rows += [*statements_of(decisions), "instructions of decisions"]
-        for record in records[:ASKED]:
-            rows += [f"decided {words_of(record)}", f"record {words_of(record)} of decisions"]
-    words = [driver_rows.TOP / "tools/run-program", driver_rows.CRATE.name]
-    ran = subprocess.run(words, input="\n".join(rows), capture_output=True, text=True, check=True)
-    answers = iter([it.partition(" => ")[2] for it in ran.stdout.split("\n") if " => " in it])
-    return [[next(answers) for _ in range(1 + 2 * len(records[:ASKED]))] for _, records in all_of]
+        above = functools.reduce(lambda above, row: stated(row, above), statements_of(decisions), None)
+        rows = ["to_bpf", *(f"{it} {words_of(record)}" for record in records[:ASKED] for it in ("decide", "record"))]
+        asked.append([driver_rows.question(row, above, None) for row in rows])
+    lines = [line for questions in asked for (line,), _ in questions]
+    status, told = driver_rows.ask(lines)
+    if (status, len(told)) != (0, len(lines)):
+        sys.exit(f"the program of crates/seccomp_vectors ends with {status} after {len(told)} of {len(lines)} answers")
+    told = iter(told)
+    return [[read(next(told), "") for _, read in questions] for questions in asked]
 
 
 def fault_of(decisions, records, answers):

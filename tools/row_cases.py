@@ -1,38 +1,9 @@
-"""Rows of tools/rows, and what the built programs have to answer to them: worked examples of what the library does,
-which no other test in the language of the library repeats.
+"""Asks the built programs and the library for C the rows of tools/rows (tools/row_grammar.py).
 
-A row is a line `QUESTION => ANSWER`, or a statement, which has no answer. Lines that begin with a space go on with the
-row above them. Statements are
-
-    policy ARCH MISMATCH MATCH    a policy without entries, under which the next rows stand; an action is `allow` or `errno(1)`
-    call NUMBER[: RULE]           one entry more of it; after the number may stand how often, as in `call 7, 813 times: RULE`
-
-    keep                          the policy above is the old one of the comparisons below
-
-RULE is one condition or several with `&` between, each maybe so many times, as in `42 x 0 qword masked_eq(10) 14`: argument,
-length, operator and value. Questions are
-
-    program, tree                 the instructions of the policy in the linear layout, and in the tree layout
-    program 91 to 93              those of these places, from 0 on
-    record NUMBER [a0=..] [arch=..] [ip=..]
-                                  what the linear program returns for this call, and the steps that it takes
-    tree record NUMBER ..         the same of the tree
-    records NUMBER .. | NUMBER .. what both programs return for each of these calls
-    compare, compare at most      on which call of which name the policy decides otherwise than the kept one, or permits more: the
-                                  name and both actions, or `same`, or `nowhere more permissive`
-    raw INSTRUCTIONS [for RECORD] what a program of no policy returns for this call, as `seccomptool explain` prints it, or why it may not
-                                  be run; an instruction may stand so many times, as in `4096 x RET 0`, and have a code for a name
-    code CONDITION @ OFFSET       the code of a condition that fails into the place so many instructions after its end
-    rule RULE                     the code of a rule
-    holds CONDITION for ARGS      whether the condition holds for `all` of these values of its argument, or for `none`
-    action ACTION                 what a program returns for it
-    architecture NAME             the instructions that ask for it
-
-An answer of instructions may begin with their number, and with how many relays are among them; `..` stands for any others. If a
-policy is rejected the answer is the error's text.
-
-`seccompc list` and `run` answer for the linear layout, `seccomptool compile` for the tree, whose steps are counted here. What
-`seccomptool explain` says that the filter decides has to be what both programs return.
+`seccompc list` and `run` answer for the linear layout, and `list` for policies as texts; `seccomptool compile` for the tree, whose steps
+are counted here, and `diff` for what is compared by parts. What `seccomptool explain` says that the filter decides has to be what both
+programs return. If a call has no name, or a program is too long, the library for C (tools/library_calls.py) answers, and compares
+programs; and all that is left, such as errors of the library's own calls, the program of crates/seccomp_vectors (tools/driver_rows.py).
 """
 
 import json
@@ -40,51 +11,39 @@ import pathlib
 import re
 import struct
 
+import driver_rows
+import library_calls
 import model
-from model import ARCHITECTURES, TESTS
+from row_grammar import (Filter, NoRow, conditions, expanded, instructions, matched, numbers_in, record_of, rows_of, shown_as, stated)
 from running import run
 
 ROWS = pathlib.Path(__file__).resolve().parent / "rows"
 
-CODES = {0x20: "LD", 0x54: "AND", 0x05: "JA", 0x06: "RET", 0x15: "JEQ", 0x25: "JGT", 0x35: "JGE"}
-
 # How many instructions the code of a condition has: of low halves, and of both.
 LENGTHS = {"dword": ({"masked_eq": 3}, 2), "qword": ({"masked_eq": 6, "eq": 4, "ne": 4}, 5)}
 
-CONDITION = re.compile(r"(?:(\d+) x )?(\d+) (dword|qword) (?:(eq|ne|ge|gt|le|lt)|masked_eq\((\w+)\)) (\w+)")
-INSTRUCTION = re.compile(r"(?:(\d+) x )?(\w+) (\w+)(?:,(\d+),(\d+))?")
-CALL = re.compile(r"call (\d+)(?:, (\d+) times)?(?:: (.*))?")
-ACTION = re.compile(r"(\w+)(?:\((\d+)\))?")
-WANTED = re.compile(r"(?:(\d+ instructions)(, \d+ relays)?(?:: |$))?(.*)")
-HEXADECIMAL = re.compile(r"\b0x[0-9a-f]+\b")
+PLACES = re.compile(r"(\d+) to (\d+)")
+LISTED = re.compile(r"filter (\d+) (.*)")
+TOO_LONG = "too many BPF instructions"
+LAYOUTS = {"program": "linear", "tree": "tree"}
 
 
-class NoRow(Exception):
-    """A line that isn't understood."""
+def compared_in(rest):
+    """Returns the programs of a comparison, and the words before them."""
+    words, _, both = rest.partition(": ")
+    return [*map(instructions, both.split(" with ")), *words.split()]
 
 
-def matched(form, text):
-    """Returns the groups of a text of this form."""
-    found = form.fullmatch(text.strip())
-    if not found:
-        raise NoRow(f"not understood: {text}")
-    return found.groups()
+def compared_as(rest, told):
+    """Returns what a comparison of programs tells, with what both return for the call that it gives."""
+    if isinstance(told, int):
+        return {1: "holds", library_calls.UNDECIDED: "undecided"}.get(told, f"the code {told}")
+    values = (model.run(model.instructions_of(it), model.numbers_of(told))[0] for it in compared_in(rest)[:2])
+    return " and ".join(f"0x{it:08x}" for it in values)
 
 
-def action(text):
-    """Returns an action as policies write it."""
-    name, number = matched(ACTION, text)
-    return {name: int(number)} if number else name
-
-
-def conditions(text):
-    """Returns the conditions of a rule as policies write them."""
-    made = []
-    for part in text.split("&"):
-        count, index, length, operator, mask, value = matched(CONDITION, part)
-        operator = operator or {"masked_eq": int(mask, 0)}
-        made += [{"index": int(index), "type": length, "op": operator, "val": int(value, 0)}] * int(count or 1)
-    return made
+class Asked(Exception):
+    """A question for the program of crates/seccomp_vectors: its lines, and what reads an answer to one."""
 
 
 def length_of(condition):
@@ -94,66 +53,27 @@ def length_of(condition):
     return own.get(operator if isinstance(operator, str) else "masked_eq", other)
 
 
-def record_of(words):
-    """Returns the 64 bytes of the record of a call, by its number and its fields that aren't 0 or x86_64's."""
-    number, *fields = words.split()
-    values = {"arch": ARCHITECTURES["x86_64"], "ip": 0, **{f"a{index}": 0 for index in range(6)}}
-    for field in fields:
-        name, is_one, value = field.partition("=")
-        if name not in values or not is_one:
-            raise NoRow(f"not understood: {field}")
-        values[name] = ARCHITECTURES.get(value) or int(value, 0)
-    return model.record_of(int(number, 0), values["arch"], *(values[f"a{index}"] for index in range(6)), pointer=values["ip"])
-
-
-def instructions(text):
-    """Returns instructions as `struct sock_filter` has them."""
-    made, codes = b"", {name: code for code, name in CODES.items()}
-    for part in text.split(";") if text.strip() else ():
-        count, name, k, when, otherwise = matched(INSTRUCTION, part)
-        code = codes[name] if name in codes else int(name, 16)
-        made += struct.pack("<HBBI", code, int(when or 0), int(otherwise or 0), int(k, 0)) * int(count or 1)
-    return made
-
-
-def shown(code):
-    """Returns one instruction as rows write it."""
-    kind, when, otherwise, k = code
-    number = str(k) if k < 0x10000 and kind != 0x06 else f"0x{k:08x}"
-    return f"{CODES[kind]} {number}" + (f",{when},{otherwise}" if kind in TESTS else "")
-
-
-def shown_as(wanted, code):
-    """Returns instructions in the form in which they are wanted: with their number, or a part of them."""
-    told, relays, listed = matched(WANTED, wanted)
-    lines = [shown(it) for it in code]
-    heads = ([f"{len(code)} instructions"] if told else []) + ([f"{lines.count('JA 2')} relays"] if relays else [])
-    front, gap, back = (it.strip("; ") for it in listed.partition(".."))
-    if gap:
-        first, last = (len(it.split(";")) if it else 0 for it in (front, back))
-        lines = [*lines[:first], "..", *(lines[len(lines) - last:] if last else [])]
-    return ": ".join(it for it in (", ".join(heads), "; ".join(lines) if listed or not told else "") if it)
-
-
-class Policy:
-    """A policy, and what the built programs make of it."""
+class Policy(Filter):
+    """A filter, and what the built programs make of it."""
 
     def __init__(self, folder, arch, mismatch, match):
-        self.folder, self.arch, self.names = folder, arch, model.names_of(arch)
-        self.filter = {"mismatch_action": action(mismatch), "match_action": action(match), "filter": []}
-        self.made = {}
+        super().__init__(arch, mismatch, match)
+        self.folder, self.names, self.made = folder, model.names_of(arch) if arch in model.ARCHITECTURES else {}, {}
 
-    def add(self, number, count=1, rule=()):
-        """Adds so many equal entries of a call."""
-        if self.made or number not in self.names:
-            raise NoRow(f"call {number} has no name, or stands behind a question")
-        entry = {"syscall": self.names[number], **({"args": list(rule)} if rule else {})}
-        self.filter["filter"] += [entry] * count
+    def is_named(self):
+        """Returns whether each call has a name."""
+        return not self.steps and all(number in self.names for number, _, _ in self.entries)
+
+    def policy(self):
+        """Returns the policy's text."""
+        entries = [{"syscall": self.names[number], **({"args": rule} if rule else {})} for number, count, rule in self.entries
+                   for _ in range(count)]
+        return json.dumps({"a": {"mismatch_action": self.mismatch, "match_action": self.match, "filter": entries}})
 
     def program(self, layout):
         """Returns the instructions of a layout, or the text of the error."""
         if layout not in self.made:
-            (self.folder / "row.json").write_text(json.dumps({"a": self.filter}))
+            (self.folder / "row.json").write_text(self.policy())
             self.made[layout] = self.listed() if layout == "linear" else self.compiled()
         return self.made[layout]
 
@@ -180,7 +100,7 @@ class Policy:
         linear, tree = self.program("linear"), self.program("tree")
         if isinstance(linear, str) or isinstance(tree, str) and layout == "tree":
             raise NoRow("a record under a policy that is rejected")
-        (self.folder / "row.json").write_text(json.dumps({"a": self.filter}))
+        (self.folder / "row.json").write_text(self.policy())
         (self.folder / "row.bin").write_bytes(b"".join(records))
         ran = run(f"./seccompc run {self.arch} row.json a < row.bin", self.folder)[1].splitlines()
         told = run(f"./seccomptool explain -a {self.arch} --json --records row.bin row.json", self.folder)
@@ -193,7 +113,7 @@ class Policy:
     def compared(self, old, words):
         """Returns what `seccomptool diff` says of an old policy and this one."""
         for policy, name in ((old, "old.json"), (self, "row.json")):
-            (self.folder / name).write_text(json.dumps({"a": policy.filter}))
+            (self.folder / name).write_text(policy.policy())
         status, output, errors = run(f"./seccomptool diff --each {words} -a {self.arch} old.json row.json", self.folder)
         head, *lines = output.splitlines() or [""]
         if status == 0 and not lines:
@@ -210,71 +130,111 @@ class Policy:
 
 
 class Bench:
-    """Answers rows one after the other."""
+    """Answers rows one after the other, or says which lines are left for the program of crates/seccomp_vectors."""
 
-    def __init__(self, folder):
-        self.folder, self.policy, self.kept, self.is_asked = folder, None, None, True
+    def __init__(self, folder, library):
+        self.folder, self.library, self.above, self.kept, self.is_asked = folder, library, None, None, True
 
-    def begun(self, *words):
-        """Returns a new policy of these words."""
-        return Policy(self.folder, *words)
-
-    def of_rule(self, rule):
+    def of_rule(self, rule, arch="x86_64"):
         """Returns the policy that allows call 7 by one rule, and traps all others."""
-        made = self.begun("x86_64", "trap", "allow")
-        made.add(7, 1, rule)
+        made = Policy(self.folder, arch, "trap", "allow")
+        made.entries.append((7, 1, rule))
         return made
 
     def state(self, row):
         """Takes a statement."""
-        if row.startswith("policy "):
+        if row == "keep":
+            self.kept, self.is_asked = self.above, True
+            return
+        kind, *words = row.split()
+        if kind in ("policy", "decisions"):
             if not self.is_asked:
-                raise NoRow("nothing is asked of the policy above")
-            self.policy, self.is_asked = self.begun(*row.split()[1:]), False
-        elif row == "keep":
-            self.kept, self.is_asked = self.policy, True
-        else:
-            number, count, rule = matched(CALL, row)
-            self.policy.add(int(number), int(count or 1), conditions(rule) if rule else ())
+                raise NoRow("nothing is asked of what is above")
+            self.is_asked = False
+        elif self.is_asked:
+            raise NoRow("a call stands behind a question")
+        self.above = Policy(self.folder, *words) if kind == "policy" else stated(row, self.above)
 
     def answer(self, asked, wanted):
         """Returns the answer to a question, in the form in which it is wanted."""
         kind, _, rest = asked.partition(" ")
-        if kind in ("program", "tree", "record", "records", "compare"):
-            self.is_asked = True
+        self.is_asked = True
+        told = self.of_programs(kind, rest, asked)
+        if told is None:
+            told = self.of_library(kind, rest)
+        if told is None:
+            raise Asked(*driver_rows.question(asked, self.above, self.kept, wanted))
+        return told if isinstance(told, str) else shown_as(wanted, told)
+
+    def of_programs(self, kind, rest, asked):
+        """Returns what seccompc and seccomptool answer; nothing if they aren't asked."""
+        is_named = isinstance(self.above, Policy) and self.above.is_named()
         if kind == "compare":
-            return self.policy.compared(self.kept, {"": "", "at most": "--only-more"}[rest])
+            return self.above.compared(self.kept, {"": "", "at most": "--only-more"}[rest])
         if kind == "records":
-            outcomes = self.policy.outcomes([record_of(it) for it in rest.split("|")])
+            outcomes = self.above.outcomes([record_of(it) for it in rest.split("|")])
             return " and ".join(sorted({it.split()[0] for it in outcomes}))
-        if kind == "record" or asked.startswith("tree record "):
+        if is_named and (kind == "record" or asked.startswith("tree record ")):
             record = record_of(rest.removeprefix("record "))
-            return self.policy.outcomes([record], "linear" if kind == "record" else "tree")[0]
+            return self.above.outcomes([record], "linear" if kind == "record" else "tree")[0]
         if kind == "raw":
             return self.ran(rest)
-        code = self.code_of(kind, rest) if kind != "holds" else self.held(rest)
-        return code if isinstance(code, str) else shown_as(wanted, code)
+        if kind == "holds" and " for " in rest:
+            return self.held(rest)
+        if kind == "compile_from_json":
+            return self.lengths(*rest.split(" ", 1))
+        return self.code_of(kind, rest, is_named)
 
-    def code_of(self, kind, rest):
+    def code_of(self, kind, rest, is_named):
         """Returns the instructions that a question is after, or the text of an error."""
-        if kind in ("program", "tree"):
-            code = self.policy.program("linear" if kind == "program" else "tree")
-            first, last = matched(re.compile(r"(\d+) to (\d+)"), rest) if rest else (0, len(code) - 1)
-            return code if isinstance(code, str) else code[int(first):int(last) + 1]
+        if kind in LAYOUTS and is_named and not rest.startswith("record "):
+            return self.part(self.above.program(LAYOUTS[kind]), rest)
         if kind == "code":
             return self.code_at(*rest.split(" @ "))
-        if kind == "rule":
+        if kind == "rule" and rest:
             code = self.of_rule(conditions(rest)).program("linear")
-            return code if isinstance(code, str) else code[5:-3]
+            return None if TOO_LONG in code else code if isinstance(code, str) else code[5:-3]
         if kind == "action":
-            code = self.begun("x86_64", rest, "log" if rest != "log" else "allow").program("linear")
+            code = Policy(self.folder, "x86_64", rest, "log" if rest != "log" else "allow").program("linear")
             return code if isinstance(code, str) else f"0x{code[-1][3]:08x}"
-        if kind == "architecture":
-            made = self.begun("x86_64", "trap", "allow")
-            made.arch = rest
-            code = made.program("linear")
+        if kind == "guard":
+            code = Policy(self.folder, rest, "trap", "allow").program("linear")
             return code if isinstance(code, str) else code[:3]
-        raise NoRow(f"not understood: {kind}")
+        return None
+
+    @staticmethod
+    def part(code, places):
+        """Returns the instructions from a place to another, or all."""
+        first, last = matched(PLACES, places) if places else (0, len(code) - 1)
+        return code if isinstance(code, str) else code[int(first):int(last) + 1]
+
+    def of_library(self, kind, rest):
+        """Returns what the library for C answers; nothing if it isn't asked, or returns a code."""
+        told, is_filter = None, isinstance(self.above, Filter)
+        if kind == "rule" and rest:
+            told = self.library.rule(conditions(rest))
+        elif kind == "compare_code":
+            return compared_as(rest, self.library.compare(*compared_in(rest)))
+        elif kind == "holds":
+            rule, _, record = rest.partition(" on ")
+            number = int(record.split()[0], 0)
+            made = Policy(self.folder, "x86_64", "trap", "allow")
+            made.entries.append((number, 1, conditions(rule)))
+            told = {0x7FFF0000: "yes", 0x00030000: "no"}.get(self.library.decide(made, record_of(record)))
+        elif kind == "check" and rest not in LAYOUTS:
+            told = self.library.check(instructions(rest))
+        elif is_filter and kind == "check":
+            program = self.library.program(self.above, LAYOUTS[rest])
+            told = program if isinstance(program, int) else self.library.check(program)
+        elif is_filter and kind in LAYOUTS and not rest.startswith("record "):
+            told = self.library.program(self.above, LAYOUTS[kind])
+        elif is_filter and kind == "program_len":
+            told = self.library.length(self.above)
+            return None if told < 0 else str(told)
+        elif is_filter and kind == "decide":
+            told = self.library.decide(self.above, record_of(rest))
+            return None if told < 0 else f"0x{told:08x}"
+        return model.instructions_of(told) if isinstance(told, bytes) else told if isinstance(told, str) else None
 
     def code_at(self, text, offset):
         """Returns the code of a condition at an offset: one less instruction of other conditions stand after it."""
@@ -283,6 +243,13 @@ class Bench:
         front += conditions("0 dword eq 1") * ((behind - 3 * len(front)) // 2)
         code = self.of_rule([*front, condition]).program("linear")
         return code if isinstance(code, str) else code[7:7 + length_of(condition)]
+
+    def lengths(self, arch, text):
+        """Returns the names of a text's filters, with the lengths of their programs, as `seccompc list` writes them; or the error."""
+        (self.folder / "row.json").write_text(expanded(text))
+        status, output, errors = run(f"./seccompc list {arch} < row.json", self.folder)
+        found = [it for it in map(LISTED.fullmatch, output.splitlines()) if it]
+        return errors.rstrip("\n") if status else ", ".join(f"{it[2]} {it[1]}" for it in found) or "none"
 
     def ran(self, rest):
         """Returns the action that `seccomptool explain` prints of a program, or why it isn't taken."""
@@ -303,45 +270,58 @@ class Bench:
         return {("0x7fff0000",): "all", ("0x00030000",): "none"}.get(tuple(sorted(set(words))), " ".join(words))
 
 
-def rows_of(path):
-    """Returns the rows of a file, each with the number of its first line."""
-    rows = []
-    for number, line in enumerate(path.read_text(encoding="utf-8").splitlines(), 1):
-        if line.startswith(" ") and line.strip() and rows:
-            rows[-1][1] += " " + line.strip()
-        elif line.strip() and not line.startswith("#"):
-            rows.append([number, line.strip()])
-    return rows
-
-
-def numbers_in(text):
-    """Returns a text with its numbers in decimal digits."""
-    return HEXADECIMAL.sub(lambda found: str(int(found[0], 16)), text)
-
-
 def answered(bench, row):
-    """Takes a row; returns what is wanted and what is answered, if it asks something, or else why it can't be taken."""
+    """Takes a row; returns what is wanted, and what is answered or why it can't be taken, or the question for the driver; nothing of a
+    statement."""
     asked, is_asked, wanted = row.partition("=>")
     asked, wanted = asked.strip(), wanted.strip()
     try:
         if not is_asked:
             return bench.state(asked)
-        if not re.search(r"\w", wanted):
+        if not re.search(r"[\w\[]", wanted):
             raise NoRow("no answer is stated")
-        told = bench.answer(asked, wanted)
-        return (wanted, wanted if numbers_in(wanted) == numbers_in(told) else told)
+        return wanted, bench.answer(asked, wanted)
+    except Asked as question:
+        return wanted, question
     except (NoRow, ValueError, AttributeError, TypeError, IndexError, KeyError, struct.error) as fault:
-        return ("a row that is understood", f"{type(fault).__name__}: {fault}")
+        return "a row that is understood", f"{type(fault).__name__}: {fault}"
+
+
+def taken(path, folder, library):
+    """Takes the rows of a file; returns what each is, what it wants and what is answered, and whether each filter is asked of."""
+    bench, told = Bench(folder, library), []
+    for number, row in rows_of(path):
+        compared = answered(bench, row)
+        if compared:
+            told.append((f"tools/rows/{path.name}:{number}: {row[:100]}", *compared))
+    return told, bench.is_asked
+
+
+def asked_of_driver(folder):
+    """Returns the lines of each question of the rows that only the program of crates/seccomp_vectors can answer."""
+    library = library_calls.Library(folder)
+    told = [it for path in sorted(ROWS.glob("*.rows")) for it in taken(path, folder, library)[0]]
+    return [it.args[0] for _, _, it in told if isinstance(it, Asked)]
 
 
 def compare_rows(results, folder):
     """Asks the built programs, in the folder where they are, each row of each file."""
+    try:
+        library, told = library_calls.Library(folder), []
+    except library_calls.NoLibrary as fault:
+        results.tell("the library for C, which answers rows", False, (str(fault),))
+        return
     for path in sorted(ROWS.glob("*.rows")):
-        bench, rows = Bench(folder), rows_of(path)
-        for number, row in rows:
-            compared = answered(bench, row)
-            if compared:
-                wanted, told = compared
-                results.compare(f"tools/rows/{path.name}:{number}: {row[:100]}", (wanted,), (told,))
-        asks = sum("=>" in row for _, row in rows)
-        results.compare(f"tools/rows/{path.name}: each policy is asked of", (True, True), (asks > 0, bench.is_asked))
+        found, is_asked = taken(path, folder, library)
+        told += found
+        results.compare(f"tools/rows/{path.name}: each policy is asked of", (True, True), (bool(found), is_asked))
+    questions = [it for _, _, it in told if isinstance(it, Asked)]
+    status, lines = driver_rows.ask([line for it in questions for line in it.args[0]])
+    results.compare("crates/seccomp_vectors: status, and lines", (0, sum(len(it.args[0]) for it in questions)), (status, len(lines)))
+    lines, answers = iter(lines), []
+    for what, wanted, found in told:
+        if isinstance(found, Asked):
+            answers.append((found.args[0], [next(lines, "") for _ in found.args[0]]))
+            found = driver_rows.read_alike(found.args[1], answers[-1][1], wanted)
+        results.compare(what, (wanted,), (wanted if numbers_in(wanted) == numbers_in(found) else found,))
+    driver_rows.compare_stored(results, answers)

@@ -1,115 +1,139 @@
-// Answers the rows of standard input, which tools/driver_rows.py describes: writes each question again with its
-// answer, and any other line as it is. Nothing after ` =>` is read. If memory runs out, a question is asked once
-// more, about what was borrowed the first time; if it runs out again, the rows end.
+// Answers the questions of standard input, which tools/driver_rows.py makes of rows: a line each, `ASKED of KIND ..`, with numbers in
+// place of most words. If memory runs out, a question is asked once more; if it runs out again, the answers end.
 #![tactic(auto)]
 
 mod codes;
-mod comparisons;
-mod decisions;
-mod fault;
 mod filters;
-mod kernel;
-mod readers;
-mod single;
-mod subjects;
+mod parts;
 mod texts;
 mod words;
 
-use crate::fault::{Ending, Fault};
-use crate::subjects::{Row, Subject, about, subject_of};
-use crate::words::parts;
-use std::io::Read;
+use crate::parts::answer_to;
+use seccomp_tree::FilterError;
+use seccompiler::json::JsonFilterMap;
+use seccompiler::{BackendError, BpfProgram, Error, JsonFrontendError, SeccompFilter};
+use std::alloc::{AllocError, AllocFailed};
+use std::collections::BTreeMap;
+use std::io::{self, ErrorKind, Read};
 use std::process::ExitCode;
+
+/// An answer, which a row has in words.
+#[derive(Drop)]
+pub(crate) enum Answer {
+    Number(u64),
+    Pair(u64, u64),
+    Text(String),
+    Code(BpfProgram),
+    Programs(BTreeMap<String, BpfProgram>),
+    Filters(BTreeMap<String, SeccompFilter>),
+    Entries(JsonFilterMap),
+}
+
+/// Why there is none: the line isn't understood, memory ran out in this program, or an error of the library.
+#[derive(Drop)]
+pub(crate) enum Fault {
+    Row,
+    Short,
+    Backend(BackendError),
+    Library(Error),
+    Frontend(JsonFrontendError),
+    Filter(FilterError),
+}
+
+pub(crate) type Told = Result<Answer, Fault>;
+
+impl From<BackendError> for Fault {
+    fn from(error: BackendError) -> Self {
+        Fault::Backend(error)
+    }
+}
+
+impl From<JsonFrontendError> for Fault {
+    fn from(error: JsonFrontendError) -> Self {
+        Fault::Frontend(error)
+    }
+}
+
+impl From<AllocError> for Fault {
+    fn from(_refused: AllocError) -> Self {
+        Fault::Short
+    }
+}
+
+impl<T: Drop> From<AllocFailed<T>> for Fault {
+    fn from(_refused: AllocFailed<T>) -> Self {
+        Fault::Short
+    }
+}
 
 fn main(rt: HostRuntime) -> ExitCode {
     match answer_input(&rt) {
         Ok(()) => ExitCode::SUCCESS,
-        Err(Ending) => ExitCode::FAILURE,
+        Err(_) => ExitCode::FAILURE,
     }
 }
 
-fn answer_input(rt: &(impl Input + Print + AllocGlobal)) -> Result<(), Ending> {
+fn answer_input(rt: &(impl Input + Print + AllocGlobal)) -> io::Result<()> {
     let mut text = Vec::new(rt.alloc());
     rt.reader().read_to_end(&mut text)?;
-    match str::from_utf8(text.as_slice()) {
-        Ok(text) => answer_text(rt, text),
-        Err(_) => Err(Ending),
+    for line in str::from_utf8(text.as_slice()).unwrap_or("").lines() {
+        let is_short = say(rt, answer_to(rt.alloc(), line))?;
+        // A reader may say so itself.
+        if is_short && !line.contains("out_of_memory") && say(rt, answer_to(rt.alloc(), line))? {
+            return Err(io::Error::from(ErrorKind::OutOfMemory));
+        }
     }
+    Ok(())
 }
 
-fn answer_text(rt: &(impl Print + AllocGlobal), text: &str) -> Result<(), Ending> {
-    let mut lines = Vec::new(rt.alloc());
-    for line in text.lines() {
-        lines.push(parts(line, " =>").0)?;
-    }
-    answer_lines(rt, lines.as_slice())
-}
-
-// Writes each line, with its answer if it is a question.
-fn answer_lines(rt: &(impl Print + AllocGlobal), lines: &[&str]) -> Result<(), Ending> {
-    // Where the statements begin, and where those that are kept begin and end.
-    let (mut start, mut from, mut to) = (0, 0, 0);
-    for (place, line) in lines.iter().enumerate() {
-        let question = *line;
-        let row = Row {
-            statements: lines.get(start..place).unwrap_or(lines),
-            kept: lines.get(from..to).unwrap_or(lines),
-            question,
-        };
-        match parts(question, " ").0 {
-            "policy" | "decisions" => start = place,
-            "keep" => (from, to) = (start, place),
-            "" | "#" | "call" | "calls" => {}
-            _ => {
-                answer(rt, row)?;
-                continue;
+// Prints an answer, or why there is none; whether memory ran out.
+fn say(rt: &impl Print, answer: Told) -> io::Result<bool> {
+    match answer {
+        Ok(Answer::Number(number)) => print!(rt; "{number}")?,
+        Ok(Answer::Pair(first, second)) => print!(rt; "{first} {second}")?,
+        Ok(Answer::Text(text)) => print!(rt; "{text}")?,
+        Ok(Answer::Code(code)) => {
+            for one in &code {
+                print!(rt; "{} {} {} {};", one.code, one.jt, one.jf, one.k)?;
             }
         }
-        println!(rt; "{question}")?;
-    }
-    Ok(())
-}
-
-// Writes a question with its answer.
-fn answer(rt: &(impl Print + AllocGlobal), row: Row) -> Result<(), Ending> {
-    if ask(rt, row)? && ask(rt, row)? {
-        return Err(Ending);
-    }
-    Ok(())
-}
-
-// Asks a question; whether memory ran out in this program.
-fn ask(rt: &(impl Print + AllocGlobal), row: Row) -> Result<bool, Ending> {
-    match subject_of(rt.alloc(), row) {
-        Ok(made) => ask_about(rt, &made, row.question),
-        Err(fault) => say(rt, row.question, Err(fault)),
-    }
-}
-
-// Asks about a subject, and once more if memory ran out; whether it did again.
-fn ask_about(
-    rt: &(impl Print + AllocGlobal),
-    made: &Subject,
-    question: &str,
-) -> Result<bool, Ending> {
-    let alloc = rt.alloc();
-    if !say(rt, question, about(alloc, made, question))? {
-        return Ok(false);
-    }
-    say(rt, question, about(alloc, made, question))
-}
-
-// Writes an answer, but not that memory ran out in this program; whether it ran out.
-fn say(rt: &impl Print, question: &str, answer: Result<String, Fault>) -> Result<bool, Ending> {
-    match answer {
-        Ok(told) => {
-            println!(rt; "{question} => {told}")?;
-            Ok(false)
+        Ok(Answer::Programs(programs)) => {
+            for (name, program) in &programs {
+                print!(rt; "{name} {}, ", program.len())?;
+            }
         }
-        Err(Fault::OutOfMemory) => Ok(true),
-        Err(fault) => {
-            println!(rt; "{question} => {fault}")?;
-            Ok(fault.is_out_of_memory())
+        Ok(Answer::Filters(filters)) => {
+            for (name, filter) in &filters {
+                print!(rt; "{name} {}, ", filter.program_len())?;
+            }
         }
+        Ok(Answer::Entries(filters)) => {
+            for (name, filter) in &filters.0 {
+                print!(rt; "{name} {}, ", filter.rules.len())?;
+            }
+        }
+        Err(fault) => return reject(rt, fault),
     }
+    println!(rt)?;
+    Ok(false)
+}
+
+// Prints an error, but not that memory ran out in this program; whether it ran out.
+fn reject(rt: &impl Print, fault: Fault) -> io::Result<bool> {
+    match &fault {
+        Fault::Short => {}
+        Fault::Row => println!(rt; "not understood")?,
+        Fault::Backend(error) => println!(rt; "{error}")?,
+        Fault::Library(error) => println!(rt; "{error}")?,
+        Fault::Frontend(error) => println!(rt; "{error}")?,
+        Fault::Filter(error) => println!(rt; "{error}")?,
+    }
+    Ok(matches!(
+        fault,
+        Fault::Short
+            | Fault::Backend(BackendError::OutOfMemory)
+            | Fault::Library(Error::OutOfMemory)
+            | Fault::Frontend(JsonFrontendError::OutOfMemory)
+            | Fault::Filter(FilterError::OutOfMemory)
+    ))
 }

@@ -16,7 +16,7 @@ use seccompiler::TargetArch;
 use std::alloc::{AllocError, AllocFailed, Global};
 
 /// What may stand at a place.
-#[derive(Clone, Copy, Debug)]
+#[derive(Clone, Copy)]
 pub enum Expected {
     /// A value of this part's form.
     Form(Part),
@@ -29,7 +29,7 @@ pub enum Expected {
 }
 
 /// What is wrong with a value.
-#[derive(Debug, Drop)]
+#[derive(Drop)]
 pub enum Problem {
     /// It is shown as this text, and something else may stand there, such as this name, if one is like it.
     Stands(String, Expected, Option<&'static str>),
@@ -49,7 +49,7 @@ pub enum Problem {
 }
 
 /// The kinds of faults, in the order in which they are reported.
-#[derive(Clone, Copy, Debug, PartialEq, Eq)]
+#[derive(Clone, Copy, PartialEq, Eq)]
 pub enum Cause {
     /// The policy is no object.
     Top,
@@ -68,7 +68,7 @@ pub enum Cause {
 }
 
 /// A fault: the way from the policy's value to the place, and what is wrong there.
-#[derive(Debug, Drop)]
+#[derive(Drop)]
 pub struct Fault {
     /// The way to the value that is at fault.
     pub path: Vec<Step>,

@@ -179,11 +179,12 @@ fn near_call(
     let table = SyscallTable::new(target);
     let mut best = None;
     let mut least = (name.len() / 3).max(1) + 1;
-    for pair in table.pairs() {
-        let distance = osa_distance(alloc, name, pair.0)?;
+    for place in 0..table.numbers().len() {
+        let call = table.name(place);
+        let distance = osa_distance(alloc, name, call)?;
         if distance < least {
             least = distance;
-            best = Some(pair.0);
+            best = Some(call);
         }
     }
     match best {

@@ -16,7 +16,7 @@ const MARKS: &[u8] = b"{}[],:\" \t\r\n";
 const SHOWN: usize = 20;
 
 /// Why a text is no JSON.
-#[derive(Debug, Drop)]
+#[derive(Drop)]
 pub struct JsonFault {
     /// The line of what is wrong, from 1.
     pub line: usize,

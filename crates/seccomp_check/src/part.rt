@@ -1,7 +1,7 @@
 // The parts of a policy. docs/JSON.md has the format.
 
 /// An object whose names are listed.
-#[derive(Clone, Copy, Debug)]
+#[derive(Clone, Copy)]
 pub enum Kind {
     /// A filter.
     Filter,
@@ -12,7 +12,7 @@ pub enum Kind {
 }
 
 /// A part of a policy.
-#[derive(Clone, Copy, Debug)]
+#[derive(Clone, Copy)]
 pub enum Part {
     /// The policy: an object of filters, under any names.
     Policy,

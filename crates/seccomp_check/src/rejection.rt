@@ -6,7 +6,7 @@ use std::alloc::AllocError;
 /// Why a policy isn't taken.
 ///
 /// Running out of memory is `OutOfMemory` alone, and never inside another variant.
-#[derive(Debug, Drop)]
+#[derive(Drop)]
 pub enum Rejection {
     /// The library rejects the policy, and the fault has no place: the text is no JSON, or repeats a name.
     Library(seccompiler::Error),

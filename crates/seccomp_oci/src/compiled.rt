@@ -13,7 +13,7 @@ use std::alloc::{AllocError, Global};
 use std::{error, fmt};
 
 /// A profile that was read, and its program.
-#[derive(Debug, Drop)]
+#[derive(Drop)]
 pub struct CompiledProfile {
     /// The profile of the text. No program has its flags: who installs it chooses them.
     pub profile: Profile,

@@ -11,7 +11,7 @@ use std::alloc::{AllocError, Global};
 const LONGEST: usize = 80;
 
 /// A fault of a text that is no profile.
-#[derive(Debug, Drop)]
+#[derive(Drop)]
 pub struct ProfileFault {
     /// The way from the text's value to the one that is at fault.
     pub path: Vec<Step>,

@@ -4,7 +4,7 @@ use seccomp_entries::Action;
 use std::marker::Model;
 
 /// How an argument of a call is compared, both numbers unsigned and of 64 bits.
-#[derive(Clone, Copy, Debug, PartialEq, Eq)]
+#[derive(Clone, Copy)]
 pub enum Operator {
     /// The argument differs from `value`: `SCMP_CMP_NE`.
     Ne,
@@ -23,7 +23,7 @@ pub enum Operator {
 }
 
 /// A condition on one argument of a call: an item of `args`.
-#[derive(Clone, Copy, Debug, PartialEq, Eq)]
+#[derive(Clone, Copy)]
 pub struct Argument {
     /// The argument's index, from 0 to 5.
     pub index: u8,
@@ -36,7 +36,7 @@ pub struct Argument {
 }
 
 /// A flag of `seccomp(2)` that a profile may name. None of them changes what a filter decides.
-#[derive(Clone, Copy, Debug, PartialEq, Eq)]
+#[derive(Clone, Copy)]
 pub enum Flag {
     /// `SECCOMP_FILTER_FLAG_TSYNC`
     Tsync,
@@ -49,7 +49,7 @@ pub enum Flag {
 }
 
 /// A version of the kernel, as `minKernel` has it.
-#[derive(Clone, Copy, Debug, PartialEq, Eq)]
+#[derive(Clone, Copy)]
 pub struct Kernel {
     /// The first number, as 4 of 4.8.
     pub major: u32,
@@ -58,7 +58,7 @@ pub struct Kernel {
 }
 
 /// Which program makes a filter of the profile. docs/OCI.md says in what they differ.
-#[derive(Clone, Copy, Debug, PartialEq, Eq)]
+#[derive(Clone, Copy)]
 pub enum Runtime {
     /// crun, and each that does no more than libseccomp.
     Crun,
@@ -69,7 +69,7 @@ pub enum Runtime {
 /// What a profile is for: a container's capabilities, the kernel that it runs on, and its runtime.
 ///
 /// A contract sees the names as their bytes, in a list.
-#[derive(Debug, Drop)]
+#[derive(Drop)]
 pub struct Container {
     /// Names of the container's capabilities as a profile has them, such as `CAP_SYS_ADMIN`.
     pub caps: Vec<String>,
@@ -91,7 +91,7 @@ impl Model for Container {
 /// What a container has to have, or must not have, for an entry to apply: `includes` or `excludes`.
 ///
 /// A contract sees the texts as their bytes, in lists.
-#[derive(Debug, Drop)]
+#[derive(Drop)]
 pub struct Criteria {
     /// Names of capabilities, such as `CAP_SYS_ADMIN`: `caps`.
     pub caps: Vec<String>,
@@ -113,7 +113,7 @@ impl Model for Criteria {
 /// One entry of a profile: an item of `syscalls`.
 ///
 /// A contract sees the names as their bytes, and both they and the conditions as lists.
-#[derive(Debug, Drop)]
+#[derive(Drop)]
 pub struct Entry {
     /// The calls' names: `names`, or the one of the older `name`. Some may be no call's.
     pub names: Vec<String>,
@@ -139,7 +139,7 @@ impl Model for Entry {
 /// A profile: `linux.seccomp`.
 ///
 /// A contract sees the flags, the entries and the unknown keys as lists, and the keys as their bytes.
-#[derive(Debug, Drop)]
+#[derive(Drop)]
 pub struct Profile {
     /// The action for calls that no entry is for: `defaultAction`, with `defaultErrnoRet`.
     pub default: Action,

@@ -1,7 +1,7 @@
 // Ways into JSON values.
 
 /// A step from a JSON value to one inside it.
-#[derive(Debug, Drop)]
+#[derive(Drop)]
 pub enum Step {
     /// To what is under this name of an object.
     Key(String),

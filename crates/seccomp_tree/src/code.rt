@@ -16,7 +16,7 @@ use std::marker::Model;
 const REACH: usize = 254;
 
 /// How a test compares the accumulator with its operand.
-#[derive(Clone, Copy, Debug)]
+#[derive(Clone, Copy)]
 pub(crate) enum Test {
     /// Whether they are equal.
     Equal = JUMP_EQUAL as isize,

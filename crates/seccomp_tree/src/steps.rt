@@ -14,7 +14,7 @@ pub(crate) const WORDS: u64 = 0x1_0000_0000;
 pub(crate) const OPEN: Target = Target::At(0);
 
 /// What a program does next.
-#[derive(Clone, Copy, Debug, PartialEq, Eq)]
+#[derive(Clone, Copy, PartialEq, Eq)]
 pub(crate) enum Target {
     /// It returns this value.
     Give(u32),
@@ -23,7 +23,7 @@ pub(crate) enum Target {
 }
 
 /// From its start on, up to the start of the next step, each number has this target.
-#[derive(Clone, Copy, Debug)]
+#[derive(Clone, Copy)]
 pub(crate) struct Step {
     pub(crate) start: u64,
     pub(crate) target: Target,

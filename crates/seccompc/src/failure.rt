@@ -4,7 +4,7 @@ use crate::error::ToolError;
 use std::fmt;
 
 /// Why a command isn't carried out.
-#[derive(Debug, Drop)]
+#[derive(Drop)]
 pub enum Failure {
     /// The file that it names can't be opened.
     Unopened,

@@ -7,7 +7,7 @@ ghost use Rattle.seccompc.specs.Words.{IsSignedText, IsSigned64, IsCommand};
 use seccomp_text::numbers::read_digits;
 
 /// A command of the program.
-#[derive(Clone, Copy, Debug)]
+#[derive(Clone, Copy)]
 pub enum Command<'a> {
     /// Compile a filter of one condition, and trace its program on the records of standard input.
     Probe {

@@ -8,7 +8,7 @@ use seccomp_tree::FilterError;
 use seccompiler::BackendError;
 
 /// Why no program of arrays is given.
-#[derive(Clone, Copy, Debug, PartialEq, Eq)]
+#[derive(Clone, Copy)]
 pub(crate) enum ArraysFault {
     /// Memory ran out.
     OutOfMemory,

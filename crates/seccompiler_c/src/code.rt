@@ -13,7 +13,7 @@ use crate::codes::{
 };
 
 /// Why an exported function has no other answer.
-#[derive(Clone, Copy, Debug)]
+#[derive(Clone, Copy)]
 pub(crate) enum Code {
     /// Memory ran out.
     OutOfMemory,

@@ -13,7 +13,7 @@ use seccompiler::sock_filter;
 use std::alloc::Global;
 
 /// The calls that are asked about.
-#[derive(Clone, Copy, Debug, PartialEq, Eq)]
+#[derive(Clone, Copy)]
 pub(crate) struct Asked {
     /// The architecture's `AUDIT_ARCH_*` value; or 0, for all calls.
     pub architecture: u32,

@@ -9,7 +9,7 @@ use seccompiler::JsonFrontendError;
 use std::fmt;
 
 /// Why a policy, a program of it or a decision of it is not given.
-#[derive(Debug, Drop)]
+#[derive(Drop)]
 pub(crate) enum Fault {
     /// Memory ran out.
     OutOfMemory,

@@ -5,6 +5,8 @@ use Rattle.std.proofs.lemmas.Result.{IfOk-weaker}
 use Rattle.seccomp_oci.specs.Concerns.{apart, together}
 use Rattle.seccomp_oci.specs.Conditions.{condition_of}
 use Rattle.seccomp_oci.proofs.concerns.Conditions.{lists_of}
+use Rattle.std.proofs.Common.{arith}
+use Rattle.std.proofs.lemmas.Grind.{common_steps}
 use Rattle.seccomp_oci.proofs.concerns.alternatives_of.Goals as goal
 
 pub returns-then-share_argument : goal.returns-then-share_argument
@@ -15,3 +17,6 @@ pub returns : goal.returns
 returns c = together (λ share. true≢false (sym (c.share_argument.ensures.1 share) ∙ c.if-share_argument.false))
     (ap lists_of c.in_ok-vec.ensures.items ∙ ap (λ cs. cs ∷ []) (c.loop-argument.invariant
     ∙ ap (map condition_of) (take_all c.loop-argument.argument-index c.args.args.now c.loop-argument-test.false)))
+
+pub loop-argument-preserved : goal.loop-argument-preserved
+loop-argument-preserved c = grind (arith, common_steps)

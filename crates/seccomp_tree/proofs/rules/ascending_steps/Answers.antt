@@ -1,3 +1,4 @@
+use Rattle.std.proofs.lemmas.Grind.{common_steps}
 use Rattle.seccomp_tree.proofs.Common.{Ruling, arith, drop, ap, ◌+◌, ◌∷◌, ◌≡◌}
 use Rattle.seccomp_tree.proofs.{Decided.drop_at, Meeting.alike_drop, Meeting.ascending_on}
 use Rattle.seccomp_tree.proofs.rules.ascending_steps.Goals as goal
@@ -12,3 +13,9 @@ loop-ruling-preserved c =
     let value : c.ruling.inside.value ≡ d.value = ap (λ (x : Ruling). x.value) c.ruling.view_is in
     ascending_on c.loop-ruling.invariant here c.in-Some.ensures like.0 (omega (arith, c.ruling.invariant, value))
     (omega (arith, c.if-value-next.false)) c.in_ok-open_to.ensures (rw value at c.in_ok-push_step.ensures)
+
+pub returns : goal.returns
+returns c = grind (arith, common_steps)
+
+pub loop-ruling-init : goal.loop-ruling-init
+loop-ruling-init c = grind (arith, common_steps)

@@ -1,6 +1,6 @@
 use Rattle.seccomp_tree.proofs.Common.{length-take-le, length-drop, IfOk-weaker, take_rest, All-take, length, arith, drop, IsIn, Step, ◌-◌}
 use Rattle.seccomp_tree.proofs.Common.{sym, take, ◌/◌, ◌<◌, ◌^◌, ℕ, ◌∙◌, ◌≤◌}
-use Rattle.seccomp_tree.proofs.Trees.{tree_halves, tree_single, tree_first, tree_out, rest_of, none}
+use Rattle.seccomp_tree.proofs.Trees.{tree_halves, tree_single, tree_first, tree_out, rest_of, none, start_fits}
 use Rattle.seccomp_tree.proofs.{Begun.over_more, Begun.parts, Runs.is_in_grown}
 use Rattle.seccomp_tree.proofs.code.Code.+tree.Goals as goal
 
@@ -62,3 +62,12 @@ returns t c =
     (λ u h. tree_first steps c.args.most _ c.requires.few (omega (arith, c.requires.some)) c.requires.over
     (sym c.stands_out.ensures ∙ c.if-stands_out.false)
     (omega (arith, c.tests-needed.ensures, c.if-needed-gt6.false)) (rw (take_rest steps 1) at c.in_ok-rest-2.ensures) h) c.test-2.ensures
+
+pub overflow_cast-steps : goal.overflow_cast-steps
+overflow_cast-steps t c = grind (arith, start_fits)
+
+pub overflow_cast-steps-then-stands_out : goal.overflow_cast-steps-then-stands_out
+overflow_cast-steps-then-stands_out t c = grind (arith, start_fits)
+
+pub overflow_cast-steps-2 : goal.overflow_cast-steps-2
+overflow_cast-steps-2 t c = grind (arith, start_fits)

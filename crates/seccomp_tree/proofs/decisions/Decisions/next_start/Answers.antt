@@ -1,5 +1,6 @@
 use Rattle.seccomp_tree.proofs.Common.{nat_tests, arith, inl, ◌^◌, ◌≤◌, ap, ℕ}
 use Rattle.seccomp_tree.proofs.Decided.{same_from, items_of, none_to}
+use Rattle.std.proofs.lemmas.Grind.{common_steps}
 use Rattle.seccomp_tree.proofs.decisions.Decisions.next_start.Goals as goal
 
 pub loop-default-init : goal.loop-default-init
@@ -26,3 +27,6 @@ loop-default-init c = rw (← c.self.view_is) (elim c.match-next.branch [
 pub returns-clause-default : goal.returns-clause-default
 returns-clause-default c = λ n le lt.
     same_from 0 c.args.self.now.defaults c.args.number n (λ k d inside. grind (arith, c.loop-default.invariant.none k d)) le
+
+pub loop-default-preserved : goal.loop-default-preserved
+loop-default-preserved c = grind (arith, common_steps)

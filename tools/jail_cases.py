@@ -273,6 +273,9 @@ UNRUN = [
     ("no execve", "{call}", 126, 13),
 ]
 
+# `uretprobe` and `uprobe`, and the releases from which on the kernel asks no filter about them (kernel/seccomp.c).
+UNFILTERED = {335: (6, 14), 336: (6, 18)}
+
 # Calls of x86_64 that an entry stops, and the same of x32, whose numbers have one bit more: no entry stops these. A
 # kernel without x32 answers with ENOSYS, and one that has it makes the call, which returns 0.
 X32_BIT = 0x40000000

@@ -10,6 +10,7 @@ import json
 import os
 import pathlib
 import random
+import re
 import shutil
 import socket
 import struct
@@ -197,13 +198,14 @@ def try_runtime(results, program, folder, runtime, architectures):
     for call, action in [*EXPLAINED, *zip((X32, ABOVE), numbers)]:
         out, err, status = run([TOOL, "explain", file, *call.split()], folder)
         results.compare(f"{what}: {call}", (named(action), "", 0), (out.partition(": ")[0], err, status))
-    # It differs from the profile at most on numbers from those of x32 on, and there by one of both.
-    lines = [f"  x32 calls {X32} to {2**32 - 1}: kill_thread -> {named(action)}, more: {call}(0x0, 0x0, 0x0, 0x0, 0x0, 0x0)\n"
-             for call, action in zip((X32, ABOVE), numbers) if action != "kill_thread"]
-    wanted = [("profile: different\n" + line, "", 1) for line in lines] or [("profile: same\n", "", 0)]
+    # It differs from the profile at most on numbers from those of x32 on, and there by both of these.
+    wanted = {named(action) for action in numbers if action != "kill_thread"}
     out, err, status = run([TOOL, "diff", "-q", PROFILE, file], folder)
-    found = out.partition("other architectures")[0], err, status
-    results.compare(f"{what}: compared", found if found in wanted else wanted, found)
+    first, *lines = out.partition("other architectures: ")[0].splitlines()
+    found = {it[1] for it in map(re.compile(r"  (?:\d+ ranges of )?x32 call.*?: kill_thread -> (.*?), .*").fullmatch, lines) if it}
+    well = wanted <= found and all("x32 call" in it for it in lines) and bool(lines) == bool(wanted)
+    results.compare(f"{what}: compared", ("profile: different" if wanted else "profile: same", True, "", int(bool(wanted))),
+                    (first, well or lines, err, status))
 
 
 # Calls that x86 has by socketcall(2) and ipc(2), these two, and another one; and how many profiles of them are tried.

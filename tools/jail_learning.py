@@ -27,8 +27,8 @@ NUMBERS = numbers_on(MACHINE) if MACHINE in ARCHITECTURES else {}
 # What strace prints of a thread that ends before strace knows its call: none, or one whose number is that of a process.
 ENDED = re.compile(r"^\d+ +(\?\?\?|syscall_0x)\S.*\n", re.M)
 
-# Arguments are traced as numbers.
-STRACE = ["strace", "-f", "-X", "raw", "-o"]
+# Arguments are traced as numbers; and which calls are those of 32-bit programs, which strace doesn't say by itself in a file.
+STRACE = ["strace", "-f", "-X", "raw", "--quiet=attach", "-o"]
 
 SCRIPT = "import socket; s = socket.socket(); s.close(); print(len(open('numbers').read()))"
 
@@ -67,7 +67,11 @@ PROGRAMS = [
 ]
 
 # The parts of tools/library-calls.c that its trace doesn't have, and how each ends.
-PARTS = {"plain": 0, "threads": 0, "large": 0, "sort": 0, "failure": 3, "sleep": 0, "abort": -signal.SIGABRT, "system": 0, "time": 0}
+PARTS = {"plain": 0, "threads": 0, "large": 0, "sort": 0, "failure": 3, "sleep": 0, "abort": -signal.SIGABRT, "system": 0, "popen": 0,
+         "time": 0}
+
+# Those that are tried if the shell is the one that docs/LEARNING.md names.
+IN_DASH = {"shell": 0}
 
 
 def traced(results, name, example, prepare, folder):
@@ -131,6 +135,11 @@ def try_old_clone(results, jailer, folder, files):
 def try_library(results, jailer, folder):
     """Traces the plain path of a program in C, as glibc and as musl link it, and runs what the C library calls by itself under the
     policy of that trace: each part ends as without a filter."""
+    parts = dict(PARTS)
+    if os.path.basename(os.path.realpath("/bin/sh")) == "dash":
+        parts |= IN_DASH
+    else:
+        print("the shell isn't dash, so it runs nothing under the policy of what the C library calls")
     for compiler, *flags in (["cc"], ["cc", "-static"], ["musl-gcc"], ["musl-gcc", "-static"]):
         name = "-".join(["library-calls", compiler, *(it.strip("-") for it in flags)])
         if shutil.which(compiler) is None:
@@ -146,11 +155,22 @@ def try_library(results, jailer, folder):
             print(f"strace traces nothing here, so {name} isn't jailed")
             return
         policy = learned(results, name, ["plain.trace"], folder)
-        for part, status in PARTS.items():
+        for part, status in parts.items():
             without = run([f"./{name}", part], folder)
             results.compare(f"{name} {part}", status, without[2])
             results.compare(f"{jailer} {policy}: {part}", without, run([*jailer.words, policy, "--", f"./{name}", part], folder))
         stopped_and_continued(results, jailer, folder, policy, f"./{name}")
+
+
+def try_i386_trace(results, folder):
+    """Traces a program that makes one call by the interrupt of 32-bit programs: it is left out, and counted."""
+    program = folder / "bin/call-of-i386"
+    if not program.exists() or run([program], folder)[2] != 0 or run([*STRACE, "i386.trace", program], folder)[2] != 0:
+        print("no 32-bit call is traced here, so none is left out")
+        return
+    noted = "", "seccomptool: i386.trace: 1 call is of another architecture\n", 0
+    words = [TOOL, "learn", "-a", MACHINE, "--strict", "-o", "i386.json", "i386.trace"]
+    results.compare("learn i386.trace", noted, run(words, folder))
 
 
 def try_units(results, jailer, folder, files):
@@ -275,6 +295,7 @@ def try_learning(results, jailers, folder):
     if not NUMBERS:
         print(f"no names of calls of {MACHINE} are known, so nothing is learned")
         return
+    try_i386_trace(results, folder)
     try_library(results, jailers[0], folder)
     for name, example, prepare in PROGRAMS:
         path = f"{PATH}:{postgres_programs()}" if name == "postgres" else PATH

@@ -87,6 +87,37 @@ static int told_time(void)
     return puts(text) < 0;
 }
 
+/* What Debian's shell does of itself: each command has to end well. */
+static int shell(void)
+{
+    static const char *const lines[] = {
+        "/bin/true; /bin/true",
+        "echo a > /dev/null",
+        "x=$(echo a); test \"$x\" = a",
+        "x=$(/bin/echo a); test \"$x\" = a",
+        "echo a | while read x; do test $x = a; done",
+        "while read x; do :; done < /dev/null 2>&1",
+        "cd / && test $PWD = /",
+        "test -r / && test -d /",
+        "(exit 0)",
+    };
+    for (size_t k = 0; k < sizeof lines / sizeof lines[0]; k++)
+        if (system(lines[k]) != 0) {
+            fprintf(stderr, "%s\n", lines[k]);
+            return 1;
+        }
+    return 0;
+}
+
+static int piped(void)
+{
+    char text[8] = "";
+    FILE *stream = popen("echo a", "r");
+    if (stream == NULL || fgets(text, sizeof text, stream) == NULL)
+        return 1;
+    return pclose(stream) != 0 || strcmp(text, "a\n") != 0;
+}
+
 int main(int count, char **words)
 {
     const char *part = count > 1 ? words[1] : "plain";
@@ -104,6 +135,10 @@ int main(int count, char **words)
         abort();
     if (strcmp(part, "system") == 0)
         return system("exit 7") == 7 << 8 ? 0 : 1;
+    if (strcmp(part, "shell") == 0)
+        return shell();
+    if (strcmp(part, "popen") == 0)
+        return piped();
     if (strcmp(part, "time") == 0)
         return told_time();
     return 0;

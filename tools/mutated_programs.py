@@ -1,7 +1,7 @@
 """Programs in which one number is another: `diff` of seccomptool prints the calls on which such a program returns another value, or
 says that there are none. Both are held against an interpreter of classic BPF, as linux/bpf_common.h has it: on the call of each
 line both programs return two values, and each record at random whose run comes to the place of the mutation, and for which they do,
-is of a call that has a line.
+is of a call that has a line. If it is of a range, and the line isn't of some calls, they return the same two values.
 
 The programs are those of examples/foreign and some that are made at random, and the numbers are the constant of a jump or a returned
 value, always the same ones.
@@ -11,7 +11,7 @@ import random
 import re
 import struct
 
-from model import JUMP, LOAD, MASK, RETURN, TESTS, X86_64, instructions_of, numbers_on, run as run_on
+from model import ARCHITECTURES, JUMP, LOAD, MASK, RETURN, TESTS, X86_64, instructions_of, numbers_on, run as run_on
 
 # Return values (linux/seccomp.h).
 WORDS = (0x7FFF0000, 0x7FFC0000, 0x00050001, 0x00050026, 0x00030000, 0, 0x80000000)
@@ -28,10 +28,13 @@ FOREIGN = ("one-test", "two-borders", "two-halves", "mask-of-a-bit", "crun", "ru
 # Compares a file with each of others, and prints the exit statuses.
 DIFFS = 'old=$1; shift; for new; do "$0" diff -q --each --all "$old" "$new" > "${new%.bpf}.out" 2>&1; echo $?; done'
 
-# A line of calls on which two programs differ: other numbers, other architectures or a name; and at its end an example, its name or
-# number, after the `AUDIT_ARCH_*` value if that is another, its arguments, and the instruction pointer.
-LINE = re.compile(r"  (?:(?:other|x32) calls (\d+) to (\d+)|other architectures 0x([0-9a-f]+) to 0x([0-9a-f]+)|(\w+)): [^:]*: "
-                  r"(?:0x([0-9a-f]+) )?(\w+)\(" + ", ".join(["0x([0-9a-f]+)"] * 6) + r"\)(?: at 0x([0-9a-f]+))?")
+# A line of calls on which two programs differ: other numbers, other architectures or a name; whether it is of some calls; and at its end
+# an example, its name or number, after the `AUDIT_ARCH_*` value if that is another, its arguments, and the instruction pointer.
+LINE = re.compile(r"  (?:(?:other|x32) calls? (\d+)(?: to (\d+))?|other architectures? 0x([0-9a-f]+)(?: to 0x([0-9a-f]+))?|(\w+))(, some calls)?"
+                  r": [^:]*: (?:0x([0-9a-f]+) )?(\w+)\(" + ", ".join(["0x([0-9a-f]+)"] * 6) + r"\)(?: at 0x([0-9a-f]+))?")
+
+# The architectures that have names (linux/audit.h).
+ARCHES = {"i386": 0x40000003, "arm": 0x40000028, **ARCHITECTURES}
 
 
 def next_of(program, place):
@@ -115,17 +118,21 @@ def records_to(numbers, program, place, wanted):
 
 def found_on(line):
     """Returns what a line of `diff` says: that of records whose number in a place, 0 or 1, lies between two others, this one is answered
-    otherwise. None if it says no such thing."""
+    otherwise; and whether it says of all that they are answered as this one. None if it says no such thing."""
     said = LINE.fullmatch(line)
     if not said:
         return None
-    least, greatest, first, last, name, arch, call, *arguments, pointer = said.groups()
+    least, greatest, first, last, name, some, arch, call, *arguments, pointer = said.groups()
     wide = [int(it or "0", 16) for it in (pointer, *arguments)]
     number = int(call) if call.isdigit() else numbers_on("x86_64")[call]
     record = number, int(arch, 16) if arch else X86_64, *(half for it in wide for half in (it % 2**32, it >> 32))
+    if name in ARCHES:
+        return (1, ARCHES[name], ARCHES[name]), record, not some
+    if name:
+        return (0, *(numbers_on("x86_64")[name],) * 2), record, False
     if first:
-        return (1, int(first, 16), int(last, 16)), record
-    return (0, *((numbers_on("x86_64")[name],) * 2 if name else (int(least), int(greatest)))), record
+        return (1, int(first, 16), int(last or first, 16)), record, not some
+    return (0, int(least), int(greatest or least)), record, not some
 
 
 def is_within(record, part):
@@ -153,11 +160,15 @@ def compared(run, tool, folder, old, mutations):
 
 def is_right(old, new, records, status, lines):
     """Returns whether each line of `diff` is so, and none is missing of those that records show."""
+    def answers(record):
+        return answer_of(old, record), answer_of(new, record)
+
     found = [found_on(line) for line in lines]
-    parts = {it[0] for it in found if it}
-    return status == bool(lines) and all(
-        it and is_within(it[1], it[0]) and answer_of(new, it[1]) != answer_of(old, it[1]) for it in found
-    ) and all(answer_of(new, it) == answer_of(old, it) or any(is_within(it, part) for part in parts) for it in records)
+    if status != bool(lines) or None in found:
+        return False
+    well = all(is_within(it, part) and len(set(answers(it))) == 2 for part, it, _ in found)
+    alike = all(answers(other) == answers(it) for part, it, all_of_them in found if all_of_them for other in records if is_within(other, part))
+    return well and alike and all(len(set(answers(it))) == 1 or any(is_within(it, part) for part, *_ in found) for it in records)
 
 
 def check_mutations(results, folder, top, tool, run):

@@ -96,8 +96,8 @@ def decisions(*lines, **more):
     return as_list("decisions", [decision(it, **more) for it in lines])
 
 
-def part(line):
-    """Returns the object of a line of `diff` on one part of the calls."""
+def part(line, throughout):
+    """Returns the object of a line of `diff` on one part of the calls, and whether what it says holds for all of them."""
     front, rest = re.fullmatch(r"  (.*?): (.*)\n", line).groups()
     bounds = [int(it, 0) for it in re.findall(r"\b0x[0-9a-f]+|\b\d+", front)]
     number = None if bounds else NUMBERS[front]
@@ -110,12 +110,13 @@ def part(line):
         "instruction_pointer": pointer or "0x0", "arguments": given.split(", ")
     }
     verdict = "different" if change else "undecided"
-    return {**found, "verdict": verdict, "old": old and action(old), "new": new and action(new), "change": change, "example": example}
+    return {**found, "verdict": verdict, "old": old and action(old), "new": new and action(new), "change": change,
+            "throughout": throughout if change else None, "example": example}
 
 
-def found(old, new, verdict, *lines, arch="x86_64"):
-    """Returns the object of what is found of two filters."""
-    return {"old": old, "new": new, "architecture": arch, "verdict": verdict, "parts": [part(it) for it in lines]}
+def found(old, new, verdict, *lines, arch="x86_64", throughout=True):
+    """Returns the object of what is found of two filters, and whether that holds throughout."""
+    return {"old": old, "new": new, "architecture": arch, "verdict": verdict, "parts": [part(it, throughout) for it in lines]}
 
 
 def compared(words, status, *items, given=""):
@@ -197,7 +198,7 @@ STOPPED = "  read: undecided at instruction 4 of OLD and 6 of NEW: read(0x0, 0x0
 OF_COMPARISONS = [
     compared("logs.json logs.json", 0, SAME),
     compared("none.json none.json", 0),
-    compared("logs.json allows-read-of-5.json", 1, found("a", "a", "different", READS_5)),
+    compared("logs.json allows-read-of-5.json", 1, found("a", "a", "different", READS_5, throughout=False)),
     compared("errno-1.json errno-2.json", 1, found("a", "a", "different", OTHER_ERRNO)),
     # Calls that change alike are elements of their own.
     compared("logs.json reads-writes.json", 1, found("a", "a", "different", READS, READS.replace("read", "write"))),
@@ -206,7 +207,8 @@ OF_COMPARISONS = [
     compared("filters-b-a.json filters-c-a.json", 1, SAME, found("b", None, "different"), found(None, "c", "different")),
     compared("filters-b-a.json:b filters-c-a.json:c", 0, found("b", "c", "same")),
     compared("allows-read.json writes.bpf", 1, found("a", "program", "different", NO_LONGER_READS, WRITES), ELSEWHERE),
-    compared("logs.json reads-from-5.bpf", 1, found("a", "program", "different", READS[:-1] + " at 0x500000000\n"), ELSEWHERE),
+    compared("logs.json reads-from-5.bpf", 1, found(
+        "a", "program", "different", READS[:-1] + " at 0x500000000\n", throughout=False), ELSEWHERE),
     compared("allows-read.json reads-x32.bpf", 1, found("a", "program", "different", OF_X32), ELSEWHERE),
     compared("allows-read.json reads-other-kills.bpf", 0, found("a", "program", "same"), found(
         "a", "program", "different", *others("kill_process -> 0x80000001, otherwise").splitlines(True), arch=None)),

@@ -1,12 +1,13 @@
 """What `check` has to do: the faults of policies with their places, and policies without one."""
 
+import errno
 import json
 
 from program_cases import FRONTEND
 
 from .forms import FOLDER, FULL, INPUT, MISSING, OUTPUT, RESET, TOOL, Case, Failing, rejects, writes
 from .long_filters import of_masks, of_rules
-from .warnings import CODES_LISTED, line, lines_of
+from .warnings import CODES_LISTED, OF_PARTS, line, lines_of
 
 FINE = (
     '{"b":{"mismatch_action":{"errno":1},"match_action":"allow","filter":['
@@ -30,9 +31,14 @@ def told(policy, where, what):
     return rejects("check", policy, f"{where}: {what}\n")
 
 
-def all_told(policy, *faults):
+def all_told(policy, *faults, words="check"):
     """Returns the case of a policy of which each of these is told, in this order, on x86_64."""
-    return Case("check", 1, "", "".join(f"{INPUT}{where}: {what}\n" if what else f"{INPUT}{where}\n" for where, what in faults), policy)
+    return Case(words, 1, "", "".join(f"{INPUT}{where}: {what}\n" if what else f"{INPUT}{where}\n" for where, what in faults), policy)
+
+
+def too_long(policy, *faults):
+    """Returns the case of a policy of whose filters each of these is told, without the warnings, which it has too."""
+    return all_told(policy, *faults, words=f"check {OF_PARTS} --allow pointer-compared")
 
 
 def stands(policy, where, what, may):
@@ -70,6 +76,10 @@ def compared(text):
     """Returns the policy whose last condition has this operator."""
     return condition('{"index":0,"type":"dword","op":' + text + ',"val":0}')
 
+
+# A filter that fits in the tree layout alone: each entry has 4 instructions and a return in the chains. By any of its entries each
+# other one is redundant, and each of three calls by which something ends traps.
+EQUAL = entries(",".join(['{"syscall":"read","args":[{"index":0,"type":"dword","op":"eq","val":5}]}'] * 820)).replace("log", "allow")
 
 CONDITION = "a.filter[1].args[1]"
 
@@ -129,6 +139,12 @@ IN_FILTERS = [
     stands(mismatch('{"errno":4294967296,"trace":1}'), "a.mismatch_action", "an object", ACTIONS),
     stands(mismatch('{"masked_eq":1}'), "a.mismatch_action", "an object", ACTIONS),
     stands(mismatch('"errno"'), "a.mismatch_action", '"errno"', ACTIONS),
+    # The number of an errno that stands there by its name; other names and places have none.
+    *[stands(mismatch('{"errno":"%s"}' % it), "a.mismatch_action.errno", f'"{it}"; {it} is {getattr(errno, it)}', ACTION_NUMBER)
+      for it in ("EPERM", "EWOULDBLOCK", "ENOSYS", "ERFKILL")],
+    *[stands(mismatch('{"errno":"%s"}' % it), "a.mismatch_action.errno", f'"{it}"', ACTION_NUMBER) for it in ("eperm", "EPER", " EPERM", "", "1")],
+    stands(mismatch('{"trace":"EPERM"}'), "a.mismatch_action.trace", '"EPERM"', ACTION_NUMBER),
+    stands(mismatch('"EPERM"'), "a.mismatch_action", '"EPERM"', ACTIONS),
     told('{"a":{"match_action":"log","mismatch_action":"trap"}}', "a", 'missing "filter"'),
     stands('{"a":{"match_action":"log","mismatch_action":"trap","filter":null}}', "a.filter", "null", "an array of entries"),
     told('{"a":{"match_action":"log","mismatch_action":"log","filter":[]}}', "a", TWO_EQUAL),
@@ -214,7 +230,7 @@ FAULTS_TOGETHER = [
              '"a":{"mismatch_action":"log","match_action":"log","filter":[]}}',
              ("b", TWO_EQUAL), ("b.filter[0].syscall", OPNE), ("a", TWO_EQUAL)),
     # The lengths of programs, only if nothing else is wrong.
-    all_told("{" + of_rules("b", 816) + "," + of_rules("a", 816) + "}",
+    too_long("{" + of_rules("b", 816) + "," + of_rules("a", 816) + "}",
              *((it, "needs 4101 instructions in the linear layout; 4096 fit; 13 in the tree layout") for it in "ba")),
     all_told("{" + of_rules("b", 816) + ',"a":1}', ("a", f"expected {FILTER}, found 1")),
     # A hundred, and how many more.
@@ -286,7 +302,7 @@ OF_FILES = [
     rejects("check index.json", "", "a.filter[0].args[0].index: expected 0 to 5, found 6\n", TOOL + "index.json: "),
     rejects("check equal-actions.json", "",
             "a: expected two actions that differ, found the same one twice\n", TOOL + "equal-actions.json: "),
-    rejects("check too-large.json", "", "a: needs 10130 instructions in the linear layout; 4096 fit\n", TOOL + "too-large.json: "),
+    rejects(f"check {OF_PARTS} too-large.json", "", "a: needs 10130 instructions in the linear layout; 4096 fit\n", TOOL + "too-large.json: "),
     rejects("check no-json.json", "", UNPARSED, TOOL + "no-json.json: "),
     rejects("check repeated.json", "", REPEATED, TOOL + "repeated.json: "),
     rejects("check examples", "", FOLDER, TOOL + "examples: "),
@@ -359,13 +375,18 @@ CASES = [
     *SUGGESTIONS,
     *FAULTS_TOGETHER,
     *NO_JSON,
-    # `check` tells the filter that is too long.
-    told(entries(TOO_LONG), "a", "needs 10130 instructions in the linear layout; 4096 fit"),
+    # `check` tells the filter that is too long, and its warnings, of which `compile` notes how many there are.
+    too_long(entries(TOO_LONG), ("a", "needs 10130 instructions in the linear layout; 4096 fit")),
+    Case("compile --format listing", 0, "filter 9 a\n..", INPUT + "823 warnings; seccomptool check prints them\n", EQUAL),
+    Case("check", 1, lines_of(EQUAL) + "".join(line(f"a.filter[{place}]", "redundant-entry") for place in range(820)),
+         INPUT + "a: needs 4107 instructions in the linear layout; 4096 fit; 9 in the tree layout\n", EQUAL),
+    Case("check --deny-warnings --allow redundant-entry", 1, lines_of(EQUAL),
+         INPUT + "a: needs 4107 instructions in the linear layout; 4096 fit; 9 in the tree layout\n", EQUAL),
     # If its tree fits, `check` tells how long that is.
-    told("{" + of_rules("a", 813, ("write", "open", "close", "stat")) + "}", "a",
-         "needs 4106 instructions in the linear layout; 4096 fit; 14 in the tree layout"),
-    told("{" + of_rules("a", 816) + "}", "a", "needs 4101 instructions in the linear layout; 4096 fit; 13 in the tree layout"),
-    told("{" + of_masks("a", 1400) + "}", "a", "needs 8407 instructions in the linear layout; 4096 fit"),
+    too_long("{" + of_rules("a", 813, ("write", "open", "close", "stat")) + "}",
+             ("a", "needs 4106 instructions in the linear layout; 4096 fit; 14 in the tree layout")),
+    too_long("{" + of_rules("a", 816) + "}", ("a", "needs 4101 instructions in the linear layout; 4096 fit; 13 in the tree layout")),
+    too_long("{" + of_masks("a", 1400) + "}", ("a", "needs 8407 instructions in the linear layout; 4096 fit")),
     # `check` answers faults of its reader.
     rejects("check", Failing(FINE), RESET),
     *OF_FILES,

@@ -98,6 +98,11 @@ LARGE = [entry(dword("eq", it, 1), dword("le", 9), dword("ne", 7, 2), name="ioct
 COVERED = entry(dword("eq", 5, 1), dword("eq", 3), dword("eq", 3, 2), name="ioctl")
 NOT_COVERED = entry(dword("eq", 5, 1), dword("eq", 3), dword("eq", 7, 2), name="ioctl")
 
+# Entries that each compare five arguments, and what one has that some of them cover together.
+FIVE = [qword("eq", it, it) for it in (0, 2, 3, 4)]
+WIDE = [entry(qword("eq", it, 1), *FIVE) for it in range(70)]
+SIX = [*FIVE, qword("eq", 5, 5)]
+
 REDUNDANT = [
     ([entry(), entry()], redundant(0, 1)),
     ([entry(), entry(name="write")], []),
@@ -126,9 +131,12 @@ REDUNDANT = [
     # Two neighbouring bits of two arguments, by arguments and by bits.
     ([entry(dword(masked(3 << bit), 3 << bit, index)) for index in (0, 1) for bit in range(18)], []),
     ([entry(dword(masked(3 << bit), 3 << bit, index), name="ioctl") for bit in range(18) for index in (0, 1)], []),
-    # A program of 2716 instructions. Rules of twice these conditions would take more than 4096.
+    # Beside many others.
     ([*LARGE, COVERED], redundant(len(LARGE))),
     ([*LARGE, NOT_COVERED], []),
+    # One that twenty of many cover together, and just don't.
+    ([*WIDE, entry(qword("le", 19, 1), *SIX)], redundant(len(WIDE))),
+    ([*WIDE, entry(qword("le", len(WIDE), 1), *SIX)], []),
 ]
 
 

@@ -14,7 +14,7 @@ from .forms import FULL, LOGS, MISSING, OUTPUT, TOOL, Case, as_list
 from .hostile import HOSTILE, NAMES, told
 from .long_filters import of_rules
 from .profile_checks import HAS_FLAGS, IS_DEFAULT, SAID_OF_PROFILE
-from .warnings import SAID
+from .warnings import ALLOWED, OF_PARTS, SAID
 
 MARK = "\u2020"
 
@@ -167,7 +167,14 @@ OF_ERRORS = [
               (None, wrong("more-errors", "50 more errors"))),
     # A program that is too large, and bytes that are none.
     *cases_of("{" + of_rules("a", 816).replace("{", MARK + "{", 1) + "}", (0, wrong(
-        "program-too-large", "needs 4101 instructions in the linear layout; 4096 fit; 13 in the tree layout", "a"))),
+        "program-too-large", "needs 4101 instructions in the linear layout; 4096 fit; 13 in the tree layout", "a")), words=f" {OF_PARTS}"),
+    # With its warnings.
+    *cases_of("{" + of_rules("a", 816).replace("{", MARK + "{", 1).replace('"trap"', MARK + '"trap"') + "}",
+              (0, wrong("program-too-large", "needs 4101 instructions in the linear layout; 4096 fit; 13 in the tree layout", "a")),
+              *((1, warned("kills-exit", "a.mismatch_action", call=it)) for it in ("exit", "exit_group", "rt_sigreturn")), words=f" {ALLOWED}"),
+    # An errno by its name.
+    *cases_of(filters("", mismatch='{"errno":\u2020"EPERM"}'),
+              (0, wrong("wrong-value", 'expected 0 to 4294967295, found "EPERM"; EPERM is 1', "a.mismatch_action.errno"))),
     *cases_of("{ 6, 0, 0, 0 }," * 4097, (None, wrong("not-a-program", "expected 1 to 4096 instructions, found 4097"))),
 ]
 

@@ -10,16 +10,14 @@ from .compile import TREE, listed
 from .compiled_profiles import entry, left_out, profile
 from .diff import policy
 from .forms import INPUT, LOGS, MISSING, TOOL, Case, rejects, writes
+from .learn import filtered
 from .show import LOGS_SHOWN
 from .stats import LOGS_STEPS
 
 # Control characters, marks and embeddings of the direction of writing, and characters without a width; and then what isn't hostile.
-HOSTILE = "\x07\x1b\n\x7f\u0085\u009b\u061c\u200b\u200c\u200d\u200e\u200f\u2028\u202a\u202b\u202c\u202d\u202e\u2060\u2066\u2067\u2068\u2069\ufeff" \
+HOSTILE = "\x07\x1b\t\n\r\x7f\u0085\u009b\u061c\u200b\u200c\u200d\u200e\u200f\u2028\u202a\u202b\u202c\u202d\u202e\u2060\u2066\u2067\u2068\u2069\ufeff" \
     "\u00ad\u180e\u2061\u2064\u206a\u206f\ufff9\ufffb\U000e0001\U000e007f"
 HARMLESS = "\u00b5\u0627\u2027\u202f\u200a\u2010\u2070\u00ac\u00ae\u180d\u180f\ufffc\U000e0100\U0001f600"
-
-# The same without what is white space, which `clap` writes in quotes as Rust does.
-UNQUOTED = "".join(it for it in HOSTILE if not it.isspace())
 
 
 def told(text):
@@ -44,6 +42,12 @@ FILES = {
     "hostile-bad.json": '{"a":1}',
     "hostile.bpf": TREE,
 }
+
+
+def made_by(name):
+    """Returns the line of a log about a call of a program of this name, which Linux writes in hexadecimal digits."""
+    return filtered(0, "?", 5).replace('"?"', name.encode().hex().upper(), 1)
+
 
 NO_FILTER = f"No filter has this name: {told(FIRST)}.\n"
 NO_CALL = f"No call of x86_64 has this name or number: {told(FIRST)}.\n"
@@ -105,8 +109,18 @@ CASES = [
     rejects(f"compile -q logs.json -o {WORD}/{WORD}", "", MISSING, f"{TOOL}{told(FIRST)}/{told(FIRST)}: "),
     rejects(f"explain {WORD}.bpf read", "", "..", f"{TOOL}{told(FIRST)}.bpf: "),
     writes(f"compile -q {WORD}.json", "", TREE),
+    # The name of a program that made a call: it writes no line of its own.
+    *[writes("explain logs.json --log -", made_by(it), f"{told(it)}[5]: log: no entry of read (0)\n") for it in NAMES],
+    writes("explain logs.json --log -", made_by("a\nroot[1]: allow"), "a\\x0aroot[1]: allow[5]: log: no entry of read (0)\n"),
     # Words that are no command.
-    *[Case(f"a{it}b", 2, "", f"error: unrecognized subcommand 'a{told(it)}b'\n..") for it in UNQUOTED],
+    *[Case(shlex.quote(f"a{it}b"), 2, "", f"error: unrecognized subcommand 'a{told(it)}b'\n..") for it in HOSTILE],
+    *[Case(f"check {shlex.quote(words)} logs.json", 2, "", said)
+      for it in "\n\r\t\u0085\u2028" for words, said in (
+          (f"--cap=a{it}b", f"error: no capability is called 'a{told(it)}b'\n.."),
+          (f"--arch=a{it}b", f"error: invalid value 'a{told(it)}b' for '--arch <ARCH>'\n.."),
+          (f"--allow=a{it}b", f"error: invalid value 'a{told(it)}b' for '--allow <CODE>'\n.."),
+          (f"--a{it}b=c", f"error: unexpected argument '--a{told(it)}b' found\n.."),
+      )],
     Case(f"{WORD}", 2, "", f"error: unrecognized subcommand '{told(FIRST)}'\n.."),
     Case(f"check --cap {WORD} logs.json", 2, "", f"error: no capability is called '{told(FIRST)}'\n.."),
     *[Case(f"{it} -a {WORD}", 2, "", f"error: invalid value '{told(FIRST)}' for '--arch <ARCH>'\n..")

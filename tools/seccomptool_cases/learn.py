@@ -187,6 +187,51 @@ MANY_UNNAMED = "".join(f"foo{it % 9}(1) = 0\n" for it in range(18)) + "getpid() 
 # Calls of other architectures, 32-bit ones of x86 among them.
 FOREIGN = filtered(5, arch="40000003") + filtered(63, arch="c00000b7") + SHORT
 
+# What strace 6.1 prints of processes that make 32-bit calls too, as in a file and on a terminal: it says when that changes, and a
+# new process goes on as the one before did. Of each how many calls are those of 32-bit programs: `getpid` is only among them.
+OF_32_BITS = """\
+3615  openat(-100, "a", 0) = 3
+3615  [ Process PID=3615 runs in 32 bit mode. ]
+3615  fork( <unfinished ...>
+3616  getppid()                         = 3615
+3616  getpid()                          = 3616
+3616  [ Process PID=3616 runs in 64 bit mode. ]
+3616  getuid()                          = 0
+3615  <... fork resumed>)               = 3616
+3616  [ Process PID=3616 runs in 32 bit mode. ]
+3616  exit(-973051480)                  = ?
+3616  +++ exited with 168 +++
+3615  --- SIGCHLD {si_signo=17, si_code=0x1, si_pid=3616, si_uid=0} ---
+3615  getpid()                          = 3612
+3615  [ Process PID=3615 runs in 64 bit mode. ]
+3615  wait4(-1, NULL, 0, NULL)          = 3616
+3617  close(3)                          = 0
+3615  [ Process PID=3615 runs in x32 mode. ]
+3615  getpid()                          = 3615
+""", 6
+SHOWN_32_BITS = """\
+openat(-100, "a", 0)                    = 3
+[ Process PID=3603 runs in 32 bit mode. ]
+fork()                                  = 3604
+[ Process PID=3603 runs in 64 bit mode. ]
+clock_nanosleep(0, 0, {tv_sec=0, tv_nsec=100000000}, strace: Process 3604 attached
+ <unfinished ...>
+[pid  3604] [ Process PID=3604 runs in 32 bit mode. ]
+[pid  3604] getpid()                    = 3604
+[pid  3604] +++ exited with 24 +++
+<... clock_nanosleep resumed>NULL)      = ? ERESTART_RESTARTBLOCK (Interrupted by signal)
+wait4(-1, NULL, 0, NULL)                = 3604
+[ Process PID=3603 runs in 32 bit mode. ]
+getpid()                                = 3603
+strace: Process 3605 attached
+[pid  3605] getpid()                    = 3605
+[pid  3603] [ Process PID=3603 runs in 64 bit mode. ]
+[pid  3603] getuid()                    = 0
+[pid  3603] +++ exited with 0 +++
+getpid()                                = 3605
++++ exited with 0 +++
+""", 5
+
 # What x86_64 has no call of, each named once: an unknown name, and numbers that no call has, one of them of x32.
 UNNAMED = "foo(1) = 0\n" + filtered(999) + "foo(2) = 0\n" + filtered(1073741824) + "syscall_0x3e7(0x1) = 0\n" + SHORT
 NO_SUCH = "x86_64 has no call of these names or numbers: foo, 999, 1073741824, syscall_0x3e7"
@@ -218,6 +263,7 @@ OF_ORIGIN = policy_of(OF_A, OF_M, filter_of(r'"z\u00e9\u000a"', [
 NAME = shlex.quote("z\u00e9\n")
 
 DENIES = '{"a":{"mismatch_action":"allow","match_action":{"errno":1},"filter":[]}}'
+LARGE_ERRNO = '{"a":{"mismatch_action":{"errno":4096},"match_action":"allow","filter":[]}}'
 ALLOWS = DENIES.replace('{"errno":1}', '"allow"')
 NOT_ALLOW = "The filter's match_action isn't allow, so it doesn't list what is allowed."
 
@@ -233,6 +279,8 @@ def paired(*entries, name="main"):
 
 # A drop-in of systemd.
 UNIT = "[Service]\nSystemCallArchitectures=native\nSystemCallFilter=\n"
+NO_ERRNO = "systemd takes errno 1 to 4095 for other calls, found {}"
+NO_CALL = "it has no call of x86_64"
 ANY = "SystemCallFilter= has no conditions, so {} is allowed with any arguments"
 
 NO_ACTION = "error: the value of --otherwise isn't kill_process, kill_thread, log, trap, errno:N or trace:N\n.."
@@ -243,8 +291,9 @@ BOTH = "error: TRACE and POLICY can't both be read from standard input\n.."
 # The calls that the C library makes by itself, as docs/LEARNING.md has them.
 TABLE = re.search(r"^\| call \| .*?\n\|---.*?\n(.*?)\n\n", (TOP / "docs/LEARNING.md").read_text(encoding="utf-8"), re.M | re.S)[1]
 RUNNABLE = sorted({name for row in TABLE.splitlines() for name in re.findall(r"`([a-z0-9_]+)`", row.split("|")[1])})
-REQUESTS = {"fcntl": [2, 3], "ioctl": [0x5401, 0x5413]}
-OTHERS = {"x86_64": {"riscv_hwprobe"}, "aarch64": {"access", "arch_prctl", "open", "readlink", "riscv_hwprobe", "stat", "time"}}
+REQUESTS = {"fcntl": [0, 2, 3], "ioctl": [0x5401, 0x5413]}
+OTHERS = {"x86_64": {"riscv_hwprobe"},
+          "aarch64": {"access", "arch_prctl", "dup2", "open", "readlink", "riscv_hwprobe", "stat", "time", "vfork"}}
 
 
 def runnable(arch="x86_64", *more):
@@ -261,7 +310,7 @@ HOSTILE_TOLD = r"a\x07\x1b[2J\x7f\xc2\x9b\xe2\x80\xae\xe2\x80\x8b"
 FILES = {
     "named.trace": NAMED, "raw.trace": RAW, "short.trace": SHORT, "other.trace": OTHER, "fronts.trace": FRONTS, "logged.log": LOGGED,
     "strange.trace": STRANGE, "one-strange.trace": ONE_STRANGE, "foreign.trace": FOREIGN, "unnamed.trace": UNNAMED, "many.trace": MANY,
-    "later.trace": LATER, "learned.bin": RECORDS, "rest.bin": RECORDS + b"12345", "origin.json": ORIGIN, "denies.json": DENIES,
+    "later.trace": LATER, "learned.bin": RECORDS, "rest.bin": RECORDS + b"12345", "origin.json": ORIGIN, "denies.json": DENIES, "large-errno.json": LARGE_ERRNO,
     "allows-all.json": ALLOWS, "picture.png": PICTURE, "paired.json": paired("clone3", "getuid", name="a").replace('"errno": 38', '"errno": 1'), "whole.json": learned("close", "fcntl", "getpid", name='"a"'),
 }
 
@@ -276,8 +325,7 @@ CASES = [
     writes("learn examples/traces/denied.log", "", learned("clone", "kexec_load")),
     writes("learn learned.bin", "", learned(*of_dword("fcntl", 1, 2), *of_dword("ioctl", 1, 2**32 - 1), "read")),
     writes("learn", RECORDS, learned(*of_dword("fcntl", 1, 2), *of_dword("ioctl", 1, 2**32 - 1), "read")),
-    writes("learn", "", learned()),
-    writes("learn", "\n\n", learned()),
+    *[noted("", learned(), NO_CALL, place=INPUT, given=it) for it in ("", "\n\n")],
     # A call is allowed with any arguments if they weren't known once.
     writes("learn", "ioctl(1, 0x5401, 0) = 0\nioctl(1, TIOCGWINSZ, {}) = 0\nioctl(1, 0x5402, 0) = 0\n", learned("ioctl")),
     writes("learn", "fcntl(3, 3) = 0\nfcntl(3, 0x3) = 0\nfcntl(4, 03) = 0\n", learned(*of_dword("fcntl", 1, 3))),
@@ -314,7 +362,7 @@ CASES = [
     # The calls by which programs start and end, beside those that the trace has.
     writes("learn --runnable short.trace", "", learned(*runnable())),
     writes("learn --runnable named.trace", "", learned(*runnable("x86_64", *re.findall(r"^[a-z_]+", NAMED, re.M)))),
-    writes("learn --runnable -a aarch64", "", learned(*runnable("aarch64"))),
+    writes("learn --runnable -a aarch64", "close(3) = 0\n", learned(*runnable("aarch64"))),
     # Arguments that are asked for: whole, or 32 bits if the trace has a negative number.
     writes("learn --args close:0 short.trace", "", learned(entry("close", (0, "qword", 1)), entry("close", (0, "qword", 2)), "getpid")),
     writes("learn --args close short.trace", "", learned(entry("close", (0, "qword", 1)), entry("close", (0, "qword", 2)), "getpid")),
@@ -377,6 +425,15 @@ CASES = [
           given=filtered(HOSTILE) + "getpid() = 1\n"),
     noted("", learned("getpid"), f"x86_64 has no call of these names or numbers: {', '.join(f'foo{it}' for it in range(5))}, and 8 calls of others",
           place=INPUT, given=MANY_UNNAMED),
+    noted("", learned("close", "getuid", "openat", "wait4"), f"{OF_32_BITS[1]} calls are of other architectures", place=INPUT, given=OF_32_BITS[0]),
+    noted("--strict", learned("clock_nanosleep", "getuid", "openat", "wait4"), f"{SHOWN_32_BITS[1]} calls are of other architectures",
+          place=INPUT, given=SHOWN_32_BITS[0]),
+    noted("-", learned("close", "getpid"), "1 call is of another architecture", place=INPUT,
+          given=SHORT + "[ Process PID=7 runs in 32 bit mode. ]\nopen(0, 0) = 3\n"),
+    # Traces without a call.
+    noted("empty", learned(), "empty: " + NO_CALL),
+    noted("--strict short.trace -", learned("close", "getpid"), NO_CALL, place=INPUT, given="+++ exited with 0 +++\n"),
+    noted("-a aarch64", learned(), "aarch64 has no call of these names or numbers: open", "it has no call of aarch64", place=INPUT, given="open(0) = 3\n"),
     # Notes in their order.
     noted("--values 0x2", learned("close", "getpid", "ioctl"), "line 1 isn't understood: hello", "2 calls are of other architectures",
           NO_SUCH, MORE.format("ioctl", 2), place=INPUT,
@@ -386,8 +443,8 @@ CASES = [
     writes(f"learn --name={NAME} --into=- later.trace", ORIGIN, OF_ORIGIN),
     writes(f"learn --into origin.json --name {NAME}", LATER, OF_ORIGIN),
     writes("learn --into whole.json raw.trace", "", learned("close", "fcntl", "getpid", *OTHERS_OF_RAW, name='"a"')),
-    writes("learn --into whole.json -", "", learned("close", "fcntl", "getpid", name='"a"')),
-    writes("learn --into whole.json --name a --runnable empty", "", learned(*runnable("x86_64", "fcntl"), name='"a"')),
+    noted("--into whole.json -", learned("close", "fcntl", "getpid", name='"a"'), NO_CALL, place=INPUT),
+    noted("--into whole.json --name a --runnable empty", learned(*runnable("x86_64", "fcntl"), name='"a"'), "empty: " + NO_CALL),
     # It is the same again, and in either order.
     Case(f"learn --into origin.json --name {NAME} later.trace | ./seccomptool learn --into - --name {NAME} later.trace", 0, OF_ORIGIN, ""),
     Case("learn raw.trace | ./seccomptool learn --into - raw.trace", 0, OF_RAW, ""),
@@ -413,23 +470,26 @@ CASES = [
     Case("learn --runnable --old-clone short.trace | ./seccomptool check --deny-warnings", 0, "", ""),
     # As a drop-in of systemd, which holds names alone.
     writes("learn --unit short.trace", "", UNIT + "SystemCallFilter=close getpid\n"),
-    writes("learn --unit", "", UNIT),
+    noted("--unit", UNIT, NO_CALL, place=INPUT),
     writes("learn --unit --otherwise errno:1 short.trace", "", UNIT + "SystemCallFilter=close getpid\nSystemCallErrorNumber=EPERM\n"),
     writes("learn --unit --otherwise errno:4000 short.trace", "", UNIT + "SystemCallFilter=close getpid\nSystemCallErrorNumber=4000\n"),
+    writes("learn --unit --otherwise errno:4095 short.trace", "", UNIT + "SystemCallFilter=close getpid\nSystemCallErrorNumber=4095\n"),
+    *[fails(f"--unit --otherwise errno:{it} short.trace", NO_ERRNO.format(it)) for it in (0, 4096, 9999, 65535)],
+    fails("--unit --into large-errno.json short.trace", "large-errno.json: " + NO_ERRNO.format(4096)),
     *[noted(f"--unit --otherwise {it} short.trace", UNIT + "SystemCallFilter=close getpid\n",
-            f"short.trace: systemd has no {it.partition(':')[0] if it != 'errno:0' else it} for other calls, so they kill")
-      for it in ("log", "trap", "kill_thread", "trace:7", "errno:0")],
+            f"short.trace: systemd has no {it.partition(':')[0]} for other calls, so they kill")
+      for it in ("log", "trap", "kill_thread", "trace:7")],
     noted("--unit raw.trace", UNIT + "SystemCallFilter=close fcntl ioctl prctl socket\n",
           *["raw.trace: " + ANY.format(it) for it in ("fcntl", "ioctl", "prctl", "socket")]),
     # As a profile, which decides the same.
     writes("learn --profile raw.trace", "", OF_RAW_AS_PROFILE),
-    writes("learn --profile", "", profile_of('"SCMP_ACT_KILL_PROCESS"', "X86_64")),
+    noted("--profile", profile_of('"SCMP_ACT_KILL_PROCESS"', "X86_64"), NO_CALL, place=INPUT),
     writes("learn --profile --otherwise errno:38 -a aarch64", "fcntl(1, 1) = 0\n", profile_of(
         '"SCMP_ACT_ERRNO",\n    "defaultErrnoRet": 38', "AARCH64", entries=[of_profile("fcntl", [(1, 1)])])),
     writes("learn --profile --otherwise trace:7 -a riscv64 --args close", "close(5) = 0\nread(0) = 0\ngetpid() = 1\n", profile_of(
         '"SCMP_ACT_TRACE",\n    "defaultErrnoRet": 7', "RISCV64", ["getpid", "read"],
         ['{ "names": ["close"], "action": "SCMP_ACT_ALLOW", "args": [{ "index": 0, "value": 5, "op": "SCMP_CMP_EQ" }] }'])),
-    *[Case(f"learn --profile --otherwise {it} | ./seccomptool explain --oci - read", 0, f"{it}: defaultAction of read (0)\n", "")
+    *[Case(f"learn --profile --otherwise {it} short.trace | ./seccomptool explain --oci - read", 0, f"{it}: defaultAction of read (0)\n", "")
       for it in ("kill_process", "kill_thread", "trap", "log")],
     Case("learn --profile raw.trace | ./seccomptool explain - fcntl 9 3", 0, "allow: syscalls[2] of fcntl (72)\n", ""),
     Case("learn --profile raw.trace | ./seccomptool explain - fcntl 9 0x100000003", 0, "allow: syscalls[2] of fcntl (72)\n", ""),
@@ -473,7 +533,7 @@ CASES = [
     misused("--old-clone --unit short.trace", "error: .."),
     misused("--profile --name a short.trace", "error: the argument '--profile' cannot be used with '--name <NAME>'\n.."),
     *[misused(f"--otherwise={it} short.trace", NO_ACTION) for it in (
-        "allow", "deny", "errno", "errno:", "errno:a", "errno:-1", "errno:4294967296", "trace", "log:1", "Log", "errno 1", "1", "''")],
+        "allow", "deny", "errno", "errno:", "errno:a", "errno:-1", "errno:65536", "trace", "log:1", "Log", "errno 1", "1", "''")],
     *[misused(f"--args={it} short.trace", NO_ARGS) for it in (
         "close:6", "close:", "close:a", "close:1,", "close:,1", "close:1,,2", "close:-1", "close:256", "close:0,6")],
     *[misused(f"--values={it} short.trace", NO_VALUES) for it in ("", "-1", "ten", "18446744073709551616", "0x", "1.0")],

@@ -179,7 +179,7 @@ def compare_profiles(results, run):
 
 
 # A line of `diff`: a call or a range, both actions, which one permits more, and an example.
-LINE = re.compile(r"  (?:(?:other|x32) calls \d+ to \d+|\w+): ([\w ()]+) -> ([\w ()]+), (more|less|otherwise): (\w+)\((.+)\)")
+LINE = re.compile(r"  (?:(?:other|x32) calls? \d+(?: to \d+)?|\w+)(?:, some calls)?: ([\w ()]+) -> ([\w ()]+), (more|less|otherwise): (\w+)\((.+)\)")
 
 
 def is_example(line, words, old, new, numbers):

@@ -18,8 +18,9 @@ def beside(name, before, words, then, status=0, output="", told=""):
 
 
 CASES = [
-    # `-` is standard output.
-    writes("compile -q logs.json -o -", "", TREE),
+    # `-` is standard output, and so is its device, whatever it leads to.
+    *[writes(f"compile -q logs.json -o {output}", "", TREE) for output in ("-", "/dev/stdout", "/dev/fd/1")],
+    beside("appended", "", "read.json -o /dev/stdout >> older", "wc -c < older", 0, f"{len('older') + 1 + len(TREE)}\n"),
     rejects("compile -q logs.json --output=- > /dev/full", "", FULL, OUTPUT),
     # A file is replaced whole and keeps its permissions, also if a link leads to it, and nothing is left beside it.
     beside("replaced", "chmod 640 older &&", "read.json -o older", "stat -c %a older; ls", 0, "640\nolder\nread.json\n"),
@@ -28,6 +29,14 @@ CASES = [
            f"newer\n{len(TREE)}\nlink\nnewer\nolder\nread.json\n"),
     beside("astray", "ln -s missing/newer link &&", "read.json -o link", "readlink link; ls -A", 2, "missing/newer\nlink\nolder\nread.json\n",
            TOOL + "link: " + MISSING),
+    # A pipe is written to, by its name or a descriptor, and so is a file that has no name any more, or that somebody holds open.
+    beside("piped", "mkfifo pipe && { wc -c < pipe & } &&", "read.json -o pipe", "wait; ls", 0, f"{len(TREE)}\nolder\npipe\nread.json\n"),
+    *[writes(f"compile -q logs.json -o {output} 3>&1 > /dev/null", "", TREE) for output in ("/dev/fd/3", "/proc/self/fd/3")],
+    beside("nameless", "exec 3> gone && rm gone &&", "read.json -o /dev/fd/3", "wc -c < /dev/fd/3; ls", 0, f"{len(TREE)}\nolder\nread.json\n"),
+    beside("nameless-linked", "exec 3> gone && rm gone && ln -s /proc/self/fd/3 link &&", "read.json -o link", "wc -c < /dev/fd/3; ls", 0,
+           f"{len(TREE)}\nlink\nolder\nread.json\n"),
+    beside("held", "exec 3< older &&", "read.json -o /dev/fd/3", "wc -c <&3; wc -c < older; ls -A", 0,
+           f"{len(TREE)}\n{len(TREE)}\nolder\nread.json\n"),
     # What runs that were killed have left doesn't keep others from writing, and a name may be as long as any.
     beside("taken", "touch $(seq -f .seccomptool-%g.new 0 149) &&", "read.json -o older", "ls; ls -A | wc -l; wc -c < older", 0,
            f"older\nread.json\n152\n{len(TREE)}\n"),
@@ -50,6 +59,7 @@ CASES = [
     *[beside(f"own-input-{number}", "ln read.json other && ln -s read.json link &&", f"- -o {output} < {given}", "cmp read.json ../read.json; ls", 2,
              "link\nolder\nother\nread.json\n", TOOL + f"{output}: " + ONTO)
       for number, (given, output) in enumerate([("read.json", "read.json"), ("read.json", "other"), ("other", "link")])],
+    beside("held-input", "exec 3< read.json &&", "read.json -o /dev/fd/3", "cmp read.json ../read.json", 2, "", TOOL + "/dev/fd/3: " + ONTO),
     beside("hard-link", "ln read.json other &&", "read.json -o other", "cmp read.json ../read.json", 2, "", TOOL + "other: " + ONTO),
     # So is a record.
     Case("call --record -o made.bin read && ./seccomptool call --record read | cmp -s - made.bin; status=$?; rm made.bin; (exit $status)", 0, "", ""),

@@ -1,10 +1,11 @@
 """What `stats` has to do of profiles as they are: the length and the steps of the one program, and the faults.
 
-The numbers of the cases are counted by hand, and those of all other profiles by a walk over the instructions that
-`compile` writes, as `struct sock_filter` and linux/bpf_common.h have them.
+The numbers of the cases are counted by hand, and those of all other profiles, and of the policies of `examples/`, by a walk over
+the instructions that `compile` writes, as `struct sock_filter` and linux/bpf_common.h have them.
 """
 
 import json
+import pathlib
 
 from model import ARCHITECTURES, JUMP, RETURN, TESTS, instructions_of, numbers_of, record_of, run as run_on
 
@@ -28,11 +29,11 @@ def most_steps(program):
     return ways_behind[0]
 
 
-def measured(words, written):
+def measured(words, written, what="profile"):
     """Returns the line of the numbers of a program in bytes, by a walk over its instructions."""
     program = instructions_of(written)
     _, passing = run_on(program, numbers_of(record_of(2**32 - 1, ARCHITECTURES[arch_of(words)])))
-    return f"profile: {len(written) // 8} instructions, at most {most_steps(program)} steps, {passing} passing\n"
+    return f"{what}: {len(written) // 8} instructions, at most {most_steps(program)} steps, {passing} passing\n"
 
 
 def compare_measures(results, run):
@@ -43,6 +44,19 @@ def compare_measures(results, run):
         wanted = measured(words, written.encode("utf-8", "surrogateescape")) if status == 0 else ""
         for asked in ways("show --stats", f"{words} {file}"):
             results.compare(asked, (0, wanted, ""), run(asked, ""))
+
+
+def compare_policies(results, run):
+    """Compares the numbers of each filter of the policies of `examples/` with those of a walk over what `compile` writes."""
+    top = pathlib.Path(__file__).resolve().parent.parent.parent
+    for path in sorted(top.glob("examples/*-policy.json")):
+        wanted = ""
+        for name in sorted(json.loads(path.read_text(encoding="utf-8"))):
+            wanted += f"filter {name}\n"
+            for layout in ("linear", "tree"):
+                _, written, _ = run(f"compile -q -f '{name}' --layout {layout} examples/{path.name}", "")
+                wanted += measured("", written.encode("utf-8", "surrogateescape"), layout)
+        results.compare(f"show --stats {path.name}", (0, wanted, ""), run(f"show --stats examples/{path.name}", ""))
 
 
 def line(length, most, passing):

@@ -8,8 +8,8 @@ from .diff import policy
 from .forms import CLOSED, FOLDER, FULL, LOGS, MISSING, NO_OBJECT, OUTPUT, RESET, TOOL, Case, Command, Failing
 from .programs import ALLOW, ERRNO_1, JUMP_AT_LEAST, JUMP_EQUAL, JUMP_IF_SET, LOAD, MASK, UNFIT, program, returns
 
-# Return values (linux/seccomp.h), and the bit of x32 numbers.
-KILL_PROCESS, KILL_THREAD, LOG, TRAP, X32 = 0x80000000, 0, 0x7FFC0000, 0x00030000, 0x40000000
+# Return values (linux/seccomp.h), the bit of x32 numbers, and the `AUDIT_ARCH_*` value of i386 (linux/audit.h).
+KILL_PROCESS, KILL_THREAD, LOG, TRAP, X32, I386 = 0x80000000, 0, 0x7FFC0000, 0x00030000, 0x40000000, 0x40000003
 
 
 def guarded(*instructions, arch=X86_64, other=KILL_PROCESS):
@@ -41,6 +41,17 @@ PROGRAMS = {
     "reads-odd.bpf": guarded((JUMP_EQUAL, 0, 4, 0), (LOAD, 0, 0, 16), (MASK, 0, 0, 1), (JUMP_EQUAL, 0, 1, 1), returns(ALLOW), returns(LOG)),
     "reads-from-5.bpf": guarded((JUMP_EQUAL, 0, 3, 0), (LOAD, 0, 0, 12), (JUMP_EQUAL, 0, 1, 5), returns(ALLOW), returns(LOG)),
     "errno-1.bpf": guarded(returns(ERRNO_1)),
+    # Numbers from 400 on, some of which have names, fail. So do those of x32 from one on, and then single ones, or every second one.
+    "errno-from-400.bpf": guarded((JUMP_AT_LEAST, 0, 1, 400), returns(ERRNO_1), returns(LOG)),
+    "errno-x32.bpf": guarded((JUMP_AT_LEAST, 0, 1, X32 + 9), returns(ERRNO_1), returns(LOG)),
+    "errno-in-x32.bpf": guarded(*(it for k in (2, 5, 6, 8, 11, 13) for it in ((JUMP_EQUAL, 0, 1, X32 + k), returns(ERRNO_1))), returns(LOG)),
+    "errno-odd.bpf": guarded((JUMP_AT_LEAST, 0, 3, 336), (MASK, 0, 0, 1), (JUMP_EQUAL, 0, 1, 1), returns(ERRNO_1), returns(LOG)),
+    # i386 may call `write` (4), and no other architecture may call anything.
+    "i386.bpf": program((LOAD, 0, 0, 4), (JUMP_EQUAL, 0, 3, I386), (LOAD, 0, 0, 0), (JUMP_EQUAL, 0, 1, 4), returns(ALLOW),
+                        (LOAD, 0, 0, 4), (JUMP_EQUAL, 1, 0, X86_64), returns(KILL_PROCESS), returns(LOG)),
+    # i386 and riscv64 may call anything.
+    "i386-and-riscv64.bpf": program((LOAD, 0, 0, 4), (JUMP_EQUAL, 3, 0, I386), (JUMP_EQUAL, 2, 0, RISCV64),
+                                    (JUMP_EQUAL, 2, 0, X86_64), returns(KILL_PROCESS), returns(ALLOW), returns(LOG)),
 }
 FILES = {"errno-2-only.json": policy("", default='{"errno":2}'), **PROGRAMS}
 
@@ -55,6 +66,9 @@ OTHERS_MORE = OTHERS + "more permissive\n"
 READS = "  read: log -> allow, more: read" + NONE
 NO_LONGER_READS = "  read: allow -> log, less: read" + NONE
 WRITES = "  write: log -> allow, more: write" + NONE
+
+# A change of calls that were logged and fail.
+FAILS = "log -> errno 1 (EPERM), less"
 
 # The other architectures, in two parts.
 BELOW, ABOVE = "  other architectures 0x0 to 0xc000003d: ", "  other architectures 0xc000003f to 0xffffffff: "
@@ -97,21 +111,41 @@ CASES = [
     differs("allows-read.json reads-from-5.bpf", DIFFERENT + NO_LONGER_READS[:-1] + " at 0x0\n" + OTHERS_SAME),
     # The high half of an argument that is compared as `dword` doesn't count.
     same("allows-read-of-5.json reads-5.bpf", SAME + OTHERS_SAME),
-    # x32 numbers are a range of their own, after the calls and the other numbers without a name.
+    # x32 numbers are a range of their own.
     differs("allows-read.json reads-x32.bpf",
             DIFFERENT + "  x32 calls 1073741824 to 4294967295: log -> trap, less: 1073741824" + NONE + OTHERS_SAME),
     differs("allows-read.json reads-no-x32.bpf",
-            DIFFERENT + "  x32 calls 1073741824 to 4294967295: log -> trap, less: 1073741824" + NONE + OTHERS_SAME),
+            DIFFERENT + f"  x32 calls 1073741824 to 2147483647: log -> trap, less: 1073741824{NONE}"
+            + f"  x32 calls 3221225472 to 4294967295: log -> trap, less: 3221225472{NONE}" + OTHERS_SAME),
     differs("reads-no-x32.bpf reads-x32.bpf",
-            "program: different\n  x32 calls 1073741824 to 4294967295: log -> trap, less: 2147483648" + NONE + OTHERS_SAME),
+            "program: different\n  x32 calls 2147483648 to 3221225471: log -> trap, less: 2147483648" + NONE + OTHERS_SAME),
+    # A range is cut where what is decided changes, and its pieces stand in the order of numbers, as calls with a name do.
+    differs("logs.json errno-from-400.bpf",
+            DIFFERENT + f"  other calls 400 to 423: {FAILS}: 400{NONE}"
+            + f"  39 calls: {FAILS}: cachestat clone3 close_range epoll_pwait2 .. (--each names them)\n"
+            + f"  other calls 463 to 1073741823: {FAILS}: 463{NONE}  x32 calls 1073741824 to 4294967295: {FAILS}: 1073741824{NONE}" + OTHERS_SAME),
+    differs("logs.json errno-x32.bpf", DIFFERENT + f"  x32 calls 1073741833 to 4294967295: {FAILS}: 1073741833{NONE}" + OTHERS_SAME),
+    # More than four ranges that change alike have one line. With `--each` each has one, and single numbers are no range.
+    differs("logs.json errno-in-x32.bpf",
+            DIFFERENT + f"  5 ranges of x32 calls: {FAILS}: 1073741826 1073741829-1073741830 1073741832 .. (--each names them)\n" + OTHERS_SAME),
+    differs("--each logs.json errno-in-x32.bpf",
+            DIFFERENT + f"  x32 call 1073741826: {FAILS}: 1073741826{NONE}  x32 calls 1073741829 to 1073741830: {FAILS}: 1073741829{NONE}.."),
+    # What isn't decided alike for all calls of a range is said of some.
+    differs("logs.json errno-odd.bpf", DIFFERENT + f"  other calls 337 to 423, some calls: {FAILS}: 337{NONE}.."),
+    # So it is for architectures, of which some are told by their names.
+    same("logs.json i386.bpf", SAME + OTHERS_DIFFER + f"  i386, some calls: kill_process -> allow, more: 0x40000003 4{NONE}"),
+    same("logs.json i386-and-riscv64.bpf", SAME + OTHERS_DIFFER + f"  i386: kill_process -> allow, more: 0x40000003 0{NONE}"
+         f"  riscv64: kill_process -> allow, more: 0xc00000f3 0{NONE}"),
+    same("i386-and-riscv64.bpf i386.bpf", "program: same\n" + OTHERS_DIFFER + f"  i386, some calls: allow -> kill_process, less: 0x40000003 0{NONE}"
+         f"  riscv64: allow -> kill_process, less: 0xc00000f3 0{NONE}"),
     same("reads-no-x32.bpf reads-no-x32.bpf", "program: same\n" + OTHERS_SAME),
     # Other architectures are told, and count with `--all` alone.
     same("allows-read.json reads-kills-thread.bpf", SAME + OTHERS_DIFFER + others("kill_process -> kill_thread, more")),
     differs("--all allows-read.json reads-kills-thread.bpf", SAME + OTHERS_DIFFER + others("kill_process -> kill_thread, more")),
     same("allows-read.json reads-other-kills.bpf", SAME + OTHERS_DIFFER + others("kill_process -> 0x80000001, otherwise")),
     same("--all --only-more allows-read.json reads-other-kills.bpf", NO_MORE + OTHERS_NO_MORE),
-    same("--only-more allows-read.json reads-anywhere.bpf", NO_MORE + OTHERS_MORE + BELOW + "kill_process -> .."),
-    differs("--only-more allows-read.json reads-anywhere.bpf --all", NO_MORE + OTHERS_MORE + BELOW + "kill_process -> .."),
+    same("--only-more allows-read.json reads-anywhere.bpf", NO_MORE + OTHERS_MORE + BELOW.replace(": ", ", some calls: kill_process -> ..")),
+    differs("--only-more allows-read.json reads-anywhere.bpf --all", NO_MORE + OTHERS_MORE + BELOW.replace(": ", ", some calls: kill_process -> ..")),
     # Of another architecture's program nothing is right.
     same("-a riscv64 --only-more allows-read.json reads-riscv64.bpf", NO_MORE + OTHERS_NO_MORE),
     differs("-a riscv64 allows-read.json reads.bpf", "filter a: different\n.."),

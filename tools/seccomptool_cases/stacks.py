@@ -3,6 +3,7 @@ several programs the kernel takes the one whose upper half is least as a signed 
 installed last (kernel/seccomp.c, seccomp_run_filters)."""
 
 import itertools
+import json
 import struct
 
 from model import X86_64, record_of
@@ -13,7 +14,7 @@ from .programs import ACTIONS, ALLOW, ERRNO_1, JUMP, JUMP_EQUAL, LOAD, MASK, OF_
 
 KILL_PROCESS, KILL_THREAD, TRAP, LOG, TRACE = 0x80000000, 0, 0x00030000, 0x7FFC0000, 0x7FF00007
 
-FIT = "The program of all needs {} instructions; 4096 fit.\n"
+FIT = "The program of all needs {} instructions; 4096 fit. explain --after says what they decide together.\n"
 
 
 def signed(word):
@@ -45,6 +46,10 @@ LENGTHS = {f"long-{length}.bpf": program(*[(LOAD, 0, 0, 0)] * (length - 1), retu
 FILES = {
     **{name: by_number(*words) for name, words in ANSWERS.items()},
     **LENGTHS,
+    "a-and-b.json": json.dumps({
+        name: {"mismatch_action": "allow", "match_action": action, "filter": [{"syscall": call}]}
+        for name, action, call in (("a", "trap", "read"), ("b", {"errno": 1}, "write"))
+    }),
     "three-calls.bin": b"".join(record_of(number, X86_64) for number in range(3)),
 }
 
@@ -86,6 +91,13 @@ def explained(names):
     ]
 
 
+def decided(word, path, steps):
+    """Returns the JSON answer that `read` gets this word by the layer of this path, after so many steps of all."""
+    return as_list("decisions", [{
+        "action": {"name": TOLD[word], "number": None, "value": word}, "call": "read", "number": 0, "reason": "layer", "path": path,
+        "entry": None, "condition": None, "steps": steps, "program": None, "process": None}])
+
+
 CASES = [
     # Of two programs that return one word each.
     *[writes(f"stack {named(one)} {named(other)}", "", one_word(prevailing([one, other]))) for one, other in itertools.product(ACTIONS, ACTIONS)],
@@ -105,13 +117,15 @@ CASES = [
     writes("stack --format c read.bpf | ./seccomptool stack - bit.bpf", "", READ_AND_BIT),
     # Which of several decides, of any kind: the steps are those of all.
     writes("explain --after read.bpf logs.json write", "", "errno 1 (EPERM): read.bpf of write (1)\n"),
-    writes("explain --after two-filters.json:a logs.json -f a read", "", "log: logs.json of read (0)\n"),
+    # A filter that is asked for is named behind the path, also if both are of one file.
+    writes("explain --after two-filters.json:a logs.json -f a read", "", "log: logs.json:a of read (0)\n"),
+    writes("explain --after a-and-b.json:a -f b a-and-b.json read", "", "trap: a-and-b.json:a of read (0)\n"),
+    writes("explain --after a-and-b.json:a -f b a-and-b.json write", "", "errno 1 (EPERM): a-and-b.json:b of write (1)\n"),
     writes("explain --after - returns-0.bpf read", OF_READ, "kill_thread: returns-0.bpf of read (0)\n"),
     writes("explain -a riscv64 --after returns-0.bpf read.bpf --records calls.bin", "",
-           "kill_thread: another architecture\n" * 2 + "kill_thread: returns-0.bpf of io_setup (0)\n"),
-    writes("explain --json --after read.bpf returns-7ffc0000.bpf read", "", as_list("decisions", [{
-        "action": {"name": "log", "number": None, "value": LOG}, "call": "read", "number": 0, "reason": "layer",
-        "path": "returns-7ffc0000.bpf", "entry": None, "condition": None, "steps": 4, "program": None, "process": None}])),
+           "kill_thread: returns-0.bpf of another architecture\n" * 2 + "kill_thread: returns-0.bpf of io_setup (0)\n"),
+    writes("explain --json --after read.bpf returns-7ffc0000.bpf read", "", decided(LOG, "returns-7ffc0000.bpf", 4)),
+    writes("explain --json --after logs.json:a returns-7fff0000.bpf read", "", decided(LOG, "logs.json:a", 3 + 1)),
     Case("explain --after - returns-0.bpf", 2, "", "error: SUBJECT and records can't both be read from standard input: ..", OF_READ),
     Case("explain --after - returns-0.bpf --records -", 2, "", "error: SUBJECT and records can't both be read from standard input: ..", OF_READ),
     rejects("explain --after missing.bpf read.bpf read", "", MISSING, TOOL + "missing.bpf: "),

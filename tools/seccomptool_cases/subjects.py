@@ -2,9 +2,11 @@
 
 import json
 
+from .compile import TREE, TWO
 from .compiled_profiles import entry, profile
 from .diff import READS
-from .forms import INPUT, LOGS, TOOL, Case, rejects, writes
+from .explain import EXAMPLE_LINES
+from .forms import INPUT, LOGS, MISSING, TOOL, Case, rejects, writes
 from .program_diffs import OTHERS_SAME, guarded
 from .programs import returns
 
@@ -14,7 +16,11 @@ LOG = 0x7FFC0000
 # (`reads.bpf`). And all is logged.
 LOGGED, LOGS_READ = profile(default="SCMP_ACT_LOG"), profile(entry("read"), default="SCMP_ACT_LOG")
 
-FILES = {"logs-profile.json": json.dumps(LOGGED), "logs-read-profile.json": json.dumps(LOGS_READ), "logs-all.bpf": guarded(returns(LOG))}
+FILES = {"logs-profile.json": json.dumps(LOGGED), "logs-read-profile.json": json.dumps(LOGS_READ), "logs-all.bpf": guarded(returns(LOG)),
+         "named": "{", "named:a": LOGS}
+
+# What is measured of a filter without entries, by the name `a`.
+A_STATS = "filter a\nlinear: 4 instructions, at most 3 steps, 3 passing\ntree: 4 instructions, at most 3 steps, 3 passing\n"
 
 POLICIES = ("logs.json", "allows-read.json")
 PROFILES = ("logs-profile.json", "logs-read-profile.json")
@@ -22,11 +28,11 @@ PROGRAMS = ("logs-all.bpf", "reads.bpf")
 
 
 def x32_line(olds, news):
-    """Returns the line of x32 numbers, on which a profile kills the thread, if one of both sides is a profile."""
+    """Returns the line of x32 numbers, on each but the last of which a profile kills the thread, if one of both sides is a profile."""
     if (olds is PROFILES) == (news is PROFILES):
         return ""
     change = "kill_thread -> log, more" if olds is PROFILES else "log -> kill_thread, less"
-    return f"  x32 calls 1073741824 to 4294967295: {change}: {2**30}(0x0, 0x0, 0x0, 0x0, 0x0, 0x0)\n"
+    return f"  x32 calls 1073741824 to 4294967294: {change}: {2**30}(0x0, 0x0, 0x0, 0x0, 0x0, 0x0)\n"
 
 
 def compares(olds, news, title):
@@ -60,9 +66,29 @@ CASES = [
     *[unnamed(f"explain -f a {file} read", file) for file in (PROFILES[0], PROGRAMS[0])],
     *[unnamed(f"diff {file}:a {file}", file) for file in (PROFILES[0], PROGRAMS[0])],
     unnamed(f"diff logs.json {PROGRAMS[0]}:a", PROGRAMS[0]),
+    *[unnamed(words, file) for file in (PROFILES[0], PROGRAMS[0]) for words in (
+        f"compile {file}:a", f"show {file}:a", f"show --stats {file}:a", f"explain {file}:a read")],
+    # The name of a filter behind the file, by each command that takes one; and not twice.
+    writes("compile -q two-filters.json:a", "", TREE),
+    writes("compile -q -- -:a", TWO, TREE),
+    writes("show --stats two-filters.json:a", "", A_STATS),
+    writes("explain two-filters.json:a read", "", "log: no entry of read (0)\n"),
+    writes("explain --records examples/records.bin two-filters.json:a", "", EXAMPLE_LINES),
+    rejects("compile two-filters.json:c", "", "No filter has this name: c.\n", TOOL + "two-filters.json: "),
+    rejects("explain missing.json:a read", "", MISSING, TOOL + "missing.json: "),
+    *[Case(f"{words} -f a", 2, "", "error: the filter is named twice: behind SUBJECT and by --filter\n..")
+      for words in ("compile two-filters.json:a", "show two-filters.json:a", "explain two-filters.json:a read")],
+    *[Case(f"explain {words}", 2, "", "error: SUBJECT and records can't both be read from standard input: ..", LOGS)
+      for words in ("-- -:a", "--after=-:a logs.json")],
+    # A file that has the whole name comes first; with one more colon the name is the file's in any case.
+    *[writes(f"{command} {file}", "", TREE) for command in ("compile -q", "stack") for file in ("named:a", "named:a:", "named:a:a")],
+    writes("compile -q named:a -f a", "", TREE),
+    writes("show --stats named:a", "", A_STATS),
+    writes("explain named:a read", "", "log: no entry of read (0)\n"),
+    writes("explain --after named:a logs.json read", "", "log: logs.json of read (0)\n"),
+    writes("diff -q named:a named:a:a", "", "filter a: same\n"),
     # One filter of several, by each command.
-    writes("show -f a two-filters.json --stats", "", "filter a\nlinear: 4 instructions, at most 3 steps, 3 passing\n"
-           "tree: 4 instructions, at most 3 steps, 3 passing\n"),
+    writes("show -f a two-filters.json --stats", "", A_STATS),
     rejects("show -f b logs.json", "", "No filter has this name: b.\n", TOOL + "logs.json: "),
     rejects("show --stats -f b logs.json", "", "No filter has this name: b.\n", TOOL + "logs.json: "),
     # A profile's program, for people.

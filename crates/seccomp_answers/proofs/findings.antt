@@ -1,6 +1,6 @@
 -- Lemmas for the functions of `findings`.
 pub mod Names
-pub mod Found
+pub mod CutParts
 pub mod Covered
 pub mod Ending
 pub mod Decided

@@ -86,7 +86,7 @@ pub record IsPairOf (target : TargetArch) (relation : Relation) (old_side new_si
   pub of_old : IsRuling target old_side old
   pub of_new : IsRuling target new_side new
   pub own : AreFindingsOf target relation new old pair.own.items
-  pub others : AreFoundElsewhere target relation new old pair.others
+  pub others : AreFoundElsewhere target relation new old pair.others.items
 
 -- ---- both
 
@@ -128,4 +128,4 @@ verdict_all (named ∷ all) = worse (verdict_found named.found) (verdict_all all
 abbrev pub verdict_in : Scope → Diff → Verdict
 verdict_in counted (ByName all) = verdict_all all.items
 verdict_in scope.Named (OfPair pair) = verdict_of pair.own.items
-verdict_in scope.All (OfPair pair) = worse (verdict_of pair.own.items) (verdict_of pair.others)
+verdict_in scope.All (OfPair pair) = worse (verdict_of pair.own.items) (verdict_of pair.others.items)

@@ -1,6 +1,7 @@
 -- The sets of calls that a comparison of two programs goes through, what it finds on each, and its verdict.
 use Rattle.std.specs.Prelude.{◌≡◌, ◌≢◌, ℕ, pos, ◌+◌, ◌-◌, ◌^◌, ◌<◌, ◌≤◌, ◌⊎◌, List, [], ◌∷◌, ◌++◌, map, All, Option, Some, None}
 use Rattle.std.specs.Prelude.{if◌then◌else◌, Bool, true, false, IsTrue}
+use Rattle.std.specs.List.{filter}
 use Rattle.std.specs.Ordering.{int_eq}
 use Rattle.seccompiler.specs.declared.backend.TargetArch.{TargetArch}
 use Rattle.seccomp_compare.specs.declared.Relation.{Relation}
@@ -68,11 +69,27 @@ IsFound target relation Words part (Fails call old new throughout) = IsInPart ta
     × (Related relation new old → ⊥) × (IsTrue throughout → (r : List ℕ) → IsInPart target part r → Words r new old)
 IsFound target relation Words part (Undecided call old_place new_place) = IsInPart target part call
 
--- These are found on these parts, one on each.
-pub record AreFoundOn (target : TargetArch) (relation : Relation) (Words : List ℕ → ℕ → ℕ → Type 0) (parts : List Part)
-    (findings : List Finding) : Type 0 where
-  pub parts_are : map (λ (f : Finding). f.part) findings ≡ parts
-  pub each : All (λ (f : Finding). IsFound target relation Words f.part f.answer) findings
+-- The range is cut into these two, of which both have some of its numbers.
+abbrev pub IsCutInto : (whole front back : Part) → Type 0
+IsCutInto (Named number) front back = ⊥
+IsCutInto (Unnamed least greatest) front back = (border : ℕ) × (least < border) × (border ≤ greatest)
+    × (front ≡ Unnamed least (border - 1)) × (back ≡ Unnamed border greatest)
+IsCutInto (Elsewhere least greatest) front back = (border : ℕ) × (least < border) × (border ≤ greatest)
+    × (front ≡ Elsewhere least (border - 1)) × (back ≡ Elsewhere border greatest)
+
+-- The pieces are these parts, in order, each of them whole, or cut once or more often.
+pub data AreCut : (parts pieces : List Part) → Type 0 where
+  nothing : {parts pieces : List Part} → parts ≡ [] → pieces ≡ [] → AreCut parts pieces
+  whole : {parts pieces more others : List Part} {part : Part} → AreCut more others
+      → parts ≡ part ∷ more → pieces ≡ part ∷ others → AreCut parts pieces
+  cut : {parts pieces more others : List Part} {part front back : Part} → IsCutInto part front back → AreCut (back ∷ more) others
+      → parts ≡ part ∷ more → pieces ≡ front ∷ others → AreCut parts pieces
+
+-- These are found on the pieces of these parts, one on each.
+pub record AreAllFound (target : TargetArch) (relation : Relation) (Words : List ℕ → ℕ → ℕ → Type 0) (parts : List Part)
+    (all : List Finding) : Type 0 where
+  pub pieces : AreCut parts (map (λ (f : Finding). f.part) all)
+  pub each : All (λ (f : Finding). IsFound target relation Words f.part f.answer) all
 
 -- A finding is kept if the relation doesn't hold on its part, or nothing is known.
 abbrev pub is_kept : Finding → Bool
@@ -82,11 +99,12 @@ is_kept f = by f.answer
     by Holds = false
     by other = true
 
--- These are found on the parts of all calls of an architecture.
-pub record AreFindings (target : TargetArch) (relation : Relation) (Words : List ℕ → ℕ → ℕ
-    → Type 0) (findings : List Finding) : Type 0 where
-  pub parts : ArePartsBelow (table_of target) (map (λ (f : Finding). f.part) findings) (2 ^ 32)
-  pub each : All (λ (f : Finding). IsFound target relation Words f.part f.answer) findings
+-- These are kept of all that is found on the pieces of these parts.
+pub record AreFoundOn (target : TargetArch) (relation : Relation) (Words : List ℕ → ℕ → ℕ → Type 0) (parts : List Part)
+    (findings : List Finding) : Type 0 where
+  pub all : List Finding
+  pub are : AreAllFound target relation Words parts all
+  pub kept : findings ≡ filter is_kept all
 
 -- The relation holds of the two words for every call of the architecture.
 abbrev pub HoldsThroughout : TargetArch → Relation → (List ℕ → ℕ → ℕ → Type 0) → Type 0

@@ -1,6 +1,6 @@
 -- The definitions that the contracts cite.
 
--- What is promised, in reading order: what is given, and what goes wrong with it; the programs of it, and how long they are; what is
+-- What is promised, in reading order: what is given, and what goes wrong with it; the programs of it; what is
 -- decided, and why; and on which calls two sides differ.
 pub mod Numbers
 pub mod ProgramFaults
@@ -9,8 +9,6 @@ pub mod Chosen
 pub mod Kinds
 pub mod Compiled
 pub mod Programs
-pub mod Ways
-pub mod Measures
 pub mod Check
 pub mod CheckProfile
 pub mod Calls

@@ -1,9 +1,8 @@
 -- What decides calls, a program that stands for it, and what is found of two that do.
-use Rattle.std.specs.Prelude.{◌≡◌, ℕ, List}
-use Rattle.std.specs.List.{filter}
+use Rattle.std.specs.Prelude.{◌≡◌, ℕ, ◌^◌, List}
 use Rattle.seccompiler.specs.declared.backend.TargetArch.{TargetArch}
 use Rattle.seccompiler.specs.declared.bpf.sock_filter.{sock_filter}
-use Rattle.seccompiler.specs.Architecture.{audit_word}
+use Rattle.seccompiler.specs.Architecture.{audit_word, table_of}
 use Rattle.seccompiler.specs.Machine.{IsRecord, word_at}
 use Rattle.seccompiler.specs.Policy.{Filter, IsDecision}
 use Rattle.seccomp_entries.specs.Entries.{value_of}
@@ -14,8 +13,9 @@ use Rattle.seccomp_oci.specs.Decision.{IsProfileDecision}
 use Rattle.seccomp_oci.specs.Types.{Container, Profile}
 use Rattle.seccomp_answers.specs.declared.findings.Filters.{Filters}
 use Rattle.seccomp_answers.specs.declared.findings.Finding.{Finding}
+use Rattle.seccomp_answers.specs.declared.findings.Part.{Part}
 use Rattle.seccomp_answers.specs.declared.findings.Verdict.TheVariants.{Same}
-use Rattle.seccomp_answers.specs.Findings.{AreFindings, HoldsThroughout, is_kept, verdict_of}
+use Rattle.seccomp_answers.specs.Findings.{AreFoundOn, ArePartsBelow, HoldsThroughout, verdict_of}
 
 -- What decides: a filter, a profile in a container, or a program.
 pub data Ruling : Type 0 where
@@ -51,10 +51,10 @@ pub record AreOf (target : TargetArch) (new old : List sock_filter) (filters : F
 abbrev pub AreDecided : TargetArch → (new old : Ruling) → List ℕ → ℕ → ℕ → Type 0
 AreDecided target new old r new_word old_word = Decides target new r new_word × Decides target old r old_word
 
--- These are kept of all that is found of what the new and the old ruling decide. If the verdict is that nothing differs, the relation
--- holds of both for every call of the architecture.
+-- These are found of what the new and the old ruling decide on the parts of all calls of the architecture. If the verdict is that nothing
+-- differs, the relation holds of both for each of these calls.
 pub record AreFindingsOf (target : TargetArch) (relation : Relation) (new old : Ruling) (findings : List Finding) : Type 0 where
-  pub all : List Finding
-  pub are : AreFindings target relation (AreDecided target new old) all
-  pub kept : findings ≡ filter is_kept all
+  pub parts : List Part
+  pub are_all : ArePartsBelow (table_of target) parts (2 ^ 32)
+  pub are : AreFoundOn target relation (AreDecided target new old) parts findings
   pub holds : verdict_of findings ≡ Same → HoldsThroughout target relation (AreDecided target new old)

@@ -8,9 +8,8 @@ ghost use Rattle.seccomp_answers.specs.DiffParts.{IsFoundByName};
 ghost use Rattle.seccomp_answers.specs.Causes.{AreUnfitting, IsOfEither, IsUndiffed, IsUnfittingFilter, IsUnfittingIn, IsUnfittingUnder, IsUnruled};
 
 use crate::error::AnswerError;
-use crate::findings::{
-    Filters, Finding, Part, Progress, Terms, Verdict, answer_on, are_same, findings_of, verdict_of,
-};
+use crate::findings::pieces::found_on;
+use crate::findings::{Filters, Finding, Part, Progress, Terms, Verdict, findings_of, verdict_of};
 use crate::kind::Subject;
 use crate::sides::{Ruled, Side, program_in, ruled_like};
 use seccomp_tree::fitting_bpf;
@@ -53,9 +52,9 @@ pub struct Pair {
     pub new_name: String,
     /// Whether one of the programs loads the instruction pointer, on which what it decides may depend then.
     pub loads_pointer: bool,
-    /// What is found on the calls of the architecture; and on those of others, below it and above it.
+    /// What is found on the calls of the architecture, and on those of others: nothing on those on which the relation holds.
     pub own: Vec<Finding>,
-    pub others: [Finding; 2],
+    pub others: Vec<Finding>,
 }
 
 /// What a comparison of two sides finds.
@@ -156,19 +155,15 @@ fn diff_pair(
         least: word + 1,
         greatest: u32::MAX,
     };
-    let is_same = are_same(new, old);
-    let on_lesser = answer_on(alloc, terms, lesser, new, old, is_same, None, progress)?;
-    let on_greater = answer_on(alloc, terms, greater, new, old, is_same, None, progress)?;
-    let others = [
-        Finding {
-            part: lesser,
-            answer: on_lesser,
-        },
-        Finding {
-            part: greater,
-            answer: on_greater,
-        },
-    ];
+    let others = found_on(
+        alloc,
+        terms,
+        &[lesser, greater],
+        new,
+        old,
+        filters,
+        progress,
+    )?;
     let loads_pointer = loads_pointer(old) || loads_pointer(new);
     Ok(Diff::OfPair(Pair {
         old_name: by_old.name,

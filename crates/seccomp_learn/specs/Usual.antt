@@ -9,26 +9,28 @@ use Rattle.seccompiler.specs.SyscallTable.{number_of}
 use Rattle.seccomp_learn.specs.declared.observation.Kept.{Kept}
 use Rattle.seccomp_learn.specs.declared.observation.Observation.{Observation}
 
--- The calls that glibc and musl make by themselves in a program that starts, allocates, makes threads, aborts and ends, and the shell
--- of `system`; of `fcntl` and `ioctl` those alone that have this argument 1: F_SETFD, F_GETFL, TCGETS and TIOCGWINSZ.
+-- The calls that glibc and musl make by themselves in a program that starts, allocates, makes threads, aborts and ends, and dash as
+-- the shell of `system`; of `fcntl` and `ioctl` those alone that have this argument 1: F_DUPFD, F_SETFD, F_GETFL, TCGETS, TIOCGWINSZ.
 abbrev pub runnable : List (List ℕ × Option ℕ)
 runnable =
-    (codes "access", None) ∷ (codes "arch_prctl", None) ∷ (codes "brk", None) ∷ (codes "clock_getres", None)
-    ∷ (codes "clock_gettime", None) ∷ (codes "clock_nanosleep", None) ∷ (codes "clone", None) ∷ (codes "clone3", None)
-    ∷ (codes "close", None) ∷ (codes "dup", None) ∷ (codes "execve", None) ∷ (codes "exit", None) ∷ (codes "exit_group", None)
-    ∷ (codes "faccessat", None) ∷ (codes "fcntl", Some 2) ∷ (codes "fcntl", Some 3) ∷ (codes "fstat", None) ∷ (codes "futex", None)
-    ∷ (codes "getcwd", None) ∷ (codes "getegid", None) ∷ (codes "geteuid", None) ∷ (codes "getgid", None)
-    ∷ (codes "getpid", None) ∷ (codes "getppid", None) ∷ (codes "getrandom", None) ∷ (codes "gettid", None)
-    ∷ (codes "gettimeofday", None) ∷ (codes "getuid", None) ∷ (codes "ioctl", Some 0x5401) ∷ (codes "ioctl", Some 0x5413)
-    ∷ (codes "lseek", None) ∷ (codes "madvise", None) ∷ (codes "membarrier", None) ∷ (codes "mmap", None)
-    ∷ (codes "mprotect", None) ∷ (codes "mremap", None) ∷ (codes "munmap", None) ∷ (codes "nanosleep", None)
-    ∷ (codes "newfstatat", None) ∷ (codes "open", None) ∷ (codes "openat", None) ∷ (codes "pipe2", None)
-    ∷ (codes "pread64", None) ∷ (codes "prlimit64", None) ∷ (codes "read", None) ∷ (codes "readlink", None)
-    ∷ (codes "readlinkat", None) ∷ (codes "restart_syscall", None) ∷ (codes "riscv_hwprobe", None) ∷ (codes "rseq", None)
-    ∷ (codes "rt_sigaction", None) ∷ (codes "rt_sigprocmask", None) ∷ (codes "rt_sigreturn", None)
+    (codes "access", None) ∷ (codes "arch_prctl", None) ∷ (codes "brk", None) ∷ (codes "chdir", None)
+    ∷ (codes "clock_getres", None) ∷ (codes "clock_gettime", None) ∷ (codes "clock_nanosleep", None) ∷ (codes "clone", None)
+    ∷ (codes "clone3", None) ∷ (codes "close", None) ∷ (codes "dup", None) ∷ (codes "dup2", None) ∷ (codes "dup3", None)
+    ∷ (codes "execve", None) ∷ (codes "exit", None) ∷ (codes "exit_group", None) ∷ (codes "faccessat", None)
+    ∷ (codes "faccessat2", None) ∷ (codes "fcntl", Some 0) ∷ (codes "fcntl", Some 2) ∷ (codes "fcntl", Some 3)
+    ∷ (codes "fstat", None) ∷ (codes "futex", None) ∷ (codes "getcwd", None) ∷ (codes "getegid", None) ∷ (codes "geteuid", None)
+    ∷ (codes "getgid", None) ∷ (codes "getpid", None) ∷ (codes "getppid", None) ∷ (codes "getrandom", None)
+    ∷ (codes "gettid", None) ∷ (codes "gettimeofday", None) ∷ (codes "getuid", None) ∷ (codes "ioctl", Some 0x5401)
+    ∷ (codes "ioctl", Some 0x5413) ∷ (codes "lseek", None) ∷ (codes "madvise", None) ∷ (codes "membarrier", None)
+    ∷ (codes "mmap", None) ∷ (codes "mprotect", None) ∷ (codes "mremap", None) ∷ (codes "munmap", None)
+    ∷ (codes "nanosleep", None) ∷ (codes "newfstatat", None) ∷ (codes "open", None) ∷ (codes "openat", None)
+    ∷ (codes "pipe2", None) ∷ (codes "pread64", None) ∷ (codes "prlimit64", None) ∷ (codes "read", None)
+    ∷ (codes "readlink", None) ∷ (codes "readlinkat", None) ∷ (codes "restart_syscall", None) ∷ (codes "riscv_hwprobe", None)
+    ∷ (codes "rseq", None) ∷ (codes "rt_sigaction", None) ∷ (codes "rt_sigprocmask", None) ∷ (codes "rt_sigreturn", None)
     ∷ (codes "sched_getaffinity", None) ∷ (codes "sched_yield", None) ∷ (codes "set_robust_list", None)
-    ∷ (codes "set_tid_address", None) ∷ (codes "stat", None) ∷ (codes "sysinfo", None) ∷ (codes "tgkill", None) ∷ (codes "time", None)
-    ∷ (codes "tkill", None) ∷ (codes "wait4", None) ∷ (codes "write", None) ∷ (codes "writev", None) ∷ []
+    ∷ (codes "set_tid_address", None) ∷ (codes "stat", None) ∷ (codes "sysinfo", None) ∷ (codes "tgkill", None)
+    ∷ (codes "time", None) ∷ (codes "tkill", None) ∷ (codes "vfork", None) ∷ (codes "wait4", None) ∷ (codes "write", None)
+    ∷ (codes "writev", None) ∷ []
 
 -- The arguments, by their indices, of which 32 bits are kept unless more is asked for.
 abbrev pub choosing : List (List ℕ × ℕ)

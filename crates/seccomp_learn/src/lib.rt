@@ -28,6 +28,7 @@ mod audit;
 mod conditions;
 pub mod limits;
 pub mod line;
+mod modes;
 pub mod names;
 mod numbers;
 pub mod observation;

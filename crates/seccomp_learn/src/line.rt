@@ -6,7 +6,7 @@ use crate::strace::{Spoken, spoken_in};
 use seccompiler::TargetArch;
 
 /// A call that a line is about.
-#[derive(Clone, Copy, Debug)]
+#[derive(Clone, Copy)]
 pub struct Told<'a> {
     /// The `AUDIT_ARCH_*` value of the call.
     pub arch_word: u32,
@@ -23,7 +23,7 @@ pub struct Told<'a> {
 }
 
 /// What a line of a trace says.
-#[derive(Clone, Copy, Debug)]
+#[derive(Clone, Copy)]
 pub enum Line<'a> {
     /// A call.
     Call(Told<'a>),
@@ -51,7 +51,7 @@ pub fn line_of(arch: TargetArch, line: &[u8]) -> Line<'_> {
                 returned: None,
             })
         }
-        Spoken::Resumes(_) | Spoken::Passed => Line::Passed,
+        Spoken::Resumes(_) | Spoken::Runs(_, _) | Spoken::Ends(_) | Spoken::Passed => Line::Passed,
         Spoken::Strange => audit_line(line),
     }
 }

@@ -13,7 +13,7 @@ pub(crate) const NUMBERS: usize = 512;
 /// Where each number stands in the table of an architecture.
 pub(crate) fn places_of(arch: TargetArch) -> [usize; NUMBERS] {
     let mut places = [0; NUMBERS];
-    for (place, (_, number)) in SyscallTable::new(arch).pairs().iter().enumerate() {
+    for (place, number) in SyscallTable::new(arch).numbers().iter().enumerate() {
         if let Ok(number) = usize::try_from(*number) {
             places[number % NUMBERS] = place;
         }
@@ -31,12 +31,14 @@ pub(crate) fn name_by(
     ensures none { IfNone result (HasName arch number → ⊥) }
 {
     let table = SyscallTable::new(arch);
+    let numbers = table.numbers();
     let wanted = i64::from(number);
-    if let Some((name, other)) = table.pairs().get(places[number as usize % NUMBERS])
-        && *other == wanted
-        && table.get_syscall_nr(name) == Some(wanted)
-    {
-        return Some(name);
+    let place = places[number as usize % NUMBERS];
+    if place < numbers.len() && numbers[place] == wanted {
+        let name = table.name(place);
+        if table.get_syscall_nr(name) == Some(wanted) {
+            return Some(name);
+        }
     }
     name_of(arch, number)
 }
@@ -47,10 +49,14 @@ pub fn name_of(arch: TargetArch, number: u32) -> Option<&'static str>
     ensures none { IfNone result (HasName arch number → ⊥) }
 {
     let table = SyscallTable::new(arch);
+    let numbers = table.numbers();
     let wanted = i64::from(number);
-    for (name, other) in table.pairs() {
-        if *other == wanted && table.get_syscall_nr(name) == Some(wanted) {
-            return Some(name);
+    for place in 0..numbers.len() {
+        if numbers[place] == wanted {
+            let name = table.name(place);
+            if table.get_syscall_nr(name) == Some(wanted) {
+                return Some(name);
+            }
         }
     }
     None

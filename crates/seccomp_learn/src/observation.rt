@@ -7,7 +7,7 @@ ghost use Rattle.seccomp_learn.specs.Observed.{value_at};
 use seccompiler::SeccompCmpArgLen;
 
 /// A call that a program made.
-#[derive(Clone, Copy, Debug)]
+#[derive(Clone, Copy)]
 pub struct Observation {
     /// The call's number.
     pub number: u32,
@@ -18,7 +18,7 @@ pub struct Observation {
 }
 
 /// An argument whose values a policy keeps.
-#[derive(Clone, Copy, Debug)]
+#[derive(Clone, Copy)]
 pub struct Kept {
     /// The number of the argument's call.
     pub number: u32,

@@ -14,7 +14,7 @@ use seccompiler::{JsonCompiler, JsonFilter, JsonFrontendError, SeccompFilter, Ta
 use std::alloc::Global;
 
 /// A learned policy.
-#[derive(Debug, Drop)]
+#[derive(Drop)]
 pub struct Learned {
     /// The policy, its entries in byte order of the calls' names.
     pub json: JsonFilter,
@@ -69,7 +69,7 @@ pub fn learn(
 }
 
 /// A learned policy, and what it keeps.
-#[derive(Debug, Drop)]
+#[derive(Drop)]
 pub struct Lesson {
     /// The policy.
     pub learned: Learned,

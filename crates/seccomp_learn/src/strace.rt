@@ -18,6 +18,10 @@ pub(crate) enum Spoken<'a> {
     Begins(Begun<'a>),
     /// A call goes on that another line began.
     Resumes(Begun<'a>),
+    /// The process of this number, if the line has one, makes calls of 64 bits from here on, or else others.
+    Runs(&'a str, bool),
+    /// The process of this number ends, if the line has one.
+    Ends(&'a str),
     /// Nothing of a call.
     Passed,
     /// The line is none of strace.
@@ -37,6 +41,12 @@ pub(crate) fn spoken_in(line: &str) -> Spoken<'_> {
             _ => Spoken::Passed,
         };
     }
+    if let Some(mode) = mode_in(rest) {
+        return Spoken::Runs(thread, mode == "64 bit");
+    }
+    if rest.starts_with("+++") {
+        return Spoken::Ends(thread);
+    }
     if rest.is_empty() || is_passed(rest) {
         return Spoken::Passed;
     }
@@ -53,12 +63,19 @@ pub(crate) fn spoken_in(line: &str) -> Spoken<'_> {
     }
 }
 
-// Whether a line without its front says nothing of a call: a signal, an exit, a message of strace, a frame of a stack, the end of
-// a call that a message came between.
+// The mode in which a process runs, as a message of strace says.
+fn mode_in(rest: &str) -> Option<&str> {
+    let (_, mode) = rest
+        .strip_prefix("[ Process PID=")?
+        .split_once(" runs in ")?;
+    mode.strip_suffix(" mode. ]")
+}
+
+// Whether a line without its front says nothing of a call: a signal, a message of strace, a frame of a stack, the end of a call
+// that a message came between.
 fn is_passed(rest: &str) -> bool {
     for front in [
         "---",
-        "+++",
         "> ",
         "time->",
         "???(",

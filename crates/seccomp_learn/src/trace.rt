@@ -3,6 +3,7 @@
 use crate::arguments::Arguments;
 use crate::audit::audit_line;
 use crate::line::{Line, Told, text_of};
+use crate::modes::Modes;
 use crate::names::name_of;
 use crate::observation::Observation;
 use crate::pending::{Pending, put_pending, take_pending};
@@ -19,7 +20,7 @@ const MOST: usize = 5;
 const LONGEST: usize = 160;
 
 /// What was read of a trace.
-#[derive(Debug, Drop)]
+#[derive(Drop)]
 pub struct Trace {
     /// The calls, in order.
     pub observed: Vec<Observation>,
@@ -42,7 +43,7 @@ pub struct Trace {
 }
 
 /// An argument that a trace doesn't have as a number.
-#[derive(Debug, Drop)]
+#[derive(Drop)]
 pub struct Symbolic {
     /// The call's number.
     pub number: u32,
@@ -53,7 +54,7 @@ pub struct Symbolic {
 }
 
 /// A line that was not understood.
-#[derive(Debug, Drop)]
+#[derive(Drop)]
 pub struct StrangeLine {
     /// Its number, from 1.
     pub number: usize,
@@ -66,6 +67,7 @@ pub struct StrangeLine {
 struct Reader<'a> {
     trace: Trace,
     pending: Vec<Pending<'a>>,
+    modes: Modes,
     // Of each number of a call the arguments that `symbolic` has, one bit for each.
     seen: Vec<u8>,
 }
@@ -74,7 +76,7 @@ struct Reader<'a> {
 /// records, if there is a byte 0 and the first 64 bytes have an `AUDIT_ARCH_*` value where a record has it.
 ///
 /// A line that names a call is that call, whatever its arguments are. The arguments of a call that another one interrupts are those
-/// of both its lines.
+/// of both its lines. Calls of a process that runs in another mode than that of 64 bits, as `strace` says, are counted and left out.
 ///
 /// # Errors
 ///
@@ -88,15 +90,17 @@ pub fn read_trace(alloc: Global, arch: TargetArch, text: &[u8]) -> Result<Trace,
     let mut reader = Reader {
         trace,
         pending: Vec::new(alloc),
+        modes: Modes::new(alloc),
         seen: Vec::new(alloc),
     };
     let read = read_lines(alloc, arch, &mut reader, text);
     let Reader {
         trace,
         pending,
+        modes,
         seen,
     } = reader;
-    drop((pending, seen));
+    drop((pending, modes, seen));
     read?;
     Ok(trace)
 }
@@ -159,10 +163,17 @@ fn read_line<'a>(
     let Some(line) = text_of(line) else {
         return Ok(false);
     };
-    match spoken_in(line) {
+    let spoken = spoken_in(line);
+    if reader.modes.follow(&spoken)? {
+        if let Spoken::Begins(_) = spoken {
+            reader.trace.foreign = reader.trace.foreign.saturating_add(1);
+        }
+        return Ok(true);
+    }
+    match spoken {
         Spoken::Begins(begun) => push_begun(alloc, arch, reader, &begun)?,
         Spoken::Resumes(begun) => push_resumed(alloc, arch, reader, &begun)?,
-        Spoken::Passed => {}
+        Spoken::Runs(_, _) | Spoken::Ends(_) | Spoken::Passed => {}
         Spoken::Strange => match audit_line(line) {
             Line::Call(told) => push_told(alloc, arch, &mut reader.trace, &told)?,
             Line::Passed => {}

@@ -18,10 +18,11 @@ const CHOOSING: [(&str, u8); 6] = [
 ];
 
 // The calls that the C library makes by itself, each with its argument 1 if that is compared. docs/LEARNING.md has the reason of each.
-const RUNNABLE: [(&str, Option<u64>); 65] = [
+const RUNNABLE: [(&str, Option<u64>); 71] = [
     ("access", None),
     ("arch_prctl", None),
     ("brk", None),
+    ("chdir", None),
     ("clock_getres", None),
     ("clock_gettime", None),
     ("clock_nanosleep", None),
@@ -29,10 +30,14 @@ const RUNNABLE: [(&str, Option<u64>); 65] = [
     ("clone3", None),
     ("close", None),
     ("dup", None),
+    ("dup2", None),
+    ("dup3", None),
     ("execve", None),
     ("exit", None),
     ("exit_group", None),
     ("faccessat", None),
+    ("faccessat2", None),
+    ("fcntl", Some(0)),
     ("fcntl", Some(2)),
     ("fcntl", Some(3)),
     ("fstat", None),
@@ -81,6 +86,7 @@ const RUNNABLE: [(&str, Option<u64>); 65] = [
     ("tgkill", None),
     ("time", None),
     ("tkill", None),
+    ("vfork", None),
     ("wait4", None),
     ("write", None),
     ("writev", None),

@@ -1,10 +1,11 @@
 // What is written of a comparison: lines, or JSON.
 
+use crate::alike::{begin_alike, merged, parts_alike};
 use crate::json::{List, Object, OrNull, push_item, written};
-use crate::lines::{part_value, push_calls, push_filter, push_finding};
+use crate::lines::{part_value, push_alike, push_filter, push_finding};
 use crate::text::Text;
 use seccomp_answers::diff::{Diff, Found, NamedFound, Pair};
-use seccomp_answers::findings::{Answer, Finding, Part, Terms, Verdict, verdict_of};
+use seccomp_answers::findings::{Answer, Finding, Terms, Verdict, verdict_of};
 use seccomp_answers::kind::Subject;
 use seccomp_answers::sides::Side;
 use seccomp_compare::Relation;
@@ -28,8 +29,6 @@ struct Section<'a> {
     old: Option<&'a str>,
     new: Option<&'a str>,
     arch: Option<&'a str>,
-    // Whether all findings stand in the order of their numbers; else those of calls that have a name come first.
-    in_order: bool,
     // Whether what is found may depend on the instruction pointer.
     pointer: bool,
     verdict: Verdict,
@@ -80,7 +79,6 @@ fn push_named(text: &mut Text, terms: Terms, style: Style, named: &NamedFound) {
         old,
         new,
         arch: Some(terms.target.name()),
-        in_order: true,
         pointer: false,
         verdict,
         findings,
@@ -121,7 +119,6 @@ fn push_pair(
         old: Some(old),
         new: Some(new),
         arch,
-        in_order: false,
         pointer: pair.loads_pointer,
         verdict: verdict_of(findings),
         findings,
@@ -132,8 +129,11 @@ fn push_pair(
 // Adds what is found: as JSON an item, else behind a title the verdict and the lines of findings.
 fn push_compared(text: &mut Text, terms: Terms, style: Style, section: Section<'_>) {
     let target = terms.target;
+    let Ok(findings) = merged(text.alloc(), section.findings) else {
+        return text.fail();
+    };
     if style.json {
-        let object = object_of(text.alloc(), target, section);
+        let object = object_of(text.alloc(), target, section, &findings);
         return push_item(text, object);
     }
     let alike = matches!(terms.relation, Relation::Alike);
@@ -146,73 +146,45 @@ fn push_compared(text: &mut Text, terms: Terms, style: Style, section: Section<'
         Verdict::Different => ": more permissive\n",
         Verdict::Undecided => ": undecided\n",
     });
-    for is_first in [true, false] {
-        for finding in section.findings {
-            let is_named = matches!(finding.part, Part::Named { .. });
-            if (section.in_order || is_named) == is_first {
-                push_found(text, target, style, &section, *finding);
-            }
-        }
+    for finding in &findings {
+        push_found(text, target, style, section.pointer, &findings, *finding);
     }
 }
 
-// Adds the line of a finding. Of several calls that change throughout in the same way, the first has a line for all.
+// Adds the line of a finding. Of several that change alike, the first has a line for all.
 fn push_found(
     text: &mut Text,
     target: TargetArch,
     style: Style,
-    section: &Section<'_>,
+    pointer: bool,
+    findings: &[Finding],
     finding: Finding,
 ) {
-    if let Some((number, old, new)) = change_of(finding)
-        && !style.each
+    if !style.each
+        && let Answer::Fails { old, new, .. } = finding.answer
     {
-        let numbers = numbers_changing(text, section.findings, old, new);
-        if numbers.len() > 1 {
-            if numbers.first() == Some(&number) {
-                push_calls(text, target, &numbers, old, new);
+        let Ok(alike) = parts_alike(text.alloc(), findings, finding) else {
+            return text.fail();
+        };
+        if let Some(first) = alike.first() {
+            if begin_alike(*first, finding.part) {
+                push_alike(text, target, &alike, old, new);
             }
             return;
         }
     }
-    push_finding(text, target, section.pointer, finding);
-}
-
-// The number of a call that changes throughout in one way, and the two values.
-fn change_of(finding: Finding) -> Option<(u32, u32, u32)> {
-    match (finding.part, finding.answer) {
-        (
-            Part::Named { number },
-            Answer::Fails {
-                old,
-                new,
-                throughout: true,
-                ..
-            },
-        ) => Some((number, old, new)),
-        _ => None,
-    }
-}
-
-// The numbers of all calls that change throughout from the one value to the other.
-fn numbers_changing(text: &mut Text, findings: &[Finding], old: u32, new: u32) -> Vec<u32> {
-    let mut numbers = Vec::new(text.alloc());
-    for finding in findings {
-        if let Some((number, old_value, new_value)) = change_of(*finding)
-            && old_value == old
-            && new_value == new
-            && numbers.push(number).is_err()
-        {
-            text.fail();
-        }
-    }
-    numbers
+    push_finding(text, target, pointer, finding);
 }
 
 // What is found, as an object.
-fn object_of(alloc: Global, target: TargetArch, section: Section<'_>) -> Object {
+fn object_of(
+    alloc: Global,
+    target: TargetArch,
+    section: Section<'_>,
+    findings: &[Finding],
+) -> Object {
     let mut parts = List::new(alloc);
-    for finding in section.findings {
+    for finding in findings {
         if !matches!(finding.answer, Answer::Holds) {
             parts.item(part_value(alloc, target, *finding));
         }

@@ -19,7 +19,7 @@ use std::alloc::{AllocError, Global};
 /// A line has the action by its name in a policy: `allow`, `log`, `trap`, `kill_thread`, `kill_process` and `user_notif`, a space and
 /// the low 16 bits in decimal after `errno` and `trace`, and the name of an errno that has one in brackets; a value that is none of
 /// these is written in hexadecimal digits after `0x`. The reason follows, by paths in the policy or the profile, or by the path of the
-/// layer that decides, and the call by its name and number.
+/// layer that decides, and its filter if that is asked for; and the call by its name and number.
 pub fn explained_text(
     alloc: Global,
     target: TargetArch,
@@ -155,7 +155,8 @@ fn count_for(entries: &[Entry], number: u32) -> usize {
     count
 }
 
-// The path of what is the reason, in the filter of this name or in a profile, or of the layer: nothing if it is none of these.
+// The path of what is the reason, in the filter of this name or in a profile; or of the layer, with the filter that is asked for behind
+// a colon; nothing if it is none of these.
 fn path_of(
     alloc: Global,
     layers: &[Layer<'_>],
@@ -167,6 +168,10 @@ fn path_of(
         && let Some(layer) = layers.get(place)
     {
         path.push_str(layer.path);
+        if let Some(filter) = layer.filter {
+            path.push_str(":");
+            path.push_str(filter);
+        }
     }
     if let Some(entry) = told.entry {
         match &explanation.name {
@@ -200,23 +205,12 @@ fn push_line(
     push_caller(text, caller);
     push_word(text, word);
     text.push_str(": ");
-    let Some(number) = told.number else {
-        return text.push_str("another architecture\n");
-    };
     text.push_str(KINDS[told.kind].1);
     if !path.is_empty() {
         text.push_readable(path, TextKind::Name);
         text.push_str(" of ");
     }
-    if let Some(name) = name_of(target, number) {
-        text.push_str(name);
-        text.push_str(" (");
-        text.push_display(&number);
-        text.push_str(")");
-    } else {
-        text.push_str("call ");
-        text.push_display(&number);
-    }
+    push_decided(text, target, told.number);
     if told.condition.is_some() {
         text.push_str(" does not hold");
         if told.entries > 1 {
@@ -228,16 +222,32 @@ fn push_line(
     text.push_str("\n");
 }
 
+// Adds the call that is decided, of which there is a number if it is of the architecture.
+fn push_decided(text: &mut Text, target: TargetArch, number: Option<u32>) {
+    let Some(number) = number else {
+        return text.push_str("another architecture");
+    };
+    if let Some(name) = name_of(target, number) {
+        text.push_str(name);
+        text.push_str(" (");
+        text.push_display(&number);
+        text.push_str(")");
+    } else {
+        text.push_str("call ");
+        text.push_display(&number);
+    }
+}
+
 // Adds who made a call, as far as a line said it: the program, and the number of the process in brackets, or alone.
 fn push_caller(text: &mut Text, (program, process): (&str, &str)) {
     match (program, process) {
         ("", "") => return,
-        ("", _) => text.push_str(process),
-        (_, "") => text.push_str(program),
+        ("", _) => text.push_readable(process, TextKind::Name),
+        (_, "") => text.push_readable(program, TextKind::Name),
         _ => {
-            text.push_str(program);
+            text.push_readable(program, TextKind::Name);
             text.push_str("[");
-            text.push_str(process);
+            text.push_readable(process, TextKind::Name);
             text.push_str("]");
         }
     }

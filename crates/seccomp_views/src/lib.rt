@@ -2,6 +2,7 @@
 //! instructions; tables of cases test the texts.
 #![tactic(auto)]
 
+mod alike;
 pub mod calls;
 pub mod check;
 pub mod diff;

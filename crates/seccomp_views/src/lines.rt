@@ -10,6 +10,7 @@ use seccomp_compare::rank;
 use seccomp_names::error_name;
 use seccomp_text::readable::TextKind;
 use seccompiler::TargetArch;
+use seccompiler::bpf::{AUDIT_ARCH_AARCH64, AUDIT_ARCH_RISCV64, AUDIT_ARCH_X86_64};
 use seccompiler::record::word_at;
 use serde_json::{ToValue, Value};
 use std::alloc::{AllocError, Global};
@@ -28,8 +29,16 @@ pub(crate) fn push_filter(text: &mut Text, name: &str) {
 pub(crate) fn push_finding(text: &mut Text, target: TargetArch, pointer: bool, finding: Finding) {
     match finding.answer {
         Answer::Holds => {}
-        Answer::Fails { call, old, new, .. } => {
+        Answer::Fails {
+            call,
+            old,
+            new,
+            throughout,
+        } => {
             push_part(text, target, finding.part);
+            if !throughout && !matches!(finding.part, Part::Named { .. }) {
+                text.push_str(", some calls");
+            }
             push_change(text, old, new);
             text.push_str(": ");
             push_example(text, target, pointer, &call);
@@ -54,14 +63,23 @@ fn push_part(text: &mut Text, target: TargetArch, part: Part) {
     match part {
         Part::Named { number } => push_call(text, target, number),
         Part::Unnamed { least, greatest } => {
-            text.push_str(match (least, target) {
-                (X32, TargetArch::x86_64) => "x32 calls ",
-                _ => "other calls ",
+            text.push_str(if is_x32(target, least) {
+                "x32"
+            } else {
+                "other"
+            });
+            text.push_str(if least == greatest {
+                " call "
+            } else {
+                " calls "
             });
             text.push_display(&least);
-            text.push_str(" to ");
-            text.push_display(&greatest);
+            if least < greatest {
+                text.push_str(" to ");
+                text.push_display(&greatest);
+            }
         }
+        Part::Elsewhere { least, greatest } if least == greatest => push_architecture(text, least),
         Part::Elsewhere { least, greatest } => {
             text.push_str("other architectures ");
             push_hexadecimal(text, least as u64);
@@ -71,38 +89,100 @@ fn push_part(text: &mut Text, target: TargetArch, part: Part) {
     }
 }
 
-/// Adds the line of calls for which both sides have these values throughout: as many of their names as fit it, in byte order.
-pub fn push_calls(text: &mut Text, target: TargetArch, numbers: &[u32], old: u32, new: u32) {
+// Whether a number is one of x32.
+fn is_x32(target: TargetArch, number: u32) -> bool {
+    number >= X32 && matches!(target, TargetArch::x86_64)
+}
+
+// The architectures that a message has names for, by their `AUDIT_ARCH_*` values (linux/audit.h).
+const ARCHITECTURES: &[(u32, &str)] = &[
+    (0x4000_0003, "i386"),
+    (0x4000_0028, "arm"),
+    (AUDIT_ARCH_X86_64, "x86_64"),
+    (AUDIT_ARCH_AARCH64, "aarch64"),
+    (AUDIT_ARCH_RISCV64, "riscv64"),
+];
+
+/// Whether a part is one architecture that has a name.
+pub(crate) fn is_named_architecture(part: Part) -> bool {
+    match part {
+        Part::Elsewhere { least, greatest } => {
+            least == greatest && ARCHITECTURES.iter().any(|(own, _)| *own == least)
+        }
+        _ => false,
+    }
+}
+
+// Adds an architecture: its name, or its `AUDIT_ARCH_*` value if it has none.
+fn push_architecture(text: &mut Text, arch: u32) {
+    for (own, name) in ARCHITECTURES {
+        if *own == arch {
+            return text.push_str(name);
+        }
+    }
+    text.push_str("other architecture ");
+    push_hexadecimal(text, arch as u64);
+}
+
+/// Adds the line of parts on which both sides have these values throughout: of calls as many of their names as fit it, in byte order, and
+/// of ranges as many of these.
+pub fn push_alike(text: &mut Text, target: TargetArch, parts: &[Part], old: u32, new: u32) {
     text.push_str("  ");
-    text.push_display(&numbers.len());
-    text.push_str(" calls");
+    text.push_display(&parts.len());
+    text.push_str(match parts.first() {
+        Some(Part::Unnamed { least, .. }) if is_x32(target, *least) => " ranges of x32 calls",
+        Some(Part::Unnamed { .. }) => " ranges of other calls",
+        Some(Part::Elsewhere { .. }) => " ranges of other architectures",
+        _ => " calls",
+    });
     push_change(text, old, new);
     text.push_str(":");
-    let names = names_of(text, target, numbers);
     let mut room = ROOM;
-    for name in &names {
+    for name in &names_of(text, target, parts) {
         if name.len() >= room {
             text.push_str(" .. (--each names them)");
             break;
         }
         room -= name.len() + 1;
         text.push_str(" ");
-        text.push_str(name);
+        text.push_str(name.as_str());
     }
     text.push_str("\n");
 }
 
-// The names of these numbers, in byte order.
-fn names_of(text: &mut Text, target: TargetArch, numbers: &[u32]) -> Vec<&'static str> {
-    let mut names = Vec::new(text.alloc());
-    for number in numbers {
-        if let Some(name) = name_of(target, *number)
-            && names.push(name).is_err()
-        {
-            text.fail();
+// The names of calls, in byte order, or the bounds of ranges.
+fn names_of(text: &mut Text, target: TargetArch, parts: &[Part]) -> Vec<String> {
+    let (alloc, mut are_ranges) = (text.alloc(), false);
+    let mut names = Vec::new(alloc);
+    for part in parts {
+        let mut name = Text::new(alloc);
+        match *part {
+            Part::Named { number } => push_call(&mut name, target, number),
+            Part::Unnamed { least, greatest } => {
+                are_ranges = true;
+                name.push_display(&least);
+                if least < greatest {
+                    name.push_format(format!(in alloc; "-{greatest}"));
+                }
+            }
+            Part::Elsewhere { least, greatest } => {
+                are_ranges = true;
+                push_hexadecimal(&mut name, least as u64);
+                if least < greatest {
+                    name.push_format(format!(in alloc; "-0x{greatest:x}"));
+                }
+            }
+        }
+        match name.finish_string() {
+            Ok(name) => {
+                if names.push(name).is_err() {
+                    text.fail();
+                }
+            }
+            Err(_) => text.fail(),
         }
     }
-    if names.sort().is_err() {
+    if !are_ranges && names.sort().is_err() {
         text.fail();
     }
     names
@@ -242,16 +322,24 @@ pub(crate) fn part_value(alloc: Global, target: TargetArch, finding: Finding) ->
     part.field("number", number);
     part.field("least", least);
     part.field("greatest", greatest);
-    if let Answer::Fails { old, new, .. } = finding.answer {
+    if let Answer::Fails {
+        old,
+        new,
+        throughout,
+        ..
+    } = finding.answer
+    {
         part.field("verdict", "different");
         part.field("old", word_value(alloc, old));
         part.field("new", word_value(alloc, new));
         part.field("change", kind_of(old, new));
+        part.field("throughout", throughout);
     } else {
         part.field("verdict", "undecided");
         part.field("old", None::<u32>);
         part.field("new", None::<u32>);
         part.field("change", None::<u32>);
+        part.field("throughout", None::<u32>);
     }
     match finding.answer {
         Answer::Fails { call, .. } | Answer::Undecided { call, .. } => {

@@ -1,5 +1,5 @@
 -- What the arguments of a command ask for, as clap finds them.
-use Rattle.std.specs.Prelude.{◌≡◌, ◌≢◌, ◌||◌, ℕ, Bool, true, false, if◌then◌else◌, List, [], ◌∷◌, ◌++◌, All, Option, Some, None}
+use Rattle.std.specs.Prelude.{◌≡◌, ◌≢◌, ◌||◌, ℕ, Bool, true, false, if◌then◌else◌, List, [], ◌∷◌, ◌++◌, All, Option, Some, None, IfSome}
 use Rattle.std.specs.Prelude.{◌==◌, codes, drop, is_none, length, map, option_map, unwrap_or}
 use Rattle.std.specs.Borrow.{Bor}
 use Rattle.std.specs.Str.{bytes_eq}
@@ -72,7 +72,8 @@ check_format_named name =
 -- The path of the file that is written; none of standard output.
 abbrev pub output_named : Option (List ℕ) → Option (List ℕ)
 output_named None = None
-output_named (Some path) = if bytes_eq path (codes "-") then None else Some path
+output_named (Some path) =
+    if bytes_eq path (codes "-") || bytes_eq path (codes "/dev/stdout") || bytes_eq path (codes "/dev/fd/1") then None else Some path
 
 -- Where the calls are that are explained: a call that is given is the only one.
 abbrev pub calls_named : (call log : Option (List ℕ)) → Calls
@@ -117,16 +118,31 @@ name_given name = if length name == 0 then None else Some name
 abbrev pub HasNoColon : List ℕ → Type 0
 HasNoColon bytes = All (λ byte. byte ≢ 0x3a) bytes
 
--- A text is a path, which stands in front of its last colon, and the name of a filter behind that; without a colon it is a path alone.
-pub data IsPathAndName (text path : List ℕ) (name : Option (List ℕ)) : Type 0 where
-  alone : HasNoColon text → path ≡ text → name ≡ None → IsPathAndName text path name
-  both : (behind : List ℕ) → text ≡ path ++ 0x3a ∷ behind → HasNoColon behind → name ≡ name_given behind → IsPathAndName text path name
+-- At which paths something is, if that is known.
+abbrev pub Paths : Type 0
+Paths = Option (List ℕ → Bool)
 
-abbrev pub IsPathIn : (text path : List ℕ) → Type 0
-IsPathIn text path = (name : Option (List ℕ)) × IsPathAndName text path name
+-- A text is a path, which stands in front of its last colon, and the name of a filter behind that; without a colon it is a path alone,
+-- and so it is if something is there.
+pub data IsPathAndName (paths : Paths) (text path : List ℕ) (name : Option (List ℕ)) : Type 0 where
+  alone : HasNoColon text → path ≡ text → name ≡ None → IsPathAndName paths text path name
+  whole : IfSome paths (λ there. there text ≡ true) → path ≡ text → name ≡ None → IsPathAndName paths text path name
+  both : IfSome paths (λ there. there text ≡ false) → (behind : List ℕ) → text ≡ path ++ 0x3a ∷ behind → HasNoColon behind
+      → name ≡ name_given behind → IsPathAndName paths text path name
 
-abbrev pub IsNameIn : (text : List ℕ) → (name : Option (List ℕ)) → Type 0
-IsNameIn text name = (path : List ℕ) × IsPathAndName text path name
+abbrev pub IsPathIn : Paths → (text path : List ℕ) → Type 0
+IsPathIn paths text path = (name : Option (List ℕ)) × IsPathAndName paths text path name
+
+abbrev pub IsNameIn : Paths → (text : List ℕ) → (name : Option (List ℕ)) → Type 0
+IsNameIn paths text name = (path : List ℕ) × IsPathAndName paths text path name
+
+-- The name of the filter that is asked for: what --filter gives, or else the one behind the subject's path.
+abbrev pub IsFilterFor : Paths → Found → (given name : Option (List ℕ)) → Type 0
+IsFilterFor paths found (Some own) name = name ≡ Some own
+IsFilterFor paths found None name = IsNameIn paths (path_given found (codes "SUBJECT")) name
+
+abbrev pub IsFilterIn : Paths → Found → (name : Option (List ℕ)) → Type 0
+IsFilterIn paths found name = IsFilterFor paths found (first_value found (codes "filter")) name
 
 -- ---- what is read
 
@@ -138,10 +154,9 @@ all_values found name = unwrap_or (option_map raw_values (matched_of found name)
 abbrev pub paths_of : Inputs → Option (List ℕ) × Option (List ℕ)
 paths_of inputs = (text_of inputs.first, text_of inputs.second)
 
--- Each of these is read first, with the same second; if there is none, the second alone, once.
-abbrev pub each_with : (second : Option (List ℕ)) → (firsts : List (List ℕ)) → List (Option (List ℕ) × Option (List ℕ))
-each_with second [] = (None, second) ∷ []
-each_with second (first ∷ firsts) = map (λ own. (Some own, second)) (first ∷ firsts)
+-- Each of these is read by itself.
+abbrev pub each_alone : List (List ℕ) → List (Option (List ℕ) × Option (List ℕ))
+each_alone paths = map (λ path. (Some path, None)) paths
 
 -- The records or the log that `explain` reads: none if a call is given.
 abbrev pub records_given : Found → (call log : Option (List ℕ)) → Option (List ℕ)
@@ -149,19 +164,24 @@ records_given found (Some call) log = None
 records_given found None None = Some (path_given found (codes "records"))
 records_given found None (Some path) = Some path
 
+-- The one subject is read, and then this.
+abbrev pub IsSubjectRead : Paths → Found → (second : Option (List ℕ)) → List (Option (List ℕ) × Option (List ℕ)) → Type 0
+IsSubjectRead paths found second read =
+    (subject : List ℕ) × IsPathIn paths (path_given found (codes "SUBJECT")) subject × (read ≡ (Some subject, second) ∷ [])
+
 -- A command is carried out on what is read at these paths, one after the other.
-abbrev pub AreRead : Found → Verb → List (Option (List ℕ) × Option (List ℕ)) → Type 0
-AreRead found Diff paths =
-    (old new : List ℕ) × IsPathIn (path_given found (codes "OLD")) old × IsPathIn (path_given found (codes "NEW")) new
-    × (paths ≡ (Some old, Some new) ∷ [])
-AreRead found Stack paths = paths ≡ (first_value found (codes "SUBJECT"), None) ∷ []
-AreRead found Learn paths = paths ≡ (first_value found (codes "TRACE"), first_value found (codes "into")) ∷ []
-AreRead found Explain paths =
-    paths ≡ each_with (records_given found (first_value found (codes "CALL")) (first_value found (codes "log")))
-    (all_values found (codes "SUBJECT"))
-AreRead found Call paths = paths ≡ (None, None) ∷ []
-AreRead found Codes paths = paths ≡ (None, None) ∷ []
-AreRead found verb paths = paths ≡ each_with None (all_values found (codes "SUBJECT"))
+abbrev pub AreRead : Paths → Found → Verb → List (Option (List ℕ) × Option (List ℕ)) → Type 0
+AreRead paths found Diff read =
+    (old new : List ℕ) × IsPathIn paths (path_given found (codes "OLD")) old × IsPathIn paths (path_given found (codes "NEW")) new
+    × (read ≡ (Some old, Some new) ∷ [])
+AreRead paths found Stack read = read ≡ (first_value found (codes "SUBJECT"), None) ∷ []
+AreRead paths found Learn read = read ≡ (first_value found (codes "TRACE"), first_value found (codes "into")) ∷ []
+AreRead paths found Explain read =
+    IsSubjectRead paths found (records_given found (first_value found (codes "CALL")) (first_value found (codes "log"))) read
+AreRead paths found Call read = read ≡ (None, None) ∷ []
+AreRead paths found Codes read = read ≡ (None, None) ∷ []
+AreRead paths found Check read = read ≡ each_alone (all_values found (codes "SUBJECT"))
+AreRead paths found verb read = IsSubjectRead paths found None read
 
 -- The further ones of what is read: of `learn` and `stack` those behind the first; of `explain` those that it has before it.
 abbrev pub further_given : Found → Verb → List (List ℕ)
@@ -179,7 +199,7 @@ pub record IsVerbFor (found : Found) (name : List ℕ) (verb : Verb) : Type 0 wh
   pub is : verb ≡ verb_named is_list name
 
 -- The command is asked for this. What else is asked for is tested.
-pub record IsAskedFor (found : Found) (asked : Asked) : Type 0 where
+pub record IsAskedFor (paths : Paths) (found : Found) (asked : Asked) : Type 0 where
   pub arch : asked.arch ≡ arch_named (first_value found (codes "arch"))
   pub target : asked.terms.target ≡ arch_named (first_value found (codes "arch"))
   pub output : text_of asked.output ≡ output_named (first_value found (codes "output"))
@@ -193,7 +213,7 @@ pub record IsAskedFor (found : Found) (asked : Asked) : Type 0 where
   pub as_profile : IsFlag found (codes "profile") asked.as_profile
   pub as_unit : IsFlag found (codes "unit") asked.as_unit
   pub each_arch : asked.each_arch ≡ is_none (first_value found (codes "arch"))
-  pub filter : text_of asked.filter ≡ first_value found (codes "filter")
+  pub filter : IsFilterIn paths found (text_of asked.filter)
   pub layout : asked.layout ≡ layout_named (first_value found (codes "layout"))
   pub relation : IsFlag found (codes "only-more") (is_only_more asked.terms.relation)
   pub scope : IsFlag found (codes "all") (is_of_all asked.scope)
@@ -205,7 +225,7 @@ pub record IsAskedFor (found : Found) (asked : Asked) : Type 0 where
   pub runnable : IsFlag found (codes "runnable") asked.runnable
   pub old_clone : IsFlag found (codes "old-clone") asked.old_clone
   pub call : asked.call.name.now ≡ path_given found (codes "CALL")
-  pub old : IsNameIn (path_given found (codes "OLD")) (text_of asked.old)
-  pub new : IsNameIn (path_given found (codes "NEW")) (text_of asked.new)
-  pub read : AreRead found asked.verb (map paths_of asked.inputs.items)
+  pub old : IsNameIn paths (path_given found (codes "OLD")) (text_of asked.old)
+  pub new : IsNameIn paths (path_given found (codes "NEW")) (text_of asked.new)
+  pub read : AreRead paths found asked.verb (map paths_of asked.inputs.items)
   pub further : map (λ (path : Bor (List ℕ)). path.now) asked.further.items ≡ further_given found asked.verb

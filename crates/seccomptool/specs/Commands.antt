@@ -30,8 +30,6 @@ use Rattle.seccomptool.specs.declared.made.Made.{Made}
 use Rattle.seccomp_answers.specs.declared.calls.KnownCall.{KnownCall}
 use Rattle.seccomp_answers.specs.declared.sides.Side.{Side}
 use Rattle.seccomp_answers.specs.declared.layers.Layer.{Layer}
-use Rattle.seccomp_answers.specs.declared.measures.FilterStats.{FilterStats}
-use Rattle.seccomp_answers.specs.declared.measures.Measure.{Measure}
 use Rattle.seccomptool.specs.declared.words.Call.{Call}
 use Rattle.seccomptool.specs.declared.words.Calls.{Calls}
 use Rattle.seccomptool.specs.declared.words.Calls.TheVariants.{One, Records, Log}
@@ -50,7 +48,6 @@ use Rattle.seccomp_answers.specs.Programs.{IsProgramOf, IsRefusedProgram}
 use Rattle.seccomp_answers.specs.Explain.{Explains}
 use Rattle.seccomp_answers.specs.Layers.{IsLayer, IsStackExplained}
 use Rattle.seccomp_answers.specs.Sides.{IsFilterOf, IsSideOf}
-use Rattle.seccomp_answers.specs.Measures.{AreStats, IsMeasureOf, IsProfileMeasure}
 use Rattle.seccomp_answers.specs.Causes.{IsRefusedProfile}
 use Rattle.seccomp_answers.specs.Compiled.{ArePrograms}
 
@@ -91,20 +88,14 @@ IsShownAs arch subject.Policy layout text = (all : List NamedProgram) × OfValue
 IsShownAs arch (subject.Profile container) layout text = IsProfileCompiled arch container.now false text
 IsShownAs arch subject.Program layout bytes = IsCheckedProgram bytes
 
--- The numbers of the programs of what is given.
-abbrev pub IsMeasuredAs : TargetArch → Subject → (given : List ℕ) → Type 0
-IsMeasuredAs arch subject.Policy text = (all : List FilterStats) × OfValue text (λ d. AreStats arch d all)
-IsMeasuredAs arch (subject.Profile container) text = (measure : Measure) × IsProfileMeasure arch container.now text measure
-IsMeasuredAs arch subject.Program bytes =
-    (program : List sock_filter) × IsProgramOf bytes program × (measure : Measure) × IsMeasureOf arch program measure
-
-abbrev pub IsShownOrMeasured : (measured : Bool) → TargetArch → Subject → Layout → (given : List ℕ) → Type 0
-IsShownOrMeasured false arch kind layout given = IsShownAs arch kind layout given
-IsShownOrMeasured true arch kind layout given = IsMeasuredAs arch kind given
+-- Of numbers nothing is promised.
+abbrev pub IsShownUnless : (measured : Bool) → TargetArch → Subject → Layout → (given : List ℕ) → Type 0
+IsShownUnless false arch kind layout given = IsShownAs arch kind layout given
+IsShownUnless true arch kind layout given = ⊤
 
 abbrev pub IsShown : Asked → (given : List ℕ) → Type 0
 IsShown asked given =
-    (kind : Subject) × IsTakenAs asked.reading given kind × IsShownOrMeasured asked.measured asked.arch kind asked.layout given
+    (kind : Subject) × IsTakenAs asked.reading given kind × IsShownUnless asked.measured asked.arch kind asked.layout given
 
 -- What is given is accepted, with its warnings, and whether they count.
 abbrev pub IsAccepted : Asked → Subject → (given : List ℕ) → Verdict → Type 0

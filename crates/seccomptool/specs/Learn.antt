@@ -1,7 +1,8 @@
 -- What `learn` gives: a policy of the calls that were observed, which are added to a filter.
-use Rattle.std.specs.Prelude.{◌≡◌, ℕ, List, [], ◌∷◌, ◌++◌, All, Any, Bool, true, false, Option, Some, None, codes, slice_index_or, ⊤}
+use Rattle.std.specs.Prelude.{◌≡◌, ◌≤◌, ℕ, List, [], ◌∷◌, ◌++◌, All, Any, Bool, true, false, Option, Some, None, codes, slice_index_or, ⊤}
 use Rattle.std.specs.Prelude.{unwrap_or}
 use Rattle.seccompiler.specs.declared.backend.TargetArch.{TargetArch}
+use Rattle.seccompiler.specs.declared.backend.SeccompAction.{SeccompAction}
 use Rattle.seccompiler.specs.declared.backend.SeccompAction.TheVariants.{Allow, Errno}
 use Rattle.seccompiler.specs.JsonTypes.{JsonFilter}
 use Rattle.seccomp_learn.specs.declared.observation.Kept.{Kept}
@@ -42,12 +43,24 @@ abbrev pub with_second : (asked : Bool) → (name : List ℕ) → (others : List
 with_second false name others = others
 with_second true name others = beside others (name ++ codes "_clone3") clone3_filter
 
+-- Other calls can get this: for a drop-in systemd takes an errno of 1 to 4095. Of other actions it has none but to kill.
+abbrev pub IsTaken : (as_unit : Bool) → SeccompAction → Type 0
+IsTaken as_unit (Errno number) = as_unit ≡ true → (1 ≤ number) × (number ≤ 4095)
+IsTaken as_unit action = ⊤
+
+-- The error tells that this isn't so, or is lack of memory.
+abbrev pub IsUntaken : (as_unit : Bool) → SeccompAction → AnswerError → Type 0
+IsUntaken as_unit action (Told text) = IsTaken as_unit action → ⊥
+IsUntaken as_unit action OutOfMemory = ⊤
+IsUntaken as_unit action e = ⊥
+
 -- The lesson is learned of the observed calls, which are added to this; it has this name, and these others beside it.
 pub record IsLearned (asked : Asked) (wanted : List Kept) (observed : List Observation) (text name : List ℕ) (lesson : Lesson)
     (beside_it : List ℕ → Option JsonFilter) : Type 0 where
   pub base : JsonFilter
   pub others : List ℕ → Option JsonFilter
   pub is_base : IsBase asked.start (text_of asked.name) text name base others
+  pub taken : IsTaken asked.as_unit base.mismatch_action
   pub learned : IsLearnedWithin asked.arch asked.most wanted observed base lesson
   pub beside_is : beside_it ≡ with_second asked.old_clone name others
 

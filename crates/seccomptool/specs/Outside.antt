@@ -101,13 +101,11 @@ abbrev pub made_status : (is_cut : Bool) → Verdict → ℕ
 made_status true v = 2
 made_status false v = verdict_status v
 
--- The command ends with this status: it is carried out, what it makes is written, and this is the status of what it finds; or then
--- memory runs out for its notes; or an error keeps it from that. In both cases the status is that of trouble.
+-- The command ends with this status: it is carried out, what it makes is written, and this is the status of what it finds; or an error
+-- keeps it from that, nothing is written, and the status is that of trouble.
 pub data Ends (asked : Asked) (before after : State) (status : ℕ) : Type 0 where
   carried_out : (made : Made) → IsPerformed asked made → IsDelivered (gathers asked) asked made.text.items before after
       → status ≡ made_status made.is_cut made.verdict → Ends asked before after status
-  unnoted : (made : Made) (between : State) → IsPerformed asked made → IsDelivered (gathers asked) asked made.text.items before between
-      → IsTold OutOfMemory between after → status ≡ 2 → Ends asked before after status
   kept : (e : AnswerError) → IsTrouble asked e → IsTold e before after → status ≡ 2 → Ends asked before after status
 
 -- The command is carried out on one after the other of these. The status is the greatest of theirs, and 0 if there is none.

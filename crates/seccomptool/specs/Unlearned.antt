@@ -11,11 +11,11 @@ use Rattle.seccomp_learn.specs.declared.trace.Trace.{Trace}
 use Rattle.seccomptool.specs.Causes.{IsFaultText}
 use Rattle.seccomp_answers.specs.Chosen.{IsChosen, text_of}
 use Rattle.seccomp_answers.specs.Errors.{IsOfSecond, from_library}
-use Rattle.seccomptool.specs.Learn.{IsBase, IsStrange, IsUnknown}
+use Rattle.seccomptool.specs.Learn.{IsBase, IsStrange, IsUnknown, IsUntaken}
 use Rattle.seccomp_answers.specs.declared.error.AnswerError.{AnswerError}
 use Rattle.seccomp_answers.specs.declared.error.AnswerError.TheVariants.{OutOfMemory}
 use Rattle.seccomptool.specs.declared.learn.Start.{Start}
-use Rattle.seccomptool.specs.declared.learn.Start.TheVariants.{Into}
+use Rattle.seccomptool.specs.declared.learn.Start.TheVariants.{Into, Otherwise}
 use Rattle.seccomptool.specs.declared.words.Asked.{Asked}
 use Rattle.seccomp_answers.specs.Causes.{IsUnchosen, IsUnread}
 
@@ -28,13 +28,22 @@ pub data IsNoBase (start : Start) (asked : Option (List ℕ)) (text : List ℕ) 
   denying : start ≡ Into → (name : List ℕ) (filter : JsonFilter) → IsChosen text asked name → HasFilter text name filter
       → filter.match_action ≢ Allow → IsFaultText e → IsNoBase start asked text e
 
--- Why nothing is learned: there is no filter that calls are added to; or that filter is no policy of the architecture.
+-- Why nothing is learned: there is no filter that calls are added to; or that filter is no policy of the architecture; or systemd
+-- doesn't take its errno.
 pub data IsUntaught (asked : Asked) (text : List ℕ) (e : AnswerError) : Type 0 where
   no_base : IsNoBase asked.start (text_of asked.name) text e → IsUntaught asked text e
   no_policy : (name : List ℕ) (base : JsonFilter) (others : List ℕ → Option JsonFilter)
       → IsBase asked.start (text_of asked.name) text name base others
       → (cause : JsonFrontendError) → IsPolicyRefusal asked.arch base cause → e ≡ from_library (from_frontend cause)
       → IsUntaught asked text e
+  untaken : (name : List ℕ) (base : JsonFilter) (others : List ℕ → Option JsonFilter)
+      → IsBase asked.start (text_of asked.name) text name base others → IsUntaken asked.as_unit base.mismatch_action e
+      → IsUntaught asked text e
+
+-- An error is told as one of the policy that calls are added to, if there is one.
+abbrev pub IsOfStart : Start → (own error : AnswerError) → Type 0
+IsOfStart Into own error = IsOfSecond own error
+IsOfStart (Otherwise action) own error = error ≡ own
 
 -- Why what is learned isn't written: memory ran out; or a policy's text that is made is rejected when it is read back.
 pub data IsUnwritten (asked : Asked) (e : AnswerError) : Type 0 where
@@ -43,9 +52,9 @@ pub data IsUnwritten (asked : Asked) (e : AnswerError) : Type 0 where
       → e ≡ from_library (from_frontend cause) → IsUnwritten asked e
 
 -- Why `learn` gives nothing: a trace isn't understood; a call of `--args` is unknown; nothing is learned, which is told as of the
--- second of what is read; or it isn't written.
+-- policy that is added to; or it isn't written.
 pub data IsUnlearned (asked : Asked) (traces : List Trace) (text : List ℕ) (e : AnswerError) : Type 0 where
   of_trace : Any (λ trace. IsStrange asked.strict trace e) traces → IsUnlearned asked traces text e
   of_call : IsUnknown asked e → IsUnlearned asked traces text e
-  of_base : (own : AnswerError) → IsUntaught asked text own → IsOfSecond own e → IsUnlearned asked traces text e
+  of_base : (own : AnswerError) → IsUntaught asked text own → IsOfStart asked.start own e → IsUnlearned asked traces text e
   of_text : IsUnwritten asked e → IsUnlearned asked traces text e

@@ -5,12 +5,14 @@ ghost use Rattle.seccomp_answers.specs.declared.error.AnswerError.TheVariants.{O
 ghost use Rattle.seccomptool.specs.Commands.{IsAccepted, IsCheck, IsPlain, IsRejectedFor};
 
 use crate::made::Made;
+use crate::notes::warnings_of;
 use crate::words::Asked;
 use seccomp_answers::check::{checked, profile_checked, verdict_where};
 use seccomp_answers::error::AnswerError;
 use seccomp_answers::findings::Verdict;
 use seccomp_answers::kind::{Subject, subject_of};
 use seccomp_answers::program::program_of;
+use seccomp_check::Problem;
 use seccomp_views::check::fault::push_error;
 use seccomp_views::check::format::Lines;
 use seccomp_views::check::policy::push_warnings;
@@ -39,9 +41,7 @@ pub(crate) fn check_made(
             return Err(AnswerError::OutOfMemory);
         }
         Err(error) => {
-            push_error(&mut lines, asked.arch, given, &error);
-            // Here, so that no branch below has to.
-            drop(error);
+            push_rejected(&mut lines, asked, given, error);
             Verdict::Different
         }
     };
@@ -76,6 +76,36 @@ fn accepted(
         Subject::Program => {
             let _program = program_of(alloc, given)?;
             Ok(Verdict::Same)
+        }
+    }
+}
+
+// Adds what is said of a rejection, and the warnings of a policy whose programs are too long in the linear layout alone.
+fn push_rejected(lines: &mut Lines<'_>, asked: &Asked<'_>, given: &[u8], error: AnswerError) {
+    push_error(lines, asked.arch, given, &error);
+    let is_long = is_too_long(&error);
+    drop(error);
+    if is_long {
+        push_warnings_of(lines, asked, given);
+    }
+}
+
+// Whether all that is wrong with a policy is that programs are too long in the linear layout.
+fn is_too_long(error: &AnswerError) -> bool {
+    match error {
+        AnswerError::Placed(_, fault) => matches!(fault.problem, Problem::TooLong(_, _, _)),
+        _ => false,
+    }
+}
+
+// Adds what is said of the warnings of a policy whose programs may be too long: they may fit in the tree layout, and `compile` counts
+// the warnings then.
+fn push_warnings_of(lines: &mut Lines<'_>, asked: &Asked<'_>, given: &[u8]) {
+    match warnings_of(lines.text.alloc(), asked.arch, &asked.allowed, given) {
+        Ok(checked) => push_warnings(lines, asked.arch, &checked.filters),
+        Err(error) => {
+            drop(error);
+            lines.text.fail();
         }
     }
 }

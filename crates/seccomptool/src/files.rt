@@ -42,16 +42,29 @@ pub(crate) fn is_same(rt: &HostRuntime, first: &str, second: &str) -> bool {
 }
 
 // Writes a file whole: beside its place at first, and then in place of an older one, which stays as it was where anything fails.
-// What is no file, as a device, is written as it is. A symbolic link stays, also one that leads to no file yet.
+// What is no file, as a device or a pipe, is written as it is, and so is what a descriptor stands for, as whoever has it open looks
+// there. A symbolic link stays, also one that leads to no file yet.
 pub(crate) fn write_whole(rt: &HostRuntime, path: &str, bytes: &[u8]) -> io::Result<()> {
-    match fs::canonicalize(rt, path) {
-        Ok(older) if older.is_file(rt) => replace(rt, older.as_str(), bytes),
+    match fs::metadata(rt, path) {
+        Ok(older) if older.is_file() => match fs::canonicalize(rt, path) {
+            Ok(place) if !is_descriptor(path) && is_same(rt, path, place.as_str()) => {
+                replace(rt, place.as_str(), bytes)
+            }
+            Err(error) if error.kind() == ErrorKind::OutOfMemory => Err(error),
+            _ => fs::write(rt, path, bytes),
+        },
         Ok(_) => fs::write(rt, path, bytes),
+        Err(error) if error.kind() != ErrorKind::NotFound => Err(error),
         Err(_) => match fs::symlink_metadata(rt, path) {
             Ok(found) if found.is_symlink() => write_through(rt, path, bytes),
             _ => replace(rt, path, bytes),
         },
     }
+}
+
+// Whether a path is that of a descriptor.
+fn is_descriptor(path: &str) -> bool {
+    path.starts_with("/dev/fd/") || path.starts_with("/proc/self/fd/")
 }
 
 // Writes the file to which a symbolic link leads and which isn't there yet: it is empty at first. Nothing is left of it where anything

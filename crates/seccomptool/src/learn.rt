@@ -7,8 +7,8 @@ ghost use Rattle.std.specs.Prelude.{◌≡◌, ◌++◌, All, Any, IfErr, IfOk, 
 ghost use Rattle.seccomp_learn.specs.Written.{found_in};
 ghost use Rattle.seccomp_answers.specs.Chosen.{text_of};
 ghost use Rattle.seccomptool.specs.Commands.{IsPlain};
-ghost use Rattle.seccomptool.specs.Learn.{AreAdded, AreCloningIf, AreObserved, AreRunnableIf, IsBase, IsLearned, IsLesson, IsStrange, IsUnderstood, IsWrittenPolicy, Unless, clone3_filter, with_second};
-ghost use Rattle.seccomptool.specs.Unlearned.{IsNoBase, IsUnlearned, IsUntaught, IsUnwritten};
+ghost use Rattle.seccomptool.specs.Learn.{AreAdded, AreCloningIf, AreObserved, AreRunnableIf, IsBase, IsLearned, IsLesson, IsStrange, IsTaken, IsUnderstood, IsUntaken, IsWrittenPolicy, Unless, clone3_filter, with_second};
+ghost use Rattle.seccomptool.specs.Unlearned.{IsNoBase, IsOfStart, IsUnlearned, IsUntaught, IsUnwritten};
 
 use crate::learn::arguments::{push_asked_notes, wanted_in};
 use crate::learn::notes::{learned_json, push_notes, refuse_trace};
@@ -26,6 +26,9 @@ use seccomp_views::unit::{push_unit_notes, unit_text};
 use seccompiler::{JsonFilter, JsonFilterMap, JsonRule, SeccompAction};
 use std::alloc::{AllocError, Global};
 use std::collections::BTreeMap;
+
+// The greatest errno that SystemCallErrorNumber= of systemd takes (`systemd.exec(5)`).
+const UNIT_ERRNO_MAX: u32 = 4095;
 
 /// What the calls of a trace are added to.
 #[derive(Clone, Copy)]
@@ -63,7 +66,7 @@ pub(crate) fn learn_made(
     let wanted = wanted_in(alloc, asked, &observed)?;
     let learned = match learned_of(alloc, asked, &observed, &wanted, policy) {
         Ok(learned) => learned,
-        Err(error) => return Err(AnswerError::in_second(alloc, error)),
+        Err(error) => return Err(of_start(alloc, asked.start, error)),
     };
     let made = views_of(alloc, asked, inputs, traces, &observed, &wanted, &learned);
     // Here, so that no branch has to.
@@ -211,10 +214,38 @@ fn learned_of(
     ensures cause { IfErr result (IsUntaught asked.now policy.now) }
 {
     let (name, filter, mut others) = base_of(alloc, asked.start, asked.name, policy)?;
+    refuse_errno(alloc, asked.as_unit, &filter)?;
     let (arch, most) = (asked.arch, asked.most);
     push_second(alloc, asked.old_clone, name.as_str(), &mut others)?;
     let lesson = learn_within(alloc, arch, observed, wanted, most, filter)?;
     Ok((name, lesson, others))
+}
+
+// The error as one of the policy that calls are added to, if there is one.
+fn of_start(alloc: Global, start: Start, error: AnswerError) -> AnswerError
+    ensures { IsOfStart start error result }
+{
+    match start {
+        Start::Otherwise(_) => error,
+        Start::Into => AnswerError::in_second(alloc, error),
+    }
+}
+
+// Rejects an errno that systemd doesn't take for other calls, if a drop-in is asked for.
+fn refuse_errno(alloc: Global, as_unit: bool, filter: &JsonFilter) -> Result<(), AnswerError>
+    ensures taken { OnOk result (IsTaken as_unit filter.now.mismatch_action) }
+    ensures cause { IfErr result (IsUntaken as_unit filter.now.mismatch_action) }
+{
+    let SeccompAction::Errno(number) = filter.mismatch_action else {
+        return Ok(());
+    };
+    if !as_unit || (1 <= number && number <= UNIT_ERRNO_MAX) {
+        return Ok(());
+    }
+    let told = format!(in alloc;
+        "systemd takes errno 1 to {UNIT_ERRNO_MAX} for other calls, found {number}"
+    )?;
+    Err(AnswerError::Told(told))
 }
 
 // Adds the filter that answers `clone3` with ENOSYS, if it is asked for, in place of an older one of its name.

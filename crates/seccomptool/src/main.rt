@@ -4,6 +4,7 @@
 mod call;
 mod check;
 mod compile;
+mod delivery;
 mod diff;
 mod explain;
 mod files;

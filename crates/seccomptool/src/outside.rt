@@ -3,12 +3,12 @@
 ghost use Rattle.seccomp_answers.specs.Chosen.{text_of};
 
 use crate::files::{of_io, of_path, write_whole};
-use crate::notes::{tell, tell_notes};
+use crate::notes::tell;
 use crate::words::Inputs;
 use seccomp_answers::error::AnswerError;
-use std::alloc::{AllocError, Global};
-use std::io;
+use std::alloc::Global;
 use std::io::Write;
+use std::{fs, io};
 
 /// What is written where no file is.
 pub(crate) const OUTPUT: &str = "standard output";
@@ -18,12 +18,19 @@ pub(crate) const OUTPUT: &str = "standard output";
 /// No contract can say what a file has. So what the shell does is said of each place that lists what is done there, in the order
 /// in which it is done.
 pub(crate) trait Outside {
-    ghost use Rattle.std.specs.Prelude.{List, [], ◌∷◌, IfErr, Option, OnErr, OnOk};
+    ghost use Rattle.std.specs.Prelude.{◌≡◌, ℕ, Bool, List, [], ◌∷◌, IfErr, IfSome, Option, OnErr, OnOk};
     ghost use Rattle.seccomp_answers.specs.Chosen.{text_of};
     ghost use Rattle.seccomptool.specs.Outside.{Adds, Event, IsOfFile, told, wrote};
 
     // What is done so far, if that is known.
     ghost done: { Self → Option (List Event) };
+
+    // At which paths something is, if that is known.
+    ghost there: { Self → Option (List ℕ → Bool) };
+
+    /// Whether something is at a path.
+    fn is_there(&self, path: &str) -> bool
+        ensures { IfSome (there self.now) (λ there. result ≡ there path.now) };
 
     /// Fails once nobody reads standard output any more.
     fn check_reader(&self, alloc: Global) -> Result<(), AnswerError>
@@ -39,12 +46,12 @@ pub(crate) trait Outside {
     fn tell(&mut self, inputs: Inputs<'_>, error: &AnswerError)
         ensures { Adds (done self.old) (done self.new) (told error.now ∷ []) };
 
-    /// Reports notes: lines of text. Fails if there is no memory for them.
-    fn note(&mut self, notes: &[u8]) -> Result<(), AllocError>
+    /// Reports notes: lines of text, made readable.
+    fn note(&mut self, notes: &str)
         ensures { Adds (done self.old) (done self.new) [] };
 }
 
-/// Files, standard output and standard error. What is done there is not known.
+/// Files, standard output and standard error. What is there, and done there, is not known.
 #[derive(Drop)]
 pub(crate) struct Streams<'a> {
     pub rt: &'a HostRuntime,
@@ -58,6 +65,12 @@ impl Outside for Streams<'_> {
     ghost use Rattle.std.specs.Prelude.{None};
 
     ghost done = { λ streams. None };
+
+    ghost there = { λ streams. None };
+
+    fn is_there(&self, path: &str) -> bool {
+        fs::metadata(self.rt, path).is_ok()
+    }
 
     fn check_reader(&self, alloc: Global) -> Result<(), AnswerError> {
         if self.is_closed {
@@ -92,7 +105,7 @@ impl Outside for Streams<'_> {
         self.lacks_memory = true;
     }
 
-    fn note(&mut self, notes: &[u8]) -> Result<(), AllocError> {
-        tell_notes(self.rt, notes)
+    fn note(&mut self, notes: &str) {
+        let _ = eprint!(self.rt; "{notes}");
     }
 }

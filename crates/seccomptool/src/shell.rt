@@ -8,9 +8,10 @@ ghost use Rattle.seccomptool.specs.Commands.{IsPerformed};
 ghost use Rattle.seccomptool.specs.Outside as spec;
 ghost use Rattle.seccomptool.specs.Outside.{Adds, EndWith, Ends, EndsGathered, IsDelivered, IsOfFile, IsTrouble, WritesAll, made_status};
 
+use crate::delivery::{deliver, gathers, writes_bytes};
 use crate::files::{is_same, of_path, whole_of};
 use crate::made::Made;
-use crate::notes::tell_notes;
+use crate::notes::error_text;
 use crate::outside::{OUTPUT, Outside};
 use crate::perform::perform;
 use crate::progress::Watch;
@@ -21,10 +22,8 @@ use seccomp_answers::findings::Verdict;
 use seccomp_answers::layers::Layer;
 use seccomp_learn::{Trace, read_trace};
 use seccomp_text::readable::TextKind;
-use seccomp_views::check::format::CheckFormat;
 use seccomp_views::json::list_text;
 use seccomp_views::notes::readable;
-use seccomp_views::program::ProgramFormat;
 use std::alloc::Global;
 use std::io;
 use std::process::ExitCode;
@@ -45,14 +44,14 @@ pub(crate) fn answer<O: Outside>(
     ensures ended { exit_status result ≤ 3 }
 {
     let mut codes = Vec::new(rt.alloc());
-    match read(rt.alloc(), words, &mut codes) {
+    match read(rt.alloc(), out, words, &mut codes) {
         Ok(asked) => ExitCode::from(carry_out_each(rt, out, &asked, to_terminal, progress)),
-        Err(error) => misused(rt, &error),
+        Err(error) => misused(rt, out, words, &error),
     }
 }
 
 // Tells what `clap` has to say: status 0 where that is help or the version, and it is written; else 2.
-fn misused(rt: &HostRuntime, error: &clap::Error) -> ExitCode
+fn misused<O: Outside>(rt: &HostRuntime, out: &O, words: &[String], error: &clap::Error) -> ExitCode
     ensures ended { exit_status result ≤ 2 }
     ensures shown { exit_status result ≤ 1 → (kind_of error.now ≡ DisplayHelp) ⊎ (kind_of error.now ≡ DisplayVersion) }
 {
@@ -71,13 +70,14 @@ fn misused(rt: &HostRuntime, error: &clap::Error) -> ExitCode
             ExitCode::from(2)
         }
         _ => {
-            let told = match format!(in rt.alloc(); "{error}") {
-                Ok(told) => tell_notes(rt, told.as_bytes()).is_ok(),
-                Err(_) => false,
+            let told = match error_text(rt.alloc(), out, words, error) {
+                Ok(told) => readable(rt.alloc(), told.as_bytes(), TextKind::Lines),
+                Err(error) => Err(error),
             };
-            if !told {
-                let _ = eprintln!(rt; "seccomptool: Out of memory.");
-            }
+            let _ = match told {
+                Ok(lines) => eprint!(rt; "{lines}"),
+                Err(_) => eprintln!(rt; "seccomptool: Out of memory."),
+            };
             ExitCode::from(2)
         }
     }
@@ -154,16 +154,6 @@ fn write_gathered<O: Outside>(
     out.write(None, &text)
 }
 
-// Whether what a command makes is written at once, behind the last of what it is carried out on.
-fn gathers(asked: &Asked<'_>) -> bool
-    ensures { result ≡ spec.gathers asked.now }
-{
-    matches!(
-        (asked.verb, asked.check_format),
-        (Verb::Check, CheckFormat::Json)
-    )
-}
-
 // Carries out a command on the files and standard input that it names. Where standard output is a terminal, no bytes of programs
 // or records are written there. A status that isn't that of trouble comes only where the command is carried out, and is that of what
 // it finds. Records that end inside of one are trouble, once the whole ones are written.
@@ -180,13 +170,7 @@ fn carry_out<O: Outside>(
     ensures performed { Ends asked.now (record { done = O.done out.old; gathered = gathered.old.items }) (record { done = O.done out.new; gathered = gathered.new.items }) result }
 {
     match carried_out(rt, out, asked, inputs, to_terminal, progress, gathered) {
-        Ok(made) => {
-            if out.note(&made.notes).is_err() {
-                out.tell(inputs, &AnswerError::OutOfMemory);
-                return TROUBLE;
-            }
-            status_of(made.is_cut, made.verdict)
-        }
+        Ok(made) => status_of(made.is_cut, made.verdict),
         Err(error) => {
             out.tell(inputs, &error);
             TROUBLE
@@ -194,7 +178,7 @@ fn carry_out<O: Outside>(
     }
 }
 
-// Carries out a command on what it reads, and writes what it makes of that, at once. On an error nothing is written.
+// Carries out a command on what it reads, writes what it makes of that, at once, and reports its notes. On an error nothing is written.
 fn carried_out<O: Outside>(
     rt: &HostRuntime,
     out: &mut O,
@@ -211,10 +195,10 @@ fn carried_out<O: Outside>(
     ensures ungathered { OnErr result (gathered.new.items ≡ gathered.old.items) }
 {
     out.check_reader(rt.alloc())?;
-    refuse_output(rt, asked, inputs, to_terminal)?;
+    refuse_output(rt, out, asked, inputs, to_terminal)?;
     let first = first_of(rt, asked, inputs)?;
     let traces = traces_of(rt, asked, inputs)?;
-    let layers = layers_of(rt, asked, inputs)?;
+    let layers = layers_of(rt, out, asked, inputs)?;
     let second = whole_of(rt, inputs.second)?;
     let made = perform(
         rt.alloc(),
@@ -229,38 +213,14 @@ fn carried_out<O: Outside>(
     // Here, so that no branch below has to.
     drop((traces, layers, first, second));
     let made = made?;
-    write_made(rt.alloc(), out, asked, &made.text, gathered)?;
+    deliver(rt.alloc(), out, asked, &made.text, &made.notes, gathered)?;
     Ok(made)
 }
 
-// Writes what a command makes, or gathers it.
-fn write_made<O: Outside>(
-    alloc: Global,
-    out: &mut O,
-    asked: &Asked<'_>,
-    text: &[u8],
-    gathered: &mut Vec<u8>,
-) -> Result<(), AnswerError>
-    ensures delivered { OnOk result (IsDelivered (spec.gathers asked.now) asked.now text.now (record { done = O.done out.old; gathered = gathered.old.items }) (record { done = O.done out.new; gathered = gathered.new.items })) }
-    ensures unwritten { OnErr result (Adds (O.done out.old) (O.done out.new) []) }
-    ensures ungathered { OnErr result (gathered.new.items ≡ gathered.old.items) }
-    ensures cause { IfErr result IsOfFile }
-{
-    if gathers(asked) {
-        return Ok(gathered.extend_from_slice(text)?);
-    }
-    // Lines in ASCII, as most texts are, need no change.
-    let is_plain = text.iter().all(|byte| matches!(*byte, b'\n' | b' '..=b'~'));
-    if writes_bytes(asked) || is_plain {
-        return out.write(asked.output, text);
-    }
-    let text = readable(alloc, text, TextKind::Lines)?;
-    out.write(asked.output, text.as_bytes())
-}
-
 // Refuses to write bytes to a terminal, and to write over what is read.
-fn refuse_output(
+fn refuse_output<O: Outside>(
     rt: &HostRuntime,
+    out: &O,
     asked: &Asked<'_>,
     inputs: Inputs<'_>,
     to_terminal: bool,
@@ -271,7 +231,9 @@ fn refuse_output(
         None if to_terminal && writes_bytes(asked) => {
             "bytes aren't written to a terminal; use a file or a pipe"
         }
-        Some(path) if is_read(rt, asked, inputs, path) => { "the output would overwrite the input" }
+        Some(path) if is_read(rt, out, asked, inputs, path) => {
+            "the output would overwrite the input"
+        }
         _ => return Ok(()),
     };
     Err(of_path(rt.alloc(), asked.output.unwrap_or(OUTPUT), told))
@@ -307,8 +269,9 @@ fn traces_of(
 }
 
 // The layers of `stack`, or of `explain` if it has several, in the order in which they were installed.
-fn layers_of<'a>(
+fn layers_of<'a, O: Outside>(
     rt: &HostRuntime,
+    out: &O,
     asked: &Asked<'a>,
     inputs: Inputs<'a>,
 ) -> Result<Vec<Layer<'a>>, AnswerError>
@@ -317,11 +280,11 @@ fn layers_of<'a>(
     let mut layers = Vec::new(rt.alloc());
     let path = inputs.first.unwrap_or("-");
     if let Verb::Stack = asked.verb {
-        layers.push(layer_of(rt, path)?)?;
+        layers.push(layer_of(rt, out, path)?)?;
     }
     if matches!(asked.verb, Verb::Stack | Verb::Explain) {
         for text in &asked.further {
-            layers.push(layer_of(rt, text)?)?;
+            layers.push(layer_of(rt, out, text)?)?;
         }
     }
     if matches!(asked.verb, Verb::Explain) && !layers.is_empty() {
@@ -335,10 +298,14 @@ fn layers_of<'a>(
 }
 
 // The layer at a path, behind which the name of a filter may stand.
-fn layer_of<'a>(rt: &HostRuntime, text: &'a str) -> Result<Layer<'a>, AnswerError>
+fn layer_of<'a, O: Outside>(
+    rt: &HostRuntime,
+    out: &O,
+    text: &'a str,
+) -> Result<Layer<'a>, AnswerError>
     ensures { IfErr result IsOfFile }
 {
-    let (path, filter) = named_in(text);
+    let (path, filter) = named_in(out, text);
     Ok(Layer {
         path,
         filter,
@@ -355,11 +322,17 @@ fn trace_of(rt: &HostRuntime, asked: &Asked<'_>, path: Option<&str>) -> Result<T
 }
 
 // Whether a command reads the file at a path.
-fn is_read(rt: &HostRuntime, asked: &Asked<'_>, inputs: Inputs<'_>, path: &str) -> bool {
+fn is_read<O: Outside>(
+    rt: &HostRuntime,
+    out: &O,
+    asked: &Asked<'_>,
+    inputs: Inputs<'_>,
+    path: &str,
+) -> bool {
     for text in asked.further.iter().chain(inputs.first.as_ref()) {
         // Behind the path `stack` has the name of a filter.
         let read = match asked.verb {
-            Verb::Stack => named_in(text).0,
+            Verb::Stack => named_in(out, text).0,
             _ => *text,
         };
         if is_same(rt, read, path) {
@@ -367,17 +340,6 @@ fn is_read(rt: &HostRuntime, asked: &Asked<'_>, inputs: Inputs<'_>, path: &str) 
         }
     }
     false
-}
-
-// Whether a command writes bytes that are no text.
-fn writes_bytes(asked: &Asked<'_>) -> bool
-    ensures { result ≡ spec.writes_bytes asked.now }
-{
-    match asked.verb {
-        Verb::Compile | Verb::Stack => matches!(asked.format, ProgramFormat::Raw),
-        Verb::Call => asked.recorded,
-        _ => false,
-    }
 }
 
 // The status of what a command finds; that of trouble if records end inside of one.

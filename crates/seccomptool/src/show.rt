@@ -2,7 +2,7 @@
 
 ghost use Rattle.std.specs.Prelude.{IfErr, IfOk, OnOk};
 ghost use Rattle.seccomptool.specs.Causes.{IsUnshown, IsUnshownAs};
-ghost use Rattle.seccomptool.specs.Commands.{IsPlain, IsShown, IsShownOrMeasured};
+ghost use Rattle.seccomptool.specs.Commands.{IsPlain, IsShown, IsShownUnless};
 
 use crate::made::Made;
 use crate::words::Asked;
@@ -39,7 +39,7 @@ fn push_shown(
     subject: Subject<'_>,
     given: &[u8],
 ) -> Result<(), AnswerError>
-    ensures shown { OnOk result (IsShownOrMeasured asked.now.measured asked.now.arch subject.entry asked.now.layout given.now) }
+    ensures shown { OnOk result (IsShownUnless asked.now.measured asked.now.arch subject.entry asked.now.layout given.now) }
     ensures cause { IfErr result (IsUnshownAs asked.now subject.entry given.now) }
 {
     let (alloc, arch, filter, json) = (text.alloc(), asked.arch, asked.filter, asked.json);

@@ -9,13 +9,14 @@ ghost use Rattle.clap.specs.Words.{found_of};
 ghost use Rattle.seccomptool.specs.Arguments.{IsAskedFor, IsVerbFor};
 
 use crate::learn::{AskedArguments, Start};
+use crate::outside::Outside;
 use crate::words::paths::{further_in, inputs_in};
 use crate::words::program::program;
 pub(crate) use crate::words::values::named_in;
 use crate::words::values::{
-    allowed_in, arch_in, arguments_in, calls_in, check_format_in, is_json, kept_in, layout_in,
-    number_in, output_in, path_in, program_format_in, reading_in, relation_in, scope_in, start_in,
-    verb_in,
+    allowed_in, arch_in, arguments_in, calls_in, check_format_in, filter_in, is_json, kept_in,
+    layout_in, number_in, output_in, path_in, program_format_in, reading_in, relation_in, scope_in,
+    start_in, verb_in,
 };
 use clap::ArgMatches;
 use clap::error::ErrorKind;
@@ -64,7 +65,7 @@ compile: Write the program of a filter or of a profile
 --quiet -q: Don't print the number of warnings
 --verbose -v: List the names of a profile that are left out
 --strict: Reject a profile that names calls which the architecture doesn't have
-SUBJECT=-: The file of a policy, profile or program, or - for standard input";
+SUBJECT=-: The file of a policy, profile or program, or - for standard input; append :FILTER to name a filter";
 
 const SHOW: &str = "\
 show: Print programs, with notes on their instructions
@@ -72,7 +73,7 @@ show: Print programs, with notes on their instructions
 --layout LAYOUT=tree: How a program finds a call's rules: one call after the other, or by a tree of tests
 --stats: Print how long the programs are, and how many steps they take
 --json: Write the answer as one JSON object
-SUBJECT=-: The file of a policy, profile or program, or - for standard input";
+SUBJECT=-: The file of a policy, profile or program, or - for standard input; append :FILTER to name a filter";
 
 const EXPLAIN: &str = "\
 explain: Print what is decided for calls, and why
@@ -81,7 +82,7 @@ explain: Print what is decided for calls, and why
 --after SUBJECT..: What holds too and was installed before SUBJECT, in this order; append :FILTER to name a filter
 --records FILE !CALL !log: Without CALL, read call records from FILE instead of standard input
 --log FILE !CALL: Explain the calls that lines of a log or of strace in FILE are about
-SUBJECT: The file of a policy, profile or program, or - for standard input
+SUBJECT: The file of a policy, profile or program, or - for standard input; append :FILTER to name a filter
 CALL?: The call's name or number
 ARG*: The call's arguments; those that aren't given are 0";
 
@@ -268,12 +269,14 @@ pub struct Asked<'a> {
 /// # Errors
 ///
 /// `clap`'s: help and the version, and its own error of arguments that are no command, that exclude each other, or that lack
-/// another one. `ValueValidation` if an ARG or the value of `--most` or `--values` is no number, if options stand between more than
-/// six ARGs, if the value of `--kernel` is no version or that of `--cap` no capability, if that of `--otherwise` or `--args` is
-/// none, and if two files would both be read from standard input: what is explained and records or a log, both of what is compared,
-/// or a trace and the policy. Of several faults one is reported. `OutOfMemory` may come in place of any.
-pub(crate) fn read<'a>(
+/// another one. `ValueValidation` if an ARG or the value of `--most` or `--values` is no number, if options stand between more
+/// than six ARGs, if the value of `--kernel` is no version or that of `--cap` no capability, if that of `--otherwise` or `--args`
+/// is none, if a filter is named by SUBJECT and by `--filter`, and if two files would both be read from standard input: what is
+/// explained and records or a log, both of what is compared, or a trace and the policy. Of several faults one is reported.
+/// `OutOfMemory` may come in place of any.
+pub(crate) fn read<'a, O: Outside>(
     alloc: Global,
+    out: &O,
     words: &'a [String],
     codes: &'a mut Vec<&'static str>,
 ) -> Result<Asked<'a>, clap::Error> {
@@ -285,12 +288,13 @@ pub(crate) fn read<'a>(
         None => "",
     };
     let mut program = program(alloc, &TABLES, first, codes)?;
-    asked_of(alloc, &mut program, words)
+    asked_of(alloc, out, &mut program, words)
 }
 
 // What these words ask the program for.
-fn asked_of<'a>(
+fn asked_of<'a, O: Outside>(
     alloc: Global,
+    out: &O,
     program: &mut clap::Command<'a>,
     words: &'a [String],
 ) -> Result<Asked<'a>, clap::Error> {
@@ -298,7 +302,7 @@ fn asked_of<'a>(
     let mut wrong = Text::new(alloc);
     // clap lets no words pass without a subcommand.
     let (name, found) = matches.subcommand().unwrap_or(("", &matches));
-    let asked = asked_for(name, found, &mut wrong);
+    let asked = asked_for(out, name, found, &mut wrong);
     // Here, so that no branch below has to.
     drop(matches);
     let asked = asked?;
@@ -316,17 +320,18 @@ fn asked_of<'a>(
 }
 
 // What the matches of the subcommand of this name ask for. What clap can't check is checked here: each fault is a line of `wrong`.
-fn asked_for<'a>(
+fn asked_for<'a, O: Outside>(
+    out: &O,
     name: &str,
     found: &ArgMatches<'a>,
     wrong: &mut Text,
 ) -> Result<Asked<'a>, AllocError>
-    ensures asked { IfOk result (IsAskedFor (found_of found.now)) }
+    ensures asked { IfOk result (IsAskedFor (O.there out.now) (found_of found.now)) }
     ensures verb { IfOk result (λ asked. IsVerbFor (found_of found.now) name.now asked.verb) }
 {
     let verb = verb_in(name, found.get_flag("list"));
     let further = further_in(wrong.alloc(), found, verb)?;
-    let inputs = inputs_in(found, wrong, verb)?;
+    let inputs = inputs_in(out, found, wrong, verb)?;
     // What drops comes last, so that no branch before it has to.
     Ok(Asked {
         verb,
@@ -334,7 +339,7 @@ fn asked_for<'a>(
         json: is_json(found),
         arch: arch_in(found),
         each_arch: found.get_str("arch").is_none(),
-        filter: found.get_str("filter"),
+        filter: filter_in(out, found, wrong),
         layout: layout_in(found),
         format: program_format_in(found),
         check_format: check_format_in(found),
@@ -354,8 +359,8 @@ fn asked_for<'a>(
             most: number_in(found, wrong, "most"),
         },
         each: found.get_flag("each"),
-        old: named_in(path_in(found, "OLD")).1,
-        new: named_in(path_in(found, "NEW")).1,
+        old: named_in(out, path_in(found, "OLD")).1,
+        new: named_in(out, path_in(found, "NEW")).1,
         scope: scope_in(found),
         start: start_in(found, wrong),
         name: found.get_str("name"),

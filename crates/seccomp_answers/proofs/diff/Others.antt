@@ -32,7 +32,7 @@ others_covered target relation Words findings are same = λ r rec other.
     let word = audit_word target in
     let below : Part = Elsewhere 0 (word - 1) in
     let above : Part = Elsewhere (word + 1) (2 ^ 32 - 1) in
-    let each = subst (All Holding) are.parts_are (parts_hold target relation Words findings are.each same) in
+    let each = parts_hold target relation Words (other_parts target) findings are same in
     let fits = word_fits r rec in
     elim (cases_lt (word_at r 4) word) [
       | inl less ↦ All-head Holding below (above ∷ []) each r (rec, omega arith, omega (arith, less))
@@ -40,18 +40,3 @@ others_covered target relation Words findings are same = λ r rec other.
           let more : word < word_at r 4 = grind (arith, from, other) in
           All-head Holding above [] (All-tail Holding below (above ∷ []) each) r (rec, omega (arith, more), omega (arith, fits))
     ]
-
--- What is found on the one part and on the other is found on both.
-pub found_elsewhere : (target : TargetArch) (relation : Relation) (Words : List ℕ → ℕ → ℕ → Type 0) (word : ℕ) (lesser greater : Answer)
-    → word ≡ audit_word target → IsFound target relation Words (Elsewhere 0 (word - 1)) lesser
-    → IsFound target relation Words (Elsewhere (word + 1) (2 ^ 32 - 1)) greater
-    → AreFoundOn target relation Words (other_parts target) (record { part = Elsewhere 0 (word - 1); answer = lesser }
-    ∷ record { part = Elsewhere (word + 1) (2 ^ 32 - 1); answer = greater } ∷ [])
-found_elsewhere target relation Words word lesser greater is below above =
-    let Found = λ (f : Finding). IsFound target relation Words f.part f.answer in
-    let first : Finding = record { part = Elsewhere 0 (word - 1); answer = lesser } in
-    let second : Finding = record { part = Elsewhere (word + 1) (2 ^ 32 - 1); answer = greater } in
-    record {
-      parts_are = ap (λ w. Elsewhere 0 (w - 1) ∷ Elsewhere (w + 1) (2 ^ 32 - 1) ∷ []) is;
-      each = All-cons Found first (second ∷ []) below (All-cons Found second [] above (All-nil Found));
-    }

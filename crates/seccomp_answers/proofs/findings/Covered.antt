@@ -1,5 +1,5 @@
 -- For `findings_of`: where nothing is found, the relation holds on every call of the architecture.
-use Rattle.std.proofs.Common.{◌≡◌, ℕ, ◌^◌, ◌<◌, ◌≤◌, List, [], ◌∷◌, map, All, Contains, get_or, refl, sym, subst, inl, inr, arith}
+use Rattle.std.proofs.Common.{◌≡◌, ℕ, ◌^◌, ◌<◌, ◌≤◌, List, [], ◌∷◌, map, All, Contains, get_or, refl, sym, ap, ◌∙◌, subst, inl, inr, arith}
 use Rattle.std.proofs.lemmas.Bool.{cases_eq, cases_lt}
 use Rattle.std.proofs.lemmas.List.Elements.{All-nil, All-cons, All-map, All-contains, Contains-append_left, Contains-push}
 use Rattle.seccompiler.specs.declared.backend.TargetArch.{TargetArch}
@@ -7,9 +7,11 @@ use Rattle.seccomp_compare.specs.declared.Relation.{Relation}
 use Rattle.seccompiler.specs.Architecture.{audit_word, table_of}
 use Rattle.seccompiler.specs.Machine.{IsRecord, word_at}
 use Rattle.seccompiler.specs.SyscallTable.{Pair}
-use Rattle.seccomp_answers.specs.Findings.{HoldsThroughout, IsInPart, IsFound, AreFindings, ArePartsBelow, no_part, then_named}
+use Rattle.seccomp_answers.specs.Findings.{HoldsThroughout, IsInPart, IsFound, AreFoundOn, ArePartsBelow, no_part, then_named}
 use Rattle.seccomp_answers.specs.Findings.{then_gap, worse}
 use Rattle.seccomp_answers.specs.Findings.{verdict_on, verdict_of}
+use Rattle.seccomp_answers.proofs.findings.Kept.{kept_verdict}
+use Rattle.seccomp_answers.proofs.findings.CutParts.{parts_joined}
 use Rattle.seccomp_answers.specs.declared.findings.Answer.{Answer}
 use Rattle.seccomp_answers.specs.declared.findings.Answer.TheVariants as answer
 use Rattle.seccomp_answers.specs.declared.findings.Finding.{Finding}
@@ -84,20 +86,21 @@ number_fits r rec =
     omega arith
 
 -- Where the verdict is that nothing differs, the relation holds on each part.
-pub parts_hold : (target : TargetArch) (relation : Relation) (Words : List ℕ → ℕ → ℕ → Type 0) (findings : List Finding)
-    → All (λ (f : Finding). IsFound target relation Words f.part f.answer) findings → verdict_of findings ≡ Same
-    → All (λ part. IsFound target relation Words part answer.Holds) (map (λ (f : Finding). f.part) findings)
-parts_hold target relation Words findings each same =
-    let holds = all_hold findings same in
-    All-map (λ part. IsFound target relation Words part answer.Holds) (λ (f : Finding). f.part) findings
-    (λ k d room. subst (λ a. IsFound target relation Words (get_or findings k d).part a) (holds k d room) (each k d room))
+pub parts_hold : (target : TargetArch) (relation : Relation) (Words : List ℕ → ℕ → ℕ → Type 0) (parts : List Part)
+    (findings : List Finding) → AreFoundOn target relation Words parts findings → verdict_of findings ≡ Same
+    → All (λ part. IsFound target relation Words part answer.Holds) parts
+parts_hold target relation Words parts findings found same =
+    let holds = all_hold found.all (sym (kept_verdict found.all) ∙ ap verdict_of (sym found.kept) ∙ same) in
+    parts_joined target relation Words parts (map (λ (f : Finding). f.part) found.all) found.are.pieces
+    (All-map (λ part. IsFound target relation Words part answer.Holds) (λ (f : Finding). f.part) found.all
+    (λ k d room. subst (λ a. IsFound target relation Words (get_or found.all k d).part a) (holds k d room) (found.are.each k d room)))
 
 -- Then it holds for each call of the architecture, where the parts are of all.
-pub covered : (target : TargetArch) (relation : Relation) (Words : List ℕ → ℕ → ℕ → Type 0) (findings : List Finding)
-    → AreFindings target relation Words findings
+pub covered : (target : TargetArch) (relation : Relation) (Words : List ℕ → ℕ → ℕ → Type 0) (parts : List Part) (findings : List Finding)
+    → ArePartsBelow (table_of target) parts (2 ^ 32) → AreFoundOn target relation Words parts findings
     → verdict_of findings ≡ Same → HoldsThroughout target relation Words
-covered target relation Words findings are same = λ r rec arch.
+covered target relation Words parts findings are_all found same = λ r rec arch.
     let Holding = λ (part : Part). IsFound target relation Words part answer.Holds in
-    let each = parts_hold target relation Words findings are.each same in
-    let own = part_of (table_of target) (map (λ (f : Finding). f.part) findings) (2 ^ 32) (word_at r 0) are.parts (number_fits r rec) in
-    All-contains Holding (map (λ (f : Finding). f.part) findings) own.0 each own.1 r (in_part target own.0 r rec arch own.2)
+    let each = parts_hold target relation Words parts findings found same in
+    let own = part_of (table_of target) parts (2 ^ 32) (word_at r 0) are_all (number_fits r rec) in
+    All-contains Holding parts own.0 each own.1 r (in_part target own.0 r rec arch own.2)

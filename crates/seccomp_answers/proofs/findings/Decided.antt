@@ -1,6 +1,5 @@
 -- For `findings_of` and `diff_pair`: what is found of two programs is found of whatever they stand for.
-use Rattle.std.proofs.Common.{◌≡◌, ℕ, ◌^◌, List, refl, sym, ap, ◌∙◌, subst}
-use Rattle.std.specs.List.{filter}
+use Rattle.std.proofs.Common.{ℕ, ◌^◌, List, refl, sym, subst}
 use Rattle.std.proofs.lemmas.List.Elements.{All-weaker}
 use Rattle.seccompiler.specs.declared.backend.TargetArch.{TargetArch}
 use Rattle.seccompiler.specs.declared.bpf.sock_filter.{sock_filter}
@@ -13,10 +12,9 @@ use Rattle.seccomp_answers.specs.declared.findings.Answer.{Answer}
 use Rattle.seccomp_answers.specs.declared.findings.Answer.TheVariants.{Holds, Fails, Undecided}
 use Rattle.seccomp_answers.specs.declared.findings.Finding.{Finding}
 use Rattle.seccomp_answers.specs.declared.findings.Part.{Part}
-use Rattle.seccomp_answers.specs.Findings.{AreFindings, AreFoundOn, ArePartsBelow, AreReturned, IsFound, is_kept, verdict_of}
+use Rattle.seccomp_answers.specs.Findings.{AreFoundOn, ArePartsBelow, AreReturned, IsFound}
 use Rattle.seccomp_answers.specs.Rulings.{AreDecided, AreFindingsOf, Decides, EndsAsDecided, Ruling, StandsFor}
 use Rattle.seccomp_answers.proofs.findings.Covered.{covered}
-use Rattle.seccomp_answers.proofs.findings.Kept.{kept_verdict}
 use Rattle.seccomp_answers.proofs.findings.Ending.{record_in}
 
 -- A program that ends as decided ends with no other word.
@@ -50,27 +48,25 @@ module _ (target : TargetArch) (relation : Relation) (new old : List sock_filter
   -- It is found of them on the same parts.
   pub decided_on : (parts : List Part) (findings : List Finding) → AreFoundOn target relation (AreReturned new old) parts findings
       → AreFoundOn target relation (AreDecided target by_new by_old) parts findings
-  decided_on parts findings are = record {
-    parts_are = are.parts_are;
-    each = All-weaker (λ (f : Finding). IsFound target relation (AreReturned new old) f.part f.answer)
-        (λ (f : Finding). IsFound target relation (AreDecided target by_new by_old) f.part f.answer)
-        (λ f. found_decided f.part f.answer) findings are.each;
+  decided_on parts findings found = record {
+    all = found.all;
+    are = record {
+      pieces = found.are.pieces;
+      each = All-weaker (λ (f : Finding). IsFound target relation (AreReturned new old) f.part f.answer)
+          (λ (f : Finding). IsFound target relation (AreDecided target by_new by_old) f.part f.answer)
+          (λ f. found_decided f.part f.answer) found.all found.are.each;
+    };
+    kept = found.kept;
   }
 
   -- Where the parts are those of all calls, they are findings of both.
-  pub decided : (parts : List Part) (all kept : List Finding) → ArePartsBelow (table_of target) parts (2 ^ 32)
-      → AreFoundOn target relation (AreReturned new old) parts all → kept ≡ filter is_kept all
-      → AreFindingsOf target relation by_new by_old kept
-  decided parts all kept whole are is =
-      let on = decided_on parts all are in
-      let own : AreFindings target relation (AreDecided target by_new by_old) all = record {
-        parts = subst (λ ps. ArePartsBelow (table_of target) ps (2 ^ 32)) (sym on.parts_are) whole;
-        each = on.each;
-      } in
+  pub decided : (parts : List Part) (findings : List Finding) → ArePartsBelow (table_of target) parts (2 ^ 32)
+      → AreFoundOn target relation (AreReturned new old) parts findings → AreFindingsOf target relation by_new by_old findings
+  decided parts findings are_all found =
+      let are = decided_on parts findings found in
       record {
-        all = all;
-        are = own;
-        kept = is;
-        holds = λ same. covered target relation (AreDecided target by_new by_old) all own
-            (sym (kept_verdict all) ∙ ap verdict_of (sym is) ∙ same);
+        parts = parts;
+        are_all = are_all;
+        are = are;
+        holds = covered target relation (AreDecided target by_new by_old) parts findings are_all are;
       }

@@ -1,17 +1,19 @@
 -- For `parts`: which numbers have names, and the parts that this makes.
 use Rattle.std.proofs.Common.{◌≡◌, ℕ, pos, ◌+◌, ◌-◌, ◌<◌, ◌≤◌, ◌⊎◌, List, [], ◌∷◌, ◌++◌, All, refl, sym, subst, inl, inr, arith, ◌∙◌}
+use Rattle.std.proofs.Common.{drop, if◌then◌else◌, suc}
 use Rattle.std.proofs.Common.{Bool, Bor, Option, None, Some, ap, false, get_or, length, map, negsuc, of_z, take, to_z, true, w64, ℤ}
 use Rattle.std.specs.Int.{FitsUnsignedBits}
 use Rattle.std.specs.Prelude.{option_map, slice_index_or, unsigned_abs, ◌^◌, ◌||◌}
 use Rattle.std.specs.Option.{is_some}
 use Rattle.std.specs.Ordering.{int_eq}
 use Rattle.std.proofs.Math.ListN.{set}
+use Rattle.std.proofs.Math.Seq.{drop-cons}
 use Rattle.std.proofs.lemmas.Bool.{cases_Bool, cases_eq, true≢false}
 use Rattle.std.proofs.lemmas.Bool.Decides.{Decides-int_eq}
 use Rattle.std.proofs.lemmas.Int.{ints, to_z_pos}
-use Rattle.std.proofs.lemmas.List.{get_or-map, get_or-set_other, get_or-set_same, length-map, map-append, take_more}
+use Rattle.std.proofs.lemmas.List.{get_or-map, get_or-set_other, get_or-set_same, length-map, take_more}
 use Rattle.std.proofs.lemmas.List.Elements.{All-get_or, All-head, All-tail}
-use Rattle.seccompiler.specs.SyscallTable.{IsCallTable, IsTableNumber, Pair, pairs_of}
+use Rattle.seccompiler.specs.SyscallTable.{IsCallTable, IsTableNumber, Pair}
 use Rattle.seccomp_answers.specs.Findings.{HasName, LacksName, ArePartsBelow, name_of, then_gap}
 use Rattle.seccomp_answers.specs.declared.findings.Part.{Part}
 use Rattle.seccomp_answers.specs.declared.findings.Part.TheVariants.{Unnamed}
@@ -85,45 +87,51 @@ converted (pos k) range =
     (k, few, refl, to_z_pos w64 k fits)
 converted (negsuc k) range = absurd (grind (arith, ints, range.0))
 
-module _ (items : List (Bor (List ℕ) × ℤ)) (i : ℕ) (d : Bor (List ℕ) × ℤ) (within : i < length items) {table : List Pair}
-    (is_table : IsCallTable table) (of : pairs_of items ≡ table) where
-  abbrev as_pair : Bor (List ℕ) × ℤ → Pair
-  as_pair item = (item.0.now, item.1)
+module _ (numbers : List ℤ) (i : ℕ) (within : i < length numbers) {table : List Pair} (is_table : IsCallTable table)
+    (of : numbers ≡ map (λ pair. pair.1) table) where
+  d : Pair
+  d = ([], pos 0)
 
-  in_range : IsTableNumber (get_or items i d).1
-  in_range =
-      let none : Pair = ([], pos 0) in
-      let P : Pair → Type 0 = λ pair. IsTableNumber pair.1 in
-      let all : All P (map as_pair items) = subst (All P) (sym of) is_table.in_range in
-      let long : i < length (map as_pair items) = subst (λ n. i < n) (sym (length-map items as_pair)) within in
-      subst P (get_or-map as_pair items i d none within) (All-get_or P (map as_pair items) i none long all)
+  here : i < length table
+  here = subst (λ n. i < n) (ap length of ∙ length-map table (λ pair. pair.1)) within
+
+  read : (e : ℤ) → get_or numbers i e ≡ (get_or table i d).1
+  read e = ap (λ xs. get_or xs i e) of ∙ get_or-map (λ (pair : Pair). pair.1) table i d e here
+
+  in_range : (e : ℤ) → IsTableNumber (get_or numbers i e)
+  in_range e = subst IsTableNumber (sym (read e)) (All-get_or (λ (pair : Pair). IsTableNumber pair.1) table i d here is_table.in_range)
 
   -- The conversion of its number doesn't fail.
-  pub is_converted : (FitsUnsignedBits 64 (to_z w64 (of_z w64 (get_or items i d).1)) → ⊥) → ⊥
-  is_converted none =
-      let k = converted (get_or items i d).1 in_range in
+  pub is_converted : (e : ℤ) → (FitsUnsignedBits 64 (to_z w64 (of_z w64 (get_or numbers i e))) → ⊥) → ⊥
+  is_converted e none =
+      let k = converted (get_or numbers i e) (in_range e) in
       let fits : k.0 < 2 ^ 64 = omega (arith, k.1) in
       none (subst (FitsUnsignedBits 64) (sym k.3) fits)
 
   -- What it is converted to is its number.
-  pub number_is : (m : ℕ) → m ≡ unsigned_abs (to_z w64 (of_z w64 (get_or items i d).1)) → ((get_or items i d).1 ≡ pos m) × (m < 463)
-  number_is m is =
-      let k = converted (get_or items i d).1 in_range in
+  pub number_is : (e : ℤ) (m : ℕ) → m ≡ unsigned_abs (to_z w64 (of_z w64 (get_or numbers i e))) → ((get_or numbers i e) ≡ pos m) × (m < 463)
+  number_is e m is =
+      let k = converted (get_or numbers i e) (in_range e) in
       let same : m ≡ k.0 = is ∙ ap unsigned_abs k.3 in
       (k.2 ∙ ap pos (sym same), omega (arith, k.1, same))
 
   -- The number is marked.
-  pub marked_more : (marks : List Bool) (m : ℕ) → length marks ≡ 512 → m ≡ unsigned_abs (to_z w64 (of_z w64 (get_or items i d).1))
-      → AreMarked (pairs_of (take i items)) marks → AreMarked (pairs_of (take (i + 1) items)) (set marks m true)
-  marked_more marks m long is so_far n few =
-      let own = number_is m is in
-      let front = pairs_of (take i items) in
-      let pair = as_pair (get_or items i d) in
+  pub marked_more : (e : ℤ) (marks : List Bool) (m : ℕ) → length marks ≡ 512 → m ≡ unsigned_abs (to_z w64 (of_z w64 (get_or numbers i e)))
+      → AreMarked (take i table) marks → AreMarked (take (i + 1) table) (set marks m true)
+  marked_more e marks m long is so_far n few =
+      let own = number_is e m is in
+      let pair = get_or table i d in
       let room : m < length marks = omega (arith, own.1, long) in
-      let more : pairs_of (take (i + 1) items) ≡ front ++ pair ∷ [] =
-      ap pairs_of (take_more items i d within) ∙ map-append as_pair (take i items) (get_or items i d ∷ []) in
-      one_marked marks m n pair.1 own.0 room ∙ ap (λ (b : Bool). int_eq pair.1 (pos n) || b) (so_far n few)
-      ∙ sym (one_named front pair n) ∙ ap (λ (pairs : List Pair). is_some (name_of pairs n)) (sym more)
+      one_marked marks m n pair.1 (sym (read e) ∙ own.0) room ∙ ap (λ (b : Bool). int_eq pair.1 (pos n) || b) (so_far n few)
+      ∙ sym (one_named (take i table) pair n) ∙ ap (λ (pairs : List Pair). is_some (name_of pairs n)) (sym (take_more table i d here))
+
+-- The first name of a number, from a place on.
+pub name_from : (table : List Pair) (place : ℕ) (d : Pair) (n : ℕ) → place < length table
+    → name_of (drop place table) n
+    ≡ (if int_eq (get_or table place d).1 (pos n) then Some (get_or table place d).0 else name_of (drop (place + 1) table) n)
+name_from table place d n within =
+    let next : place + 1 ≡ suc place = omega arith in
+    rw next (ap (λ pairs. name_of pairs n) (drop-cons table place d within))
 
 -- ---- the parts
 

@@ -56,8 +56,8 @@ fn are_named(target: TargetArch) -> [bool; NUMBERS]
     ensures { (n : ℕ) → n < NUMBERS → slice_index_or result n false ≡ is_some (spec.name_of (table_of target) n) }
 {
     let mut named = [false; NUMBERS];
-    for pair in SyscallTable::new(target).pairs() {
-        let Ok(number) = usize::try_from(pair.1) else {
+    for number in SyscallTable::new(target).numbers() {
+        let Ok(number) = usize::try_from(*number) else {
             continue;
         };
         named[number] = true;
@@ -69,9 +69,11 @@ fn are_named(target: TargetArch) -> [bool; NUMBERS]
 pub fn name_of(target: TargetArch, number: u32) -> Option<&'static str>
     ensures { option_map (λ name. name.now) result ≡ spec.name_of (table_of target) number }
 {
-    for pair in SyscallTable::new(target).pairs() {
-        if pair.1 == i64::from(number) {
-            return Some(pair.0);
+    let table = SyscallTable::new(target);
+    let numbers = table.numbers();
+    for place in 0..numbers.len() {
+        if numbers[place] == i64::from(number) {
+            return Some(table.name(place));
         }
     }
     None

@@ -5,8 +5,9 @@ use crate::check::outline::{Located, Outline, Position};
 use crate::notes::{failure, note, readable};
 use seccomp_answers::error::AnswerError;
 use seccomp_check::{
-    Expected, Fault, JsonFault, Problem, Step, fault_text, faults, json_fault, push_problem,
+    Expected, Fault, JsonFault, Part, Problem, Step, fault_text, faults, json_fault, push_problem,
 };
+use seccomp_names::error_number;
 use seccomp_oci::{CompileError, ProfileError, ProfileFault, profile_fault_text, profile_faults};
 use seccomp_text::readable::TextKind;
 use seccompiler::{Error, JsonFrontendError, TargetArch};
@@ -194,7 +195,7 @@ impl Ordered {
 // Adds that there are more errors than are told, if there are some.
 fn push_more(lines: &mut Lines<'_>, ordered: &Ordered) {
     let alloc = lines.text.alloc();
-    if ordered.is_missing {
+    if ordered.is_missing || ordered.outline.is_missing {
         lines.text.fail();
     }
     let said = match ordered.places.len().saturating_sub(MOST) {
@@ -249,11 +250,7 @@ fn go_along(lines: &mut Lines<'_>, path: &[Step]) {
 fn push_fault(lines: &mut Lines<'_>, fault: &Fault) {
     let alloc = lines.text.alloc();
     if let CheckFormat::Text = lines.format {
-        let told = match fault_text(alloc, fault) {
-            Ok(told) => readable(alloc, &told, TextKind::Line),
-            Err(error) => Err(error),
-        };
-        return note(&mut lines.notes, lines.file, told);
+        return note(&mut lines.notes, lines.file, line_of(alloc, fault));
     }
     go_along(lines, &fault.path);
     let code = match &fault.problem {
@@ -275,10 +272,46 @@ fn push_fault(lines: &mut Lines<'_>, fault: &Fault) {
         Problem::SameActions => "identical-actions",
         Problem::TooLong(_, _, _) => "program-too-large",
     };
-    let mut message = Vec::new(alloc);
-    let added = push_problem(&mut message, alloc, &fault.problem);
-    match String::from_utf8_lossy(alloc, &message) {
-        Ok(message) if added.is_ok() => lines.push("error", code, message.as_str()),
-        _ => lines.text.fail(),
+    match message_of(alloc, fault) {
+        Ok(message) => lines.push("error", code, message.as_str()),
+        Err(_) => lines.text.fail(),
+    }
+}
+
+// What is said of a fault of a policy for people: the path, and what is wrong there.
+fn line_of(alloc: Global, fault: &Fault) -> Result<String, AllocError> {
+    let mut told = fault_text(alloc, fault)?;
+    push_errno(&mut told, alloc, fault)?;
+    readable(alloc, &told, TextKind::Line)
+}
+
+// The same without the path.
+fn message_of(alloc: Global, fault: &Fault) -> Result<String, AllocError> {
+    let mut told = Vec::new(alloc);
+    push_problem(&mut told, alloc, &fault.problem)?;
+    push_errno(&mut told, alloc, fault)?;
+    String::from_utf8_lossy(alloc, &told)
+}
+
+// Adds the number of an errno whose name stands in the number's place.
+fn push_errno(text: &mut Vec<u8>, alloc: Global, fault: &Fault) -> Result<(), AllocError> {
+    let Some((name, number)) = errno_of(fault) else {
+        return Ok(());
+    };
+    let told = format!(in alloc; "; {name} is {number}")?;
+    text.extend_from_slice(told.as_bytes())
+}
+
+// The errno whose name stands in its number's place, and the number.
+fn errno_of(fault: &Fault) -> Option<(&str, u32)> {
+    let Problem::Stands(shown, Expected::Form(Part::ActionNumber), _) = &fault.problem else {
+        return None;
+    };
+    match fault.path.last() {
+        Some(Step::Key(key)) if key.as_str() == "errno" => {
+            let name = shown.as_str().trim_matches('"');
+            Some((name, error_number(name)?))
+        }
+        _ => None,
     }
 }

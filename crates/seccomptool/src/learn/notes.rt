@@ -104,6 +104,11 @@ fn note_trace(
         let told = unnamed_line(alloc, asked.arch, trace);
         note_at(notes, asked, inputs, index, told);
     }
+    if trace.observed.is_empty() {
+        let arch = asked.arch;
+        let told = format!(in alloc; "it has no call of {arch}");
+        note_at(notes, asked, inputs, index, told);
+    }
 }
 
 // That the architecture hasn't calls of these names and numbers.

@@ -2,38 +2,43 @@
 
 ghost use Rattle.std.specs.Prelude.{◌≡◌, [], ◌∷◌, IfOk, drop, map, option_map, unwrap_or};
 ghost use Rattle.clap.specs.Words.{found_of};
-ghost use Rattle.seccomptool.specs.Arguments.{AreRead, each_with, further_given, paths_of};
+ghost use Rattle.seccomptool.specs.Arguments.{AreRead, each_alone, further_given, paths_of};
 ghost use Rattle.seccomp_answers.specs.Chosen.{text_of};
 
 use super::values::{named_in, path_in, records_in};
 use super::{Inputs, Verb};
+use crate::outside::Outside;
 use clap::ArgMatches;
 use seccomp_views::text::Text;
 use std::alloc::{AllocError, Global};
 
 // What a command is carried out on, one after the other.
-pub(super) fn inputs_in<'a>(
+pub(super) fn inputs_in<'a, O: Outside>(
+    out: &O,
     found: &ArgMatches<'a>,
     wrong: &mut Text,
     verb: Verb,
 ) -> Result<Vec<Inputs<'a>>, AllocError>
-    ensures { IfOk result (λ inputs. AreRead (found_of found.now) verb (map paths_of inputs.items)) }
+    ensures { IfOk result (λ inputs. AreRead (O.there out.now) (found_of found.now) verb (map paths_of inputs.items)) }
 {
     let alloc = wrong.alloc();
-    let subjects = found.get_strs("SUBJECT");
+    let (subject, _) = named_in(out, path_in(found, "SUBJECT"));
     match verb {
         Verb::Codes | Verb::Call => one_of(alloc, None, None),
-        Verb::Check | Verb::Compile | Verb::Show => inputs_of(alloc, subjects, None),
+        Verb::Check => inputs_of(alloc, found.get_strs("SUBJECT")),
+        Verb::Compile | Verb::Show => one_of(alloc, Some(subject), None),
         Verb::Explain => {
             let second = records_in(found);
-            for firsts in [subjects, found.get_strs("after")] {
-                refuse_both(wrong, verb, firsts.unwrap_or(&[]), second);
+            refuse_both(wrong, verb, &[subject], second);
+            for text in found.get_strs("after").unwrap_or(&[]) {
+                let (after, _) = named_in(out, text);
+                refuse_both(wrong, verb, &[after], second);
             }
-            inputs_of(alloc, subjects, second)
+            one_of(alloc, Some(subject), second)
         }
         Verb::Diff => {
-            let (old, _) = named_in(path_in(found, "OLD"));
-            let (new, _) = named_in(path_in(found, "NEW"));
+            let (old, _) = named_in(out, path_in(found, "OLD"));
+            let (new, _) = named_in(out, path_in(found, "NEW"));
             refuse_both(wrong, verb, &[old], Some(new));
             one_of(alloc, Some(old), Some(new))
         }
@@ -58,36 +63,25 @@ fn refuse_both(wrong: &mut Text, verb: Verb, firsts: &[&str], second: Option<&st
     }
 }
 
-// Each of these is read first, with this second. A command that reads nothing first is carried out once.
-fn inputs_of<'a>(
-    alloc: Global,
-    firsts: Option<&[&'a str]>,
-    second: Option<&'a str>,
-) -> Result<Vec<Inputs<'a>>, AllocError>
-    ensures { IfOk result (λ inputs. map paths_of inputs.items ≡ each_with (text_of second.entry) (unwrap_or (option_map (λ all. map (λ first. first.now) all.now) firsts.entry) [])) }
+// Each of these is read, one after the other.
+fn inputs_of<'a>(alloc: Global, paths: Option<&[&'a str]>) -> Result<Vec<Inputs<'a>>, AllocError>
+    ensures { IfOk result (λ inputs. map paths_of inputs.items ≡ each_alone (unwrap_or (option_map (λ all. map (λ path. path.now) all.now) paths.entry) [])) }
 {
-    match firsts {
-        None => one_of(alloc, None, second),
-        Some(firsts) => each_of(alloc, firsts, second),
+    match paths {
+        None => Ok(Vec::new(alloc)),
+        Some(paths) => each_of(alloc, paths),
     }
 }
 
 // The same, of those that are given.
-fn each_of<'a>(
-    alloc: Global,
-    firsts: &[&'a str],
-    second: Option<&'a str>,
-) -> Result<Vec<Inputs<'a>>, AllocError>
-    ensures { IfOk result (λ inputs. map paths_of inputs.items ≡ each_with (text_of second.entry) (map (λ first. first.now) firsts.now)) }
+fn each_of<'a>(alloc: Global, paths: &[&'a str]) -> Result<Vec<Inputs<'a>>, AllocError>
+    ensures { IfOk result (λ inputs. map paths_of inputs.items ≡ each_alone (map (λ path. path.now) paths.now)) }
 {
-    if firsts.is_empty() {
-        return one_of(alloc, None, second);
-    }
     let mut inputs = Vec::new(alloc);
-    for first in firsts {
+    for path in paths {
         inputs.push(Inputs {
-            first: Some(*first),
-            second,
+            first: Some(*path),
+            second: None,
         })?;
     }
     Ok(inputs)

@@ -3,11 +3,12 @@
 
 ghost use Rattle.std.specs.Prelude.{◌≡◌, codes};
 ghost use Rattle.clap.specs.Words.{first_value, found_of};
-ghost use Rattle.seccomptool.specs.Arguments.{IsByFormat, IsFlag, IsFormatName, IsPathAndName, IsReadingFor, arch_named, calls_named, check_format_named, is_json, is_of_all, is_only_more, layout_named, name_given, output_named, path_given, program_format_named, records_given, verb_named};
+ghost use Rattle.seccomptool.specs.Arguments.{IsByFormat, IsFilterIn, IsFlag, IsFormatName, IsPathAndName, IsReadingFor, arch_named, calls_named, check_format_named, is_json, is_of_all, is_only_more, layout_named, name_given, output_named, path_given, program_format_named, records_given, verb_named};
 ghost use Rattle.seccomp_answers.specs.Chosen.{text_of};
 
 use super::{Calls, Verb};
 use crate::learn::{AskedArguments, Start};
+use crate::outside::Outside;
 use clap::ArgMatches;
 use seccomp_answers::calls::read_number;
 use seccomp_answers::diff::Scope;
@@ -86,14 +87,39 @@ pub(super) fn path_in<'a>(found: &ArgMatches<'a>, id: &str) -> &'a str
     found.get_str(id).unwrap_or("-")
 }
 
-// A path, and the name of a filter, if one stands behind the last colon: none if nothing does.
-pub(crate) fn named_in(text: &str) -> (&str, Option<&str>)
-    ensures { IsPathAndName text.now result.0.now (text_of result.1) }
+// A path, and the name of a filter, if one stands behind the last colon: none if nothing does, or if something is at the path that is
+// the whole text.
+pub(crate) fn named_in<'a, O: Outside>(out: &O, text: &'a str) -> (&'a str, Option<&'a str>)
+    ensures { IsPathAndName (O.there out.now) text.now result.0.now (text_of result.1) }
 {
-    match text.rsplit_once(':') {
-        None => (text, None),
-        Some((path, name)) if name.is_empty() => (path, None),
-        Some((path, name)) => (path, Some(name)),
+    let Some((path, name)) = text.rsplit_once(':') else {
+        return (text, None);
+    };
+    if out.is_there(text) {
+        return (text, None);
+    }
+    if name.is_empty() {
+        return (path, None);
+    }
+    (path, Some(name))
+}
+
+// The name of the filter that is asked for: by --filter, or behind the subject's path.
+pub(super) fn filter_in<'a, O: Outside>(
+    out: &O,
+    found: &ArgMatches<'a>,
+    wrong: &mut Text,
+) -> Option<&'a str>
+    ensures { IsFilterIn (O.there out.now) (found_of found.now) (text_of result) }
+{
+    let (_, behind) = named_in(out, path_in(found, "SUBJECT"));
+    let given = found.get_str("filter");
+    if given.is_some() && behind.is_some() {
+        wrong.push_str("the filter is named twice: behind SUBJECT and by --filter\n");
+    }
+    match given {
+        Some(filter) => Some(filter),
+        None => behind,
     }
 }
 
@@ -124,7 +150,7 @@ pub(super) fn output_in<'a>(found: &ArgMatches<'a>) -> Option<&'a str>
     ensures { text_of result ≡ output_named (first_value (found_of found.now) (codes "output")) }
 {
     match found.get_str("output") {
-        Some("-") => None,
+        Some("-" | "/dev/stdout" | "/dev/fd/1") => None,
         output => output,
     }
 }

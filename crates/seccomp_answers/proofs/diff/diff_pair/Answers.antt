@@ -1,8 +1,8 @@
-use Rattle.std.proofs.Common.{◌≡◌, ℕ, List, Option, Some, None, [], ◌∷◌, ◌+◌, ◌-◌, ◌^◌, subst, sym}
+use Rattle.std.proofs.Common.{◌≡◌, ℕ, List, Option, Some, None, [], ◌∷◌, ◌+◌, ◌-◌, ◌^◌, ap, subst, sym}
 use Rattle.seccomp_answers.specs.declared.findings.Filters.{Filters}
-use Rattle.seccomp_answers.specs.declared.findings.Finding.{Finding}
 use Rattle.seccomp_answers.specs.declared.findings.Part.TheVariants.{Elsewhere}
-use Rattle.seccomp_answers.specs.Findings.{AreReturned}
+use Rattle.seccompiler.specs.Architecture.{audit_word}
+use Rattle.seccomp_answers.specs.Findings.{AreFoundOn, AreReturned}
 use Rattle.seccomp_answers.specs.Rulings.{AreDecided, AreOf, StandsFor, of_filter}
 use Rattle.std.specs.Prelude.{IfSome}
 use Rattle.seccompiler.specs.Policy.{Filter}
@@ -13,7 +13,7 @@ use Rattle.seccomp_answers.specs.Sides.{IsFilterFor}
 use Rattle.seccomp_answers.specs.declared.kind.Subject.{Subject}
 use Rattle.seccomp_answers.specs.Diff.{other_parts}
 use Rattle.seccomp_answers.proofs.findings.Decided.{decided_on}
-use Rattle.seccomp_answers.proofs.diff.Others.{found_elsewhere, others_covered}
+use Rattle.seccomp_answers.proofs.diff.Others.{others_covered}
 use Rattle.seccomp_answers.proofs.sides.Profiles.{side_stands}
 use Rattle.std.proofs.lemmas.Result.{err_from_is_err_and}
 use Rattle.seccomp_answers.proofs.diff.diff_pair.Goals as goal
@@ -51,6 +51,11 @@ findings_of-requires-clause-filters g c =
     are_of target c.deref-new.result.now c.deref-old.result.now c.filters_of-filters.result by_new.filter by_old.filter
     c.filters_of-filters.ensures new_stands old_stands
 
+-- the parts of other architectures
+other_parts_are : (target : TargetArch) (word : ℕ) → word ≡ audit_word target
+    → Elsewhere 0 (word - 1) ∷ Elsewhere (word + 1) (2 ^ 32 - 1) ∷ [] ≡ other_parts target
+other_parts_are target word is = ap (λ w. Elsewhere 0 (w - 1) ∷ Elsewhere (w + 1) (2 ^ 32 - 1) ∷ []) is
+
 pub returns-clause-pair : goal.returns-clause-pair
 returns-clause-pair g c =
     let target = c.args.terms.target in
@@ -59,23 +64,18 @@ returns-clause-pair g c =
     let new = side_stands target c.args.new c.in-Ok.by_new.program.items c.in-Ok.ensures.ruled in
     let of_old = subst (StandsFor target old.0) (sym c.deref-old.ensures.value) old.2 in
     let of_new = subst (StandsFor target new.0) (sym c.deref-new.ensures.value) new.2 in
-    let words = AreReturned c.deref-new.result.now c.deref-old.result.now in
-    let on_lesser = c.in_ok-on_lesser.on_lesser in
-    let on_greater = c.in_ok-on_greater.on_greater in
-    let word = c.get_audit_value-word.result in
-    let found = found_elsewhere target relation words word on_lesser on_greater c.get_audit_value-word.ensures
-    c.in_ok-on_lesser.ensures c.in_ok-on_greater.ensures in
-    let others : List Finding = record { part = Elsewhere 0 (word - 1); answer = on_lesser }
-    ∷ record { part = Elsewhere (word + 1) (2 ^ 32 - 1); answer = on_greater } ∷ [] in
-    let on = decided_on target relation c.deref-new.result.now c.deref-old.result.now new.0 old.0 of_new of_old (other_parts target) others
-    found in
+    let found = subst (λ parts. AreFoundOn target relation (AreReturned c.deref-new.result.now c.deref-old.result.now) parts
+    c.in_ok-others.others.items) (other_parts_are target c.get_audit_value-word.result c.get_audit_value-word.ensures)
+    c.in_ok-others.ensures in
+    let on = decided_on target relation c.deref-new.result.now c.deref-old.result.now new.0 old.0 of_new of_old (other_parts target)
+    c.in_ok-others.others.items found in
     record {
       old = old.0;
       new = new.0;
       of_old = old.1;
       of_new = new.1;
       own = c.in_ok-own.ensures new.0 old.0 of_new of_old;
-      others = record { are = on; holds = others_covered target relation (AreDecided target new.0 old.0) others on };
+      others = record { are = on; holds = others_covered target relation (AreDecided target new.0 old.0) c.in_ok-others.others.items on };
     }
 
 pub returns-in_err-by_old-clause-cause : goal.returns-in_err-by_old-clause-cause

@@ -1,62 +1,26 @@
-use Rattle.std.proofs.Common.{◌≡◌, List, ◌∷◌, [], ◌++◌, String, Global, refl, rules, sym, ap, ◌∙◌, subst, append_assoc, append-nil}
-use Rattle.std.proofs.Common.{string_bytes, string_cmp}
+use Rattle.std.proofs.Common.{◌≡◌, ◌∷◌, [], ◌++◌, String, Global, refl, rules, sym, ap, ◌∙◌, subst, append_assoc}
+use Rattle.std.proofs.Common.{string_cmp}
 use Rattle.std.specs.BTreeMap.{get_by_text}
-use Rattle.std.specs.List.{AllZip}
 use Rattle.std.specs.List.Sorted.{IsStrictlySortedBy}
 use Rattle.std.specs.Map.{keys_of}
 use Rattle.std.proofs.lemmas.Result.{err_from_is_err_and}
-use Rattle.std.proofs.lemmas.Slice.Zip.{all_zipped_more}
-use Rattle.seccompiler.specs.Architecture.{table_of}
 use Rattle.seccompiler.specs.JsonAnswers.{ArePoliciesOf, HasPolicy, OfValue, TellsFrontendFault}
-use Rattle.seccompiler.specs.JsonFilters.{AreNamed}
 use Rattle.seccompiler.specs.Policy.{Filter}
-use Rattle.seccompiler.specs.SyscallTable.{IsCallTable}
 use Rattle.seccomp_tree.specs.declared.layout.Layout.TheVariants.{Linear, Tree}
 use Rattle.seccomp_answers.specs.Chosen.{text_of}
-use Rattle.seccomp_answers.specs.Measures.{HasStats}
-use Rattle.seccomp_answers.specs.declared.measures.FilterStats.{FilterStats}
 use Rattle.seccomp_answers.proofs.Causes.{missing_in, next_in, next_fits, next_refused, told_linear, unread_for}
-use Rattle.seccomp_answers.proofs.Named.{are_named}
 use Rattle.seccomp_answers.proofs.diff.Names.{Entries}
-use Rattle.seccomp_answers.proofs.measures.FilterNumbers.{IsMeasured, has_stats}
 use Rattle.seccomp_answers.proofs.measures.stats_of.Goals as goal
 use Rattle.seccomp_answers.specs.Causes.{of_name, too_large, unread}
 
 pub loop-name-init : goal.loop-name-init
-loop-name-init c = record { whole = refl; measured = subst (AllZip (IsMeasured c.args.target) []) (sym c.new-all.ensures.items) tt }
+loop-name-init c = refl
 
 pub loop-name-preserved : goal.loop-name-preserved
 loop-name-preserved c =
     let l = c.loop-name in
     let e : String Global × Filter = (c.in-Some-2.name, c.in-Some-2.filter) in
-    let s : FilterStats = record { name = c.in-Some-2.name; linear = c.in_ok-linear.linear; tree = c.in_ok-tree.tree } in
-    record {
-      whole = l.invariant.whole ∙ ap (λ es. l.yielded ++ es) c.in-Some-2.ensures.steps
-          ∙ sym (append_assoc l.yielded (e ∷ []) c.next-in-loop-name.new.self);
-      measured = subst (AllZip (IsMeasured c.args.target) (l.yielded ++ e ∷ [])) (sym {A = List FilterStats} c.in_ok-push.ensures.items)
-          (all_zipped_more (IsMeasured c.args.target) l.yielded l.all.items e s l.invariant.measured
-          (record { name = refl; linear = c.in_ok-linear.ensures.measured; tree = c.in_ok-tree.ensures.measured }));
-    }
-
-pub returns-clause-stats : goal.returns-clause-stats
-returns-clause-stats c =
-    let l = c.loop-name in
-    let target = c.args.target in
-    let table = subst (λ t. IsCallTable (table_of t)) c.new-table.ensures.arch c.new-table.ensures.table in
-    let filters = c.in_ok-filters.filters in
-    let of = c.in_ok-filters.ensures.policies in
-    let named = (c.in_ok-filters.ensures.read_back of.0 of.2).entries in
-    let all : filters.entries ≡ l.yielded = sym c.into_iter-name-iterator.ensures.into_iter_gives.0 ∙ l.invariant.whole
-    ∙ ap (λ es. l.yielded ++ es) c.in-None-2.ensures.steps.0 ∙ append-nil l.yielded in (
-      of.0,
-      of.1,
-      are_named (HasPolicy target) of.0 filters.entries
-          (subst (λ t. AreNamed (λ (f : String Global × Filter). string_bytes f.0) (λ f value. HasPolicy t value f.1) of.0 filters.entries)
-          c.new.ensures named)
-          (λ (s : FilterStats). string_bytes s.name) (IsMeasured target) (HasStats target)
-          (λ e s is. ap string_bytes is.name) (has_stats target table) l.all.items
-          (subst (λ es. AllZip (IsMeasured target) es l.all.items) (sym all) l.invariant.measured),
-    )
+    l.invariant ∙ ap (λ es. l.yielded ++ es) c.in-Some-2.ensures.steps ∙ sym (append_assoc l.yielded (e ∷ []) c.next-in-loop-name.new.self)
 
 pub loop-filter-init : goal.loop-filter-init
 loop-filter-init c = record { done = []; whole = refl }
@@ -71,8 +35,8 @@ loop-filter-preserved c =
           ∙ sym (append_assoc l.invariant.done (e ∷ []) c.next.new.self);
     }
 
-pub returns-in_err-filters-clause-cause : goal.returns-in_err-filters-clause-cause
-returns-in_err-filters-clause-cause c =
+pub returns-in_err-filters : goal.returns-in_err-filters
+returns-in_err-filters c =
     let error = err_from_is_err_and c.from_residual.result c.from_residual.ensures.1 in
     let text = c.args.text.now in
     let own = c.in_err-filters.field-0.0 in
@@ -80,8 +44,8 @@ returns-in_err-filters-clause-cause c =
     let first = subst (λ t. TellsFrontendFault t text own) c.new.ensures is.fault in
     rw (error.1, error.2) (Linear, unread (unread_for c.args.target text own first is.no_reader is.memory))
 
-pub returns-in_err-refuse_missing-clause-cause : goal.returns-in_err-refuse_missing-clause-cause
-returns-in_err-refuse_missing-clause-cause c =
+pub returns-in_err-refuse_missing : goal.returns-in_err-refuse_missing
+returns-in_err-refuse_missing c =
     let at = c.from_residual-in_err-refuse_missing in
     let error = err_from_is_err_and at.result at.ensures.1 in
     let find = get_by_text c.in_ok-filters.filters in
@@ -94,8 +58,8 @@ returns-in_err-refuse_missing-clause-cause c =
           c.in_err-refuse_missing.field-0.0 c.in_err-refuse_missing.ensures),
     )
 
-pub returns-in_err-compiled_len-clause-cause : goal.returns-in_err-compiled_len-clause-cause
-returns-in_err-compiled_len-clause-cause c =
+pub returns-in_err-compiled_len : goal.returns-in_err-compiled_len
+returns-in_err-compiled_len c =
     let at = c.from_residual-in_err-compiled_len in
     let error = err_from_is_err_and at.result at.ensures.1 in
     let l = c.loop-filter in
@@ -118,8 +82,8 @@ returns-in_err-compiled_len-clause-cause c =
     rw (error.1, error.2)
     (Linear, too_large (e.1, there, told_linear e.1 all c.in_err-compiled_len.field-0.0 c.in_err-compiled_len.ensures.refused.1))
 
-pub returns-in_err-linear-clause-cause : goal.returns-in_err-linear-clause-cause
-returns-in_err-linear-clause-cause c =
+pub returns-in_err-linear : goal.returns-in_err-linear
+returns-in_err-linear c =
     let at = c.from_residual-in_err-linear in
     let error = err_from_is_err_and at.result at.ensures.1 in
     let l = c.loop-name in
@@ -132,16 +96,16 @@ returns-in_err-linear-clause-cause c =
     let order : IsStrictlySortedBy string_cmp (keys_of filters.entries) = search rules in
     let e : String Global × Filter = (c.in-Some-2.name, c.in-Some-2.filter) in
     let whole : filters.entries ≡ l.yielded ++ l.name-iterator =
-    sym c.into_iter-name-iterator.ensures.into_iter_gives.0 ∙ l.invariant.whole in
+    sym c.into_iter-name-iterator.ensures.into_iter_gives.0 ∙ l.invariant in
     rw (error.1, error.2) (
       Linear,
       next_refused target text filters.entries order read c.in_ok-filters.ensures.numbers l.yielded
           l.name-iterator c.next-in-loop-name.new.self e whole c.in-Some-2.ensures.steps Linear (text_of c.args.asked)
-          c.in_err-linear.field-0.0 c.in_err-linear.ensures.refused,
+          c.in_err-linear.field-0.0 c.in_err-linear.ensures,
     )
 
-pub returns-in_err-tree-clause-cause : goal.returns-in_err-tree-clause-cause
-returns-in_err-tree-clause-cause c =
+pub returns-in_err-tree : goal.returns-in_err-tree
+returns-in_err-tree c =
     let at = c.from_residual-in_err-tree in
     let error = err_from_is_err_and at.result at.ensures.1 in
     let l = c.loop-name in
@@ -154,10 +118,10 @@ returns-in_err-tree-clause-cause c =
     let order : IsStrictlySortedBy string_cmp (keys_of filters.entries) = search rules in
     let e : String Global × Filter = (c.in-Some-2.name, c.in-Some-2.filter) in
     let whole : filters.entries ≡ l.yielded ++ l.name-iterator =
-    sym c.into_iter-name-iterator.ensures.into_iter_gives.0 ∙ l.invariant.whole in
+    sym c.into_iter-name-iterator.ensures.into_iter_gives.0 ∙ l.invariant in
     rw (error.1, error.2) (
       Tree,
       next_refused target text filters.entries order read c.in_ok-filters.ensures.numbers l.yielded
           l.name-iterator c.next-in-loop-name.new.self e whole c.in-Some-2.ensures.steps Tree (text_of c.args.asked)
-          c.in_err-tree.field-0.0 c.in_err-tree.ensures.refused,
+          c.in_err-tree.field-0.0 c.in_err-tree.ensures,
     )

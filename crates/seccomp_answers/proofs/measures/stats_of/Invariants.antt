@@ -1,7 +1,5 @@
 use Rattle.std.proofs.Common.{◌≡◌, ◌++◌}
-use Rattle.std.specs.List.{AllZip}
 use Rattle.seccomp_answers.proofs.diff.Names.{Entries}
-use Rattle.seccomp_answers.proofs.measures.FilterNumbers.{IsMeasured}
 use Rattle.seccomp_answers.proofs.measures.stats_of.Given as goal
 
 -- the filters so far are not too large
@@ -11,9 +9,6 @@ invariant-loop-filter l = record {
   whole : l.initial.filter-iterator ≡ done ++ l.filter-iterator;
 }
 
--- the filters so far are measured
+-- the filters so far, and those that are left
 abbrev pub invariant-loop-name : goal.invariant-loop-name
-invariant-loop-name l = record {
-  whole : l.initial.name-iterator ≡ l.yielded ++ l.name-iterator;
-  measured : AllZip (IsMeasured l.target) l.yielded l.all.items;
-}
+invariant-loop-name l = l.initial.name-iterator ≡ l.yielded ++ l.name-iterator

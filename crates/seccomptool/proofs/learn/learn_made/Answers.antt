@@ -36,7 +36,7 @@ pub returns-clause-cause : goal.returns-clause-cause
 returns-clause-cause c = IfErr-weaker c.views_of-made.result _ _ (λ error is. of_text is) c.views_of-made.ensures.cause
 
 pub returns-in-Err-clause-cause : goal.returns-in-Err-clause-cause
-returns-in-Err-clause-cause c = of_base c.in-Err.error c.in-Err.ensures.cause c.in_second.ensures
+returns-in-Err-clause-cause c = of_base c.in-Err.error c.in-Err.ensures.cause c.of_start.ensures
 
 pub returns-in_err-refuse_traces-clause-cause : goal.returns-in_err-refuse_traces-clause-cause
 returns-in_err-refuse_traces-clause-cause c =

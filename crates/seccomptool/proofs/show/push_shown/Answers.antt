@@ -3,27 +3,22 @@ use Rattle.std.proofs.lemmas.Result.{err_from_is_err_and}
 use Rattle.seccomp_tree.specs.declared.layout.Layout.TheVariants.{Linear}
 use Rattle.seccomptool.specs.Causes.{AreUnshown, IsUnshownAs}
 use Rattle.seccomp_answers.specs.Chosen.{text_of}
-use Rattle.seccomptool.specs.Commands.{IsShownOrMeasured}
-use Rattle.seccomp_answers.specs.Measures.{IsMeasureOf}
+use Rattle.seccomptool.specs.Commands.{IsShownUnless}
 use Rattle.seccomp_answers.specs.declared.error.AnswerError.TheVariants.{OutOfMemory}
 use Rattle.seccomptool.proofs.Causes.{beside, lacking}
-use Rattle.seccomptool.proofs.show.Shown.{is_measured, is_shown}
+use Rattle.seccomptool.proofs.show.Shown.{is_shown}
 use Rattle.seccomptool.proofs.show.push_shown.Goals as goal
 use Rattle.seccomp_answers.specs.Causes.{IsUnfitting, unread}
 
 pub returns-then-asked-2-clause-shown : goal.returns-then-asked-2-clause-shown
 returns-then-asked-2-clause-shown c =
     let asked = c.args.asked.now in
-    let measure = subst (λ p. IsMeasureOf asked.arch p c.in_ok-measure.measure) c.deref-then-asked-2.ensures.value
-    c.in_ok-measure.ensures in
-    subst (λ measured. IsShownOrMeasured measured asked.arch c.args.subject asked.layout c.args.given.now) (sym c.if-asked-2.true)
-    (is_measured asked.arch (text_of asked.filter) c.args.given.now c.in_ok-one.one.program.items c.args.subject c.in_ok-measure.measure
-    c.in_default.not-Policy c.in_ok-one.ensures.ruled measure)
+    subst (λ measured. IsShownUnless measured asked.arch c.args.subject asked.layout c.args.given.now) (sym c.if-asked-2.true) tt
 
 pub returns-clause-shown : goal.returns-clause-shown
 returns-clause-shown c =
     let asked = c.args.asked.now in
-    subst (λ measured. IsShownOrMeasured measured asked.arch c.args.subject asked.layout c.args.given.now) (sym c.if-asked-2.false)
+    subst (λ measured. IsShownUnless measured asked.arch c.args.subject asked.layout c.args.given.now) (sym c.if-asked-2.false)
     (is_shown asked.arch (text_of asked.filter) c.args.given.now c.in_ok-one.one.program.items c.args.subject asked.layout
     c.in_default.not-Policy c.in_ok-one.ensures.ruled)
 
@@ -35,7 +30,7 @@ returns-in_err-stats_of-clause-cause c =
     let own = c.in_err-stats_of.field-0.0 in
     rw (error.1, error.2) (subst (λ kind. IsUnshownAs asked kind given own) (sym c.in-Policy.is)
     (subst (λ measured. AreUnshown measured asked.arch asked.layout (text_of asked.filter) given own) (sym c.if-asked.true)
-    c.in_err-stats_of.ensures.cause))
+    c.in_err-stats_of.ensures))
 
 pub returns-in_err-programs-clause-cause : goal.returns-in_err-programs-clause-cause
 returns-in_err-programs-clause-cause c =

@@ -3,7 +3,7 @@ use Rattle.seccomptool.proofs.words.asked_for.Goals as goal
 
 -- each field by the step that finds it
 pub returns : goal.returns
-returns c = record {
+returns g c = record {
   asked = record {
     arch = c.arch_in.ensures;
     target = c.arch_in-2.ensures;
@@ -18,7 +18,7 @@ returns c = record {
     as_profile = record { none = c.get_flag-10.ensures.none; value = c.get_flag-10.ensures.value; other = c.get_flag-10.ensures.other };
     as_unit = record { none = c.get_flag-11.ensures.none; value = c.get_flag-11.ensures.value; other = c.get_flag-11.ensures.other };
     each_arch = search rules;
-    filter = search rules;
+    filter = c.filter_in.ensures;
     layout = c.layout_in.ensures;
     relation = c.relation_in.ensures;
     scope = c.scope_in.ensures;

@@ -1,19 +1,28 @@
-use Rattle.std.proofs.Common.{◌≡◌, List, None, Option, Some, refl, rules, subst, ℕ}
-use Rattle.seccomptool.specs.Arguments.{IsPathAndName, alone, name_given}
-use Rattle.seccomptool.proofs.words.Parts.{no_colon, parted}
+use Rattle.std.proofs.Common.{◌≡◌, List, None, Option, Some, false, refl, rules, subst, true, ℕ}
+use Rattle.seccomptool.specs.Arguments.{IsPathAndName, alone, name_given, whole}
+use Rattle.seccomptool.proofs.words.Parts.{found_there, no_colon, parted}
 use Rattle.seccomptool.proofs.words.values.named_in.Goals as goal
 
-pub returns-in-None : goal.returns-in-None
-returns-in-None c = alone (no_colon c.args.text.now c.in-None.ensures.cases) refl refl
+pub returns-in_default : goal.returns-in_default
+returns-in_default g c = alone (no_colon c.args.text.now c.in_default.ensures.cases) refl refl
 
-pub returns-in-Some : goal.returns-in-Some
-returns-in-Some c =
+pub returns-then-is_there : goal.returns-then-is_there
+returns-then-is_there g c =
+    whole (found_there (g.O.Outside.there c.args.out.now) c.args.text.now c.is_there.result true c.is_there.ensures c.if-is_there.true)
+    refl refl
+
+pub returns-then-is_empty : goal.returns-then-is_empty
+returns-then-is_empty g c =
+    let paths = g.O.Outside.there c.args.out.now in
     let none : name_given c.in-Some.name.now ≡ None = search rules in
-    subst (λ (name : Option (List ℕ)). IsPathAndName c.args.text.now c.in-Some.path.now name) none
-    (parted c.args.text.now c.in-Some.path.now c.in-Some.name.now c.in-Some.ensures.cases)
+    subst (λ (name : Option (List ℕ)). IsPathAndName paths c.args.text.now c.in-Some.path.now name) none
+    (parted paths c.args.text.now c.in-Some.path.now c.in-Some.name.now
+    (found_there paths c.args.text.now c.is_there.result false c.is_there.ensures c.if-is_there.false) c.in-Some.ensures.cases)
 
-pub returns-in-Some-2 : goal.returns-in-Some-2
-returns-in-Some-2 c =
+pub returns : goal.returns
+returns g c =
+    let paths = g.O.Outside.there c.args.out.now in
     let some : name_given c.in-Some.name.now ≡ Some c.in-Some.name.now = search rules in
-    subst (λ (name : Option (List ℕ)). IsPathAndName c.args.text.now c.in-Some.path.now name) some
-    (parted c.args.text.now c.in-Some.path.now c.in-Some.name.now c.in-Some.ensures.cases)
+    subst (λ (name : Option (List ℕ)). IsPathAndName paths c.args.text.now c.in-Some.path.now name) some
+    (parted paths c.args.text.now c.in-Some.path.now c.in-Some.name.now
+    (found_there paths c.args.text.now c.is_there.result false c.is_there.ensures c.if-is_there.false) c.in-Some.ensures.cases)

@@ -1,20 +1,20 @@
 -- For `known` and `covered`: numbers of 64 bits of which some bits are known.
 use lib.Count.{count_leading_zeros}
 use Rattle.std.proofs.Common.{◌≡◌, ℕ, suc, ◌+◌, ◌-◌, ◌*◌, ◌/◌, ◌%◌, ◌<◌, ◌≤◌, ◌^◌, List, [], ◌∷◌, ◌++◌, length, All, Some}
-use Rattle.std.proofs.Common.{sym, ap, ◌∙◌, subst, refl, arith, ◌⊎◌, inl, inr, ⊎_elim, get_or, take, Bool, true, false, ◌&&◌, ◌||◌}
+use Rattle.std.proofs.Common.{sym, ap, ◌∙◌, subst, refl, arith, ◌⊎◌, inl, inr, ⊎_elim, get_or, map, take, Bool, true, false, ◌&&◌, ◌||◌}
 use Rattle.std.specs.List.{list_any}
 use Rattle.std.proofs.Math.ListN.{set}
 use Rattle.std.proofs.Math.Nat.{mul-le-mul_left, mod-lt, pow-suc}
-use Rattle.std.specs.Prelude.{Any, bit_and, bit_or, bit_xor, slice_get}
+use Rattle.std.specs.Prelude.{Any, Contains, bit_and, bit_or, bit_xor, slice_get}
 use Rattle.std.specs.Int.{bit_at}
 use Rattle.std.proofs.lemmas.Bool.{cases_eq, cases_lt, false≢true}
-use Rattle.std.proofs.lemmas.List.{get_or-set_same, get_or-set_other, length-set, take_more}
+use Rattle.std.proofs.lemmas.List.{get_or-map, get_or-set_same, get_or-set_other, length-map, length-set, take_more}
 use Rattle.std.proofs.lemmas.List.Folds.{list_any-append}
 use Rattle.std.proofs.lemmas.List.Elements.{All-nil, All-push, Contains-append_left, Contains-push_cases}
 use Rattle.std.proofs.lemmas.Nat.{and_le_l, leading_top, pow_pos, shr_split, xor_lt}
 use Rattle.std.proofs.lemmas.Nat.Bits.{same_from_bits, bit_at_and, bit_at_or, bit_at_xor, bit_at-lt, bit_at-zero}
 use Rattle.std.proofs.lemmas.Option.{slice_get_within, slice_get-get_or, get_or_from_slice_get}
-use Rattle.seccompiler.specs.Machine.{argument_at, word_at}
+use Rattle.seccompiler.specs.Machine.{IsRecord, argument_at, word_at}
 use Rattle.seccomp_compare.specs.Known.{AreKept, HasBits, HasKnown, KeepsBits}
 use Rattle.seccomp_compare.specs.declared.known.Known.{Known}
 use Rattle.seccomp_compare.proofs.Masks.{mask_over_or}
@@ -73,6 +73,19 @@ top_unknown k m fits unsure =
     (omega (arith, one, x, a, lm, lk), omega (arith, one, x, a, lm, lk))
 
 -- ---- arguments
+
+pub argument_fits : (r : List ℕ) (i : ℕ) → IsRecord r → i ≤ 5 → argument_at r i < 2 ^ 64
+argument_fits r i rec few =
+    let long = rec.long in
+    let a = rec.bytes (16 + 8 * i) 0 (omega arith) in
+    let b = rec.bytes (16 + 8 * i + 1) 0 (omega arith) in
+    let c = rec.bytes (16 + 8 * i + 1 + 1) 0 (omega arith) in
+    let d = rec.bytes (16 + 8 * i + 1 + 1 + 1) 0 (omega arith) in
+    let e = rec.bytes (16 + 8 * i + 1 + 1 + 1 + 1) 0 (omega arith) in
+    let f = rec.bytes (16 + 8 * i + 1 + 1 + 1 + 1 + 1) 0 (omega arith) in
+    let g = rec.bytes (16 + 8 * i + 1 + 1 + 1 + 1 + 1 + 1) 0 (omega arith) in
+    let h = rec.bytes (16 + 8 * i + 1 + 1 + 1 + 1 + 1 + 1 + 1) 0 (omega arith) in
+    omega (arith, a, b, c, d, e, f, g, h)
 
 -- what is in a list after a write: the new value at its place, the old ones elsewhere
 pub set_found : {X : Type 0} (xs : List X) (w : ℕ) (v : X) (j : ℕ) (s : X) → slice_get (set xs w v) j ≡ Some s
@@ -154,6 +167,12 @@ all_one P x is = All-push P [] x (All-nil P) is
 -- one more item of a list
 pub take_next : {X : Type 0} (xs : List X) (i : ℕ) (x : X) → i < length xs → x ≡ get_or xs i x → take (i + 1) xs ≡ take i xs ++ x ∷ []
 take_next xs i x room is = subst (λ z. take (i + 1) xs ≡ take i xs ++ z ∷ []) (sym is) (take_more xs i x room)
+
+-- what stands at a place of a list, after a function
+pub contains_map : {X Y : Type 0} (f : X → Y) (xs : List X) (i : ℕ) (x : X) → i < length xs → x ≡ get_or xs i x → Contains (map f xs) (f x)
+contains_map f xs i x within is =
+    let long = length-map xs f in
+    (i, omega (arith, long, within), get_or-map f xs i x (f x) within ∙ ap f (sym is))
 
 -- ---- tests
 

@@ -8,7 +8,5 @@ pub mod KnownBits
 pub mod StepsOnSets
 pub mod RecordSets
 pub mod TasksLeft
-pub mod ArgumentFacts
-pub mod Zipped
 pub mod RulesUnder
 pub mod SetsLeft

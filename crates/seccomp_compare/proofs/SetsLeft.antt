@@ -2,7 +2,7 @@
 use Rattle.std.proofs.Common.{◌≡◌, ℕ, zero, suc, ◌+◌, ◌-◌, ◌*◌, ◌/◌, ◌%◌, ◌<◌, ◌≤◌, ◌^◌, List, [], ◌∷◌, ◌++◌, length, All, Some}
 use Rattle.std.proofs.Common.{sym, ap, ◌∙◌, subst, refl, arith, ◌⊎◌, inl, inr, ⊎_elim, get_or, Bool, true, false, ◌==◌, if◌then◌else◌}
 use Rattle.std.proofs.Math.ListN.{set}
-use Rattle.std.proofs.Math.Nat.{pow-suc, pow-le-pow_right}
+use Rattle.std.proofs.Math.Nat.{pow-suc}
 use Rattle.std.specs.Prelude.{Any, bit_or, nat_eq, slice_get}
 use Rattle.std.specs.List.{list_any, sum_by}
 use Rattle.std.specs.Int.{bit_at}
@@ -20,7 +20,7 @@ use Rattle.seccompiler.specs.Machine.{IsRecord, argument_at}
 use Rattle.seccompiler.specs.Policy.{Rule, RuleHolds}
 use Rattle.seccomp_compare.specs.Cover.{AddsHalves, IsCallOf, IsOpenAt, KnowsFixed, SomeHolds}
 use Rattle.seccomp_compare.specs.Cover.{compares, count_below, fixes, is_open, open_bits}
-use Rattle.seccomp_compare.specs.Known.{AreKept, HasBits, HasKnown}
+use Rattle.seccomp_compare.specs.Known.{AreKept, HasKnown}
 use Rattle.seccomp_compare.specs.declared.known.Known.{Known}
 use Rattle.seccomp_compare.proofs.KnownBits.{any_cases, any_left, kept_set, known_set}
 

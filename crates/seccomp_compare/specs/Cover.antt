@@ -90,22 +90,23 @@ pub record IsOpenAt (part : List Known) (rules : List Rule) (i j : ℕ) : Type 0
   pub unknown : IsUnknownAt part i j
   pub compared : IsTrue (list_any (list_any (compares i j)) rules)
 
--- What is seen of a rule on calls with known bits: that it holds for each, or for none; or a bit that is open.
-abbrev pub OnRule : (part : List Known) → Rule → Seen → Type 0
-OnRule part own Holds = (r : List ℕ) → IsRecord r → HasKnown part r → RuleHolds own r
-OnRule part own Fails = (r : List ℕ) → IsRecord r → HasKnown part r → RuleHolds own r → ⊥
-OnRule part own (Open i j) = IsOpenAt part (own ∷ []) i j
+-- What is seen of a rule on those calls with known bits for which a rule `own` holds: that it holds for each, or for none; or a bit that
+-- is open.
+abbrev pub OnRule : (part : List Known) (own : Rule) → Rule → Seen → Type 0
+OnRule part own rule Holds = (r : List ℕ) → IsRecord r → HasKnown part r → RuleHolds own r → RuleHolds rule r
+OnRule part own rule Fails = (r : List ℕ) → IsRecord r → HasKnown part r → RuleHolds own r → RuleHolds rule r → ⊥
+OnRule part own rule (Open i j) = IsOpenAt part (rule ∷ []) i j
 
 -- The same of rules, of which one holds for each, or none for any.
-abbrev pub OnRules : (part : List Known) → List Rule → Seen → Type 0
-OnRules part others Holds = (r : List ℕ) → IsRecord r → HasKnown part r → SomeHolds others r
-OnRules part others Fails = (r : List ℕ) → IsRecord r → HasKnown part r → SomeHolds others r → ⊥
-OnRules part others (Open i j) = IsOpenAt part others i j
+abbrev pub OnRules : (part : List Known) (own : Rule) → List Rule → Seen → Type 0
+OnRules part own others Holds = (r : List ℕ) → IsRecord r → HasKnown part r → RuleHolds own r → SomeHolds others r
+OnRules part own others Fails = (r : List ℕ) → IsRecord r → HasKnown part r → RuleHolds own r → SomeHolds others r → ⊥
+OnRules part own others (Open i j) = IsOpenAt part others i j
 
 -- What comes of calls with known bits.
 abbrev pub IsNext : (part : List Known) → (own : Rule) (others : List Rule) → Next → Type 0
 IsNext part own others next.Done = (r : List ℕ) → IsRecord r → HasKnown part r → RuleHolds own r → SomeHolds others r
-IsNext part own others next.Escapes = OnRule part own Holds × OnRules part others Fails
+IsNext part own others next.Escapes = OnRule part [] own Holds × OnRules part own others Fails
 IsNext part own others (next.Open i j) = IsOpenAt part (own ∷ others) i j
 
 -- If the condition is an equality, its bits are known too.

@@ -1,5 +1,5 @@
 -- Arguments of calls of which some bits are known.
-use Rattle.std.specs.Prelude.{◌≡◌, ℕ, ◌⊎◌, List, Some, slice_get, bit_and}
+use Rattle.std.specs.Prelude.{◌≡◌, ℕ, List, Some, slice_get, bit_and}
 use Rattle.seccompiler.specs.Machine.{argument_at}
 use Rattle.seccomp_compare.specs.declared.known.Known.{Known}
 

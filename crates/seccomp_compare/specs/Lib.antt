@@ -5,10 +5,10 @@ pub mod Machine
 pub mod Compare
 pub mod CompareFilters
 pub mod Cover
+pub mod Rules
 -- Between layers: what private functions promise each other.
 pub mod WordSets
 pub mod RecordSets
 pub mod CompareTasks
 pub mod Spans
-pub mod Rules
 pub mod Known

@@ -1,6 +1,6 @@
 // Whether rules hold wherever another one does, with a call that shows it.
 
-ghost use Rattle.std.specs.Prelude.{◌≡◌, ◌≢◌, ℕ, ◌^◌, ◌<◌, ◌++◌, ◌∷◌, [], List, IfNone, IfOk, IfSome, OnOk, map};
+ghost use Rattle.std.specs.Prelude.{◌≡◌, ◌≢◌, ℕ, ◌^◌, ◌<◌, ◌++◌, ◌∷◌, ◌↔◌, [], List, Contains, IfNone, IfOk, IfSome, IsTrue, OnOk, map};
 ghost use Rattle.seccompiler.specs.Architecture.{audit_word};
 ghost use Rattle.seccompiler.specs.Machine.{IsRecord, argument_at, word_at};
 ghost use Rattle.seccompiler.specs.Policy.{Rule, RuleHolds};
@@ -25,8 +25,8 @@ pub enum Cover {
     Undecided,
 }
 
-// What is seen of rules on calls with known bits: that one holds for each of them, that none holds for any, or a bit of an argument that
-// it depends on.
+// What is seen of rules on those calls with known bits for which a rule holds: that one holds for each of them, that none holds for any, or
+// a bit of an argument that it depends on.
 #[derive(Clone, Copy)]
 pub(crate) enum Seen {
     Holds,
@@ -124,14 +124,14 @@ fn with_condition(known: Known, condition: &SeccompCondition) -> Option<Known>
 fn next_of(part: &[Known; 6], own: &[SeccompCondition], others: &[&[SeccompCondition]]) -> Next
     ensures { IsNext part.now own.now (map (λ q. q.now) others.now) result }
 {
-    match on_rule(part, own) {
+    match on_rule(part, &[], own) {
         Seen::Fails => Next::Done,
-        Seen::Holds => match on_rules(part, others) {
+        Seen::Holds => match on_rules(part, own, others) {
             Seen::Holds => Next::Done,
             Seen::Fails => Next::Escapes,
             Seen::Open(index, place) => Next::Open(index, place),
         },
-        Seen::Open(index, place) => match on_rules(part, others) {
+        Seen::Open(index, place) => match on_rules(part, own, others) {
             Seen::Holds => Next::Done,
             Seen::Fails => Next::Open(index, place),
             Seen::Open(index, place) => Next::Open(index, place),
@@ -139,25 +139,30 @@ fn next_of(part: &[Known; 6], own: &[SeccompCondition], others: &[&[SeccompCondi
     }
 }
 
-// What is seen of rules.
-fn on_rules(part: &[Known; 6], others: &[&[SeccompCondition]]) -> Seen
-    ensures { OnRules part.now (map (λ q. q.now) others.now) result }
+// What is seen of rules where the rule `own` holds.
+fn on_rules(part: &[Known; 6], own: &[SeccompCondition], others: &[&[SeccompCondition]]) -> Seen
+    ensures { OnRules part.now own.now (map (λ q. q.now) others.now) result }
 {
     let mut seen = Seen::Fails;
     for rule in others {
-        seen = with_rule(part, seen, rule);
+        seen = with_rule(part, own, seen, rule);
     }
     seen
 }
 
 // What is seen of rules and one more.
-fn with_rule(part: &[Known; 6], seen: Seen, rule: &[SeccompCondition]) -> Seen
-    ensures { (front : List Rule) → OnRules part.now front seen → OnRules part.now (front ++ rule.now ∷ []) result }
+fn with_rule(
+    part: &[Known; 6],
+    own: &[SeccompCondition],
+    seen: Seen,
+    rule: &[SeccompCondition],
+) -> Seen
+    ensures { (front : List Rule) → OnRules part.now own.now front seen → OnRules part.now own.now (front ++ rule.now ∷ []) result }
 {
     if let Seen::Holds = seen {
         return Seen::Holds;
     }
-    match (on_rule(part, rule), seen) {
+    match (on_rule(part, own, rule), seen) {
         (Seen::Holds, _) => Seen::Holds,
         (open, Seen::Fails) => open,
         _ => seen,
@@ -165,33 +170,51 @@ fn with_rule(part: &[Known; 6], seen: Seen, rule: &[SeccompCondition]) -> Seen
 }
 
 // What is seen of a rule.
-fn on_rule(part: &[Known; 6], rule: &[SeccompCondition]) -> Seen
-    ensures { OnRule part.now rule.now result }
+fn on_rule(part: &[Known; 6], own: &[SeccompCondition], rule: &[SeccompCondition]) -> Seen
+    ensures { OnRule part.now own.now rule.now result }
 {
     let mut seen = Seen::Holds;
     for condition in rule {
-        seen = with_next(part, seen, condition);
+        seen = with_next(part, own, seen, condition);
     }
     seen
 }
 
 // What is seen of conditions and one more.
-fn with_next(part: &[Known; 6], seen: Seen, condition: &SeccompCondition) -> Seen
-    ensures { (front : Rule) → OnRule part.now front seen → OnRule part.now (front ++ condition.now ∷ []) result }
+fn with_next(
+    part: &[Known; 6],
+    own: &[SeccompCondition],
+    seen: Seen,
+    condition: &SeccompCondition,
+) -> Seen
+    ensures { (front : Rule) → OnRule part.now own.now front seen → OnRule part.now own.now (front ++ condition.now ∷ []) result }
 {
     if let Seen::Fails = seen {
         return Seen::Fails;
     }
-    match (on_condition(part, condition), seen) {
+    match (on_condition(part, own, condition), seen) {
         (Seen::Fails, _) => Seen::Fails,
         (open, Seen::Holds) => open,
         _ => seen,
     }
 }
 
-// What is seen of a condition.
-fn on_condition(part: &[Known; 6], condition: &SeccompCondition) -> Seen
-    ensures { OnRule part.now (condition.now ∷ []) result }
+// What is seen of a condition: that it holds too if the rule has it, and known bits don't decide it.
+fn on_condition(part: &[Known; 6], own: &[SeccompCondition], condition: &SeccompCondition) -> Seen
+    ensures { OnRule part.now own.now (condition.now ∷ []) result }
+{
+    let seen = by_bits(part, condition);
+    if let Seen::Open(..) = seen
+        && stands_in(condition, own)
+    {
+        return Seen::Holds;
+    }
+    seen
+}
+
+// What is seen of a condition by known bits.
+fn by_bits(part: &[Known; 6], condition: &SeccompCondition) -> Seen
+    ensures { OnRule part.now [] (condition.now ∷ []) result }
 {
     let index = usize::from(condition.arg_index());
     let known = part[index];
@@ -200,6 +223,13 @@ fn on_condition(part: &[Known; 6], condition: &SeccompCondition) -> Seen
         Some(false) => Seen::Fails,
         None => Seen::Open(index, unknown_bit(known, span_of(condition).mask)),
     }
+}
+
+/// Whether a condition is one of a rule's.
+pub(crate) fn stands_in(condition: &SeccompCondition, rule: &[SeccompCondition]) -> bool
+    ensures { IsTrue result ↔ Contains rule.now condition.now }
+{
+    rule.contains(condition)
 }
 
 // Adds the two halves of a set, by a bit.

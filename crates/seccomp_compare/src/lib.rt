@@ -28,9 +28,7 @@
 #![tactic(auto)]
 
 mod calls;
-mod cover;
 mod covered;
-mod facts;
 mod filters;
 mod follow;
 mod known;

@@ -1,19 +1,19 @@
 -- For `verdict`: entries beside one of them, and verdicts.
-use Rattle.std.proofs.Common.{◌≡◌, ◌≢◌, ℕ, zero, suc, ◌+◌, ◌<◌, ◌≤◌, List, [], ◌∷◌, ◌++◌, length, get_or, map, Some, All}
+use Rattle.std.proofs.Common.{◌≡◌, ◌≢◌, ℕ, zero, suc, ◌+◌, ◌*◌, ◌<◌, ◌≤◌, ◌^◌, List, [], ◌∷◌, ◌++◌, length, get_or, map, Some, All}
 use Rattle.std.proofs.Common.{refl, sym, ap, ◌∙◌, subst, arith, ⊎_elim}
 use Rattle.std.specs.Prelude.{Any, Contains, IsSomeAnd, slice_get}
 use Rattle.std.proofs.lemmas.Bool.{cases_eq}
-use Rattle.std.proofs.lemmas.List.Elements.{All-contains, All-contains_itself, All-nil, All-push, All-weaker}
+use Rattle.std.proofs.lemmas.List.{get_or-map, length-map}
+use Rattle.std.proofs.lemmas.List.Elements.{All-nil, All-push}
 use Rattle.std.proofs.lemmas.List.Elements.{Contains-append_left, Contains-push}
 use Rattle.std.proofs.lemmas.Option.{slice_get_read, slice_get_within}
 use Rattle.seccompiler.specs.declared.backend.TargetArch.{TargetArch}
-use Rattle.seccompiler.specs.Machine.{word_at}
 use Rattle.seccompiler.specs.Policy.{Rule, RuleHolds}
-use Rattle.seccomp_compare.specs.Cover.{Covers, IsCallOf, SomeHolds}
+use Rattle.seccomp_compare.specs.Cover.{Covers, IsCallOf, SomeHolds, open_bits}
 use Rattle.seccomp_compare.specs.declared.covered.Cover.{Cover}
 use Rattle.seccomp_compare.specs.declared.covered.Cover.TheVariants.{Covered, Escapes, Undecided}
 use Rattle.seccomp_entries.specs.Entries.{Entry, Meets}
-use Rattle.seccomp_entries.specs.Verdicts.{AreBeside, AreTooMany, IsBeside, IsCallAt, IsRuleBeside, IsVerdict, SaysBeside, verdict_by}
+use Rattle.seccomp_entries.specs.Verdicts.{AreBeside, AreTooMany, IsBeside, IsCallAt, IsRuleBeside, IsVerdict, verdict_by}
 
 -- what holds of the items so far, and of one more
 pub each_push : {X : Type 0} (P : ℕ → X → Type 0) (vs : List X) (v : X) → P (length vs) v
@@ -61,25 +61,20 @@ module _ (arch : TargetArch) (entries : List Entry) (place most : ℕ) (own : En
       let has = beside.each is.at is.entry within is.other is.there (is.is.own ∙ call.number_is) in
       (has.0, is.entry.conditions, has.1, has.2, is.is.holds)
 
-  few_open : SaysBeside arch own rules most Undecided → AreTooMany entries place most own
-  few_open says = record {
-    others = says.0;
-    are = All-weaker (Contains rules) (IsRuleBeside entries place own.number)
-        (λ q within. All-contains (IsRuleBeside entries place own.number) rules q beside.are within) says.0 says.1;
-    many = says.2;
-  }
+  too_many : most < 2 * 2 ^ open_bits own.conditions (own.conditions ∷ rules) → AreTooMany entries place most own
+  too_many says = record { others = rules; are = beside.are; many = says }
 
   -- so the verdict is true
   pub is_verdict : (alone cover : Cover) → Covers arch own.number own.conditions [] most alone
-      → SaysBeside arch own rules most cover → IsVerdict arch entries place most own (verdict_by alone cover)
+      → Covers arch own.number own.conditions rules most cover → IsVerdict arch entries place most own (verdict_by alone cover)
   is_verdict Covered cover none says = λ s call. let any = none s (of_entry s call) in omega (arith, any.2)
   is_verdict (Escapes r) (Escapes s) none says = (s, of_rule s says.0, λ other. says.1 (other_holds s says.0 other))
   is_verdict Undecided (Escapes s) none says = (s, of_rule s says.0, λ other. says.1 (other_holds s says.0 other))
   is_verdict (Escapes r) Covered none says =
       ((r, of_rule r none.0), λ s call. let own_call = of_entry s call in meets_other s own_call (says s own_call))
-  is_verdict (Escapes r) Undecided none says = few_open says
+  is_verdict (Escapes r) Undecided none says = too_many says
   is_verdict Undecided Covered none says = record { others = []; are = All-nil (IsRuleBeside entries place own.number); many = none }
-  is_verdict Undecided Undecided none says = few_open says
+  is_verdict Undecided Undecided none says = too_many says
 
 -- ---- one entry more
 
@@ -133,13 +128,6 @@ covers_less arch number own rules most more (Escapes r) le says = says
 covers_less arch number own rules most more Covered le says = says
 covers_less arch number own rules most more Undecided le says = omega (arith, le, says)
 
--- what is so beside all
-pub says_all : (arch : TargetArch) (own : Entry) (rules : List Rule) (most : ℕ) (cover : Cover)
-    → Covers arch own.number own.conditions rules most cover → SaysBeside arch own rules most cover
-says_all arch own rules most (Escapes r) says = says
-says_all arch own rules most Covered says = says
-says_all arch own rules most Undecided says = (rules, All-contains_itself rules, says)
-
 -- one of few is one of all
 pub some_of : (rules few : List Rule) (r : List ℕ) → All (Contains rules) few → SomeHolds few r → SomeHolds rules r
 some_of rules few r within any =
@@ -147,8 +135,6 @@ some_of rules few r within any =
     (at.0, any.1, at.1, at.2, any.4)
 
 pub contains_map : {X Y : Type 0} (f : X → Y) (xs : List X) (k : ℕ) (x : X) → k < length xs → x ≡ get_or xs k x → Contains (map f xs) (f x)
-contains_map f [] k x room is = absurd (omega (arith, room))
-contains_map f (y ∷ ys) zero x room is = (0, omega arith, ap f (sym is))
-contains_map f (y ∷ ys) (suc k) x room is =
-    let rest = contains_map f ys k x (omega (arith, room)) is in
-    (suc rest.0, omega (arith, rest.1), rest.2)
+contains_map f xs k x room is =
+    let long = length-map xs f in
+    (k, omega (arith, long, room), get_or-map f xs k x (f x) room ∙ ap f (sym is))

@@ -4,9 +4,9 @@ use Rattle.seccompiler.specs.declared.backend.TargetArch.{TargetArch}
 use Rattle.seccompiler.specs.Architecture.{audit_word}
 use Rattle.seccompiler.specs.Machine.{IsRecord, word_at}
 use Rattle.seccompiler.specs.Policy.{Rule}
-use Rattle.seccomp_compare.specs.Cover.{Covers, open_bits}
+use Rattle.seccomp_compare.specs.Cover.{open_bits}
 use Rattle.seccomp_compare.specs.declared.covered.Cover.{Cover}
-use Rattle.seccomp_compare.specs.declared.covered.Cover.TheVariants.{Covered, Escapes, Undecided}
+use Rattle.seccomp_compare.specs.declared.covered.Cover.TheVariants.{Covered, Escapes}
 use Rattle.seccomp_entries.specs.Entries.{Entry, Meets}
 use Rattle.seccomp_entries.specs.declared.verdict.Verdict.{Verdict}
 use Rattle.seccomp_entries.specs.declared.verdict.Verdict.TheVariants as verdict
@@ -53,12 +53,6 @@ pub record AreVerdicts (arch : TargetArch) (entries : List Entry) (verdicts : Li
       → IsSomeAnd (slice_get entries place) (λ own. IsVerdict arch entries place (share_of entries) own v)
 
 -- ---- between the private functions
-
--- What is said of an entry beside these rules; if it is undecided, so it is beside some of them.
-abbrev pub SaysBeside : TargetArch → Entry → List Rule → (most : ℕ) → Cover → Type 0
-SaysBeside arch own rules most Undecided =
-    (few : List Rule) × All (Contains rules) few × (most < 2 * 2 ^ open_bits own.conditions (own.conditions ∷ few))
-SaysBeside arch own rules most cover = Covers arch own.number own.conditions rules most cover
 
 -- The verdict of an entry by whether it is covered by no others, and by the others.
 abbrev pub verdict_by : (alone beside : Cover) → Verdict

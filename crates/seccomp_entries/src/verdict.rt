@@ -4,7 +4,7 @@ ghost use Rattle.std.specs.Prelude.{◌≡◌, ◌≢◌, ◌<◌, [], Any, Cont
 ghost use Rattle.seccompiler.specs.Policy.{RuleHolds};
 ghost use Rattle.seccomp_compare.specs.Cover.{Covers};
 ghost use Rattle.seccomp_entries.specs.Verdicts as spec;
-ghost use Rattle.seccomp_entries.specs.Verdicts.{AreBeside, AreVerdicts, IsVerdict, SaysBeside};
+ghost use Rattle.seccomp_entries.specs.Verdicts.{AreBeside, AreVerdicts, IsVerdict};
 
 use crate::decider::{all_hold, is_own};
 use crate::entry::Entry;
@@ -100,14 +100,14 @@ fn beside_of(
     alone: Cover,
 ) -> Result<Cover, AllocError>
     requires { Covers arch own.now.number own.now.conditions [] most alone }
-    ensures { IfOk result (SaysBeside arch own.now (map (λ q. q.now) others.now) most) }
+    ensures { IfOk result (Covers arch own.now.number own.now.conditions (map (λ q. q.now) others.now) most) }
 {
     let mut few = Vec::new(alloc);
     let mut answer = alone;
     for _ in 0..MOST_TRIES {
         match answer {
             Cover::Covered => return Ok(Cover::Covered),
-            Cover::Undecided => return Ok(Cover::Undecided),
+            Cover::Undecided => break,
             Cover::Escapes(call) => {
                 let Some(rule) = first_held(others, &call) else {
                     return Ok(Cover::Escapes(call));
@@ -117,7 +117,7 @@ fn beside_of(
             }
         }
     }
-    all_at(alloc, arch, own, others, most)
+    cover_at(alloc, arch, own, others, most)
 }
 
 // The first of these all of whose conditions hold.
@@ -147,19 +147,6 @@ fn few_at(
     ensures { IfOk result (Covers arch own.now.number own.now.conditions (map (λ q. q.now) few.now) most) }
 {
     cover_at(alloc, arch, own, few, most.max(MOST_BESIDE_FEW))
-}
-
-// What is so of the conditions of an entry beside all others.
-fn all_at(
-    alloc: Global,
-    arch: TargetArch,
-    own: &Entry,
-    others: &[&[SeccompCondition]],
-    most: usize,
-) -> Result<Cover, AllocError>
-    ensures { IfOk result (SaysBeside arch own.now (map (λ q. q.now) others.now) most) }
-{
-    cover_at(alloc, arch, own, others, most)
 }
 
 // What is so of the conditions of an entry beside others.

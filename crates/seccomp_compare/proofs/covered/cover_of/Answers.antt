@@ -1,12 +1,12 @@
-use Rattle.std.proofs.Common.{◌≡◌, ◌+◌, ◌*◌, ◌<◌, ◌≤◌, ◌^◌, List, [], ◌∷◌, ◌++◌, Some, map, length, sym, ap, ◌∙◌, subst, refl, arith}
+use Rattle.std.proofs.Common.{◌≡◌, List, [], ◌∷◌, ◌++◌, map, sym, ap, ◌∙◌, subst, refl, arith}
 use Rattle.std.proofs.Math.Nat.{pow-le-pow_right}
 use Rattle.std.proofs.lemmas.Nat.{pow_pos}
-use Rattle.seccompiler.specs.Policy.{Rule}
-use Rattle.seccomp_compare.specs.Cover.{open_bits}
+use Rattle.std.proofs.lemmas.List.Elements.{All-nil}
+use Rattle.seccompiler.specs.Policy.{Condition, Holds, Rule}
 use Rattle.seccomp_compare.specs.declared.known.Known.{Known}
 use Rattle.seccomp_compare.proofs.SetsLeft.{AreLeft, all_covered, left_done, left_first, left_split}
 use Rattle.seccomp_compare.proofs.SetsLeft.{none_left, open_first, opened, part_kept}
-use Rattle.seccomp_compare.proofs.SetsLeft.{part_long, some_weight, total, total_push, total_split, weight}
+use Rattle.seccomp_compare.proofs.SetsLeft.{part_long, some_weight, total, total_push, total_split}
 use Rattle.seccomp_compare.proofs.covered.cover_of.Goals.{in-Done, in-Open+in_ok-push_halves-in-Open}
 use Rattle.seccomp_compare.proofs.covered.cover_of.Goals as goal
 
@@ -43,6 +43,16 @@ push_halves-requires-clause-kept c =
     let others : List Rule = map (λ q. q.now) c.args.others.now in
     part_kept c.args.arch c.args.number c.args.own.now others c.pop.new.self.items c.in-Some-pop.part
     (subst (AreLeft c.args.arch c.args.number c.args.own.now others) c.in-Some-pop.ensures.items c.loop-looked.invariant.left)
+
+pub returns-in-Escapes : goal.returns-in-Escapes
+returns-in-Escapes c =
+    let r = c.record_of.result in
+    let is = c.record_of.ensures.is in
+    let has = c.record_of.ensures.known in
+    let holds = c.in-Escapes.ensures.0 r is has (All-nil (λ (d : Condition). Holds d r)) in (
+      record { record_is = is; arch_is = c.record_of.ensures.arch; number_is = c.record_of.ensures.number; holds = holds },
+      λ some. c.in-Escapes.ensures.1 r is has holds some,
+    )
 
 pub loop-looked-preserved : goal.loop-looked-preserved
 loop-looked-preserved c =

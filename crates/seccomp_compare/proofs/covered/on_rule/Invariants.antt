@@ -4,4 +4,4 @@ use Rattle.seccomp_compare.proofs.covered.on_rule.Given as goal
 
 -- so it is of the conditions so far
 abbrev pub invariant-loop-condition : goal.invariant-loop-condition
-invariant-loop-condition l = OnRule l.part (take l.condition-index l.rule) l.seen
+invariant-loop-condition l = OnRule l.part l.own (take l.condition-index l.rule) l.seen

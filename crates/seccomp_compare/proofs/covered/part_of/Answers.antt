@@ -1,8 +1,7 @@
-use Rattle.std.proofs.Common.{◌≡◌, ℕ, ◌+◌, ◌<◌, ◌^◌, List, [], ◌∷◌, ◌++◌, length, take, get_or, Some, Bool, true, false, ◌&&◌}
-use Rattle.std.proofs.Common.{sym, ap, ◌∙◌, subst, refl, arith, inl, inr, ⊎_elim}
+use Rattle.std.proofs.Common.{◌≡◌, ℕ, ◌+◌, ◌<◌, List, [], ◌∷◌, ◌++◌, length, take, get_or, Some}
+use Rattle.std.proofs.Common.{sym, ◌∙◌, subst, arith, ⊎_elim}
 use Rattle.std.proofs.Math.ListN.{set}
-use Rattle.std.specs.Prelude.{IsTrue, nat_eq, slice_get}
-use Rattle.std.specs.List.{list_any}
+use Rattle.std.specs.Prelude.{nat_eq, slice_get}
 use Rattle.std.specs.Int.{bit_at}
 use Rattle.std.proofs.lemmas.Bool.{eqb-true}
 use Rattle.std.proofs.lemmas.List.{length-set}
@@ -11,10 +10,8 @@ use Rattle.std.proofs.lemmas.Option.{slice_get-get_or}
 use Rattle.seccompiler.specs.Machine.{argument_at}
 use Rattle.seccompiler.specs.Policy.{Condition, Holds, Rule}
 use Rattle.seccomp_compare.specs.Cover.{KnowsFixed, KnowsMore, compared, compares, fixes, is_equality}
-use Rattle.seccomp_compare.specs.Known.{HasBits}
 use Rattle.seccomp_compare.specs.declared.known.Known.{Known}
-use Rattle.seccomp_compare.proofs.KnownBits.{and_both, any_more, kept_set, known_set, set_found, take_next}
-use Rattle.seccomp_compare.proofs.RulesUnder.{argument_fits}
+use Rattle.seccomp_compare.proofs.KnownBits.{and_both, argument_fits, any_more, kept_set, known_set, set_found, take_next}
 use Rattle.seccomp_compare.proofs.covered.part_of.Goals as goal
 
 -- one more condition

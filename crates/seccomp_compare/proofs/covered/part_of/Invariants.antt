@@ -1,4 +1,4 @@
-use Rattle.std.proofs.Common.{◌≡◌, ℕ, List, length, take}
+use Rattle.std.proofs.Common.{ℕ, List, take}
 use Rattle.seccompiler.specs.Machine.{IsRecord}
 use Rattle.seccompiler.specs.Policy.{RuleHolds}
 use Rattle.seccomp_compare.specs.Cover.{KnowsFixed}

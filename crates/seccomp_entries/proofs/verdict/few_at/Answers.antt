@@ -1,4 +1,4 @@
-use Rattle.std.proofs.Common.{List, Bor, map, arith}
+use Rattle.std.proofs.Common.{List, map, arith}
 use Rattle.std.proofs.lemmas.Result.{IfOk-weaker}
 use Rattle.seccompiler.specs.Policy.{Rule}
 use Rattle.seccomp_entries.proofs.Beside.{covers_less}

@@ -1,8 +1,6 @@
-use Rattle.std.proofs.Common.{◌≡◌, ◌+◌, ◌∷◌, [], ◌++◌, List, Some, Bor, map, length, get_or, refl, sym, ap, ◌∙◌, subst}
-use Rattle.std.specs.Prelude.{slice_get}
+use Rattle.std.proofs.Common.{◌≡◌, ◌+◌, ◌∷◌, [], ◌++◌, List, Bor, map, length, refl, sym, ap, ◌∙◌, subst}
 use Rattle.std.proofs.lemmas.List.{map-append}
 use Rattle.std.proofs.lemmas.Option.{slice_get_read}
-use Rattle.seccompiler.specs.Policy.{Rule}
 use Rattle.seccompiler.specs.declared.condition.SeccompCondition.{SeccompCondition}
 use Rattle.seccomp_entries.specs.Verdicts.{AreBeside}
 use Rattle.seccomp_entries.proofs.Beside.{none_more, one_more}

@@ -1,7 +1,8 @@
 use Rattle.std.proofs.Common.{List, Bor, map, length, sym, subst}
 use Rattle.seccompiler.specs.Policy.{Rule}
 use Rattle.seccompiler.specs.declared.condition.SeccompCondition.{SeccompCondition}
-use Rattle.seccomp_entries.specs.Verdicts.{AreBeside, IsVerdict, SaysBeside}
+use Rattle.seccomp_compare.specs.Cover.{Covers}
+use Rattle.seccomp_entries.specs.Verdicts.{AreBeside, IsVerdict}
 use Rattle.seccomp_entries.proofs.Beside.{at_place, is_verdict}
 use Rattle.seccomp_entries.proofs.verdict.verdict_at.Goals as goal
 
@@ -17,5 +18,5 @@ returns c =
     (is_verdict c.args.arch entries c.args.place c.args.most own rules
     (subst (λ n. AreBeside entries c.args.place n (length entries) rules) c.number_of.ensures c.in_ok-others.ensures)
     c.in_ok-alone.alone c.in_ok-beside.beside c.in_ok-alone.ensures
-    (subst (λ (qs : List (Bor (List SeccompCondition))). SaysBeside c.args.arch own (map rule qs) c.args.most
+    (subst (λ (qs : List (Bor (List SeccompCondition))). Covers c.args.arch own.number own.conditions (map rule qs) c.args.most
     c.in_ok-beside.beside) c.deref.ensures.value c.in_ok-beside.ensures)))

@@ -24,7 +24,7 @@ use Rattle.seccomp_tree.specs.declared.layout.Layout.TheVariants.{Linear, Tree}
 use Rattle.seccomp_oci.specs.CompiledProfile.{IsCompileFault}
 use Rattle.seccomp_oci.specs.Types.{Container}
 use Rattle.seccomp_oci.specs.declared.compiled.CompileError.TheVariants as fault
-use Rattle.seccomp_check.specs.Checks.{IsRefusedFor}
+use Rattle.seccomp_faults.specs.Checks.{AreOfProfile, IsRefusedFor}
 use Rattle.seccomp_answers.specs.Chosen.{HasOnlyName, IsOnly, text_of}
 use Rattle.seccomp_answers.specs.Diff.{is_whole}
 use Rattle.seccomp_answers.specs.Errors.{IsAtPath, IsOfSecond, from_library}
@@ -32,7 +32,8 @@ use Rattle.seccomp_answers.specs.Kinds.{IsTakenAs}
 use Rattle.seccomp_answers.specs.Programs.{IsRefusedProgram}
 use Rattle.seccomp_answers.specs.Sides.{IsFilterOf, IsSideOf, Policies}
 use Rattle.seccomp_answers.specs.declared.error.AnswerError.{AnswerError}
-use Rattle.seccomp_answers.specs.declared.error.AnswerError.TheVariants.{Library, NoFilter, OutOfMemory, Profile, TreeTooLarge, Unchosen}
+use Rattle.seccomp_answers.specs.declared.error.AnswerError.TheVariants.{Library, NoFilter, OutOfMemory, Placed, Profile}
+use Rattle.seccomp_answers.specs.declared.error.AnswerError.TheVariants.{TreeTooLarge, Unchosen}
 use Rattle.seccomp_answers.specs.declared.kind.Reading.{Reading}
 use Rattle.seccomp_answers.specs.declared.kind.Subject.{Subject}
 use Rattle.seccomp_answers.specs.declared.kind.Subject.TheVariants as subject
@@ -135,9 +136,11 @@ IsUnfitting target asked text e = IsRefusedPolicy target text (IsUnchosen asked 
 
 -- ---- profiles and programs
 
--- Why a profile is rejected: what its compiler finds, in which is no lack of memory; or lack of memory.
+-- Why a profile is rejected: its faults, with their places; or what its compiler finds, in which is no lack of memory; or lack of
+-- memory.
 abbrev pub IsRefusedProfile : TargetArch → Container → (strict : Bool) → (text : List ℕ) → AnswerError → Type 0
 IsRefusedProfile target container strict text (Profile e) = (e ≢ fault.OutOfMemory) × IsCompileFault target container strict text e
+IsRefusedProfile target container strict text (Placed first faults) = AreOfProfile text first faults.items
 IsRefusedProfile target container strict text OutOfMemory = ⊤
 IsRefusedProfile target container strict text e = ⊥
 

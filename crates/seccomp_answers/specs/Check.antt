@@ -7,8 +7,7 @@ use Rattle.seccompiler.specs.declared.json.types.JsonFilterMap.{JsonFilterMap}
 use Rattle.seccompiler.specs.JsonAnswers.{OfValue}
 use Rattle.seccompiler.specs.JsonSteps.{AreFilters}
 use Rattle.seccompiler.specs.JsonTypes.{JsonFilter}
-use Rattle.seccomp_check.specs.Checks.{AreAllCompiled, IsPlaced, IsRefusedFor}
-use Rattle.seccomp_check.specs.Texts.{fault_text}
+use Rattle.seccomp_faults.specs.Checks.{AreAllCompiled, ArePlaced, IsRefusedFor}
 use Rattle.seccomp_warnings.specs.Beside.{AreCodesBeside, IsBeside}
 use Rattle.seccomp_warnings.specs.Warnings.{AreTrueWarnings}
 use Rattle.seccomp_warnings.specs.declared.beside.Beside.{Beside}
@@ -47,10 +46,10 @@ pub record IsCheckOf (target : TargetArch) (allowed : List Code) (text : List �
   pub of_text : OfValue text (λ d. AreFilters d filters × AreAllCompiled target d)
   pub are : AreWarningsIn target allowed filters.0.entries checked
 
--- Why a policy is rejected: its first fault, with its place or as the library tells it; or want of memory.
+-- Why a policy is rejected: its faults, with their places, or the first as the library tells it; or want of memory.
 abbrev pub IsRefusal : TargetArch → List ℕ → AnswerError → Type 0
 IsRefusal target text (Library e) = IsRefusedFor target text e
-IsRefusal target text (Placed told fault) = IsPlaced target text (string_bytes told) × (string_bytes told ≡ fault_text fault)
+IsRefusal target text (Placed first faults) = ArePlaced target text first faults.items
 IsRefusal target text OutOfMemory = ⊤
 IsRefusal target text e = ⊥
 

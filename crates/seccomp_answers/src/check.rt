@@ -9,12 +9,15 @@ ghost use Rattle.seccomp_answers.specs.CheckProfile.{IsProfileCheckOf};
 use crate::error::AnswerError;
 use crate::findings::Verdict;
 use crate::profile::compiled_of;
-use seccomp_check::{Rejection, check};
+use seccomp_faults::{Rejection, check};
 use seccomp_oci::{CompiledProfile, Container};
 use seccomp_profile_checks::{ProfileWarning, profile_warnings_of};
 use seccomp_warnings::{Code, FilterWarned, beside_of, codes_beside, policy_warnings_of};
 use seccompiler::{JsonFilterMap, JsonFrontendError, TargetArch};
 use std::alloc::Global;
+
+// How many unknown names of calls may have suggestions.
+const MOST: usize = 100;
 
 /// A filter's name, and its warnings.
 #[derive(Drop)]
@@ -41,13 +44,12 @@ pub struct CheckedPolicy {
 ///
 /// # Errors
 ///
-/// `Placed` with a fault of the kind that `compile_from_json` reports, and its text, if it has a place. `Library`
-/// with the error of `compile_from_json`, if it has no place: the bytes are no JSON, or a name is repeated.
+/// `Placed` with all faults, of which the one at the place is of the kind that `compile_from_json` reports, if that has a place.
+/// `Library` with the error of `compile_from_json`, if it has no place: the bytes are no JSON, or a name is repeated.
 /// `OutOfMemory` is returned instead of any of these if memory runs out.
 ///
-/// The contract promises any one fault of that kind, and lets it be reported as `Library`. That it is the first
-/// in the order of docs/CHECKS.md, and that a fault with a place is reported as `Placed`, is tested and not
-/// proved.
+/// That all faults are there, in the order of docs/CHECKS.md, and that a fault with a place is reported as `Placed`, is tested and
+/// not proved.
 pub fn checked(
     alloc: Global,
     target: TargetArch,
@@ -57,10 +59,10 @@ pub fn checked(
     ensures checked { IfOk result (IsCheckOf target allowed.now text.now) }
     ensures refused { IfErr result (IsRefusal target text.now) }
 {
-    let filters = match check(alloc, target, text) {
+    let filters = match check(alloc, target, MOST, text) {
         Ok(filters) => filters,
         Err(Rejection::Library(refusal)) => return Err(AnswerError::Library(refusal)),
-        Err(Rejection::Placed(told, fault)) => return Err(AnswerError::Placed(told, fault)),
+        Err(Rejection::Placed(first, faults)) => return Err(AnswerError::Placed(first, faults)),
         Err(Rejection::OutOfMemory) => return Err(AnswerError::OutOfMemory),
     };
     // The policy is taken, so that each of its filters is one of the architecture: an error is want of memory.

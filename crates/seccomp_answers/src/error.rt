@@ -3,7 +3,7 @@
 ghost use Rattle.seccomp_answers.specs.Errors.{IsAtPath, IsOfSecond};
 
 use crate::program::fault::ProgramFault;
-use seccomp_check::Fault;
+use seccomp_faults::Fault;
 use seccomp_oci::CompileError;
 use seccomp_stack::StackError;
 use seccomp_text::readable::{TextKind, readable};
@@ -30,8 +30,8 @@ pub enum AnswerError {
     Second(String),
     /// This is wrong, and the text says where.
     Told(String),
-    /// The policy has this fault, which has a place; the text is the fault's.
-    Placed(String, Fault),
+    /// The policy or the profile has these faults, of which the one at this place comes first.
+    Placed(usize, Vec<Fault>),
     /// A filter would have more than 4096 instructions as a tree.
     TreeTooLarge,
     /// The program of all that hold together would have so many instructions, more than 4096.
@@ -51,7 +51,7 @@ impl Drop for AnswerError {
             AnswerError::Library(error) => drop(error),
             AnswerError::Program(fault) => drop(fault),
             AnswerError::Profile(error) => drop(error),
-            AnswerError::Placed(told, fault) => drop((told, fault)),
+            AnswerError::Placed(_, faults) => drop(faults),
             AnswerError::NoFilter(told)
             | AnswerError::Unchosen(told)
             | AnswerError::UnknownCall(told, _)
@@ -112,10 +112,13 @@ impl AnswerError {
                 String::from_str(alloc, "The policy has no filters.")
             }
             AnswerError::Unchosen(names) => format!(in alloc; "Name one of its filters: {names}."),
-            AnswerError::Fault(told)
-            | AnswerError::Second(told)
-            | AnswerError::Told(told)
-            | AnswerError::Placed(told, _) => told.clone(),
+            AnswerError::Fault(told) | AnswerError::Second(told) | AnswerError::Told(told) => {
+                told.clone()
+            }
+            AnswerError::Placed(first, faults) => match faults.get(*first) {
+                Some(fault) => fault.text(alloc),
+                None => String::from_str(alloc, "The text has faults."),
+            },
             AnswerError::TreeTooLarge => String::from_str(
                 alloc,
                 "A filter needs more than 4096 instructions in the tree layout.",

@@ -11,10 +11,11 @@ use crate::calls::number_for;
 use crate::chosen::{chosen_name, refuse_name};
 use crate::error::AnswerError;
 use crate::kind::{Reading, Subject, subject_of};
+use crate::profile::unread;
 use crate::program::program_of;
 use seccomp_compare::machine;
 use seccomp_entries::{Lowered, Reason, explain, lowered_policy};
-use seccomp_oci::{CompileError, Container, ProfileError, lowered_profile, profile_of};
+use seccomp_oci::{Container, lowered_profile, profile_of};
 use seccompiler::bpf::BPF_MAX_LEN;
 use seccompiler::json::filters_of;
 use seccompiler::machine::Outcome;
@@ -181,7 +182,7 @@ fn are_short(
 ///
 /// # Errors
 ///
-/// `Profile` with what [`profile_of`](seccomp_oci::profile_of) gives of a profile. `OutOfMemory` if memory runs out.
+/// Those of [`compiled_of`](crate::profile::compiled_of), but for names of calls, and for a program that is too large.
 pub fn explain_profile(
     alloc: Global,
     target: TargetArch,
@@ -194,8 +195,7 @@ pub fn explain_profile(
 {
     let profile = match profile_of(alloc, text) {
         Ok(profile) => profile,
-        Err(ProfileError::OutOfMemory) => return Err(AnswerError::OutOfMemory),
-        Err(fault) => return Err(AnswerError::Profile(CompileError::Profile(fault))),
+        Err(error) => return Err(unread(alloc, text, error)),
     };
     let lowered = lowered_profile(alloc, target, container, &profile)?;
     let records = explain_each(alloc, &lowered, records)?;

@@ -29,8 +29,9 @@ pub(crate) const FIRST: usize = 10_000;
 // So many of each program are, to see whether it returns one value throughout.
 const MOST_THROUGHOUT: usize = 1_000;
 
-// So many sets of arguments are looked at of each rule before programs are searched, and after the first search.
-const FIRST_BY_RULES: usize = 4;
+// So many sets of calls are looked at of each rule before programs are searched, as a rule in two parts by a border takes, and after the
+// first search.
+const FIRST_BY_RULES: usize = 200;
 
 const MOST_BY_RULES: usize = 10_000;
 

@@ -1,5 +1,5 @@
 -- Which profile a text is, and what an error says of a text that is none.
-use Rattle.std.specs.Prelude.{◌≡◌, ℕ, List, ◌++◌, Option, Some, None, codes, string_bytes, ⊤}
+use Rattle.std.specs.Prelude.{◌≡◌, ℕ, List, ◌++◌, Option, Some, None, codes, ⊤}
 use Rattle.serde_json.specs.Data.{Data}
 use Rattle.serde_json.specs.Errors.{IsMemory}
 use Rattle.serde_json.specs.Find.{get}
@@ -35,13 +35,13 @@ IsProfileText text p = (d : Data) × IsReadAs text d × IsProfile (profile_in d)
 -- may come in place of both, and stands in no other error.
 abbrev pub IsProfileFault : List ℕ → ProfileError → Type 0
 IsProfileFault text (Json cause) = (IsMemory cause → ⊥) × ((d : Data) → IsReadAs text d → ⊥)
-IsProfileFault text (NotAProfile told) = (d : Data) × IsReadAs text d × ((p : Profile) → IsProfile (profile_in d) p → ⊥)
+IsProfileFault text NotAProfile = (d : Data) × IsReadAs text d × ((p : Profile) → IsProfile (profile_in d) p → ⊥)
 IsProfileFault text OutOfMemory = ⊤
 
 -- The text of the error, if all of it is known: that of `Json` ends in serde_json's own words.
 abbrev pub profile_error_text : ProfileError → Option (List ℕ)
 profile_error_text (Json cause) = None
-profile_error_text (NotAProfile told) = Some (string_bytes told)
+profile_error_text NotAProfile = Some (codes "The JSON value isn't a seccomp profile, or a part of it isn't supported.")
 profile_error_text OutOfMemory = Some (codes "Out of memory.")
 
 -- The text is that of the error; of `Json` it is known how it begins, and that further words may follow.

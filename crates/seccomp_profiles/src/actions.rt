@@ -39,7 +39,7 @@ fn named_text(text: &str) -> Option<Option<u32>>
 }
 
 /// The errno that stands there as a text, if one does; `None` if something else stands there.
-pub(crate) fn named_number(name: Option<&Value>) -> Option<Option<u32>>
+pub fn named_number(name: Option<&Value>) -> Option<Option<u32>>
     ensures found { IfSome result (IsNamedOr (option_map (λ v. view v.now) name.entry)) }
     ensures none { IfNone result ((o : _) → IsNamedOr (option_map (λ v. view v.now) name.entry) o → ⊥) }
 {

@@ -12,8 +12,8 @@ const WORDS_CAPACITY: usize = 128;
 pub enum ProfileError {
     /// The bytes are no JSON text in UTF-8, or nest too deep. No call gives it if memory runs out.
     Json(serde_json::Error),
-    /// The text's value is no profile, or it has a part that isn't supported. The text says where, and what is wrong there.
-    NotAProfile(String),
+    /// The text's value is no profile, or it has a part that isn't supported.
+    NotAProfile,
     /// Memory ran out.
     OutOfMemory,
 }
@@ -36,7 +36,9 @@ impl fmt::Display for ProfileError {
                 let words = InlineText::<WORDS_CAPACITY>::of(error);
                 write!(f, "Error parsing Json: {}", words.as_str())
             }
-            ProfileError::NotAProfile(told) => f.write_str(told.as_str()),
+            ProfileError::NotAProfile => f.write_str(
+                "The JSON value isn't a seccomp profile, or a part of it isn't supported.",
+            ),
             ProfileError::OutOfMemory => f.write_str("Out of memory."),
         }
     }

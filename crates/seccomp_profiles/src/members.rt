@@ -56,7 +56,7 @@ pub(crate) fn whole_of(most: u64, value: &Value) -> Option<u64>
 }
 
 /// What stands there as a whole number of at most `most`; `otherwise` if nothing stands there, or null.
-pub(crate) fn whole_or(otherwise: u64, most: u64, value: Option<&Value>) -> Option<u64>
+pub fn whole_or(otherwise: u64, most: u64, value: Option<&Value>) -> Option<u64>
     ensures found { IfSome result (IsWholeOr otherwise most (option_map (λ v. view v.now) value.entry)) }
     ensures none { IfNone result ((n : ℕ) → IsWholeOr otherwise most (option_map (λ v. view v.now) value.entry) n → ⊥) }
 {
@@ -77,7 +77,7 @@ pub(crate) fn is_absent(value: Option<&Value>) -> bool
 }
 
 /// The items that stand there: none if nothing stands there, or null.
-pub(crate) fn items_of(value: Option<&Value>) -> Option<&[Value]>
+pub fn items_of(value: Option<&Value>) -> Option<&[Value]>
     ensures { option_map (λ items. items_view items.now) result ≡ items_of (option_map (λ v. view v.now) value.entry) }
 {
     match value {

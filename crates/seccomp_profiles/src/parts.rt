@@ -44,7 +44,7 @@ fn read_plain_action(text: &str, number: Option<u32>) -> Option<Action>
 ///
 /// `SCMP_ACT_ERRNO` and `SCMP_ACT_TRACE` take a number; if none is given, it is 1, which is `EPERM`. Beside any other action
 /// none may stand. `SCMP_ACT_KILL` is `SCMP_ACT_KILL_THREAD`. It takes no memory.
-pub(crate) fn read_action(value: &Value, number: Option<u32>) -> Option<Action>
+pub fn read_action(value: &Value, number: Option<u32>) -> Option<Action>
     ensures found { IfSome result (IsAction (view value.now) number) }
     ensures none { IfNone result ((a : Action) → IsAction (view value.now) number a → ⊥) }
 {
@@ -59,7 +59,7 @@ pub(crate) fn read_action(value: &Value, number: Option<u32>) -> Option<Action>
 }
 
 /// The operator that a JSON value is, or `None` if it is none.
-pub(crate) fn read_operator(value: &Value) -> Option<Operator>
+pub fn read_operator(value: &Value) -> Option<Operator>
     ensures found { IfSome result (IsOperator (view value.now)) }
     ensures none { IfNone result ((o : Operator) → IsOperator (view value.now) o → ⊥) }
 {
@@ -109,7 +109,7 @@ pub(crate) fn read_argument(value: &Value) -> Option<Argument>
 /// The flag that a JSON value is, or `None` if it is none of those that leave decisions as they are.
 ///
 /// It takes no memory.
-pub(crate) fn read_flag(value: &Value) -> Option<Flag>
+pub fn read_flag(value: &Value) -> Option<Flag>
     ensures found { IfSome result (IsFlag (view value.now)) }
     ensures none { IfNone result ((f : Flag) → IsFlag (view value.now) f → ⊥) }
 {

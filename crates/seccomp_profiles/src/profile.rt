@@ -11,7 +11,6 @@ ghost use Rattle.seccomp_profiles.specs.Types.{Profile};
 
 use crate::actions::action_under;
 use crate::error::ProfileError;
-use crate::fault::{ProfileFault, fault_of, faults_of};
 use crate::listed::{lists_x86, unknown_architecture};
 use crate::lists::parts_under;
 use crate::members::{is_among, items_of};
@@ -129,10 +128,9 @@ fn seccomp_in(value: &Value) -> Option<&Value>
 ///
 /// # Errors
 ///
-/// `Json` if the bytes are no JSON text in UTF-8. `NotAProfile` if the text's value is no profile, with the
-/// text of its first fault: the path to its place, a colon, a space, and what is wrong there, as
-/// `syscalls[3].args[0].index: expected 0 to 5, found 6`. `OutOfMemory` may be returned instead of any answer, if
-/// memory runs out. No other error is returned.
+/// `Json` if the bytes are no JSON text in UTF-8. `NotAProfile` if the text's value is no profile: `seccomp_faults` says where,
+/// and what is wrong there. `OutOfMemory` may be returned instead of any answer, if memory runs out. No other error is
+/// returned.
 pub fn profile_of(alloc: Global, text: &[u8]) -> Result<Profile, ProfileError>
     ensures read { IfOk result (IsProfileText text.now) }
     ensures fault { IfErr result (IsProfileFault text.now) }
@@ -141,20 +139,7 @@ pub fn profile_of(alloc: Global, text: &[u8]) -> Result<Profile, ProfileError>
     let value = value_of(alloc, text)?;
     match read_profile(alloc, profile_in(&value))? {
         Some(profile) => Ok(profile),
-        None => Err(ProfileError::NotAProfile(fault_of(alloc, profile_in(&value))?)),
-    }
-}
-
-/// All faults of a text that is no profile, the one of [`profile_of`] in front; none if it is no JSON, or a profile.
-///
-/// # Errors
-///
-/// `AllocError` if memory runs out.
-pub fn profile_faults(alloc: Global, text: &[u8]) -> Result<Vec<ProfileFault>, AllocError> {
-    match value_of(alloc, text) {
-        Ok(value) => faults_of(alloc, profile_in(&value)),
-        Err(ProfileError::OutOfMemory) => Err(AllocError),
-        Err(_) => Ok(Vec::new(alloc)),
+        None => Err(ProfileError::NotAProfile),
     }
 }
 

@@ -49,7 +49,7 @@ fn read_kernel(value: &Value) -> Option<Kernel>
 
 /// The version of the kernel that stands there, which is none if nothing stands there, null or the empty
 /// text; `None` if something else stands there.
-pub(crate) fn kernel_under(value: Option<&Value>) -> Option<Option<Kernel>>
+pub fn kernel_under(value: Option<&Value>) -> Option<Option<Kernel>>
     ensures found { IfSome result (IsKernelOr (option_map (λ v. view v.now) value.entry)) }
     ensures none { IfNone result ((k : Option Kernel) → IsKernelOr (option_map (λ v. view v.now) value.entry) k → ⊥) }
 {

@@ -6,8 +6,11 @@ use Rattle.seccompiler.specs.JsonAnswers.{IsReadAs}
 use Rattle.seccompiler.specs.Texts.{json_text, IsJsonText}
 use Rattle.seccompiler.specs.declared.backend.TargetArch.{TargetArch}
 use Rattle.seccomp_tree.specs.Layouts.{filter_text}
-use Rattle.seccomp_check.specs.Checks.{TellsFaultOf, frontend_cause}
-use Rattle.seccomp_check.specs.declared.fault.Cause.{Cause}
+use Rattle.seccomp_faults.specs.Checks.{frontend_cause}
+use Rattle.seccomp_faults.specs.Faults.{IsFault, cause_of}
+use Rattle.seccomp_faults.specs.declared.fault.Cause.{Cause}
+use Rattle.seccomp_faults.specs.declared.fault.Fault.{Fault as PolicyFault}
+use Rattle.seccomp_faults.specs.declared.table.Form.TheVariants as form
 use Rattle.seccomp_text.specs.Readable.{readable}
 use Rattle.seccomp_text.specs.declared.readable.TextKind.TheVariants.{Line}
 use Rattle.seccompiler_c.specs.Codes.{fault_code, code_text, IsSentence}
@@ -45,24 +48,27 @@ pub data HoldsMessage (said old new : List ℕ) : Type 0 where
   holds : HoldsFront said old new → HoldsMessage said old new
   no_byte : length old ≡ 0 → new ≡ old → HoldsMessage said old new
 
--- The kind of a fault on an architecture, if it has a place in the policy.
-abbrev pub fault_cause : TargetArch → Fault → Option Cause
-fault_cause target (Text e) = frontend_cause target e
-fault_cause target fault = None
+-- The kind of a fault, if it has a place in the policy.
+abbrev pub fault_cause : Fault → Option Cause
+fault_cause (Text e) = frontend_cause e
+fault_cause fault = None
 
--- The sentence tells the fault by its place: the fault is of a kind that has one, and the sentence is the text of a fault
--- of this kind that the policy's value has, with the path that leads to it in front.
-pub record IsPlaced (target : TargetArch) (text : List ℕ) (fault : Fault) (said : List ℕ) : Type 0 where
+-- There is a fault of this kind, with its path, that the value of the policy's text has on the architecture.
+abbrev pub HasFault : TargetArch → (text : List ℕ) → Cause → Type 0
+HasFault target text cause =
+    (own : PolicyFault) × (cause_of own.problem ≡ cause) × ((d : Data) → IsReadAs text d → IsFault target form.Policy d own)
+
+-- The fault is of a kind that has a place, and the policy has one of this kind at a place.
+pub record IsPlaced (target : TargetArch) (text : List ℕ) (fault : Fault) : Type 0 where
   pub cause : Cause
-  pub kind : fault_cause target fault ≡ Some cause
-  pub placed : (d : Data) → IsReadAs text d → TellsFaultOf cause d said
+  pub kind : fault_cause fault ≡ Some cause
+  pub placed : HasFault target text cause
 
--- The text tells the fault of a policy's text: by its place, if on an architecture of which P holds the fault is of a kind that
--- has one; and else it is the fault's own.
+-- The text tells the fault of a policy's text: a fault at its place, on an architecture of which P holds, if it is of a kind that has
+-- one; and else it is the fault's own.
 pub data IsTextOf (P : TargetArch → Type 0) (text : List ℕ) (fault : Fault) (told : List ℕ) : Type 0 where
-  by_place : (target : TargetArch) → P target → IsPlaced target text fault told → IsTextOf P text fault told
-  without_place : ((target : TargetArch) → P target → fault_cause target fault ≡ None) → IsFaultText fault told
-      → IsTextOf P text fault told
+  by_place : (target : TargetArch) → P target → IsPlaced target text fault → IsTextOf P text fault told
+  without_place : fault_cause fault ≡ None → IsFaultText fault told → IsTextOf P text fault told
 
 -- What is said is a text of which P holds, as people read it.
 pub record IsShown (P : List ℕ → Type 0) (said : List ℕ) : Type 0 where

@@ -3,16 +3,19 @@
 ghost use Rattle.std.specs.Prelude.{◌≡◌, [], pos, length, IfOk, IfSome, string_bytes};
 ghost use Rattle.seccompiler.specs.declared.backend.TargetArch.{TargetArch};
 ghost use Rattle.seccompiler_c.specs.Arguments.{IsArchitecture};
-ghost use Rattle.seccompiler_c.specs.Messages.{HoldsMessage, IsFaultText, fault_cause, IsTextOf, IsShown, TellsPolicyFault};
+ghost use Rattle.seccompiler_c.specs.Messages.{HasFault, HoldsMessage, IsFaultText, fault_cause, IsTextOf, IsShown, TellsPolicyFault};
 
 use crate::arguments::architecture_of;
 use crate::fault::Fault;
-use seccomp_check::{Cause, cause_of_frontend, place};
+use seccomp_faults::{Cause, cause_of_frontend, faults, first_of};
 use seccomp_text::readable::{TextKind, readable};
 use seccompiler::{JsonFrontendError, TargetArch};
 use std::alloc::Global;
 use std::fmt;
 use std::fmt::Display;
+
+// How many unknown names of calls may have suggestions.
+const MOST: usize = 100;
 
 // Writes a text's front, as many whole characters as there is room for with a byte 0 behind them, and
 // this byte.
@@ -60,27 +63,38 @@ fn own_text(alloc: Global, policy: &[u8], fault: &Fault) -> Option<String>
     Some(text)
 }
 
-// The kind of a fault, where it has a place in the policy.
-fn cause_of(target: TargetArch, fault: &Fault) -> Option<Cause>
-    ensures { result ≡ fault_cause target fault.now }
+// The kind of a fault, if it has a place in the policy.
+fn cause_of(fault: &Fault) -> Option<Cause>
+    ensures { result ≡ fault_cause fault.now }
 {
     match fault {
-        Fault::Text(refusal) => cause_of_frontend(target, refusal),
+        Fault::Text(refusal) => cause_of_frontend(refusal),
         _ => None,
     }
 }
 
-// The text of a policy's fault: with the path of its place if it is of a kind that has one. None if memory runs out for it, or no
-// place is found, which isn't proved not to be.
+// The text of the first fault of a kind in a policy's text. None if memory runs out for it, or none is found, which isn't proved not
+// to be.
+fn placed(alloc: Global, policy: &[u8], target: TargetArch, cause: Cause) -> Option<String>
+    ensures { IfSome result (λ text. HasFault target policy.now cause) }
+{
+    let Ok(all) = faults(alloc, target, MOST, policy) else {
+        return None;
+    };
+    let first = first_of(cause, &all)?;
+    match all.get(first)?.text(alloc) {
+        Ok(text) => Some(text),
+        Err(_) => None,
+    }
+}
+
+// The text of a policy's fault: with the path of its place if it is of a kind that has one.
 fn told(alloc: Global, policy: &[u8], target: TargetArch, fault: &Fault) -> Option<String>
     ensures { IfSome result (λ text. IsTextOf (λ t. t ≡ target) policy.now fault.now (string_bytes text)) }
 {
-    match cause_of(target, fault) {
+    match cause_of(fault) {
         None => own_text(alloc, policy, fault),
-        Some(cause) => match place(alloc, cause, policy) {
-            Ok(found) => found,
-            Err(_) => None,
-        },
+        Some(cause) => placed(alloc, policy, target, cause),
     }
 }
 
@@ -89,7 +103,10 @@ fn shown(alloc: Global, policy: &[u8], target: TargetArch, fault: &Fault) -> Opt
     ensures { IfSome result (λ said. IsShown (IsTextOf (λ t. t ≡ target) policy.now fault.now) (string_bytes said)) }
 {
     let text = told(alloc, policy, target, fault)?;
-    readable(alloc, text.as_str(), TextKind::Line).ok()
+    match readable(alloc, text.as_str(), TextKind::Line) {
+        Ok(said) => Some(said),
+        Err(_) => None,
+    }
 }
 
 // Writes the text of a policy's fault on an architecture as people read it, or what its code means if memory runs out

@@ -3,20 +3,21 @@ use Rattle.std.proofs.Common.{◌≡◌, ℕ, List, Option, Some, None, IfSome, 
 use Rattle.std.proofs.Common.{◌++◌, ◌∙◌, ap, append_assoc, codes, refl, sym, subst, inl, inr}
 use Rattle.serde_json.specs.declared.error.Error.{Error}
 use Rattle.std.specs.Result.{result_ok}
+use Rattle.std.specs.Prelude.{All}
+use Rattle.std.proofs.lemmas.List.Elements.{All-get_or}
+use Rattle.std.proofs.lemmas.Option.{get_or_from_slice_get, slice_get_within}
 use Rattle.serde_json.specs.Data.{Data}
 use Rattle.seccompiler.specs.JsonAnswers.{IsReadAs}
 use Rattle.seccompiler.specs.declared.backend.TargetArch.{TargetArch}
-use Rattle.seccompiler.specs.declared.json.error.JsonFrontendError.TheVariants.{SerdeJson, SyscallName}
-use Rattle.seccomp_check.specs.Checks.{TellsFaultOf}
-use Rattle.seccomp_check.specs.declared.fault.Cause.{Cause}
-use Rattle.seccompiler_c.specs.Messages.{IsFaultText, TellsPolicyFault, fault_cause, IsTextOf, by_place, without_place, IsToldOf}
+use Rattle.seccompiler.specs.declared.json.error.JsonFrontendError.TheVariants.{SerdeJson}
+use Rattle.seccomp_faults.specs.Checks.{IsAtOf}
+use Rattle.seccomp_faults.specs.Faults.{IsFault}
+use Rattle.seccomp_faults.specs.declared.fault.Cause.{Cause}
+use Rattle.seccomp_faults.specs.declared.fault.Fault.{Fault as PolicyFault}
+use Rattle.seccomp_faults.specs.declared.table.Form.TheVariants as form
+use Rattle.seccompiler_c.specs.Messages.{HasFault, IsFaultText, TellsPolicyFault, fault_cause, IsTextOf, by_place, without_place, IsToldOf}
 use Rattle.seccompiler_c.specs.declared.fault.Fault.{Fault}
 use Rattle.seccompiler_c.specs.declared.fault.Fault.TheVariants.{Text}
-
--- A fault that has no place on one architecture has none on another.
-nowhere : (fault : Fault) (one other : TargetArch) → fault_cause one fault ≡ None → fault_cause other fault ≡ None
-nowhere (Text (SyscallName name known)) one other none = absurd cc
-nowhere fault one other none = none
 
 -- What is reported on one architecture is reported on those for which P holds, if it does of that one.
 pub told_on : (text : List ℕ) (fault : Fault) (old new : List ℕ) (P : TargetArch → Type 0) (target : TargetArch) → P target
@@ -25,24 +26,35 @@ told_on text fault old new P target holds tells = record { said = tells.said; ut
   where
     of : (told : List ℕ) → IsTextOf (λ t. t ≡ target) text fault told → IsTextOf P text fault told
     of told (by_place t same placed) = by_place t (subst P (sym same) holds) placed
-    of told (without_place none own) = without_place (λ t at. nowhere fault target t (none target refl)) own
+    of told (without_place none own) = without_place none own
 
     by : IsToldOf (λ t. t ≡ target) text fault tells.said → IsToldOf P text fault tells.said
     by (inl shown) = inl (record { text = shown.text; holds = of shown.text shown.holds; shown = shown.shown })
     by (inr code) = inr code
 
 -- The text that is found for a fault's kind tells the fault by its place.
-pub placed_at : (target : TargetArch) (text : List ℕ) (fault : Fault) (cause : Cause) → fault_cause target fault ≡ Some cause
-    → (found : Option (String Global)) → ((d : Data) → IsReadAs text d → IfSome found (λ said. TellsFaultOf cause d (string_bytes said)))
+pub placed_at : (target : TargetArch) (text : List ℕ) (fault : Fault) (cause : Cause) → fault_cause fault ≡ Some cause
+    → (found : Option (String Global)) → IfSome found (λ told. HasFault target text cause)
     → IfSome found (λ told. IsTextOf (λ t. t ≡ target) text fault (string_bytes told))
-placed_at target text fault cause kind None told = tt
-placed_at target text fault cause kind (Some said) told = by_place target refl (record { cause = cause; kind = kind; placed = told })
+placed_at target text fault cause kind None has = tt
+placed_at target text fault cause kind (Some said) has = by_place target refl (record { cause = cause; kind = kind; placed = has })
+
+-- The fault at a place of those that are found is one of the text's.
+pub found_at : (target : TargetArch) (text : List ℕ) (cause : Cause) (all : List PolicyFault) (i : ℕ)
+    → ((d : Data) → IsReadAs text d → All (IsFault target form.Policy d) all) → IsAtOf cause all i → HasFault target text cause
+found_at target text cause all i each (own, at, kind) = (
+  own,
+  kind,
+  λ d is.
+      let P = IsFault target form.Policy d in
+      subst P (get_or_from_slice_get all i own own at) (All-get_or P all i own (slice_get_within all i own at) (each d is)),
+)
 
 -- The text of a fault that has no place is its own.
-pub own_text : (target : TargetArch) (text : List ℕ) (fault : Fault) → fault_cause target fault ≡ None → (found : Option (String Global))
+pub own_text : (target : TargetArch) (text : List ℕ) (fault : Fault) → fault_cause fault ≡ None → (found : Option (String Global))
     → IfSome found (λ own. IsFaultText fault (string_bytes own))
     → IfSome found (λ told. IsTextOf (λ t. t ≡ target) text fault (string_bytes told))
-own_text target text fault none (Some own) is = without_place (λ t same. subst (λ t. fault_cause t fault ≡ None) (sym same) none) is
+own_text target text fault none (Some own) is = without_place none is
 own_text target text fault none None is = tt
 
 -- What holds of a text that is read.

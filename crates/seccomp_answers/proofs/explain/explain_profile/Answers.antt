@@ -1,4 +1,4 @@
-use Rattle.std.proofs.Common.{ap, rules}
+use Rattle.std.proofs.Common.{ap, false, rules}
 use Rattle.seccomp_entries.specs.Entries.{Lowered}
 use Rattle.seccomp_answers.proofs.explain.explain_profile.Goals as goal
 
@@ -13,3 +13,6 @@ returns-clause-explained c = record {
   entries = ap (λ (l : Lowered). l.entries) c.lowered.view_is;
   each = c.in_ok-records.ensures;
 }
+
+pub returns-in-Err-clause-cause : goal.returns-in-Err-clause-cause
+returns-in-Err-clause-cause c = c.unread.ensures c.args.target c.args.container.now false c.in-Err.ensures.fault

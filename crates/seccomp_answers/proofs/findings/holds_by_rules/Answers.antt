@@ -16,4 +16,4 @@ returns c =
     IfOk-weaker c.is_related_on.result _ _ (λ holds is yes new old both.
     let of : AreOf target new old f = subst (λ (o : Option Filters). IfSome o (AreOf target new old)) c.in-Some.is both in
     subst (λ (part : Part). IsFound target relation (AreReturned new old) part Holds) (sym c.in-Named.is)
-    (settled_by target relation new old f.new.now f.old.now of.of_new of.of_old c.in-Named.number (is yes))) c.is_related_on.ensures
+    (settled_by target relation new old f.new.now f.old.now of.of_new of.of_old c.in-Named.number (is yes))) c.is_related_on.ensures.related

@@ -1,0 +1,40 @@
+//! The faults of policies and of profiles, with their places.
+//!
+//! [`check`] reads a policy's text, and gives all its faults by their paths, what is there and what may, as
+//! `main_thread.filter[1].syscall: unknown system call "fnctl" on x86_64; did you mean "fcntl"?`.
+//! [`profile_faults`] does so for a text that is no profile, and [`json_fault`] says why one is no JSON.
+//!
+//! What a value has to be is a [`Form`]. Tables say what is inside values of each form, and one walk goes through
+//! policies and profiles by them.
+//!
+//! ```
+//! use seccomp_faults::{Rejection, check};
+//! use seccompiler::{JsonFilterMap, TargetArch};
+//! use std::alloc::Global;
+//!
+//! /// Checks a policy for x86_64, and gives its filters.
+//! fn check_here(alloc: Global, policy: &[u8]) -> Result<JsonFilterMap, Rejection> {
+//!     check(alloc, TargetArch::x86_64, 100, policy)
+//! }
+//! ```
+#![tactic(auto)]
+
+pub mod fault;
+mod form;
+mod length;
+mod level;
+mod near;
+mod not_json;
+mod part;
+pub mod policy;
+mod profile;
+pub mod table;
+mod text;
+mod walk;
+
+pub use fault::{Cause, Fault, Problem};
+pub use not_json::{JsonFault, json_fault, json_piece_len};
+pub use policy::{Rejection, cause_of_error, cause_of_frontend, check, faults, first_of};
+pub use profile::profile_faults;
+pub use seccomp_text::steps::Step;
+pub use table::{Form, is_of_profile};

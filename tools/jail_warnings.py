@@ -91,6 +91,9 @@ def on_errno(codes, number, answered):
     return Shown(codes, filter_of({"errno": number}, "allow", *(it.split()[0] for it, _ in calls)), calls)
 
 
+# What is so of a condition by which `openat` is denied and `open`, `openat2`, `creat` and `io_uring_setup` aren't.
+BY_OTHERS = ["condition-evaded"] * 4
+
 WARNED = {
     "errno 0": on_errno(["fake-success"], 0, 0),
     "errno 65536": on_errno(["fake-success", "errno-too-large"], 65536, 0),
@@ -138,17 +141,19 @@ WARNED = {
         ["no-restart"], filter_of("allow", "kill_process", *(it for it in NAMES if it != "restart_syscall")), ENDED),
     "fails at the end": Shown(["kills-exit"] * 2, filter_of({"errno": 1}, "allow", "exit_group", "rt_sigreturn"), []),
     "denies all": Shown(["denies-everything", "kills-exit"], filter_of("trap", {"errno": 1}), []),
-    "opens to write": Shown(["flag-evades"], denying(when("openat", (2, "dword", "eq", 1))), [
+    "opens to write": Shown(["flag-evades", *BY_OTHERS], denying(when("openat", (2, "dword", "eq", 1))), [
         ("openat 0 0 1", DENIED), ("openat 0 0 0x80001", NO_ADDRESS)]),
-    "opens to write in either way": Shown([], denying(*(when("openat", (2, "dword", "eq", it)) for it in (1, 0x80001))), [
+    "opens to write in either way": Shown(BY_OTHERS * 2, denying(*(when("openat", (2, "dword", "eq", it)) for it in (1, 0x80001))), [
         ("openat 0 0 1", DENIED), ("openat 0 0 0x80001", DENIED), ("openat 0 0 2", NO_ADDRESS)]),
-    "opens to write as it ends": Shown(["flag-evades"], denying(when("openat", (2, "dword", "eq", 0x80001))), [
+    "opens to write as it ends": Shown(["flag-evades", *BY_OTHERS], denying(when("openat", (2, "dword", "eq", 0x80001))), [
         ("openat 0 0 0x80001", DENIED), ("openat 0 0 1", NO_ADDRESS)]),
     "a pipe": Shown(["flag-evades"], denying(when("pipe2", (1, "dword", "eq", 0))), [("pipe2 0 0", DENIED), ("pipe2 0 0x80000", NO_ADDRESS)]),
+    "memory with a name that closes": Shown(["flag-evades"], denying(when("memfd_create", (1, "dword", "eq", 1))), [
+        ("memfd_create 0 1", DENIED), ("memfd_create 0 0", NO_ADDRESS)]),
     "memory with a name": Shown(["flag-evades"], denying(when("memfd_create", (1, "dword", "eq", 0))), [
         ("memfd_create 0 0", DENIED), ("memfd_create 0 1", NO_ADDRESS)]),
-    "opens to write under a mask": Shown([], denying(when("openat", (2, "dword", {"masked_eq": 3}, 1))), [
-        ("openat 0 0 1", DENIED), ("openat 0 0 0x80001", DENIED), ("openat 0 0 0x80002", NO_ADDRESS)]),
+    "opens to write under a mask": Shown(BY_OTHERS, denying(when("openat", (2, "dword", {"masked_eq": 3}, 1))), [
+        ("openat 0 0 1", DENIED), ("openat 0 0 0x80001", DENIED), ("openat 0 0 0x80002", NO_ADDRESS), ("open 0 1", NO_ADDRESS)]),
     "opens to read and creates": Shown(["condition-evaded"] * 2, allowing("creat"), [("openat 0 0 2", DENIED), ("creat 0 0", NO_ADDRESS)]),
     "at an address": Shown(["pointer-compared"], denying(when("openat", (1, "qword", "eq", LOW + 2))), [
         (f"openat 0 {LOW + 2} 0", DENIED), (f"openat 0 {LOW + 3} 0", NO_ADDRESS)]),

@@ -7,7 +7,8 @@ import json
 import random
 
 from .forms import policies_of, writes
-from .warnings import ALLOWED, EXITS, NOT_ALL, PERMITS, SIBLINGS, WAITING, condition, line, lines_of, warned
+from warning_tables import SIBLINGS
+from .warnings import ALLOWED, EXITS, NOT_ALL, PERMITS, WAITING, condition, line, lines_of, warned
 
 # What an entry may ask of its call.
 ASKED = [condition("dword", "eq", 7)]

@@ -2,6 +2,7 @@
 nothing of what is denied, or of which the second can do the same; the filter denies the first and lets the second through."""
 
 from model import is_met as holds
+from warning_tables import DETOURS, FLAGS
 
 LOW = 2**32 - 1
 WHOLE = 2**64 - 1
@@ -11,30 +12,6 @@ EVASIONS = ("high-half-evades", "flag-evades", "condition-evaded")
 
 # The actions that let a call through.
 PERMITS = ("allow", "log")
-
-# The calls that take a flag, at the index of an argument, by the flag.
-FLAGS = {
-    0x80000: {0: ("epoll_create1", "inotify_init1", "userfaultfd"), 3: ("accept4", "signalfd4"),
-              1: ("open", "socket", "socketpair", "pipe2", "eventfd2", "timerfd_create"), 2: ("openat", "dup3", "open_by_handle_at")},
-    0x400: {0: ("clone", "unshare"), 3: ("mount",)},
-    1: {1: ("memfd_create",), 2: ("mmap", "mprotect", "pkey_mprotect")},
-}
-# The calls that take a further one.
-FURTHER = {8: {2: ("mmap", "mprotect", "pkey_mprotect")}}
-
-# Calls with the index of the argument that says what is asked, the bits of it that ask for more, and other calls by which the same can
-# be done: the index at which they take it, and which bits of it they take there.
-NEW_USER, NAMESPACES = 0x10000000, 0x7e020080
-DETOURS = [
-    *(("open", 1, 2, *other) for other in (("openat", 2, WHOLE), ("openat2", 0, 0), ("creat", 0, 0), ("io_uring_setup", 0, 0))),
-    *(("openat", 2, 2, *other) for other in (("open", 1, WHOLE), ("openat2", 0, 0), ("creat", 0, 0), ("io_uring_setup", 0, 0))),
-    *(("mmap", 2, 4, *other) for other in (("mprotect", 2, WHOLE), ("pkey_mprotect", 2, WHOLE))),
-    ("mprotect", 2, 4, "pkey_mprotect", 2, WHOLE),
-    ("pkey_mprotect", 2, 4, "mprotect", 2, WHOLE),
-    ("clone", 0, NEW_USER, "unshare", 0, NAMESPACES),
-    *(("unshare", 0, NEW_USER, *other) for other in (("clone", 0, WHOLE), ("clone3", 0, 0))),
-    ("socket", 0, 16, "io_uring_setup", 0, 0),
-]
 
 
 def mask_of(operator):
@@ -68,8 +45,12 @@ def bits_of(code, name, it):
     if code == "high-half-evades":
         is_low = it["type"] == "qword" and it["val"] & (WHOLE if mask is None else mask) <= LOW
         return [0 if not is_low else 2**32 if mask is None else mask & ~LOW]
-    flags = [next((flag for flag, calls in known.items() if name in calls.get(it["index"], ())), 0) for known in (FLAGS, FURTHER)]
-    return [0 if (edge_of(it) == flag != 0x80000 if mask is None else mask == flag) else flag for flag in flags]
+    found = []
+    for call, index, flag, is_closing in FLAGS:
+        if (call, index) == (name, it["index"]):
+            is_alone = mask == flag if mask is not None else edge_of(it) == flag and not is_closing
+            found.append(0 if is_alone else flag)
+    return found
 
 
 def is_let_through(actions, entries, call):
@@ -88,17 +69,21 @@ def pairs_of(code, name, conditions, it, permits):
     index, edge, arguments = it["index"], edge_of(it), likely_arguments(conditions)
     if code != "condition-evaded":
         return [[(name, with_argument(arguments, index, value)) for value in (edge, edge ^ bits)] for bits in bits_of(code, name, it)]
-    return [[(name, with_argument(arguments, index, asked)), (other, with_argument([0] * 6, other_index, asked & kept))]
-            for call, asking, bits, other, other_index, kept in DETOURS
-            if permits and (call, asking) == (name, index)
-            for asked in [edge if it["op"] in ("ge", "gt", "ne") else edge | bits]]
+    found = []
+    for call, asking, bits, other, other_index, kept in DETOURS:
+        above = it["op"] in ("ge", "gt", "ne")
+        asked = edge | bits * (not above) if permits else edge + above & WHOLE
+        # Of an entry that denies calls the other call takes some of what is asked.
+        if (call, asking) == (name, index) and (permits or asked & (kept or WHOLE)):
+            found.append([(name, with_argument(arguments, index, asked)), (other, with_argument([0] * 6, other_index, asked & kept))])
+    return found
 
 
-def decides(code, it, calls):
-    """Returns whether a condition decides between two calls: it holds for one of them alone, or not for the first if they are calls of
-    two names."""
+def decides(code, it, calls, permits):
+    """Returns whether a condition of an entry, which lets calls through or not, decides between two calls: it holds for one of them
+    alone, or by it the entry denies the first if they are calls of two names."""
     holding = [holds(it, arguments[it["index"]]) for _, arguments in calls]
-    return not holding[0] if code == "condition-evaded" else holding[0] != holding[1]
+    return holding[0] != permits if code == "condition-evaded" else holding[0] != holding[1]
 
 
 def shown(calls):
@@ -116,8 +101,9 @@ def evasions_of(filter_):
     for entry, rule in enumerate(filter_["filter"]):
         conditions = rule.get("args") or []
         for place, it in enumerate(conditions):
+            permits = actions[1] in PERMITS
             for code in EVASIONS:
-                for calls in pairs_of(code, rule["syscall"], conditions, it, actions[1] in PERMITS):
-                    if decides(code, it, calls) and [is_let_through(actions, entries, call) for call in calls] == [False, True]:
+                for calls in pairs_of(code, rule["syscall"], conditions, it, permits):
+                    if decides(code, it, calls, permits) and [is_let_through(actions, entries, call) for call in calls] == [False, True]:
                         found.setdefault((entry, place, code), []).append(shown(calls))
     return found

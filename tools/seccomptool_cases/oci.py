@@ -77,8 +77,9 @@ def concerning(given, words, name):
 
 
 def tested(conditions):
-    """Returns the conditions of an entry: none if each has a mask of 0."""
-    return conditions if any(it["op"] != "SCMP_CMP_MASKED_EQ" or it["value"] for it in conditions) else []
+    """Returns the conditions of an entry: none if each has a mask of 0, or one that is enough."""
+    idle = [it["op"] == "SCMP_CMP_MASKED_EQ" and not it["value"] for it in conditions]
+    return [] if any(idle) and are_alternatives(conditions) or all(idle) else conditions
 
 
 def strictness(action):

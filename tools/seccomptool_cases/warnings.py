@@ -13,47 +13,12 @@ import pathlib
 import random
 import re
 
-from .evasions import EVASIONS, FLAGS, LOW, PERMITS, WHOLE, actions_of, evasions_of, holds, mask_of
+from warning_tables import ADDRESSES, CODES, FLAGS, SIBLINGS, SIGNED
+from .evasions import EVASIONS, LOW, PERMITS, WHOLE, actions_of, evasions_of, holds, mask_of
 from .forms import OUTPUT, FULL, Case, grouped, rejects, writes
 
 # What is so, and what to write instead.
-SAID = {
-    "fake-success": "the call isn't made, and returns 0 as if it had succeeded; write an errno from 1 to 4095",
-    "errno-too-large": "Linux keeps only the low 16 bits, and takes 4095 for a greater number; write an errno from 1 to 4095",
-    "endless-retry": "programs take errno 4, EINTR, for an interruption and make the call anew, forever; write another errno",
-    "trace-without-tracer": 'if no tracer is attached, the call fails with ENOSYS; write an errno or "allow" '
-    "if there is none",
-    "allows-by-default": "calls without an entry are let through, newer ones too; write a denying action, and entries "
-    "for what is allowed",
-    "denies-everything": "both actions deny, so that no call is made at all; let one of them allow",
-    "high-half-ignored": '"dword" compares only the low 32 bits, and the value has higher ones; write its low 32 bits, '
-    'or "qword"',
-    "value-outside-mask": "the value has bits outside the mask, which aren't compared; write the value without them, "
-    "or a mask that has them",
-    "always-holds": "the condition holds for every argument; leave it out, or correct it",
-    "never-holds": "the condition holds for no argument, so the entry matches no call; leave the entry out, or correct "
-    "the condition",
-    "high-half-evades": 'the same call if the argument has 32 bits; then write "dword"',
-    "flag-evades": 'the same but for a flag that changes nothing of it; write "masked_eq" with a mask of the flags that count',
-    "condition-evaded": "by which the same can be done; give that call the same condition, or deny it",
-    "pointer-compared": "the argument is an address, which says nothing of what stands there; leave the condition out",
-    "signed-compared": 'the argument is signed, and a filter takes negative numbers for large ones; write "eq" or "ne", or a '
-    "second condition that bounds it",
-    "kills-exit": "no process or thread can end, or return from a signal handler, by this call; let exit, "
-    "exit_group and rt_sigreturn through",
-    "clone-by-clone3": "clone is denied or restricted, and clone3, whose flags no filter sees, is let through; deny "
-    "clone3 with errno 38 in a separate filter",
-    "no-execve": "a jailer can't start the program, which the filter lets make set_tid_address; let execve through, or leave out "
-    "set_tid_address if the program installs the filter",
-    "no-restart": "after SIGSTOP and SIGCONT Linux goes on with nanosleep, poll or futex by this call; let it through",
-    "sibling-allowed": "the entry denies a call, and another one that does the same is let through; add an entry for that one too",
-    "crate-differs": "the call also has entries with args, and matches here whatever its arguments are; the Rust crate "
-    "checks these args: leave out those entries or this one",
-    "unreachable-entry": "no call meets all of its conditions; correct them, or leave the entry out",
-    "redundant-entry": "each call that meets this entry meets another entry too; leave it out",
-    "undecided-entry": "it wasn't decided whether a call needs this entry, within 300000 sets of calls, divided among the "
-    "filter's entries; use fewer masks in it",
-}
+SAID = {row["name"]: row["said"] for row in CODES if row["said"]}
 
 # The codes of an entry beside others, and the options that allow them.
 BESIDE = ("unreachable-entry", "redundant-entry", "undecided-entry")
@@ -66,14 +31,7 @@ OF_PARTS = f"{ALLOWED} --allow kills-exit"
 NOT_ALL = "--allow denies-everything"
 
 # The key of an action or a condition that a code is about, after its place.
-KEYS = {
-    "fake-success": ".errno",
-    "errno-too-large": ".errno",
-    "endless-retry": ".errno",
-    "trace-without-tracer": ".trace",
-    "high-half-ignored": ".val",
-    "value-outside-mask": ".val",
-}
+KEYS = {row["name"]: f".{row['key']}" for row in CODES if row["key"]}
 
 # A line for each section of docs/CHECKS.md: the code, and what the section begins with, without the marks.
 PAGE = (pathlib.Path(__file__).resolve().parents[2] / "docs/CHECKS.md").read_text(encoding="utf-8")
@@ -217,7 +175,7 @@ def of_entries(name, entries, codes):
     made = [{"syscall": name, "args": [condition(*rest, index) for index, *rest in it]} for it in entries]
     filters = {"a": {"mismatch_action": "allow", "match_action": "trap", "filter": made}}
     lines = (line(f"a.{place}", code) for place, code in (it.split() for it in codes))
-    return warned(filters, *lines, allowed=f"{OF_PARTS} --allow allows-by-default --allow pointer-compared")
+    return warned(filters, *lines, allowed=f"{OF_PARTS} --allow allows-by-default --allow pointer-compared --allow condition-evaded")
 
 
 # Filters that let a call through by a condition, beside other entries, and the calls that evade it: what is asked of the first one, and the
@@ -262,6 +220,29 @@ DETOURED = [
     ("openat", (3, *READS), ["open"], []),
     ("openat", (2, *READS), ["mmap"], []),
     ("socketpair", (0, "eq", 1), ["io_uring_setup"], []),
+]
+# The same of filters that deny a call by a condition, and let through what no entry matches: what the entry denies is asked of the other
+# call, if that takes some of it.
+WRITES, EXEC = (masked(3), 1), (masked(4), 4)
+DENIED = [
+    ("openat", (2, *WRITES), [], [(1, "open", 1, 1), *((1, other, 0, 0) for other in BY_OTHERS)]),
+    ("open", (1, *WRITES), [], [(1, "openat", 2, 1), *((1, other, 0, 0) for other in BY_OTHERS)]),
+    ("openat", (2, *WRITES), ["open", *BY_OTHERS], []),
+    ("openat", (2, "gt", 4), ["openat2"], [(5, "open", 1, 5), (5, "creat", 0, 0), (5, "io_uring_setup", 0, 0)]),
+    ("mmap", (2, *EXEC), [], [(4, "mprotect", 2, 4), (4, "pkey_mprotect", 2, 4)]),
+    ("mmap", (2, "eq", 5), [("pkey_mprotect", 3, "eq", 1)], [(5, "mprotect", 2, 5), (5, "pkey_mprotect", 2, 5)]),
+    ("mmap", (2, *EXEC), ["mprotect", "pkey_mprotect"], []),
+    ("mprotect", (2, *EXEC), [], [(4, "pkey_mprotect", 2, 4)]),
+    ("mprotect", (2, *EXEC), ["pkey_mprotect"], []),
+    ("pkey_mprotect", (2, *EXEC), [], [(4, "mprotect", 2, 4)]),
+    ("clone", (0, masked(NEW_USER), NEW_USER), [], [(NEW_USER, "unshare", 0, NEW_USER)]),
+    ("unshare", (0, masked(NEW_USER), NEW_USER), [], [(NEW_USER, "clone", 0, NEW_USER), (NEW_USER, "clone3", 0, 0)]),
+    ("socket", (0, "eq", 16), [], [(16, "io_uring_setup", 0, 0)]),
+    ("socket", (0, "lt", 3), [], [(2, "io_uring_setup", 0, 0)]),
+    # Nothing of it is asked of the other call.
+    ("openat", (2, *READS), [], []),
+    ("clone", (0, "eq", SIGCHLD), [], []),
+    ("clone", (0, masked(NEW_USER), 0), [], []),
 ]
 NOT_OF_THESE = "".join(f" --allow {it}" for it in ("clone-by-clone3", "flag-evades", "allows-by-default"))
 
@@ -332,33 +313,6 @@ def tries(it):
     return borders | SOME | {2**bit for bit in range(64)}
 
 
-# The calls whose argument of an index is an address, or is signed.
-POINTERS = {
-    0: ("access acct chdir chmod chown chroot creat execve fsopen getcwd getxattr lchown lgetxattr link listmount listxattr llistxattr "
-        "lremovexattr lsetxattr lstat memfd_create mkdir mknod mount open pipe pipe2 pivot_root readlink removexattr rename rmdir "
-        "setxattr stat statfs statmount swapoff swapon symlink symlinkat truncate umount2 unlink uselib utime utimes").split(),
-    1: ("accept accept4 bind cachestat connect copy_file_range execve execveat faccessat faccessat2 fchmodat fchmodat2 fchownat "
-        "fgetxattr flistxattr fremovexattr fsetxattr fspick fstat fstatfs futimesat getdents getdents64 getpeername getsockname "
-        "getxattr inotify_add_watch lgetxattr link linkat listmount listxattr llistxattr lremovexattr lsetxattr lstat mkdirat mknodat "
-        "mount mount_setattr move_mount name_to_handle_at newfstatat open_by_handle_at open_tree openat openat2 pivot_root pread64 "
-        "preadv preadv2 pwrite64 pwritev pwritev2 quotactl read readlink readlinkat readv recvfrom recvmmsg recvmsg removexattr rename "
-        "renameat renameat2 sendmmsg sendmsg sendto setxattr splice stat statfs statmount statx symlink unlinkat ustat utime utimensat "
-        "utimes vmsplice write writev").split(),
-    2: ("accept accept4 cachestat execve execveat fgetxattr fsconfig fsetxattr futimesat getpeername getsockname getxattr lgetxattr "
-        "lsetxattr mount name_to_handle_at newfstatat openat2 readlinkat sendfile setxattr symlinkat utimensat").split(),
-    3: ("copy_file_range execveat fsconfig getsockopt linkat mount_setattr move_mount name_to_handle_at quotactl renameat renameat2 "
-        "setsockopt socketpair splice").split(),
-    4: "fanotify_mark getsockopt mount recvfrom recvmmsg sendto statx".split(),
-    5: "recvfrom".split(),
-}
-SIGNED = {
-    0: ("kill", "tkill", "wait4", "openat", "prlimit64"),
-    1: ("lseek",),
-    2: ("setpriority", "poll"),
-    3: ("epoll_wait", "epoll_pwait"),
-}
-
-
 @functools.cache
 def outcomes(size, operator, value):
     """Returns which of true and false a condition is for arguments; a number is the mask of `masked_eq`."""
@@ -377,7 +331,7 @@ def codes_of(name, it, evaded):
         "always-holds": holding == {True},
         "never-holds": holding == {False},
         **{code: code in evaded for code in EVASIONS},
-        "pointer-compared": it["val"] != 0 and name in POINTERS.get(it["index"], ()),
+        "pointer-compared": it["val"] != 0 and name in ADDRESSES.get(it["index"], ()),
         "signed-compared": it["op"] in ("ge", "gt", "le", "lt") and name in SIGNED.get(it["index"], ()),
     }
     return [code for code, so in found.items() if so]
@@ -402,32 +356,6 @@ def codes_of_action(action):
 
 # The calls that Linux goes on with by restart_syscall (-ERESTART_RESTARTBLOCK in its sources).
 WAITING = ("nanosleep", "clock_nanosleep", "poll", "futex")
-
-# The calls of x86_64 by which what a call does can be done too: by another call of the same kind, or by a ring of io_uring.
-SIBLINGS = {
-    "open": ["openat", "openat2", "creat", "io_uring_setup"],
-    "openat": ["open", "openat2", "creat", "io_uring_setup"],
-    "creat": ["open", "openat", "openat2", "io_uring_setup"],
-    "execve": ["execveat"],
-    "mount": ["move_mount", "fsmount"],
-    "ptrace": ["process_vm_writev"],
-    "mprotect": ["pkey_mprotect"],
-    "kill": ["tgkill", "tkill", "rt_sigqueueinfo", "pidfd_send_signal"],
-    "unshare": ["clone", "clone3"],
-    "fork": ["vfork", "clone", "clone3"],
-    "clone": ["fork", "vfork"],
-    "socket": ["io_uring_setup"],
-    "connect": ["io_uring_setup"],
-    "unlink": ["unlinkat"],
-    "rmdir": ["unlinkat"],
-    "rename": ["renameat", "renameat2"],
-    "mkdir": ["mkdirat"],
-    "mknod": ["mknodat"],
-    "link": ["linkat"],
-    "symlink": ["symlinkat"],
-    "chmod": ["fchmodat", "fchmodat2"],
-    "chown": ["fchownat"],
-}
 
 # The calls by which a thread or a process ends, or a signal handler returns.
 EXITS = ("exit", "exit_group", "rt_sigreturn")
@@ -533,7 +461,7 @@ def of_each_call():
     """Returns the texts of policies whose filters ask the same of an argument of each call that has a known one, and deny or allow by that.
     Calls that only have addresses are asked for 0 and another one."""
     for index, it in itertools.product(range(6), ASKED):
-        names = names_in(SIGNED, *FLAGS.values(), *[POINTERS] * (it[2] in (0, 0x1000)))
+        names = names_in(SIGNED, *[ADDRESSES] * (it[2] in (0, 0x1000))) | {name for name, *_ in FLAGS}
         entries = [{"syscall": name, "args": [condition(*it, index)]} for name in sorted(names)]
         yield json.dumps({name: {"mismatch_action": mismatch, "match_action": match, "filter": entries}
                           for name, mismatch, match in (("a", "allow", "trap"), ("b", {"errno": 1}, "log"))})
@@ -550,7 +478,9 @@ CASES = [
     *(it for row in DETOURED for it in of_detours(*row)),
     # Whatever lets calls through; and nothing that is listed is let through, or all is.
     *of_detours("openat", (2, *READS), ["open"], [(2, "open", 1, 2)], {"errno": 1}, "log"),
-    *of_detours("openat", (2, "eq", 1), ["openat2"], [], "allow", "trap"),
+    *of_detours("openat", (2, "eq", 1), ["openat2"], [(1, "open", 1, 1), (1, "creat", 0, 0), (1, "io_uring_setup", 0, 0)], "allow", "trap"),
+    *(it for row in DENIED for it in of_detours(*row, "allow", {"errno": 1})),
+    *(it for row in DENIED for it in of_detours(*row[:3], [], "kill_process", {"errno": 1})),
     *of_detours("openat", (2, *READS), ["open"], [], "allow", "log"),
     # aarch64 has no open, and number 2 is io_submit.
     *of_detours("openat", (2, *READS), ["io_submit"], [], arch="aarch64"),

@@ -1,6 +1,8 @@
 -- When an entry of a profile applies, and what a profile decides.
 use Rattle.std.specs.Prelude.{◌≡◌, ◌≢◌, ◌<◌, ◌≤◌, ℕ, pos, ◌⊎◌, List, [], ◌∷◌, Option, Some, None, All, Any, Contains, IfSome}
-use Rattle.std.specs.Prelude.{bit_and, codes, ⊤, ◌↔◌, Bool, true, false, IsTrue, length, nat_eq, nat_le, slice_index_or, suc, if◌then◌else◌}
+use Rattle.std.specs.Prelude.{bit_and, codes, ⊤, ◌↔◌, ◌||◌, Bool, true, false, IsTrue, length, nat_eq, nat_le, slice_index_or, suc}
+use Rattle.std.specs.Prelude.{if◌then◌else◌}
+use Rattle.std.specs.List.{list_any}
 use Rattle.seccomp_entries.specs.declared.entry.Action.{Action}
 use Rattle.seccomp_entries.specs.declared.entry.Action.TheVariants.{Notify, Own}
 use Rattle.seccompiler.specs.declared.backend.SeccompAction.TheVariants.{Allow, Errno, KillThread, KillProcess, Log, Trace, Trap}
@@ -58,10 +60,13 @@ Meets MaskedEq x v w = bit_and x v ≡ bit_and w v
 abbrev pub IsMet : List ℕ → Argument → Type 0
 IsMet r a = Meets a.operator (argument_at r a.index) a.value a.value_two
 
--- Two of the conditions are on one argument.
+-- Whether two of the conditions are on one argument.
+abbrev pub share : List Argument → Bool
+share [] = false
+share (a ∷ args) = list_any (λ (b : Argument). nat_eq b.index a.index) args || share args
+
 abbrev pub ShareArgument : List Argument → Type 0
-ShareArgument [] = ⊥
-ShareArgument (a ∷ args) = Any (λ b. b.index ≡ a.index) args ⊎ ShareArgument args
+ShareArgument args = IsTrue (share args)
 
 -- A call record meets the conditions of an entry: all of them; or one of them, if two are on one argument (a runtime then
 -- takes them for alternatives).
@@ -82,10 +87,14 @@ abbrev pub are_idle : List Argument → Bool
 are_idle [] = true
 are_idle (a ∷ args) = if is_idle a then are_idle args else false
 
--- The conditions that are tested: none if each has a mask of 0, so that the entry counts as one without conditions (libseccomp makes no
--- test of a mask of 0).
+-- No call fails the conditions: all of them hold whatever the arguments are, or one that is enough.
+abbrev pub pass_all : List Argument → Bool
+pass_all args = if share args then list_any is_idle args else are_idle args
+
+-- The conditions that are tested: none if no call fails them by a mask of 0, so that the entry counts as one without conditions (libseccomp
+-- makes no test of a mask of 0, and runtimes add each condition that is enough as a rule of its own).
 unfoldable pub tested : List Argument → List Argument
-tested args = if are_idle args then [] else args
+tested args = if pass_all args then [] else args
 
 -- ---- what a profile decides
 

@@ -1,9 +1,9 @@
 -- Entries beside which libseccomp may make another program than the profile says, or none (found by trying; docs/OCI.md has examples).
-use Rattle.std.specs.Prelude.{◌≡◌, ◌≢◌, ◌<◌, ◌≤◌, ◌+◌, ◌⊎◌, ℕ, Bool, true, false, IsTrue, List, [], ◌∷◌, ◌++◌, Any, Option}
+use Rattle.std.specs.Prelude.{◌≡◌, ◌≢◌, ◌<◌, ◌≤◌, ◌+◌, ◌-◌, ◌⊎◌, ℕ, Bool, true, false, IsTrue, List, [], ◌∷◌, ◌++◌, Any, Option}
 use Rattle.std.specs.Prelude.{bit_and, length, nat_eq}
 use Rattle.std.specs.List.{filter}
 use Rattle.seccompiler.specs.declared.backend.SeccompCmpOp.{SeccompCmpOp}
-use Rattle.seccompiler.specs.declared.backend.SeccompCmpOp.TheVariants.{Eq, MaskedEq}
+use Rattle.seccompiler.specs.declared.backend.SeccompCmpOp.TheVariants.{Eq, Ge, Gt, Le, Lt, MaskedEq}
 use Rattle.seccompiler.specs.declared.backend.TargetArch.{TargetArch}
 use Rattle.seccompiler.specs.Policy.{Condition}
 use Rattle.seccomp_entries.specs.Entries.{Entry}
@@ -53,6 +53,47 @@ IsAnother e f = (f.number ≢ e.number) ⊎ ((f.place ≢ e.place) ⊎ (f.altern
 abbrev pub IsOrderOn : Condition → Entry → Type 0
 IsOrderOn c f = IsTrue (is_order c.operator) × Any (λ d. d.arg_index ≡ c.arg_index) f.conditions
 
+-- The greatest number that a condition by itself lets through.
+abbrev pub greatest_by : SeccompCmpOp → ℕ → ℕ
+greatest_by Eq v = v
+greatest_by Le v = v
+greatest_by Lt v = v - 1
+greatest_by operator v = 0xffffffffffffffff
+
+abbrev pub greatest : Condition → ℕ
+greatest c = greatest_by c.operator c.value
+
+-- Each number that it lets through is above this one.
+abbrev pub IsAboveBy : SeccompCmpOp → ℕ → ℕ → Type 0
+IsAboveBy Eq v n = n < v
+IsAboveBy Ge v n = n < v
+IsAboveBy Gt v n = n ≤ v
+IsAboveBy operator v n = ⊥
+
+abbrev pub IsAbove : Condition → ℕ → Type 0
+IsAbove c n = IsAboveBy c.operator c.value n
+
+-- Both are on one argument, with values of 32 bits, and no number meets both.
+abbrev pub Excludes : Condition → Condition → Type 0
+Excludes c d = (c.arg_index ≡ d.arg_index) × (c.value ≤ 0xffffffff) × (d.value ≤ 0xffffffff)
+    × (IsAbove d (greatest c) ⊎ IsAbove c (greatest d))
+
+-- So it isn't of both, or of the condition and one of these.
+pub record MayMeet (c d : Condition) : Type 0 where
+  pub meet : Excludes c d → ⊥
+
+pub record MeetsAny (others : List Condition) (c : Condition) : Type 0 where
+  pub any : Any (MayMeet c) others
+
+-- There are several conditions of an entry, or those of both may hold together. Of entries of one condition each, which exclude each
+-- other, libseccomp makes the right program (found by trying).
+abbrev pub AreMixed : (conditions others : List Condition) → Type 0
+AreMixed conditions others = (length conditions ≢ 1) ⊎ ((length others ≢ 1) ⊎ Any (MeetsAny others) conditions)
+
+-- They are two entries that libseccomp may get wrong beside each other.
+abbrev pub AreBeside : Entry → Entry → Type 0
+AreBeside e f = IsAnother e f × AreMixed e.conditions f.conditions
+
 -- Both are for one call, and the first compares an argument by order that the second compares too.
 abbrev pub IsOrderBeside : Entry → Entry → Type 0
 IsOrderBeside e f = (f.number ≡ e.number) × Any (λ c. IsOrderOn c f) e.conditions
@@ -66,7 +107,7 @@ pub record Repeats (all : List Entry) (e f : Entry) (c : Condition) : Type 0 whe
 
 -- libseccomp may get the first wrong, since the second is beside it.
 pub record Clashes (all : List Entry) (e f : Entry) : Type 0 where
-  pub another : IsAnother e f
+  pub another : AreBeside e f
   pub beside : IsOrderBeside e f ⊎ Any (Repeats all e f) e.conditions
 
 -- ---- what is said

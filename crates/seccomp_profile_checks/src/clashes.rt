@@ -2,7 +2,7 @@
 
 ghost use Rattle.std.specs.Prelude.{◌≡◌, ◌↔◌, Any, IfNone, IfOk, IfSome, IsFalse, IsTrue};
 ghost use Rattle.seccomp_profile_checks.specs.Clashes as spec;
-ghost use Rattle.seccomp_profile_checks.specs.Clashes.{Affects, AreClashes, AreOne, AreRejected, AreRejectedIn, Clashes, HasSame, IsAnother, IsClashOf, IsDelicate, IsOrderBeside, IsOtherOf, Repeats, entries_of};
+ghost use Rattle.seccomp_profile_checks.specs.Clashes.{Affects, AreBeside, AreClashes, AreMixed, AreOne, AreRejected, AreRejectedIn, Clashes, Excludes, HasSame, IsAbove, IsAnother, IsClashOf, IsDelicate, IsOrderBeside, IsOtherOf, MayMeet, MeetsAny, Repeats, entries_of};
 
 use crate::effective::copy_of;
 use crate::multiplexed::{X86, x86_of};
@@ -162,7 +162,7 @@ fn has_delicate(entries: &[Entry], entry: &Entry) -> bool
 fn clashes(entries: &[Entry], entry: &Entry, other: &Entry) -> bool
     ensures { IsTrue result ↔ Clashes entries.now entry.now other.now }
 {
-    if !is_another(entry, other) {
+    if !are_beside(entry, other) {
         return false;
     }
     if is_order_beside(entry, other) {
@@ -177,6 +177,69 @@ fn is_another(entry: &Entry, other: &Entry) -> bool
     other.number != entry.number
         || other.place != entry.place
         || other.alternative != entry.alternative
+}
+
+// Whether they are two entries that libseccomp may get wrong beside each other.
+fn are_beside(entry: &Entry, other: &Entry) -> bool
+    ensures { IsTrue result ↔ AreBeside entry.now other.now }
+{
+    is_another(entry, other) && are_mixed(&entry.conditions, &other.conditions)
+}
+
+// Whether there are several conditions of an entry, or those of both may hold together.
+fn are_mixed(conditions: &[SeccompCondition], others: &[SeccompCondition]) -> bool
+    ensures { IsTrue result ↔ AreMixed conditions.now others.now }
+{
+    conditions.len() != 1
+        || others.len() != 1
+        || conditions
+            .iter()
+            .any(|condition| meets_any(condition, others))
+}
+
+fn meets_any(condition: &SeccompCondition, others: &[SeccompCondition]) -> bool
+    ensures { IsTrue result ↔ MeetsAny others.now condition.now }
+{
+    others.iter().any(|other| may_meet(condition, other))
+}
+
+fn may_meet(one: &SeccompCondition, other: &SeccompCondition) -> bool
+    ensures { IsTrue result ↔ MayMeet one.now other.now }
+{
+    !excludes(one, other)
+}
+
+fn excludes(one: &SeccompCondition, other: &SeccompCondition) -> bool
+    ensures { IsTrue result ↔ Excludes one.now other.now }
+{
+    one.arg_index() == other.arg_index()
+        && one.value() <= 0xffff_ffff
+        && other.value() <= 0xffff_ffff
+        && (is_above(other, greatest(one)) || is_above(one, greatest(other)))
+}
+
+// The greatest number that a condition lets through by itself.
+fn greatest(condition: &SeccompCondition) -> u64
+    ensures { result ≡ spec.greatest condition.now }
+{
+    let value = condition.value();
+    match condition.operator() {
+        SeccompCmpOp::Eq | SeccompCmpOp::Le => value,
+        SeccompCmpOp::Lt => value.saturating_sub(1),
+        _ => u64::MAX,
+    }
+}
+
+// Whether each number that a condition lets through is above this one.
+fn is_above(condition: &SeccompCondition, number: u64) -> bool
+    ensures { IsTrue result ↔ IsAbove condition.now number }
+{
+    let value = condition.value();
+    match condition.operator() {
+        SeccompCmpOp::Eq | SeccompCmpOp::Ge => number < value,
+        SeccompCmpOp::Gt => number <= value,
+        _ => false,
+    }
 }
 
 fn is_order_beside(entry: &Entry, other: &Entry) -> bool

@@ -2,15 +2,12 @@
 use Rattle.std.proofs.Common.{◌≡◌, ℕ, ℤ, ◌+◌, ◌↔◌, ◌<◌, List, [], ◌∷◌, ◌++◌, Bool, Some, length, map, take, get_or, sym, ap, ◌∙◌}
 use Rattle.std.proofs.Common.{subst, inl, inr, ⊎_elim}
 use Rattle.std.proofs.Common.{Option, None, arith, false, refl}
-use Rattle.std.specs.Borrow.{Bor}
 use Rattle.std.specs.Prelude.{All, Any, Contains, IfNone, IfSome, IsTrue}
-use Rattle.std.proofs.lemmas.Bool.{false≢true}
 use Rattle.std.proofs.lemmas.List.{get_or_default, get_or-map, length-map, take_more}
 use Rattle.std.proofs.lemmas.List.Elements.{All-push, Contains-append_left, Contains-push, Contains-push_cases}
 use Rattle.seccomp_entries.specs.Entries.{Entry}
 use Rattle.seccompiler.specs.declared.backend.TargetArch.{TargetArch}
-use Rattle.seccomp_warnings.specs.CallWarnings.{IsNumberOf}
-use Rattle.seccomp_warnings.specs.Judgements.{HasNoneUnnamed, IsOfNumber, IsSibling, IsUnnamed, all_undone, siblings_of}
+use Rattle.seccomp_warnings.specs.Judgements.{IsOfNumber, IsOpen, IsSibling, IsUnnamed, siblings}
 use Rattle.seccomp_warnings.proofs.Quantified.{any_push}
 
 module _ (w : Bool) where
@@ -58,20 +55,7 @@ pub if_none : {X : Type 0} {P Q : Type 0} (found : Option X) → (P → Q) → I
 if_none None gives of = gives of
 if_none (Some x) gives of = tt
 
--- A name of a list is one of its texts.
-pub contained_now : (names : List (Bor (List ℕ))) (name : Bor (List ℕ)) → Contains names name → Contains (map (λ n. n.now) names) name.now
-contained_now names name (k, within, is) = (
-  k,
-  (let long : length (map (λ (n : Bor (List ℕ)). n.now) names) ≡ length names =
-      length-map names (λ (n : Bor (List ℕ)). n.now) in omega arith),
-  get_or-map (λ (n : Bor (List ℕ)). n.now) names k name name.now within ∙ ap (λ (n : Bor (List ℕ)). n.now) is,
-)
-
--- What none of a list has isn't so of one that it contains.
-pub none_of_all : {X : Type 0} (P : X → Type 0) (xs : List X) → All (λ x. P x → ⊥) xs → (x : X) → Contains xs x → P x → ⊥
-none_of_all P xs none x (k, within, is) has = none k x within (subst P (sym is) has)
-
--- One of the names at a place has more.
+-- One of a list at a place has more.
 pub any_here : {X : Type 0} (P : X → Type 0) (xs : List X) (k : ℕ) (d : X) → k < length xs → P (get_or xs k d) → Any P xs
 any_here P xs k d within has = (k, get_or xs k d, within, get_or_default xs k (get_or xs k d) d within, has)
 
@@ -80,34 +64,21 @@ pub all_more : {X : Type 0} (P : X → Type 0) (xs : List X) (k : ℕ) (d : X) �
     → All P (take (k + 1) xs)
 all_more P xs k d within all has = subst (All P) (sym (take_more xs k d within)) (All-push P (take k xs) (get_or xs k d) all has)
 
--- What some name of a list has, one of its texts has.
-pub any_now : (P : List ℕ → Type 0) (names : List (Bor (List ℕ))) → Any (λ n. P n.now) names → Any P (map (λ n. n.now) names)
-any_now P names (k, name, within, is, has) = (
+-- What some item of a list has as it is read, one of those that are read has.
+pub any_read : {X Y : Type 0} (P : Y → Type 0) (read : X → Y) (xs : List X) → Any (λ x. P (read x)) xs → Any P (map read xs)
+any_read P read xs (k, x, within, is, has) = (
   k,
-  name.now,
-  (let long : length (map (λ (n : Bor (List ℕ)). n.now) names) ≡ length names =
-      length-map names (λ (n : Bor (List ℕ)). n.now) in omega arith),
-  get_or-map (λ (n : Bor (List ℕ)). n.now) names k name name.now within ∙ ap (λ (n : Bor (List ℕ)). n.now) is,
+  read x,
+  (let long : length (map read xs) ≡ length xs = length-map xs read in omega arith),
+  get_or-map read xs k x (read x) within ∙ ap read is,
   has,
 )
 
--- ---- siblings by their names
+-- ---- siblings by the table
 
--- Where none is found, none is unnamed.
-pub none_found : {X : Type 0} (arch : TargetArch) (number : ℕ) (entries : List Entry) (name : List ℕ) (found : Option X)
-    → ((x : X) → found ≡ Some x → ⊥) → IfNone found (All (λ other. IsUnnamed arch entries other → ⊥) (siblings_of name))
-    → HasNoneUnnamed arch number entries name
-none_found arch number entries name None not none = record { none = λ is. none }
-none_found arch number entries name (Some x) not none = absurd (not x refl)
-
--- Where the call has another name, none is.
-pub none_named : (arch : TargetArch) (number : ℕ) (entries : List Entry) (name : List ℕ) (has : Bool) → has ≡ false
-    → (IsTrue has ↔ IsNumberOf arch name number) → HasNoneUnnamed arch number entries name
-none_named arch number entries name has fails is = record { none = λ own. absurd (false≢true (sym fails ∙ is.1 own)) }
-
--- Where no name of a list has one, a number has none.
-pub none_sibling : (arch : TargetArch) (number : ℕ) (entries : List Entry) → All (HasNoneUnnamed arch number entries) all_undone
+-- Where none of the pairs is open, a number has no unnamed sibling.
+pub none_sibling : (arch : TargetArch) (number : ℕ) (entries : List Entry) → All (λ pair. IsOpen arch number entries pair → ⊥) siblings
     → (other : List ℕ) → IsSibling arch number other → IsUnnamed arch entries other → ⊥
-none_sibling arch number entries all other (k, name, within, is, own) unnamed =
-    let none = subst (HasNoneUnnamed arch number entries) is (all k name within) in
-    none_of_all (IsUnnamed arch entries) (siblings_of name) (none.none own.0) other own.1 unnamed
+none_sibling arch number entries all other (k, pair, within, is, own) unnamed =
+    let same = own.1 in
+    all k pair within (subst (IsOpen arch number entries) (sym is) (own.0, subst (IsUnnamed arch entries) (sym same) unnamed))

@@ -6,6 +6,7 @@ pub mod Beside
 pub mod CallWarnings
 pub mod Detours
 pub mod Evasions
+pub mod Flags
 pub mod Judgements
 pub mod Parts
 pub mod Picked

@@ -1,19 +1,19 @@
 // Evasions: two calls that differ in what changes nothing of what is denied, or do the same, of which one is denied and the other let
 // through.
 
-ghost use Rattle.std.specs.Prelude.{◌≡◌, ◌+◌, ◌≤◌, ◌↔◌, ◌∷◌, [], IfOk, IsFalse, IsTrue, OnOk, length};
+ghost use Rattle.std.specs.Prelude.{◌≡◌, ◌+◌, ◌≤◌, ◌↔◌, ◌∷◌, [], IfOk, IsFalse, IsTrue, OnOk, Some, length, slice_get};
 ghost use Rattle.seccomp_entries.specs.Rulings.{AreOfCalls};
 ghost use Rattle.seccomp_tree.specs.Decided.{AscendFromZero};
 ghost use Rattle.seccomp_warnings.specs.AnyArgument.{condition_of};
 ghost use Rattle.seccomp_warnings.specs.Detours as detours;
 ghost use Rattle.seccomp_warnings.specs.Evasions as spec;
-ghost use Rattle.seccomp_warnings.specs.Evasions.{AreEvasions, DeniesCall, IsApartBy, IsPermitting, IsShown, LetsThrough, blank_call, entry_pairs, own_pairs, with_argument, with_bytes};
+ghost use Rattle.seccomp_warnings.specs.Evasions.{AreEvasions, DeniesCall, IsApartBy, IsDecidedBy, IsPermitting, IsShown, LetsThrough, blank_call, entry_pairs, with_argument, with_bytes};
 ghost use Rattle.seccomp_warnings.specs.Walks.{Adds, AreDecisionsOf};
 
-use crate::argument::{flag_of, further_flag_of};
 use crate::code::{Code, is_among};
 use crate::condition::{comparison_at, part_of};
 use crate::detour::push_detours;
+use crate::flag::push_flags;
 use crate::warning::Comparison;
 use seccomp_entries::{Entry, Lowered, decisions_of};
 use seccomp_tree::Decisions;
@@ -35,8 +35,8 @@ pub struct Evasion {
 }
 
 /// The evasions of entries and defaults, in the order of the entries, but for those of the allowed codes. Each condition has a pair of
-/// calls for the high half of its argument, two for flags, and some with another call. A pair is an evasion if the first call is denied,
-/// the second is let through, and the condition holds for one of them alone, or, if the second is another call, not for the first.
+/// calls for the high half of its argument, one for each flag that the argument has, and some with another call. A pair is an evasion if the first call is denied,
+/// the second is let through, and the condition holds for one of them alone, or, if the second is another call, denies the first.
 ///
 /// The defaults start at 0, each above the one before it, and each entry is for a number up to 462.
 ///
@@ -69,46 +69,21 @@ fn push_entry(
     entry: usize,
     own: &Entry,
 ) -> Result<(), AllocError>
-    requires { AreDecisionsOf lowered.now decisions.now }
+    requires decide { AreDecisionsOf lowered.now decisions.now }
+    requires there { slice_get lowered.now.entries entry ≡ Some own.now }
     ensures { OnOk result (Adds (IsShown allowed.now lowered.now) (entry_pairs lowered.now.target_arch entry own.now) found.old.items found.new.items) }
 {
     let call = likely_call(lowered.target_arch, own.number, &own.conditions);
     for (place, condition) in own.conditions.iter().enumerate() {
-        push_own(
-            found, lowered, decisions, allowed, &call, own.number, entry, place, condition,
+        let high = high_pair(&call, entry, place, condition);
+        push_shown(found, lowered, decisions, allowed, own, condition, &high)?;
+        push_flags(
+            found, lowered, decisions, allowed, &call, own, entry, place, condition,
         )?;
         push_detours(
             found, lowered, decisions, allowed, &call, own, entry, place, condition,
         )?;
     }
-    Ok(())
-}
-
-// Adds those of two calls of the entry's number.
-fn push_own(
-    found: &mut Vec<Evasion>,
-    lowered: &Lowered,
-    decisions: &Decisions,
-    allowed: &[Code],
-    call: &[u8; 64],
-    number: u32,
-    entry: usize,
-    place: usize,
-    condition: &SeccompCondition,
-) -> Result<(), AllocError>
-    requires { AreDecisionsOf lowered.now decisions.now }
-    ensures { OnOk result (Adds (IsShown allowed.now lowered.now) (own_pairs call.now lowered.now.target_arch number entry place condition.now) found.old.items found.new.items) }
-{
-    let (arch, index) = (lowered.target_arch, condition.arg_index());
-    let bits = high_bits(condition.arg_len(), condition.operator(), condition.value());
-    let high = pair_of(Code::HighHalfEvades, bits, call, entry, place, condition);
-    push_shown(found, lowered, decisions, allowed, condition, &high)?;
-    let bits = flag_bits(condition, flag_of(arch, number, index));
-    let flag = pair_of(Code::FlagEvades, bits, call, entry, place, condition);
-    push_shown(found, lowered, decisions, allowed, condition, &flag)?;
-    let bits = flag_bits(condition, further_flag_of(arch, number, index));
-    let further = pair_of(Code::FlagEvades, bits, call, entry, place, condition);
-    push_shown(found, lowered, decisions, allowed, condition, &further)?;
     Ok(())
 }
 
@@ -118,14 +93,16 @@ pub(crate) fn push_shown(
     lowered: &Lowered,
     decisions: &Decisions,
     allowed: &[Code],
+    own: &Entry,
     condition: &SeccompCondition,
     pair: &Evasion,
 ) -> Result<(), AllocError>
     requires decide { AreDecisionsOf lowered.now decisions.now }
+    requires there { slice_get lowered.now.entries pair.now.comparison.entry ≡ Some own.now }
     requires condition { condition_of pair.now.comparison ≡ condition.now }
     ensures { OnOk result (Adds (IsShown allowed.now lowered.now) (pair.now ∷ []) found.old.items found.new.items) }
 {
-    if is_shown(lowered, decisions, allowed, condition, pair) {
+    if is_shown(lowered, decisions, allowed, own, condition, pair) {
         found.push(*pair)?;
     }
     Ok(())
@@ -136,14 +113,16 @@ fn is_shown(
     lowered: &Lowered,
     decisions: &Decisions,
     allowed: &[Code],
+    own: &Entry,
     condition: &SeccompCondition,
     pair: &Evasion,
 ) -> bool
     requires decide { AreDecisionsOf lowered.now decisions.now }
+    requires there { slice_get lowered.now.entries pair.now.comparison.entry ≡ Some own.now }
     requires condition { condition_of pair.now.comparison ≡ condition.now }
     ensures { IsTrue result ↔ IsShown allowed.now lowered.now pair.now }
 {
-    if !is_apart_by(pair.code, condition, &pair.denied, &pair.passed) {
+    if !is_apart_by(pair.code, own, condition, &pair.denied, &pair.passed) {
         return false;
     }
     if is_let_through(lowered, decisions, &pair.denied) {
@@ -152,20 +131,28 @@ fn is_shown(
     is_let_through(lowered, decisions, &pair.passed) && !is_among(allowed, pair.code)
 }
 
-// Whether the condition decides between two calls.
+// Whether the condition of the entry decides between two calls.
 fn is_apart_by(
     code: Code,
+    own: &Entry,
     condition: &SeccompCondition,
     denied: &[u8; 64],
     passed: &[u8; 64],
 ) -> bool
-    ensures { IsTrue result ↔ IsApartBy code condition.now denied.now passed.now }
+    ensures { IsTrue result ↔ IsApartBy code own.now condition.now denied.now passed.now }
 {
     match code {
-        Code::ConditionEvaded => !condition.holds(denied),
+        Code::ConditionEvaded => is_decided_by(own, condition, denied),
         // It holds for one of them alone.
         _ => condition.holds(denied) != condition.holds(passed),
     }
+}
+
+// Whether the entry decides a call by the condition.
+fn is_decided_by(own: &Entry, condition: &SeccompCondition, call: &[u8; 64]) -> bool
+    ensures { IsTrue result ↔ IsDecidedBy own.now condition.now call.now }
+{
+    is_permitting(u32::from(own.action)) != condition.holds(call)
 }
 
 // Whether a return value lets a call through.
@@ -185,8 +172,16 @@ fn is_let_through(lowered: &Lowered, decisions: &Decisions, call: &[u8; 64]) -> 
     is_permitting(decisions.decide(call))
 }
 
+// The pair of calls of the condition at a place of the entry at a place that differ in the high half of its argument.
+fn high_pair(call: &[u8; 64], entry: usize, place: usize, condition: &SeccompCondition) -> Evasion
+    ensures { result ≡ spec.high_pair call.now entry place condition.now }
+{
+    let bits = high_bits(condition);
+    pair_of(Code::HighHalfEvades, bits, call, entry, place, condition)
+}
+
 // The pair of calls of the condition at a place of the entry at a place that differ in these bits.
-fn pair_of(
+pub(crate) fn pair_of(
     code: Code,
     bits: u64,
     call: &[u8; 64],
@@ -205,27 +200,12 @@ fn pair_of(
     }
 }
 
-// The flag, unless the condition is about it alone: it is the mask, or the number and no close-on-exec flag.
-fn flag_bits(condition: &SeccompCondition, flag: u64) -> u64
-    ensures { result ≡ spec.flag_bits condition.now flag }
-{
-    match condition.operator() {
-        SeccompCmpOp::MaskedEq(mask) => { if mask == flag { 0 } else { flag } }
-        _ => {
-            if edge_of(condition) == flag && flag != 0x8_0000 {
-                0
-            } else {
-                flag
-            }
-        }
-    }
-}
-
 // High bits of an argument that a condition of 64 bits may compare.
-fn high_bits(length: SeccompCmpArgLen, operator: SeccompCmpOp, value: u64) -> u64
-    ensures { result ≡ spec.high_bits length operator value }
+fn high_bits(condition: &SeccompCondition) -> u64
+    ensures { result ≡ spec.high_bits condition.now }
 {
-    match (length, operator) {
+    let value = condition.value();
+    match (condition.arg_len(), condition.operator()) {
         (SeccompCmpArgLen::Dword, _) => 0,
         (SeccompCmpArgLen::Qword, SeccompCmpOp::MaskedEq(mask)) => {
             if value & mask <= 0xffff_ffff {
@@ -262,19 +242,25 @@ fn likely_call(arch: TargetArch, number: u32, conditions: &[SeccompCondition]) -
 {
     let mut call = blank_call(arch, number);
     for condition in conditions {
-        // A number for which the condition holds, if it does for any.
-        let edge = edge_of(condition);
-        let argument = match condition.operator() {
-            SeccompCmpOp::Ge | SeccompCmpOp::Gt | SeccompCmpOp::Ne => edge.wrapping_add(1),
-            _ => edge,
-        };
+        let argument = likely(condition);
         call = with_argument(&call, condition.arg_index(), argument);
     }
     call
 }
 
-// The call of this number whose arguments are 0.
-pub(crate) fn blank_call(arch: TargetArch, number: u32) -> [u8; 64]
+// A number for which the condition holds, if it does for any.
+pub(crate) fn likely(condition: &SeccompCondition) -> u64
+    ensures { result ≡ spec.likely condition.now }
+{
+    let edge = edge_of(condition);
+    match condition.operator() {
+        SeccompCmpOp::Ge | SeccompCmpOp::Gt | SeccompCmpOp::Ne => edge.wrapping_add(1),
+        _ => edge,
+    }
+}
+
+/// The call of this number whose arguments are 0.
+pub fn blank_call(arch: TargetArch, number: u32) -> [u8; 64]
     ensures { result ≡ blank_call arch number }
 {
     let mut call = [0; 64];
@@ -291,8 +277,8 @@ fn put(call: &mut [u8; 64], at: usize, bytes: &[u8])
     call[at..at + bytes.len()].copy_from_slice(bytes);
 }
 
-// The same call with this argument.
-pub(crate) fn with_argument(call: &[u8; 64], index: u8, argument: u64) -> [u8; 64]
+/// The same call with this argument.
+pub fn with_argument(call: &[u8; 64], index: u8, argument: u64) -> [u8; 64]
     requires { index ≤ 5 }
     ensures { result ≡ with_argument index argument call.now }
 {

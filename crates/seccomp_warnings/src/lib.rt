@@ -2,7 +2,7 @@
 //!
 //! A policy or a profile with a warning is valid. A [`Part`] has entries that stand beside each other with two actions; a filter of
 //! a policy is one. [`warnings_of`] gives the warnings of a part, each with its [`Code`] and what it is about. [`evasions_of`] gives
-//! those that are shown by two calls, of all entries. [`said_text`] is what is said of a code, and `docs/CHECKS.md` has its section.
+//! those that are shown by two calls, of all entries. [`Code::all`] has what is said of each code, and `docs/CHECKS.md` its section.
 //!
 //! ```
 //! use seccomp_warnings::{Code, FilterWarned, policy_warnings_of};
@@ -24,10 +24,11 @@ pub mod code;
 mod condition;
 mod detour;
 pub mod evasion;
+mod flag;
 pub mod judgement;
 mod part;
-mod pointers;
 mod sibling;
+mod tables;
 mod text;
 pub mod unlisted;
 mod walk;
@@ -36,10 +37,10 @@ pub mod warning;
 pub use crate::beside::{Beside, beside_of, codes_beside, hides_clone3};
 pub use crate::call::denies_each;
 pub use crate::code::Code;
-pub use crate::evasion::{Evasion, evasions_of};
+pub use crate::evasion::{Evasion, blank_call, evasions_of, with_argument};
 pub use crate::judgement::Judgement;
 pub use crate::part::Part;
-pub use crate::text::{part_of, said_text};
+pub use crate::text::CodeRow;
 pub use crate::unlisted::Unlisted;
 pub use crate::walk::{policy_warnings_of, warnings_of};
 pub use crate::warning::{Actions, Comparison, FilterWarned, Subject, Warned, Warning};

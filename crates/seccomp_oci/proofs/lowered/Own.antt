@@ -1,8 +1,9 @@
 -- For `push_rank`: the entries that one of a profile becomes are exactly its own, in order.
 use Rattle.std.proofs.Common.{◌≡◌, ◌≢◌, ◌<◌, ◌+◌, ℕ, zero, suc, List, [], ◌∷◌, Bool, true, false, length, get_or, map, nat_lt}
-use Rattle.std.proofs.Common.{Option, Some, None, refl, sym, subst, ap, ◌∙◌, arith, inl, inr}
+use Rattle.std.proofs.Common.{Option, Some, None, refl, sym, subst, ap, ◌∙◌, arith}
 use Rattle.std.specs.Prelude.{All, Contains}
 use Rattle.std.specs.List.{AllPairs, flat_map}
+use Rattle.std.proofs.lemmas.Bool.{false≢true}
 use Rattle.std.proofs.lemmas.Bool.Decides.{nat_tests}
 use Rattle.std.proofs.lemmas.List.{get_or-map, get_or_default, length-map}
 use Rattle.std.proofs.lemmas.List.Elements.{All-contains}
@@ -96,9 +97,8 @@ module _ (place : ℕ) (action : Action) (number : ℕ) where
     pub ordered : AllPairs IsAskedBefore all
 
   shared_many : (args : List Argument) → ShareArgument args → 1 < length args
-  shared_many [] share = absurd share
-  shared_many (a ∷ []) (inl (k, b, within, is, same)) = omega arith
-  shared_many (a ∷ []) (inr none) = absurd none
+  shared_many [] share = absurd (false≢true share)
+  shared_many (a ∷ []) share = absurd (false≢true share)
   shared_many (a ∷ b ∷ args) share = omega arith
 
   abbrev each_own : Argument → List Condition
@@ -144,7 +144,7 @@ module _ (place : ℕ) (action : Action) (number : ℕ) where
     where
       go : (args : List Argument) → ShareArgument args → (k : ℕ) → k < length args → (cs : List Condition)
           → cs ≡ get_or (map each_own args) k cs → e ≡ entry_for place action number true (0 + k) cs → Is args e
-      go [] share k within cs there is = absurd share
+      go [] share k within cs there is = absurd (false≢true share)
       go (b ∷ bs) share k within cs there is =
           let args = b ∷ bs in
           let a = get_or args k b in
@@ -186,7 +186,7 @@ pub ranked : (args : List Argument) (action : Action) (o : Option ℕ) (cs : Lis
     → rank_in cs action ≡ rank_by args action
 ranked [] action o cs (together not) = refl
 ranked (a ∷ args) action o cs (together not) = refl
-ranked [] action o cs (alone share k a within there) = absurd share
+ranked [] action o cs (alone share k a within there) = absurd (false≢true share)
 ranked (b ∷ args) action o cs (alone share k a within there) = refl
 
 module _ (arch : TargetArch) (container : Container) (default : Action) (own : List Entry) where

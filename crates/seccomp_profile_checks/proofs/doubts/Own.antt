@@ -19,11 +19,12 @@ use Rattle.seccomp_profile_checks.specs.Doubts.{AtConcerned, AtLowered, IsBehind
 use Rattle.seccomp_profile_checks.specs.Doubts.{IsSettler, MeetsOtherwise, NoneSettles, Settles}
 use Rattle.seccomp_profiles.specs.declared.types.Argument.{Argument}
 use Rattle.seccomp_profiles.specs.Types.{Container, Entry, Profile}
+use Rattle.std.proofs.lemmas.Bool.{false≢true}
 use Rattle.seccomp_profile_checks.proofs.Places.{same_at}
 
 -- An entry without conditions has them all.
 no_args : (args : List Argument) → args ≡ [] → AreConditionsOf args None []
-no_args args none = subst (λ args. AreConditionsOf args None []) (sym none) (together (λ share. share))
+no_args args none = subst (λ args. AreConditionsOf args None []) (sym none) (together (λ share. false≢true share))
 
 -- Without conditions it isn't one of several alternatives.
 not_alternative : (args : List Argument) (o : Option ℕ) (cs : List Condition) → AreConditionsOf args o cs → cs ≡ [] → (k : ℕ)

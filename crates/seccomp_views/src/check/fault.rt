@@ -4,13 +4,11 @@ use crate::check::format::{CheckFormat, Lines, Place};
 use crate::check::outline::{Located, Outline, Position};
 use crate::notes::{failure, note, readable};
 use seccomp_answers::error::AnswerError;
-use seccomp_check::{
-    Expected, Fault, JsonFault, Part, Problem, Step, fault_text, faults, json_fault, push_problem,
-};
+use seccomp_faults::{Fault, Form, JsonFault, Problem, Step, is_of_profile, json_fault};
 use seccomp_names::error_number;
-use seccomp_oci::{CompileError, ProfileError, ProfileFault, profile_fault_text, profile_faults};
+use seccomp_oci::{CompileError, ProfileError};
 use seccomp_text::readable::TextKind;
-use seccompiler::{Error, JsonFrontendError, TargetArch};
+use seccompiler::{Error, JsonFrontendError};
 use std::alloc::{AllocError, Global};
 use std::collections::BTreeMap;
 use std::mem;
@@ -18,15 +16,12 @@ use std::mem;
 // The most errors of a text that are told each by itself.
 const MOST: usize = 100;
 
-/// Adds what is said of the error of this text, for people on standard error: if it is a fault of a policy or of a profile, of all its
-/// faults, in the text's order.
-pub fn push_error(lines: &mut Lines<'_>, arch: TargetArch, given: &[u8], error: &AnswerError) {
+/// Adds what is said of the error of this text, for people on standard error: if it has faults with places, of all of them, in the
+/// text's order.
+pub fn push_error(lines: &mut Lines<'_>, given: &[u8], error: &AnswerError) {
     let alloc = lines.text.alloc();
     match error {
-        AnswerError::Placed(_, fault) => push_faults(lines, arch, given, fault),
-        AnswerError::Profile(CompileError::Profile(ProfileError::NotAProfile(told))) => {
-            push_profile_faults(lines, given, error, told.as_str())
-        }
+        AnswerError::Placed(_, faults) => push_faults(lines, given, faults),
         AnswerError::Library(Error::JsonFrontend(JsonFrontendError::SerdeJson(reader)))
         | AnswerError::Profile(CompileError::Profile(ProfileError::Json(reader))) => {
             push_no_json(lines, given, reader)
@@ -76,19 +71,13 @@ fn push_no_json(lines: &mut Lines<'_>, given: &[u8], reader: &serde_json::Error)
     }
 }
 
-// Adds what is said of the faults of a policy, of which this is the first in the order in which they are looked for.
-fn push_faults(lines: &mut Lines<'_>, arch: TargetArch, given: &[u8], first: &Fault) {
+// Adds what is said of the faults of a text.
+fn push_faults(lines: &mut Lines<'_>, given: &[u8], all: &[Fault]) {
     let alloc = lines.text.alloc();
-    let Ok(all) = faults(alloc, arch, MOST, given) else {
-        return lines.text.fail();
-    };
-    if all.is_empty() {
-        return push_fault(lines, first);
-    }
     let mut ordered = Ordered::new(alloc, given);
-    for fault in &all {
+    for fault in all {
         let strange = match &fault.problem {
-            Problem::Strange(key, _) => Some(key.as_str()),
+            Problem::Strange(key) if !is_of_profile(fault.form) => Some(key.as_str()),
             _ => None,
         };
         ordered.push(alloc, &fault.path, strange);
@@ -99,41 +88,6 @@ fn push_faults(lines: &mut Lines<'_>, arch: TargetArch, given: &[u8], first: &Fa
         }
     }
     push_more(lines, &ordered);
-}
-
-// Adds what is said of the faults of a text that is no profile, for this error.
-fn push_profile_faults(lines: &mut Lines<'_>, given: &[u8], error: &AnswerError, told: &str) {
-    let alloc = lines.text.alloc();
-    let Ok(all) = profile_faults(alloc, given) else {
-        return lines.text.fail();
-    };
-    if all.is_empty() {
-        return push_unplaced(lines, error, told);
-    }
-    let mut ordered = Ordered::new(alloc, given);
-    for fault in &all {
-        ordered.push(alloc, &fault.path, None);
-    }
-    for nth in ordered.places.values().take(MOST) {
-        if let Some(fault) = all.get(*nth) {
-            push_profile_fault(lines, fault);
-        }
-    }
-    push_more(lines, &ordered);
-}
-
-// Adds what is said of a fault of a text that is no profile.
-fn push_profile_fault(lines: &mut Lines<'_>, fault: &ProfileFault) {
-    let alloc = lines.text.alloc();
-    if let CheckFormat::Text = lines.format {
-        let told = match profile_fault_text(alloc, fault) {
-            Ok(told) => readable(alloc, told.as_bytes(), TextKind::Line),
-            Err(error) => Err(error),
-        };
-        return note(&mut lines.notes, lines.file, told);
-    }
-    go_along(lines, &fault.path);
-    lines.push("error", "not-a-profile", fault.words.as_str());
 }
 
 // Faults in the order of their places in a text.
@@ -225,7 +179,7 @@ fn push_unplaced(lines: &mut Lines<'_>, error: &AnswerError, told: &str) {
             }
             "repeated-key"
         }
-        AnswerError::Profile(CompileError::Profile(ProfileError::NotAProfile(_))) => {
+        AnswerError::Profile(CompileError::Profile(ProfileError::NotAProfile)) => {
             lines.place = Place::Value;
             "not-a-profile"
         }
@@ -236,31 +190,38 @@ fn push_unplaced(lines: &mut Lines<'_>, error: &AnswerError, told: &str) {
     lines.push("error", code, told);
 }
 
-// Goes on along this way.
-fn go_along(lines: &mut Lines<'_>, path: &[Step]) {
-    for step in path {
-        match step {
-            Step::Key(key) => lines.key(key.as_str()),
-            Step::Item(place) => lines.item(*place),
-        }
-    }
-}
-
-// Adds what is said of a fault of a policy. An unknown key is found where the key is.
+// Adds what is said of a fault. An unknown key of a policy is found where the key is.
 fn push_fault(lines: &mut Lines<'_>, fault: &Fault) {
     let alloc = lines.text.alloc();
     if let CheckFormat::Text = lines.format {
         return note(&mut lines.notes, lines.file, line_of(alloc, fault));
     }
-    go_along(lines, &fault.path);
-    let code = match &fault.problem {
-        Problem::Stands(_, Expected::Call(_), near) => {
+    for step in &fault.path {
+        match step {
+            Step::Key(key) => lines.key(key.as_str()),
+            Step::Item(place) => lines.item(*place),
+        }
+    }
+    let code = code_of(lines, fault);
+    match message_of(alloc, fault) {
+        Ok(message) => lines.push("error", code, message.as_str()),
+        Err(_) => lines.text.fail(),
+    }
+}
+
+// The code of a fault. What is suggested in place of a call, and where an unknown key is, are noted of the next diagnostic.
+fn code_of(lines: &mut Lines<'_>, fault: &Fault) -> &'static str {
+    if is_of_profile(fault.form) {
+        return "not-a-profile";
+    }
+    match &fault.problem {
+        Problem::UnknownCall(_, _, near) => {
             lines.suggestion = *near;
             "unknown-call"
         }
-        Problem::Stands(_, _, _) => "wrong-value",
-        Problem::Strange(key, _) => {
+        Problem::Strange(key) => {
             // Where the key is, on the path of its object.
+            let alloc = lines.text.alloc();
             let path = mem::replace(&mut lines.path, String::new(alloc));
             lines.key(key.as_str());
             lines.path = path;
@@ -271,40 +232,36 @@ fn push_fault(lines: &mut Lines<'_>, fault: &Fault) {
         Problem::Both(_, _) => "both-keys",
         Problem::SameActions => "identical-actions",
         Problem::TooLong(_, _, _) => "program-too-large",
-    };
-    match message_of(alloc, fault) {
-        Ok(message) => lines.push("error", code, message.as_str()),
-        Err(_) => lines.text.fail(),
+        Problem::Stands(_, _) | Problem::Beside(_) => "wrong-value",
     }
 }
 
-// What is said of a fault of a policy for people: the path, and what is wrong there.
+// What is said of a fault for people: the path, and what is wrong there.
 fn line_of(alloc: Global, fault: &Fault) -> Result<String, AllocError> {
-    let mut told = fault_text(alloc, fault)?;
+    let mut told = fault.text(alloc)?;
     push_errno(&mut told, alloc, fault)?;
-    readable(alloc, &told, TextKind::Line)
+    readable(alloc, told.as_bytes(), TextKind::Line)
 }
 
 // The same without the path.
 fn message_of(alloc: Global, fault: &Fault) -> Result<String, AllocError> {
-    let mut told = Vec::new(alloc);
-    push_problem(&mut told, alloc, &fault.problem)?;
+    let mut told = fault.words(alloc)?;
     push_errno(&mut told, alloc, fault)?;
-    String::from_utf8_lossy(alloc, &told)
+    Ok(told)
 }
 
 // Adds the number of an errno whose name stands in the number's place.
-fn push_errno(text: &mut Vec<u8>, alloc: Global, fault: &Fault) -> Result<(), AllocError> {
+fn push_errno(text: &mut String, alloc: Global, fault: &Fault) -> Result<(), AllocError> {
     let Some((name, number)) = errno_of(fault) else {
         return Ok(());
     };
     let told = format!(in alloc; "; {name} is {number}")?;
-    text.extend_from_slice(told.as_bytes())
+    Ok(text.push_str(told.as_str())?)
 }
 
 // The errno whose name stands in its number's place, and the number.
 fn errno_of(fault: &Fault) -> Option<(&str, u32)> {
-    let Problem::Stands(shown, Expected::Form(Part::ActionNumber), _) = &fault.problem else {
+    let Problem::Stands(shown, Form::ActionNumber) = &fault.problem else {
         return None;
     };
     match fault.path.last() {

@@ -1,6 +1,6 @@
 // Where the values of a JSON text stand.
 
-use seccomp_check::json_piece_len;
+use seccomp_faults::json_piece_len;
 use serde_json::from_slice;
 use std::alloc::{AllocError, Global};
 use std::collections::BTreeMap;

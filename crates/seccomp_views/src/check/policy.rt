@@ -2,7 +2,7 @@
 
 use crate::check::format::{Lines, said_of_calls};
 use seccomp_answers::check::FilterWarnings;
-use seccomp_warnings::{Code, Comparison, Evasion, Subject, Warning, part_of, said_text};
+use seccomp_warnings::{Code, Comparison, Evasion, Subject, Warning};
 use seccompiler::TargetArch;
 
 // Where a warning stands among those of the entries of a filter: the entry, the condition or 0, and the code.
@@ -66,7 +66,7 @@ fn push_evasion(
     lines.item(evasion.comparison.entry);
     lines.key("args");
     lines.item(evasion.comparison.place);
-    let said = said_text(evasion.code);
+    let said = evasion.code.said();
     match said_of_calls(lines.text.alloc(), target, evasion, said) {
         Ok(said) => lines.push("warning", evasion.code.name(), said.as_str()),
         Err(_) => lines.text.fail(),
@@ -99,8 +99,8 @@ fn push_warning(lines: &mut Lines<'_>, own: &FilterWarnings, warning: Warning) {
             lines.item(comparison.place);
         }
     }
-    if let Some(part) = part_of(code) {
-        lines.key(part);
+    if let Some(key) = code.key() {
+        lines.key(key);
     }
-    lines.push("warning", code.name(), said_text(code));
+    lines.push("warning", code.name(), code.said());
 }

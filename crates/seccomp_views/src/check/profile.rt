@@ -6,7 +6,7 @@ use crate::text::Text;
 use seccomp_answers::check::CheckedProfile;
 use seccomp_answers::findings::parts::name_of;
 use seccomp_profile_checks::{Clash, Doubt, Effect, Origin, ProfileWarning, code_of};
-use seccomp_warnings::{Code, Comparison, Subject, said_text};
+use seccomp_warnings::{Code, Comparison, Subject};
 use seccompiler::TargetArch;
 use seccompiler::record::word_at;
 use std::alloc::{AllocError, Global};
@@ -215,66 +215,23 @@ fn said_of(
         ),
         ProfileWarning::Doubtful(Doubt::NoListener { .. }) => String::from_str(
             alloc,
-            "without \"listenerPath\" runc starts no container, and under crun these calls fail with ENOSYS; write where the supervisor listens",
+            "without \"listenerPath\" runc starts no container, and under crun these calls fail with ENOSYS, or no container starts if it is empty; write where the supervisor listens",
         ),
         ProfileWarning::Doubtful(Doubt::NotifiesWrite { .. }) => String::from_str(
             alloc,
             "runc starts no container with SCMP_ACT_NOTIFY for write; leave the call out here",
         ),
         ProfileWarning::Evaded(evasion, _) => {
-            said_of_calls(alloc, target, evasion, said_of_code(evasion.code))
+            said_of_calls(alloc, target, evasion, evasion.code.said_of_profile())
         }
         ProfileWarning::Flags => String::from_str(
             alloc,
-            "crun sets them, and runc 1.1 starts no container with them; leave them out for runc",
+            "crun sets them, except SECCOMP_FILTER_FLAG_TSYNC beside SCMP_ACT_NOTIFY, with which it starts no container, and runc 1.1 starts none with any; leave them out for runc",
         ),
         ProfileWarning::UnknownArchitecture(_) => String::from_str(
             alloc,
             "the OCI runtime specification has no such architecture, so runc starts no container; correct it, also its letter case, or leave it out",
         ),
-        other => String::from_str(alloc, said_of_code(code_of(other))),
-    }
-}
-
-// What is so if a warning has this code, and what to write instead: of a code that has no words for a policy, or whose words don't
-// fit, in words for a profile.
-fn said_of_code(code: Code) -> &'static str {
-    match code {
-        Code::NoEffect => {
-            "it is the default action, so runtimes pass over the entry; leave the entry out"
-        }
-        Code::RefusedByLibseccomp => {
-            "an errno of 4095 or more is rejected, so no container starts; write one from 1 to 4094"
-        }
-        Code::RuntimesDiffer =>
-            "crun takes 6 conditions of an entry, and runc all; write at most 6",
-        Code::UnknownKey => {
-            "the key is passed over; leave it out, or correct it, also its letter case"
-        }
-        Code::FakeSuccess => {
-            "the call isn't made, and returns 0 as if it had succeeded; write an errno from 1 to 4094"
-        }
-        Code::TraceWithoutTracer => {
-            "if no tracer is attached, the call fails with ENOSYS; write SCMP_ACT_ERRNO or SCMP_ACT_ALLOW if there is none"
-        }
-        Code::ValueOutsideMask => {
-            "it has bits outside the mask \"value\", which aren't compared; write it without them, or a mask that has them"
-        }
-        Code::HighHalfEvades => {
-            "the same call if the argument has 32 bits; then write SCMP_CMP_MASKED_EQ with the mask 4294967295"
-        }
-        Code::FlagEvades => {
-            "the same but for a flag that changes nothing of it; write SCMP_CMP_MASKED_EQ with a mask of the flags that count"
-        }
-        Code::SignedCompared => {
-            "the argument is signed, and a filter takes negative numbers for large ones; write SCMP_CMP_EQ or SCMP_CMP_NE, or a second condition that bounds it"
-        }
-        Code::CloneByClone3 => {
-            "clone is denied or restricted, and clone3, whose flags no filter sees, is let through; deny clone3 with errno 38"
-        }
-        Code::UndecidedEntry => {
-            "it wasn't decided whether a call needs this entry; use fewer masks in it"
-        }
-        other => said_text(other),
+        other => String::from_str(alloc, code_of(other).said_of_profile()),
     }
 }

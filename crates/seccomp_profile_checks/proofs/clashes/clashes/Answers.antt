@@ -10,7 +10,7 @@ returns c =
     let P = Repeats c.args.entries.now c.args.entry.now c.args.other.now in
     let conditions = c.as_slice.ensures.value ∙ ap (λ (e : Entry). e.conditions) c.entry.view_is in (
       λ yes. record {
-        another = c.is_another.ensures.0 c.if-not-is_another.false;
+        another = c.are_beside.ensures.0 c.if-not-are_beside.false;
         beside = inr (subst (λ cs. Any P cs) conditions (c.any_repeats.ensures.0 yes));
       },
       λ is. c.any_repeats.ensures.1 (elim is.beside [

@@ -4,10 +4,16 @@ use Rattle.std.proofs.lemmas.List.{get_or-map, length-map}
 use Rattle.seccompiler.specs.Architecture.{table_of}
 use Rattle.seccompiler.specs.SyscallTable.{IsCallTable, Pair}
 use Rattle.seccompiler.specs.declared.backend.TargetArch.{TargetArch}
+use Rattle.std.specs.Borrow.{Bor}
+use Rattle.seccomp_warnings.specs.Arguments.{Argument}
 use Rattle.seccomp_warnings.proofs.Rows.{by_rows, is_named, next_row}
 use Rattle.seccomp_warnings.proofs.argument.is_among.Goals as goal
-use Rattle.seccomp_warnings.proofs.argument.is_among.Goals.{else-from-numbers-via-then-from-numbers+else-contains}
+use Rattle.seccomp_warnings.proofs.argument.is_among.Goals.{else-from-numbers-via-then-from-numbers+else-is_row}
 use Rattle.seccomp_warnings.proofs.argument.is_among.Goals.{else-from-numbers-via-else-from-numbers}
+
+-- The rows with their names as texts.
+abbrev texts : List (Bor (List ℕ) × ℕ) → List Argument
+texts rows = map (λ row. (row.0.now, row.1)) rows
 
 -- A place of the numbers is one of the table, and has its number there.
 module _ {own arch : TargetArch} {numbers : List ℤ} (same : own ≡ arch) (of : numbers ≡ map (λ pair. pair.1) (table_of own)) (place : ℕ)
@@ -25,13 +31,14 @@ pub loop-place-init : goal.loop-place-init
 loop-place-init c =
     let table : IsCallTable (table_of c.args.arch) =
     subst (λ a. IsCallTable (table_of a)) c.new-table.ensures.arch c.new-table.ensures.table in
-    by_rows (pos c.args.number) (table_of c.args.arch) c.args.names.now table.distinct
+    by_rows (pos c.args.number) c.args.index (table_of c.args.arch) (texts c.args.rows.now) table.distinct
 
-pub returns-then-contains : goal.returns-then-contains
-returns-then-contains c =
+pub returns-then-is_row : goal.returns-then-is_row
+returns-then-is_row c =
     let place = c.loop-place.place in
     let within = here c.new-table.ensures.arch c.numbers-numbers.ensures place c.loop-place-test.true in
-    let row = next_row (is_named (pos c.args.number) c.args.names.now) (table_of c.args.arch) place ([], pos 0) within in
+    let named = is_named (pos c.args.number) c.args.index (texts c.args.rows.now) in
+    let row = next_row named (table_of c.args.arch) place ([], pos 0) within in
     let number = read c.new-table.ensures.arch c.numbers-numbers.ensures place c.loop-place-test.true in
     grind (arith, common_steps, row, number, c.name.ensures ([], pos 0), c.loop-place.invariant)
 
@@ -39,10 +46,11 @@ pub loop-place-preserved : goal.loop-place-preserved
 loop-place-preserved c =
     let place = c.loop-place.place in
     let within = here c.new-table.ensures.arch c.numbers-numbers.ensures place c.loop-place-test.true in
-    let row = next_row (is_named (pos c.args.number) c.args.names.now) (table_of c.args.arch) place ([], pos 0) within in
+    let named = is_named (pos c.args.number) c.args.index (texts c.args.rows.now) in
+    let row = next_row named (table_of c.args.arch) place ([], pos 0) within in
     let number = read c.new-table.ensures.arch c.numbers-numbers.ensures place c.loop-place-test.true in
     elim c.else-from-numbers.branch [
-      | else-from-numbers-via-then-from-numbers+else-contains w ↦
+      | else-from-numbers-via-then-from-numbers+else-is_row w ↦
           grind (arith, common_steps, row, number, w.name.ensures ([], pos 0), c.loop-place.invariant)
       | else-from-numbers-via-else-from-numbers w ↦ grind (arith, common_steps, row, number, c.loop-place.invariant)
     ]

@@ -5,8 +5,8 @@ use Rattle.seccomp_warnings.specs.Arguments.{is_among}
 use Rattle.seccomp_warnings.proofs.Rows.{is_named}
 use Rattle.seccomp_warnings.proofs.argument.is_among.Given as goal
 
--- no row so far
+-- no call so far
 abbrev pub invariant-loop-place : goal.invariant-loop-place
 invariant-loop-place l =
-    list_any (is_named (pos l.fn.number) l.fn.names) (drop l.place (table_of l.fn.arch))
-    ≡ is_among l.fn.arch l.fn.number (map (λ n. n.now) l.fn.names)
+    list_any (is_named (pos l.fn.number) l.fn.index (map (λ row. (row.0.now, row.1)) l.fn.rows)) (drop l.place (table_of l.fn.arch))
+    ≡ is_among l.fn.arch l.fn.number l.fn.index (map (λ row. (row.0.now, row.1)) l.fn.rows)

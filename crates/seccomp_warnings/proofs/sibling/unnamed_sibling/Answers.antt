@@ -1,44 +1,52 @@
-use Rattle.std.proofs.Common.{List, ℕ, subst}
+use Rattle.std.proofs.Common.{◌≡◌, ◌<◌, List, ℕ, get_or, length, map, refl, subst, sym, ◌∙◌}
+use Rattle.seccompiler.specs.declared.backend.TargetArch.{TargetArch}
 use Rattle.std.specs.Borrow.{Bor}
-use Rattle.std.specs.Prelude.{All, Any, Contains}
+use Rattle.std.specs.Prelude.{All, Any}
+use Rattle.std.proofs.lemmas.Bool.{false≢true}
 use Rattle.std.proofs.lemmas.List.{take_all}
 use Rattle.std.proofs.lemmas.List.Elements.{All-map}
 use Rattle.seccomp_warnings.specs.CallWarnings.{IsNumberOf}
-use Rattle.seccomp_warnings.specs.Judgements.{HasNoneUnnamed, siblings_of}
-use Rattle.seccomp_warnings.proofs.Numbered.{all_more, any_here, any_now, none_found, none_named, none_sibling}
+use Rattle.seccomp_warnings.specs.Judgements.{IsOpen}
+use Rattle.seccomp_warnings.proofs.Numbered.{all_more, any_here, any_read, none_sibling}
 use Rattle.seccomp_warnings.proofs.sibling.unnamed_sibling.Goals as goal
-use Rattle.seccomp_warnings.proofs.sibling.unnamed_sibling.Goals.{then-is_number_of+in_default, else-is_number_of}
 
-pub returns-in-Some-clause-found : goal.returns-in-Some-clause-found
-returns-in-Some-clause-found c = λ entries set.
-    let by = c.in-Some.ensures.found entries set in
-    let other : List ℕ = c.in-Some.found.now in
-    let P : List ℕ → Type 0 = λ name. IsNumberOf c.args.arch name c.args.number × Contains (siblings_of name) other in
-    let names = c.all_undone-name-items.result.now in (
-      subst (λ (all : List (List ℕ)). Any P all) c.all_undone-name-items.ensures
-          (any_now P names
-          (any_here (λ (name : Bor (List ℕ)). P name.now) names c.loop-name.name-index _ c.loop-name-test.true
-          (c.is_number_of.ensures.is.0 c.if-is_number_of.true, by.0))),
-      by.1,
+-- A pair of names as texts.
+abbrev Names : Type 0
+Names = Bor (List ℕ) × Bor (List ℕ)
+
+abbrev texts : Names → List ℕ × List ℕ
+texts row = (row.0.now, row.1.now)
+
+-- The pair at a place is one of the table. The default is any.
+found_at : (arch : TargetArch) (number : ℕ) (rows : List Names) (all : List (List ℕ × List ℕ)) (k : ℕ) (d : Names) → map texts rows ≡ all
+    → k < length rows → IsNumberOf arch (get_or rows k d).0.now number
+    → Any (λ (pair : List ℕ × List ℕ). IsNumberOf arch pair.0 number × (pair.1 ≡ (get_or rows k d).1.now)) all
+found_at arch number rows all k d same within is =
+    let other = (get_or rows k d).1.now in
+    let P : List ℕ × List ℕ → Type 0 = λ pair. IsNumberOf arch pair.0 number × (pair.1 ≡ other) in
+    subst (λ (pairs : List (List ℕ × List ℕ)). Any P pairs) same
+    (any_read P texts rows (any_here (λ (row : Names). P (texts row)) rows k d within (is, refl)))
+
+pub returns-then-is_open-clause-found : goal.returns-then-is_open-clause-found
+returns-then-is_open-clause-found c = λ entries set.
+    let own = (c.is_open.ensures entries set).0 c.if-is_open.true in (
+      found_at c.args.arch c.args.number c.all_siblings-row-items.result.now _ c.loop-row.row-index _ c.all_siblings-row-items.ensures
+          c.loop-row-test.true own.0,
+      own.1,
     )
 
-pub loop-name-preserved : goal.loop-name-preserved
-loop-name-preserved c = λ entries set.
-    all_more (λ (name : Bor (List ℕ)). HasNoneUnnamed c.args.arch c.args.number entries name.now) c.all_undone-name-items.result.now
-    c.loop-name.name-index _ c.loop-name-test.true (c.loop-name.invariant entries set)
-    (elim c.if-is_number_of.branch [
-      | then-is_number_of+in_default w ↦ none_found c.args.arch c.args.number entries _ w.unnamed_of.result w.in_default.not-Some
-          (w.unnamed_of.ensures.none entries set)
-      | else-is_number_of w ↦ none_named c.args.arch c.args.number entries _ c.is_number_of.result w.if-is_number_of.false
-          c.is_number_of.ensures.is
-    ])
+pub loop-row-preserved : goal.loop-row-preserved
+loop-row-preserved c = λ entries set.
+    all_more (λ (row : Names). IsOpen c.args.arch c.args.number entries (texts row) → ⊥) c.all_siblings-row-items.result.now
+    c.loop-row.row-index _ c.loop-row-test.true (c.loop-row.invariant entries set)
+    (λ is. false≢true (sym c.if-is_open.false ∙ (c.is_open.ensures entries set).1 is))
 
 pub returns-clause-none : goal.returns-clause-none
 returns-clause-none c = λ entries set.
-    let P : List ℕ → Type 0 = HasNoneUnnamed c.args.arch c.args.number entries in
-    let names = c.all_undone-name-items.result.now in
+    let P : List ℕ × List ℕ → Type 0 = λ pair. IsOpen c.args.arch c.args.number entries pair → ⊥ in
+    let rows = c.all_siblings-row-items.result.now in
     none_sibling c.args.arch c.args.number entries
-    (subst (All P) c.all_undone-name-items.ensures
-    (All-map P (λ name. name.now) names
-    (subst (λ (all : List (Bor (List ℕ))). All (λ (name : Bor (List ℕ)). P name.now) all)
-    (take_all c.loop-name.name-index names c.loop-name-test.false) (c.loop-name.invariant entries set))))
+    (subst (All P) c.all_siblings-row-items.ensures
+    (All-map P texts rows
+    (subst (λ (all : List Names). All (λ (row : Names). P (texts row)) all)
+    (take_all c.loop-row.row-index rows c.loop-row-test.false) (c.loop-row.invariant entries set))))

@@ -13,9 +13,9 @@ usage: tools/page_checks.py
   documentation in the sources of DOCUMENTED, that of Rust and Rattle in its lines `///` and `//!`, outside examples.
 - README.md has at most README_WORDS outside its blocks of code; README.md, CONTRIBUTING.md and the pages of docs/ together
   have at most PAGES_WORDS, blocks included; CHANGELOG.md has at most CHANGES_WORDS.
-- docs/CHECKS.md has the codes of warnings in the order of the definitions, in its table and as sections, and the first
-  line of each section, without its marks, is what the code's definition says; its tables of siblings and of signed
-  arguments are those of crates/seccomp_warnings.
+- docs/CHECKS.md has the codes of warnings in the order of crates/seccomp_warnings, in its table and as sections, and the
+  first line of each section, without its marks, is what stands there; its lists of siblings, signed arguments, flags and
+  calls that do the same are the tables of that crate.
 - A line of proofs or definitions has at most 140 characters, in each crate.
 
 Prints each difference, and as its last line 'N passed, M failed'.
@@ -30,6 +30,7 @@ import re
 import sys
 
 from results import Results
+from warning_tables import CODES, DETOURS, FLAGS, SIBLINGS, SIGNED
 
 TOP = pathlib.Path(__file__).resolve().parent.parent
 LINE = 140
@@ -261,49 +262,75 @@ def plain(text):
     return re.sub(r"\[([^\]]*)\]\([^)]*\)", r"\1", text).replace("`", "")
 
 
-def texts_by_code(path, function):
-    """Returns the texts that a function of seccomp_warnings gives for codes, by the codes."""
-    text = (TOP / "crates/seccomp_warnings/src" / path).read_text(encoding="utf-8")
-    body = text[text.index(f"fn {function}(") :].split("\n}\n")[0]
-    return dict(re.findall(r"Code::(\w+) => (?:\{\s*)?\"((?:[^\"\\]|\\.)*)\"", body))
+def calls_in(text):
+    """Returns the names of calls that a text has in backticks, in their order."""
+    return re.findall(r"`(\w+)`", text)
 
 
-def calls_of(text, function):
-    """Returns what a function of seccomp_warnings gives for each name or index that it compares with: the calls."""
-    body = text.partition(f"fn {function}(")[2].partition("\n}\n")[0]
-    found = re.findall(r"if \w+ == \"?(\w+)\"? \{\s*&\[(.*?)\]", body, re.S)
-    return {asked: set(re.findall(r"\"(\w+)\"", calls)) for asked, calls in found}
+def line_that(heading, begins):
+    """Returns the line of a section of docs/CHECKS.md that begins so."""
+    return next((line for _, line in section_of(TOP / "docs/CHECKS.md", heading) if line.startswith(begins)), "")
+
+
+def listed_siblings():
+    """Returns the calls by which what a call does can be done too, by the table of docs/CHECKS.md."""
+    found = {}
+    for _, line in section_of(TOP / "docs/CHECKS.md", "`sibling-allowed`"):
+        cells = [calls_in(it) for it in line.split("|")[1:3]]
+        for name in cells[0] if len(cells) == 2 else ():
+            found.setdefault(name, set()).update(it for it in cells[1] if it != name)
+    return found
+
+
+def listed_signed():
+    """Returns the calls that have a signed argument, by its index."""
+    told = line_that("`signed-compared`", "These arguments")
+    return {int(index): set(calls_in(calls)) for index, calls in re.findall(r"(\d) of ((?:`\w+`(?:, | and )?)+)", told)}
+
+
+def listed_detours():
+    """Returns the other calls by which what a condition denies can be done, by the call: `each other` are the first ones of the line, and
+    `the last two` the last two of them."""
+    found = {}
+    for _, line in section_of(TOP / "docs/CHECKS.md", "`condition-evaded`"):
+        calls, _, others = line.partition(": ") if line.startswith("- ") else ("", "", "")
+        names = calls_in(re.sub(r", (?:`[A-Z_]+`|[a-z ]+)$", "", calls))
+        more = names if "each other" in others else names[-2:] if "the last two" in others else []
+        found.update((name, {it for it in (*more, *calls_in(others)) if it != name}) for name in names)
+    return found
 
 
 def compare_tables(results):
-    """Compares the tables of calls in docs/CHECKS.md with those of crates/seccomp_warnings."""
-    page, crate = TOP / "docs/CHECKS.md", TOP / "crates/seccomp_warnings/src"
-    siblings = {}
-    for _, line in section_of(page, "`sibling-allowed`"):
-        cells = [re.findall(r"`(\w+)`", it) for it in line.split("|")[1:3]]
-        for name in cells[0] if len(cells) == 2 else ():
-            siblings.setdefault(name, set()).update(it for it in cells[1] if it != name)
-    stated = calls_of((crate / "sibling.rt").read_text(encoding="utf-8"), "siblings_of")
-    results.compare("docs/CHECKS.md: the table of siblings", stated, siblings)
-    told = " ".join(line for _, line in section_of(page, "`signed-compared`") if line.startswith("These arguments"))
-    signed = {index: set(re.findall(r"`(\w+)`", calls)) for index, calls in re.findall(r"(\d) of ((?:`\w+`(?:, | and )?)+)", told)}
-    stated = calls_of((crate / "argument.rt").read_text(encoding="utf-8"), "signed_calls")
-    results.compare("docs/CHECKS.md: the arguments of signed-compared", stated, signed)
+    """Compares the lists of calls in docs/CHECKS.md with the tables of crates/seccomp_warnings."""
+    closing = set(calls_in(line_that("`flag-evades`", "The calls that open something")))
+    others = {name: {other for call, _, _, other, _, _ in DETOURS if call == name} for name, *_ in DETOURS}
+    for what, stated, listed in (
+        ("siblings", {name: set(calls) for name, calls in SIBLINGS.items()}, listed_siblings()),
+        ("signed arguments", {index: set(calls) for index, calls in SIGNED.items()}, listed_signed()),
+        ("calls that take a flag to close on exec", {call for call, _, _, is_closing in FLAGS if is_closing}, closing),
+        ("calls that do what a condition denies", others, listed_detours()),
+    ):
+        results.compare(f"docs/CHECKS.md: the {what}", (stated,), (listed,))
+    flags = [row for row in FLAGS if not row[3]]
+    told = line_that("`flag-evades`", "The filter denies a call")
+    results.compare("docs/CHECKS.md: the calls of other flags", ([],), ([call for call, *_ in flags if f"`{call}`" not in told],))
 
 
 def compare_codes(results):
     """Compares the sections of docs/CHECKS.md with what the codes are called and what is said of them."""
-    page = TOP / "docs/CHECKS.md"
-    names, told = texts_by_code("code.rt", "name"), texts_by_code("text.rt", "paragraph")
-    order = list(names.values())
+    page, source = TOP / "docs/CHECKS.md", (TOP / "crates/seccomp_warnings/src/code.rt").read_text(encoding="utf-8")
+    order = [row["name"] for row in CODES]
+    variants = re.findall(r"^    (\w+),$", source.partition("pub enum Code {")[2].partition("\n}\n")[0], re.M)
+    results.compare("crates/seccomp_warnings: the codes in the order of their enum", ([f"Code::{it}" for it in variants],), (
+        [row["code"] for row in CODES],))
     sections = re.findall(r"^### `([a-z0-9-]+)`$", page.read_text(encoding="utf-8"), re.M)
     rows = re.findall(r"^\| [a-z ]+ \| (\[`.*) \|$", page.read_text(encoding="utf-8"), re.M)
     table = re.findall(r"\[`([a-z0-9-]+)`\]\(#\1\)", "\n".join(rows))
     results.compare("docs/CHECKS.md: the sections of codes", order, sections)
     results.compare("docs/CHECKS.md: the table of codes", order, table)
-    for name, code in names.items():
-        first = next((plain(line) for _, line in section_of(page, f"`{code}`") if line), "")
-        results.compare(f"docs/CHECKS.md: how the section of {code} begins", (told.get(name),), (first,))
+    for row in CODES:
+        first = next((plain(line) for _, line in section_of(page, f"`{row['name']}`") if line), "")
+        results.compare(f"docs/CHECKS.md: how the section of {row['name']} begins", (row["paragraph"],), (first,))
 
 
 def compare_proofs(results):

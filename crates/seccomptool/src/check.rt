@@ -12,7 +12,7 @@ use seccomp_answers::error::AnswerError;
 use seccomp_answers::findings::Verdict;
 use seccomp_answers::kind::{Subject, subject_of};
 use seccomp_answers::program::program_of;
-use seccomp_check::Problem;
+use seccomp_faults::{Fault, Problem};
 use seccomp_views::check::fault::push_error;
 use seccomp_views::check::format::Lines;
 use seccomp_views::check::policy::push_warnings;
@@ -82,7 +82,7 @@ fn accepted(
 
 // Adds what is said of a rejection, and the warnings of a policy whose programs are too long in the linear layout alone.
 fn push_rejected(lines: &mut Lines<'_>, asked: &Asked<'_>, given: &[u8], error: AnswerError) {
-    push_error(lines, asked.arch, given, &error);
+    push_error(lines, given, &error);
     let is_long = is_too_long(&error);
     drop(error);
     if is_long {
@@ -93,7 +93,10 @@ fn push_rejected(lines: &mut Lines<'_>, asked: &Asked<'_>, given: &[u8], error: 
 // Whether all that is wrong with a policy is that programs are too long in the linear layout.
 fn is_too_long(error: &AnswerError) -> bool {
     match error {
-        AnswerError::Placed(_, fault) => matches!(fault.problem, Problem::TooLong(_, _, _)),
+        AnswerError::Placed(first, faults) => match faults.get(*first) {
+            Some(Fault { problem, .. }) => matches!(problem, Problem::TooLong(_, _, _)),
+            None => false,
+        },
         _ => false,
     }
 }
@@ -118,7 +121,7 @@ pub(crate) fn codes_made(alloc: Global, json: bool) -> Result<Made, AnswerError>
 {
     let mut text = Text::new(alloc);
     for code in Code::all() {
-        let (name, paragraph) = (code.name(), code.paragraph());
+        let (name, paragraph) = (code.name, code.paragraph);
         if json {
             let mut item = Object::new(alloc);
             item.field("code", name);

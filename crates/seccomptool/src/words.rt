@@ -281,7 +281,7 @@ pub(crate) fn read<'a, O: Outside>(
     codes: &'a mut Vec<&'static str>,
 ) -> Result<Asked<'a>, clap::Error> {
     for code in Code::all() {
-        codes.push(code.name())?;
+        codes.push(code.name)?;
     }
     let first = match words.first() {
         Some(word) => word.as_str(),

@@ -30,7 +30,7 @@ import re
 import sys
 
 from results import Results
-from warning_tables import CODES, DETOURS, FLAGS, SIBLINGS, SIGNED
+from warning_tables import ADDRESSES, CODES, DETOURS, FLAGS, SIBLINGS, SIGNED
 
 TOP = pathlib.Path(__file__).resolve().parent.parent
 LINE = 140
@@ -300,8 +300,17 @@ def listed_detours():
     return found
 
 
+def stated_addresses():
+    """Returns the calls of tools/address_arguments by the index of an argument that is an address, as the prototypes of Linux 6.12 have
+    it (include/linux/syscalls.h)."""
+    lines = (TOP / "tools/address_arguments").read_text(encoding="utf-8").splitlines()
+    return {int(index): set(names) for index, *names in map(str.split, lines)}
+
+
 def compare_tables(results):
-    """Compares the lists of calls in docs/CHECKS.md with the tables of crates/seccomp_warnings."""
+    """Compares the tables of crates/seccomp_warnings with what docs/CHECKS.md lists, and those of addresses with the kernel's."""
+    results.compare("crates/seccomp_warnings: the arguments that are addresses", (stated_addresses(),), (
+        {index: set(names) for index, names in ADDRESSES.items()},))
     closing = set(calls_in(line_that("`flag-evades`", "The calls that open something")))
     others = {name: {other for call, _, _, other, _, _ in DETOURS if call == name} for name, *_ in DETOURS}
     for what, stated, listed in (

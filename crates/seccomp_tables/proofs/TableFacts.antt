@@ -1,6 +1,7 @@
 -- What holds of each table, from tests that are computed over the whole of it.
 use Rattle.std.proofs.Common.{◌≡◌, ◌≢◌, ◌<◌, ◌≤◌, pos, ◌&&◌, List, [], ◌∷◌, Bool, true, false, Ordering, Less, Equal, Greater, nat_cmp}
-use Rattle.std.proofs.Common.{ℕ, ℤ, ◌+◌, ◌-◌, zero, suc, length, take, drop, All, AllPairs, slice_index_or, refl, ap, subst, ◌∙◌, arith}
+use Rattle.std.proofs.Common.{ℕ, ℤ, ◌+◌, ◌-◌, zero, suc, length, take, drop, All, AllPairs, slice_index_or, refl, sym, ap, subst, ◌∙◌}
+use Rattle.std.proofs.Common.{arith}
 use Rattle.std.specs.Cmp.Lexicographic.{slice_cmp}
 use Rattle.std.specs.List.{list_all}
 use Rattle.std.specs.Ordering.{is_lt}
@@ -9,6 +10,7 @@ use Rattle.std.proofs.Math.Dec.{leb, ltb}
 use Rattle.std.proofs.lemmas.Bool.{leb-true, ltb-true}
 use Rattle.std.proofs.lemmas.Cmp.{nat_list_cmp_total}
 use Rattle.std.proofs.lemmas.Float.{T_from_true}
+use Rattle.std.proofs.lemmas.List.{drop-drop}
 use Rattle.std.proofs.lemmas.List.Elements.{All-nil, All-cons, All-weaker}
 use Rattle.std.proofs.lemmas.List.Kept.{AllPairs-cons}
 use Rattle.std.proofs.lemmas.List.Sums.{AllPass-from_list_all}
@@ -80,27 +82,42 @@ ascii : (pair : Pair) → is_ascii pair ≡ true → All (λ byte. byte < 128) p
 ascii pair passed = All-weaker (λ byte. ltb byte 128 ≡ true) (λ byte. byte < 128) (λ byte. ltb-true byte 128) pair.0
     (AllPass-from_list_all (λ byte. ltb byte 128) pair.0 passed)
 
--- a table that passes the tests is one
-is_table : (table : List Pair) → 255 ≤ length table → length table < 512 → list_all is_ascii table ≡ true → is_ascending table ≡ true
-    → list_all is_in_range table ≡ true → IsCallTable table
-is_table table long short names order range =
-    let ascends = ascending table order in
+-- whether a pair passes both
+abbrev is_row : Pair → Bool
+is_row pair = is_ascii pair && is_in_range pair
+
+-- whether a table passes all tests
+abbrev passes : List Pair → Bool
+passes table = (leb 255 (length table) && ltb (length table) 512) && (is_ascending table && list_all is_row table)
+
+-- a table that passes them is one
+is_table : (table : List Pair) → passes table ≡ true → IsCallTable table
+is_table table passed =
+    let parts = both (leb 255 (length table) && ltb (length table) 512) _ passed in
+    let sizes = both (leb 255 (length table)) (ltb (length table) 512) parts.0 in
+    let rows = both (is_ascending table) (list_all is_row table) parts.1 in
+    let each = AllPass-from_list_all is_row table rows.1 in
+    let ascends = ascending table rows.0 in
     record {
-      long = long;
-      short = short;
-      ascii = All-weaker (λ pair. is_ascii pair ≡ true) (λ pair. All (λ byte. byte < 128) pair.0) ascii table
-          (AllPass-from_list_all is_ascii table names);
+      long = leb-true 255 (length table) sizes.0;
+      short = ltb-true (length table) 512 sizes.1;
+      ascii = All-weaker (λ pair. is_row pair ≡ true) (λ pair. All (λ byte. byte < 128) pair.0)
+          (λ pair fits. ascii pair (both (is_ascii pair) (is_in_range pair) fits).0) table each;
       ascending = ascends;
       distinct = λ i j d i<j j<n. differs (slice_index_or table i d) (slice_index_or table j d) (ascends i j d i<j j<n);
-      in_range = All-weaker (λ pair. is_in_range pair ≡ true) (λ pair. IsTableNumber pair.1) in_range table
-          (AllPass-from_list_all is_in_range table range);
+      in_range = All-weaker (λ pair. is_row pair ≡ true) (λ pair. IsTableNumber pair.1)
+          (λ pair fits. in_range pair (both (is_ascii pair) (is_in_range pair) fits).1) table each;
     }
 
--- the words of a text by their starts
+-- the words of what stands behind the first of some starts
 abbrev cut : List ℕ → List ℕ → List (List ℕ)
-cut text [] = []
-cut text (start ∷ []) = []
-cut text (start ∷ next ∷ starts) = take (next - 1 - start) (drop start text) ∷ cut text (next ∷ starts)
+cut rest [] = []
+cut rest (start ∷ []) = []
+cut rest (start ∷ next ∷ starts) = take (next - 1 - start) rest ∷ cut (drop (next - start) rest) (next ∷ starts)
+
+-- the words of a text by their starts
+abbrev cut_at : List ℕ → List ℕ → List (List ℕ)
+cut_at text starts = cut (drop (slice_index_or starts 0 0) text) starts
 
 -- whether each start comes before the next, and none is past this end
 abbrev are_apart : ℕ → List ℕ → Bool
@@ -109,23 +126,31 @@ are_apart end (start ∷ []) = true
 are_apart end (start ∷ next ∷ starts) = ltb start next && (leb next end && are_apart end (next ∷ starts))
 
 -- starts that are apart cut a word off at each place
-word_at : (text starts : List ℕ) (place : ℕ) (word : List ℕ) → are_apart (length text + 1) starts ≡ true → place < length (cut text starts)
-    → IsWord text (slice_index_or starts place 0) (slice_index_or starts (suc place) 0) (slice_index_or (cut text starts) place word)
+word_at : (text starts : List ℕ) (place : ℕ) (word : List ℕ) → are_apart (length text + 1) starts ≡ true
+    → place < length (cut_at text starts)
+    → IsWord text (slice_index_or starts place 0) (slice_index_or starts (suc place) 0) (slice_index_or (cut_at text starts) place word)
 word_at text [] place word passed within = absurd (omega (arith, within))
 word_at text (start ∷ []) place word passed within = absurd (omega (arith, within))
 word_at text (start ∷ next ∷ starts) place word passed within =
     let parts = both (ltb start next) (leb next (length text + 1) && are_apart (length text + 1) (next ∷ starts)) passed in
     let rest = both (leb next (length text + 1)) (are_apart (length text + 1) (next ∷ starts)) parts.1 in
-    elim place as (λ place. place < length (cut text (start ∷ next ∷ starts))
+    let apart = ltb-true start next parts.0 in
+    let there : start + (next - start) ≡ next = omega (arith, apart) in
+    let behind : drop next text ≡ drop (next - start) (drop start text) =
+    sym (drop-drop (next - start) start text ∙ ap (λ n. drop n text) there) in
+    let first = take (next - 1 - start) (drop start text) in
+    subst (λ behind. place < length (first ∷ cut behind (next ∷ starts))
     → IsWord text (slice_index_or (start ∷ next ∷ starts) place 0) (slice_index_or (next ∷ starts) place 0)
-    (slice_index_or (cut text (start ∷ next ∷ starts)) place word)) [
-      | zero ↦ λ within.
-          record { apart = ltb-true start next parts.0; inside = leb-true next (length text + 1) rest.0; here = refl }
+    (slice_index_or (first ∷ cut behind (next ∷ starts)) place word)) behind
+    (elim place as (λ place. place < length (first ∷ cut_at text (next ∷ starts))
+    → IsWord text (slice_index_or (start ∷ next ∷ starts) place 0) (slice_index_or (next ∷ starts) place 0)
+    (slice_index_or (first ∷ cut_at text (next ∷ starts)) place word)) [
+      | zero ↦ λ within. record { apart = apart; inside = leb-true next (length text + 1) rest.0; here = refl }
       | suc place ↦ λ within. word_at text (next ∷ starts) place word rest.1 (omega (arith, within))
-    ] within
+    ]) within
 
 -- what passes the tests are the starts of a text's words
-are_starts : (text starts : List ℕ) → list_all (λ byte. ltb byte 128) text ≡ true → cut text starts ≡ words text
+are_starts : (text starts : List ℕ) → list_all (λ byte. ltb byte 128) text ≡ true → cut_at text starts ≡ words text
     → are_apart (length text + 1) starts ≡ true → length starts ≡ length (words text) + 1 → AreStarts text starts
 are_starts text starts plain same apart long = record {
   ascii = IsAscii-from_all text (All-weaker (λ byte. ltb byte 128 ≡ true) (λ byte. byte < 128) (λ byte. ltb-true byte 128) text
@@ -150,7 +175,7 @@ name_at (first ∷ names) (number ∷ numbers) (suc place) name pair within shor
 -- the tests, computed
 pub x86_64_table : IsCallTable x86_64_pairs
 unfolding x86_64_pairs
-x86_64_table = is_table x86_64_pairs (omega arith) (omega arith) refl refl refl
+x86_64_table = is_table x86_64_pairs refl
 
 -- the tests, computed
 pub x86_64_starts : AreStarts X86_64_NAMES.now X86_64_STARTS
@@ -159,7 +184,7 @@ x86_64_starts = are_starts X86_64_NAMES.now X86_64_STARTS refl refl refl refl
 -- the tests, computed
 pub aarch64_table : IsCallTable aarch64_pairs
 unfolding aarch64_pairs
-aarch64_table = is_table aarch64_pairs (omega arith) (omega arith) refl refl refl
+aarch64_table = is_table aarch64_pairs refl
 
 -- the tests, computed
 pub aarch64_starts : AreStarts AARCH64_NAMES.now AARCH64_STARTS
@@ -168,7 +193,7 @@ aarch64_starts = are_starts AARCH64_NAMES.now AARCH64_STARTS refl refl refl refl
 -- the tests, computed
 pub riscv64_table : IsCallTable riscv64_pairs
 unfolding riscv64_pairs
-riscv64_table = is_table riscv64_pairs (omega arith) (omega arith) refl refl refl
+riscv64_table = is_table riscv64_pairs refl
 
 -- the tests, computed
 pub riscv64_starts : AreStarts RISCV64_NAMES.now RISCV64_STARTS

@@ -25,10 +25,6 @@ value_under {X} P find d are name x there = by (get name d) refl
         let same : own.found ≡ x = let both : Some own.found ≡ Some x = sym own.there ∙ there in cc in
         (value, has, subst (P value) same own.own)
 
--- A text that is what is known of it is the one that is read.
-pub reads_this : (known : Option (List ℕ)) (P : List ℕ → Type 0) (text : List ℕ) → IfSome known (λ k. text ≡ k) → P text → Reads known P
-reads_this known P text is own = (text, is, own)
-
 -- What is made, value by value, of what a list has of a value's parts.
 module _ {X Y : Type 0} (P : Data → X → Type 0) (R : X → Y → Type 0) (given : ByName X) (d : Data) (are : AreFound P (under given) d) where
   -- What is made of all of it is the value's, where it is so of one.

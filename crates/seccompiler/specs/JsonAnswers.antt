@@ -28,6 +28,10 @@ pub record IsValueOf (text : List ℕ) (d : Data) : Type 0 where
 abbrev pub OfValue : List ℕ → (Data → Type 0) → Type 0
 OfValue text P = (d : Data) × IsValueOf text d × P d
 
+-- P holds for each text of which this is the value.
+abbrev pub OfEachText : Data → (List ℕ → Type 0) → Type 0
+OfEachText d P = (text : List ℕ) → IsValueOf text d → P text
+
 -- The value is a filter, whose policy on this architecture is this one.
 abbrev pub HasPolicy : TargetArch → Data → Filter → Type 0
 HasPolicy arch value policy = (f : JsonFilter) × IsFilter value f × IsPolicyOf arch f policy

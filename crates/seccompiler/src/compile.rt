@@ -6,9 +6,10 @@ ghost use Rattle.std.specs.HashMap as hash;
 ghost use Rattle.std.specs.List.Sorted.{IsStrictlySortedBy};
 ghost use Rattle.std.specs.Map.{keys_of};
 ghost use Rattle.serde_json.specs.Data.{Data};
+ghost use Rattle.serde_json.specs.View.{view};
 ghost use Rattle.seccompiler.specs.Machine.{IsChecked};
 ghost use Rattle.seccompiler.specs.Errors.{IsNoMemoryInside, IsNoReader};
-ghost use Rattle.seccompiler.specs.JsonAnswers.{OfValue};
+ghost use Rattle.seccompiler.specs.JsonAnswers.{OfEachText, OfValue};
 ghost use Rattle.seccompiler.specs.JsonFilters.{IsReadBack, under};
 ghost use Rattle.seccompiler.specs.JsonPrograms.{AreProgramsOf, IsProgramOf, TellsFirstFault};
 ghost use Rattle.seccompiler.specs.Reads.{Reads};
@@ -16,7 +17,7 @@ ghost use Rattle.seccompiler.specs.Reads.{Reads};
 use crate::backend::TargetArch;
 use crate::bpf::BpfProgram;
 use crate::error::{Error, Result};
-use crate::json::{read_policies, text_of};
+use crate::json::{listed_policies, value_from, value_of};
 use serde_json::Value;
 use std::alloc::Global;
 use std::collections::{BTreeMap, HashMap};
@@ -60,10 +61,8 @@ pub fn compile_from_json<R: Read + Drop>(
     ensures fault { IfErr result (λ e. Reads (R.remaining reader) (λ text. TellsFirstFault arch text e)) }
     ensures memory { IfErr result IsNoMemoryInside }
 {
-    let text = text_of(alloc, reader)?;
-    let listed = listed_programs(alloc, text.as_slice(), arch);
-    drop(text);
-    let (_value, programs) = listed?;
+    let value = value_from(alloc, reader)?;
+    let programs = listed_programs(alloc, &value, arch)?;
     match programs.into_iter().collect(alloc) {
         Ok(programs) => Ok(programs),
         Err(_) => Err(Error::OutOfMemory),
@@ -97,26 +96,48 @@ pub fn programs_of(
     ensures no_reader { IfErr result IsNoReader }
     ensures memory { IfErr result IsNoMemoryInside }
 {
-    let (_value, programs) = listed_programs(alloc, text, arch)?;
+    let value = value_of(alloc, text)?;
+    programs_in(alloc, &value, arch)
+}
+
+/// Compiles each filter of a text's value, as [`programs_of`] does of the text: for whoever has read it by
+/// [`value_of`].
+///
+/// # Errors
+///
+/// Those of [`programs_of`], in the same order, but for those of a text that has no value.
+pub fn programs_in(
+    alloc: Global,
+    value: &Value,
+    arch: TargetArch,
+) -> Result<BTreeMap<String, BpfProgram>>
+    ensures programs { IfOk result (λ m. AreProgramsOf arch (tree.get_by_text m) (view value.now)) }
+    ensures read_back { IfOk result (λ m. (d : Data) → AreProgramsOf arch (tree.get_by_text m) d → IsReadBack (λ value program. IsProgramOf arch value program.items) m d) }
+    ensures checked { IfOk result (λ m. (name : List ℕ) → IfSome (tree.get_by_text m name) (λ program. IsChecked program.items)) }
+    ensures fault { IfErr result (λ e. OfEachText (view value.now) (λ text. TellsFirstFault arch text e)) }
+    ensures no_reader { IfErr result IsNoReader }
+    ensures memory { IfErr result IsNoMemoryInside }
+{
+    let programs = listed_programs(alloc, value, arch)?;
     match programs.into_iter().collect(alloc) {
         Ok(programs) => Ok(programs),
         Err(_) => Err(Error::OutOfMemory),
     }
 }
 
-// The same in the order of their names, and what they were read from.
+// The same in the order of their names.
 fn listed_programs(
     alloc: Global,
-    text: &[u8],
+    value: &Value,
     arch: TargetArch,
-) -> Result<(Value, Vec<(String, BpfProgram)>)>
+) -> Result<Vec<(String, BpfProgram)>>
     ensures programs { MatchResult result
-        (λ made. IsStrictlySortedBy string_cmp (keys_of made.1.items) × OfValue text.now (AreProgramsOf arch (under made.1.items)))
-        (TellsFirstFault arch text.now) }
+        (λ made. IsStrictlySortedBy string_cmp (keys_of made.items) × AreProgramsOf arch (under made.items) (view value.now))
+        (λ e. OfEachText (view value.now) (λ text. TellsFirstFault arch text e)) }
     ensures no_reader { IfErr result IsNoReader }
     ensures memory { IfErr result IsNoMemoryInside }
 {
-    let (value, policies) = read_policies(alloc, arch, text)?;
+    let policies = listed_policies(alloc, value, arch)?;
     let Ok(mut programs) = Vec::with_capacity(alloc, policies.len()) else {
         return Err(Error::OutOfMemory);
     };
@@ -126,5 +147,5 @@ fn listed_programs(
             Err(error) => return Err(Error::from(error)),
         }
     }
-    Ok((value, programs))
+    Ok(programs)
 }

@@ -17,11 +17,12 @@ mod repeats;
 mod texts;
 mod types;
 
-pub use compiler::JsonCompiler;
-pub(crate) use compiler::read_policies;
+pub(crate) use compiler::listed_policies;
+pub use compiler::{JsonCompiler, policies_in};
 pub use error::JsonFrontendError;
 pub use filter_map::read_filters;
 pub use parts::{read_action, read_arg_len, read_operator};
 pub use repeats::repeats_key;
-pub use texts::{filters_of, text_of};
+pub(crate) use texts::value_from;
+pub use texts::{filters_of, text_of, value_of};
 pub use types::{JsonCondition, JsonFilter, JsonFilterMap, JsonRule};

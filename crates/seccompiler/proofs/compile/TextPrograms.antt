@@ -1,4 +1,4 @@
--- For `listed_programs` and `programs_of`: the programs of a value's policies, and the refusal of the least name's.
+-- For `listed_programs` and `programs_in`: the programs of a value's policies, and the refusal of the least name's.
 use Rattle.std.proofs.Common.{◌≡◌, ℕ, ℤ, ◌++◌, List, ◌∷◌, Option, Some, None, String, Global, Vec, string_bytes, refl, IfSome, arith, ap}
 use Rattle.std.proofs.Common.{◌∙◌, subst, All}
 use Rattle.std.proofs.lemmas.Int.{ints}

@@ -7,8 +7,9 @@ ghost use Rattle.std.specs.List.Sorted.{IsStrictlySortedBy};
 ghost use Rattle.std.specs.Map.{keys_of};
 ghost use Rattle.std.specs.Ordering.{int_cmp};
 ghost use Rattle.serde_json.specs.Data.{Data};
+ghost use Rattle.serde_json.specs.View.{view};
 ghost use Rattle.seccompiler.specs.Errors.{IsNoMemoryInFrontend};
-ghost use Rattle.seccompiler.specs.JsonAnswers.{OfValue, ArePoliciesOf, HasPolicy, TellsFrontendFault};
+ghost use Rattle.seccompiler.specs.JsonAnswers.{OfEachText, OfValue, ArePoliciesOf, HasPolicy, TellsFrontendFault};
 ghost use Rattle.seccompiler.specs.JsonEntries.{PoliciesMatchEntries};
 ghost use Rattle.seccompiler.specs.JsonFilters.{IsReadBack, under};
 ghost use Rattle.seccompiler.specs.JsonSteps.{IsNoFailedRead, IsPolicyRefusal};
@@ -25,7 +26,7 @@ use crate::json::error::JsonFrontendError;
 use crate::json::filter_map::lent_filters;
 use crate::json::lent::lent;
 use crate::json::policy::{lent_seccomp_filter, widened_numbers};
-use crate::json::texts::{text_of, value_of};
+use crate::json::texts::{value_from, value_of};
 use crate::json::types::JsonFilter;
 use serde_json::Value;
 use std::alloc::Global;
@@ -164,11 +165,8 @@ impl JsonCompiler {
         ensures no_reader { IfErr result IsNoFailedRead }
         ensures memory { IfErr result IsNoMemoryInFrontend }
     {
-        let (_value, policies) = read_policies(alloc, self.arch, text)?;
-        match policies.into_iter().collect(alloc) {
-            Ok(filters) => Ok(filters),
-            Err(_) => Err(JsonFrontendError::OutOfMemory),
-        }
+        let value = value_of(alloc, text)?;
+        policies_in(alloc, &value, self.arch)
     }
 
     /// Reads a text of JSON filters to its end, and makes each filter, as `make_seccomp_filter` does.
@@ -209,10 +207,8 @@ impl JsonCompiler {
         ensures fault { IfErr result (λ e. Reads (R.remaining reader) (λ text. TellsFrontendFault self.now text e)) }
         ensures memory { IfErr result IsNoMemoryInFrontend }
     {
-        let text = text_of(alloc, reader)?;
-        let read = read_policies(alloc, self.arch, text.as_slice());
-        drop(text);
-        let (_value, policies) = read?;
+        let value = value_from(alloc, reader)?;
+        let policies = listed_policies(alloc, &value, self.arch)?;
         match policies.into_iter().collect(alloc) {
             Ok(filters) => Ok(filters),
             Err(_) => Err(JsonFrontendError::OutOfMemory),
@@ -220,21 +216,41 @@ impl JsonCompiler {
     }
 }
 
-/// The policies of a text in the order of their names, and the value that they were read from.
+/// Makes each filter of a text's value, as [`JsonCompiler::policies_of`] does of the text: for whoever has read it.
 ///
-/// It is dropped last, even after the text, as it is many small pieces of memory: an allocator joins those
-/// that were given back whenever a large one is asked for or given back.
-pub(crate) fn read_policies(
+/// # Errors
+///
+/// Those of [`JsonCompiler::policies_of`], in the same order, but for the two of a text that has no value.
+pub fn policies_in(
     alloc: Global,
+    value: &Value,
     arch: TargetArch,
-    text: &[u8],
-) -> Result<(Value, Vec<(String, SeccompFilter)>), JsonFrontendError>
-    ensures { MatchResult result
-        (λ read. IsStrictlySortedBy string_cmp (keys_of read.1.items) × OfValue text.now (ArePoliciesOf arch (under read.1.items)))
-        (λ e. TellsFrontendFault arch text.now e × IsNoFailedRead e × IsNoMemoryInFrontend e) }
+) -> Result<BTreeMap<String, SeccompFilter>, JsonFrontendError>
+    ensures policies { IfOk result (λ m. ArePoliciesOf arch (tree.get_by_text m) (view value.now)) }
+    ensures read_back { IfOk result (λ m. (d : Data) → ArePoliciesOf arch (tree.get_by_text m) d → IsReadBack (HasPolicy arch) m d) }
+    ensures numbers { IfOk result (λ m. (name : List ℕ) → IfSome (tree.get_by_text m name) (λ f. All IsTableNumber (numbers_of f.chains))) }
+    ensures fault { IfErr result (λ e. OfEachText (view value.now) (λ text. TellsFrontendFault arch text e)) }
+    ensures no_reader { IfErr result IsNoFailedRead }
+    ensures memory { IfErr result IsNoMemoryInFrontend }
 {
-    let value = value_of(alloc, text)?;
-    let filters = lent_filters(alloc, &value)?;
+    let policies = listed_policies(alloc, value, arch)?;
+    match policies.into_iter().collect(alloc) {
+        Ok(filters) => Ok(filters),
+        Err(_) => Err(JsonFrontendError::OutOfMemory),
+    }
+}
+
+/// The same in the order of their names.
+pub(crate) fn listed_policies(
+    alloc: Global,
+    value: &Value,
+    arch: TargetArch,
+) -> Result<Vec<(String, SeccompFilter)>, JsonFrontendError>
+    ensures { MatchResult result
+        (λ policies. IsStrictlySortedBy string_cmp (keys_of policies.items) × ArePoliciesOf arch (under policies.items) (view value.now))
+        (λ e. OfEachText (view value.now) (λ text. TellsFrontendFault arch text e) × IsNoFailedRead e × IsNoMemoryInFrontend e) }
+{
+    let filters = lent_filters(alloc, value)?;
     let Ok(mut policies) = Vec::with_capacity(alloc, filters.len()) else {
         return Err(JsonFrontendError::OutOfMemory);
     };
@@ -244,5 +260,5 @@ pub(crate) fn read_policies(
             Err(error) => return Err(error),
         }
     }
-    Ok((value, policies))
+    Ok(policies)
 }

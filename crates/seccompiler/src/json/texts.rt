@@ -9,6 +9,7 @@ ghost use Rattle.seccompiler.specs.JsonFilters.{IsReadBack};
 ghost use Rattle.seccompiler.specs.JsonShape.{IsFilter};
 ghost use Rattle.seccompiler.specs.JsonSteps.{AreFilters, IsBeforePolicies, IsNoFailedRead};
 ghost use Rattle.seccompiler.specs.JsonTypes.{JsonFilter};
+ghost use Rattle.seccompiler.specs.Reads.{Reads};
 ghost use Rattle.seccompiler.specs.declared.backend.TargetArch.{TargetArch};
 
 use crate::json::error::JsonFrontendError;
@@ -87,7 +88,16 @@ pub fn filters_of(alloc: Global, text: &[u8]) -> Result<JsonFilterMap, JsonFront
     filters
 }
 
-/// The value of a text that repeats no name.
+/// The value of a text that repeats no name, for whoever asks more than one thing of it: [`read_filters`] and
+/// [`policies_in`] take it, and [`programs_in`].
+///
+/// # Errors
+///
+/// The first of these that is there: `SerdeJson` if the bytes are no JSON text; `RepeatedKey` if `repeats_key` finds
+/// that a name is repeated. `OutOfMemory` may be returned instead of any answer, if memory runs out.
+///
+/// [`policies_in`]: crate::json::policies_in
+/// [`programs_in`]: crate::compile::programs_in
 pub fn value_of(alloc: Global, text: &[u8]) -> Result<Value, JsonFrontendError>
     ensures { MatchResult result (λ value. IsValueOf text.now (view value)) (λ e. ((arch : TargetArch) → TellsFrontendFault arch text.now e)
         × IsBeforePolicies e × IsNoFailedRead e × IsNoMemoryInFrontend e) }
@@ -98,4 +108,18 @@ pub fn value_of(alloc: Global, text: &[u8]) -> Result<Value, JsonFrontendError>
         Err(error) if error.is_memory() => Err(JsonFrontendError::OutOfMemory),
         Err(error) => Err(JsonFrontendError::SerdeJson(error)),
     }
+}
+
+/// The value of the text that a reader gives. The text is dropped first, and the value last of all that is made of it, as it is
+/// many small pieces of memory: an allocator joins those that were given back whenever a large one is asked for or given back.
+pub(crate) fn value_from<R: Read + Drop>(
+    alloc: Global,
+    reader: R,
+) -> Result<Value, JsonFrontendError>
+    ensures value { IfOk result (λ value. Reads (R.remaining reader) (λ text. IsValueOf text (view value))) }
+    ensures fault { IfErr result (λ e. Reads (R.remaining reader) (λ text. (arch : TargetArch) → TellsFrontendFault arch text e)) }
+    ensures memory { IfErr result IsNoMemoryInFrontend }
+{
+    let text = text_of(alloc, reader)?;
+    value_of(alloc, text.as_slice())
 }

@@ -1,9 +1,9 @@
--- For `read_policies` and `policies_of`: the policies of a value's filters, and the refusal of the least name's.
-use Rattle.std.proofs.Common.{◌≡◌, ℕ, ◌++◌, List, ◌∷◌, Option, Some, None, String, Global, IfSome, All, string_bytes, refl, arith}
+-- For `listed_policies` and `policies_in`: the policies of a value's filters, and the refusal of the least name's.
+use Rattle.std.proofs.Common.{◌≡◌, ℕ, ◌++◌, List, ◌∷◌, Option, Some, None, String, Global, IfSome, All, string_bytes, refl}
 use Rattle.serde_json.specs.Data.{Data}
 use Rattle.seccompiler.proofs.ByName.{ByName, AreInOrder, AreMade}
 use Rattle.seccompiler.specs.Errors.{IsNoMemoryInFrontend}
-use Rattle.seccompiler.specs.JsonAnswers.{IsValueOf, HasPolicy, HasSomePolicy, ArePoliciesOf, IsLeastRefused, TellsFrontendFault}
+use Rattle.seccompiler.specs.JsonAnswers.{OfEachText, HasPolicy, HasSomePolicy, ArePoliciesOf, IsLeastRefused, TellsFrontendFault}
 use Rattle.seccompiler.specs.JsonFilters.{AreFound, under}
 use Rattle.seccompiler.specs.JsonPolicyOf.{Fault, IsPolicyOf, IsFirstFault}
 use Rattle.seccompiler.specs.JsonSteps.{IsNoFailedRead, IsShapeRefusal, Tells}
@@ -46,15 +46,19 @@ module _ (arch : TargetArch) (d : Data) where
           let own = value_under (HasPolicy arch) find d are name policy there in
           numbers_in_range arch own.2.0 policy own.2.2
 
-  -- The refusal of the least name's filter is the text's first fault. It is no failed read, and no want of memory inside another error.
-  pub refused_told : (text : List ℕ) → IsValueOf text d → (e : JsonFrontendError) → Tells (λ fault. IsLeastRefused arch fault d) e
-      → TellsFrontendFault arch text e × IsNoFailedRead e × IsNoMemoryInFrontend e
-  refused_told text is (e.Backend x) h = ((d, is, h.0), tt, h.1)
-  refused_told text is (e.SyscallName name known) h = ((d, is, h), tt, tt)
-  refused_told text is e.OutOfMemory h = (tt, tt, tt)
-  refused_told text is e h = absurd h
+  -- The refusal of the least name's filter is the first fault of the value's texts. It is no failed read, and no want of memory inside
+  -- another error.
+  pub refused_told : (e : JsonFrontendError) → Tells (λ fault. IsLeastRefused arch fault d) e
+      → OfEachText d (λ text. TellsFrontendFault arch text e) × IsNoFailedRead e × IsNoMemoryInFrontend e
+  refused_told (e.Backend x) h = (λ text is. (d, is, h.0), tt, h.1)
+  refused_told (e.SyscallName name known) h = (λ text is. (d, is, h), tt, tt)
+  refused_told e.OutOfMemory h = (λ text is. tt, tt, tt)
+  refused_told e h = absurd h
 
   -- So is the shape that the value has.
-  pub shape_told : (text : List ℕ) → IsValueOf text d → (e : JsonFrontendError) → IsShapeRefusal d e
-      → TellsFrontendFault arch text e × IsNoFailedRead e × IsNoMemoryInFrontend e
-  shape_told text is e h = grind arith
+  pub shape_told : (e : JsonFrontendError) → IsShapeRefusal d e
+      → OfEachText d (λ text. TellsFrontendFault arch text e) × IsNoFailedRead e × IsNoMemoryInFrontend e
+  shape_told e.NotAnObject h = (λ text is. (d, is, h), tt, tt)
+  shape_told (e.Shape name) h = (λ text is. (d, is, h), tt, tt)
+  shape_told e.OutOfMemory h = (λ text is. tt, tt, tt)
+  shape_told e h = absurd h

@@ -1,19 +1,18 @@
 -- For `verdict`: entries beside one of them, and verdicts.
-use Rattle.std.proofs.Common.{◌≡◌, ◌≢◌, ℕ, zero, suc, ◌+◌, ◌*◌, ◌<◌, ◌≤◌, ◌^◌, List, [], ◌∷◌, ◌++◌, length, get_or, map, Some, All}
+use Rattle.std.proofs.Common.{◌≡◌, ◌≢◌, ℕ, zero, suc, ◌+◌, ◌<◌, ◌≤◌, List, [], ◌∷◌, ◌++◌, length, get_or, Some, All}
 use Rattle.std.proofs.Common.{refl, sym, ap, ◌∙◌, subst, arith, ⊎_elim}
-use Rattle.std.specs.Prelude.{Any, Contains, IsSomeAnd, slice_get}
+use Rattle.std.specs.Prelude.{Contains, IsSomeAnd, slice_get}
 use Rattle.std.proofs.lemmas.Bool.{cases_eq}
-use Rattle.std.proofs.lemmas.List.{get_or-map, length-map}
 use Rattle.std.proofs.lemmas.List.Elements.{All-nil, All-push}
 use Rattle.std.proofs.lemmas.List.Elements.{Contains-append_left, Contains-push}
 use Rattle.std.proofs.lemmas.Option.{slice_get_read, slice_get_within}
 use Rattle.seccompiler.specs.declared.backend.TargetArch.{TargetArch}
 use Rattle.seccompiler.specs.Policy.{Rule, RuleHolds}
-use Rattle.seccomp_compare.specs.Cover.{Covers, IsCallOf, SomeHolds, open_bits}
+use Rattle.seccomp_compare.specs.Cover.{Covers, IsCallOf, SomeHolds}
 use Rattle.seccomp_compare.specs.declared.covered.Cover.{Cover}
 use Rattle.seccomp_compare.specs.declared.covered.Cover.TheVariants.{Covered, Escapes, Undecided}
 use Rattle.seccomp_entries.specs.Entries.{Entry, Meets}
-use Rattle.seccomp_entries.specs.Verdicts.{AreBeside, AreTooMany, IsBeside, IsCallAt, IsRuleBeside, IsVerdict, verdict_by}
+use Rattle.seccomp_entries.specs.Verdicts.{AreBeside, CoversBeside, IsBeside, IsCallAt, IsRuleBeside, IsVerdict, verdict_by}
 
 -- what holds of the items so far, and of one more
 pub each_push : {X : Type 0} (P : ℕ → X → Type 0) (vs : List X) (v : X) → P (length vs) v
@@ -30,51 +29,50 @@ pub at_place : (entries : List Entry) (place : ℕ) (own : Entry) (P : Entry →
 at_place entries place own P within is so =
     subst (λ o. IsSomeAnd o P) (sym (slice_get_read entries (length entries) place own refl within is)) so
 
-module _ (arch : TargetArch) (entries : List Entry) (place most : ℕ) (own : Entry) (rules : List Rule)
-    (beside : AreBeside entries place own.number (length entries) rules) where
+module _ (arch : TargetArch) (entries : List Entry) (place most : ℕ) (own : Entry) where
   -- a call of the entry is one of its rule
-  of_entry : (r : List ℕ) → IsCallAt arch own r → IsCallOf arch own.number own.conditions r
+  pub of_entry : (r : List ℕ) → IsCallAt arch own r → IsCallOf arch own.number own.conditions r
   of_entry r call = record { record_is = call.0; arch_is = call.1; number_is = sym call.2.own; holds = call.2.holds }
 
-  of_rule : (r : List ℕ) → IsCallOf arch own.number own.conditions r → IsCallAt arch own r
+  pub of_rule : (r : List ℕ) → IsCallOf arch own.number own.conditions r → IsCallAt arch own r
   of_rule r call = (call.record_is, call.arch_is, record { own = sym call.number_is; holds = call.holds })
 
-  -- such a call meets another entry if another rule holds
-  meets_other : (r : List ℕ) → IsCallOf arch own.number own.conditions r → SomeHolds rules r → IsBeside entries place (Meets r)
-  meets_other r call any =
-      let is = subst (λ q. IsBeside entries place (λ e. (e.number ≡ own.number) × (e.conditions ≡ q))) any.3
-      (beside.are any.0 any.1 any.2) in
+  -- such a call meets another entry if a rule of others holds
+  pub meets_other : (rules : List Rule) → All (IsRuleBeside entries place own.number) rules → (r : List ℕ) → IsCallAt arch own r
+      → SomeHolds rules r → IsBeside entries place (Meets r)
+  meets_other rules are r call any =
+      let is = subst (λ q. IsBeside entries place (λ e. (e.number ≡ own.number) × (e.conditions ≡ q))) any.3 (are any.0 any.1 any.2) in
       record {
         at = is.at;
         other = is.other;
         entry = is.entry;
         there = is.there;
-        is = record {
-          own = is.is.0 ∙ sym call.number_is;
-          holds = subst (λ q. RuleHolds q r) (sym is.is.1) any.4;
-        };
+        is = record { own = is.is.0 ∙ call.2.own; holds = subst (λ q. RuleHolds q r) (sym is.is.1) any.4 };
       }
 
-  other_holds : (r : List ℕ) → IsCallOf arch own.number own.conditions r → IsBeside entries place (Meets r) → SomeHolds rules r
-  other_holds r call is =
-      let within = slice_get_within entries is.at is.entry is.there in
-      let has = beside.each is.at is.entry within is.other is.there (is.is.own ∙ call.number_is) in
-      (has.0, is.entry.conditions, has.1, has.2, is.is.holds)
+  -- so what is so beside all the others' rules is so beside the others
+  pub by_rules : (rules : List Rule) → AreBeside entries place own.number (length entries) rules → (cover : Cover)
+      → Covers arch own.number own.conditions rules most cover → CoversBeside arch entries place most own cover
+  by_rules rules beside (Escapes s) says = (
+    of_rule s says.0,
+    λ is.
+        let within = slice_get_within entries is.at is.entry is.there in
+        let has = beside.each is.at is.entry within is.other is.there (is.is.own ∙ says.0.number_is) in
+        says.1 (has.0, is.entry.conditions, has.1, has.2, is.is.holds),
+  )
+  by_rules rules beside Covered says = λ s call. meets_other rules beside.are s call (says s (of_entry s call))
+  by_rules rules beside Undecided says = record { others = rules; are = beside.are; many = says }
 
-  too_many : most < 2 * 2 ^ open_bits own.conditions (own.conditions ∷ rules) → AreTooMany entries place most own
-  too_many says = record { others = rules; are = beside.are; many = says }
-
-  -- so the verdict is true
+  -- and the verdict is true
   pub is_verdict : (alone cover : Cover) → Covers arch own.number own.conditions [] most alone
-      → Covers arch own.number own.conditions rules most cover → IsVerdict arch entries place most own (verdict_by alone cover)
+      → CoversBeside arch entries place most own cover → IsVerdict arch entries place most own (verdict_by alone cover)
   is_verdict Covered cover none says = λ s call. let any = none s (of_entry s call) in omega (arith, any.2)
-  is_verdict (Escapes r) (Escapes s) none says = (s, of_rule s says.0, λ other. says.1 (other_holds s says.0 other))
-  is_verdict Undecided (Escapes s) none says = (s, of_rule s says.0, λ other. says.1 (other_holds s says.0 other))
-  is_verdict (Escapes r) Covered none says =
-      ((r, of_rule r none.0), λ s call. let own_call = of_entry s call in meets_other s own_call (says s own_call))
-  is_verdict (Escapes r) Undecided none says = too_many says
+  is_verdict (Escapes r) (Escapes s) none says = (s, says.0, says.1)
+  is_verdict Undecided (Escapes s) none says = (s, says.0, says.1)
+  is_verdict (Escapes r) Covered none says = ((r, of_rule r none.0), says)
+  is_verdict (Escapes r) Undecided none says = says
   is_verdict Undecided Covered none says = record { others = []; are = All-nil (IsRuleBeside entries place own.number); many = none }
-  is_verdict Undecided Undecided none says = too_many says
+  is_verdict Undecided Undecided none says = says
 
 -- ---- one entry more
 
@@ -113,28 +111,9 @@ none_more entries place number k rules e old there none = record {
 
 -- ---- lists
 
--- some item of a list that a function gives
-pub any_map : {X Y : Type 0} (P : Y → Type 0) (f : X → Y) (xs : List X) → Any P (map f xs) → Any (λ x. P (f x)) xs
-any_map P f [] any = absurd (omega (arith, any.2))
-any_map P f (x ∷ xs) (zero, y, within, is, has) = (0, x, omega arith, refl, subst P (sym is) has)
-any_map P f (x ∷ xs) (suc k, y, within, is, has) =
-    let rest = any_map P f xs (k, y, omega arith, is, has) in
-    (suc rest.0, rest.1, omega (arith, rest.2), rest.3, rest.4)
-
 -- what is so by many sets is so by fewer
 pub covers_less : (arch : TargetArch) (number : ℕ) (own : Rule) (rules : List Rule) (most more : ℕ) (cover : Cover) → most ≤ more
     → Covers arch number own rules more cover → Covers arch number own rules most cover
 covers_less arch number own rules most more (Escapes r) le says = says
 covers_less arch number own rules most more Covered le says = says
 covers_less arch number own rules most more Undecided le says = omega (arith, le, says)
-
--- one of few is one of all
-pub some_of : (rules few : List Rule) (r : List ℕ) → All (Contains rules) few → SomeHolds few r → SomeHolds rules r
-some_of rules few r within any =
-    let at : Contains rules any.1 = subst (Contains rules) any.3 (within any.0 any.1 any.2) in
-    (at.0, any.1, at.1, at.2, any.4)
-
-pub contains_map : {X Y : Type 0} (f : X → Y) (xs : List X) (k : ℕ) (x : X) → k < length xs → x ≡ get_or xs k x → Contains (map f xs) (f x)
-contains_map f xs k x room is =
-    let long = length-map xs f in
-    (k, omega (arith, long, room), get_or-map f xs k x (f x) room ∙ ap f (sym is))

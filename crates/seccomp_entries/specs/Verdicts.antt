@@ -6,7 +6,7 @@ use Rattle.seccompiler.specs.Machine.{IsRecord, word_at}
 use Rattle.seccompiler.specs.Policy.{Rule}
 use Rattle.seccomp_compare.specs.Cover.{open_bits}
 use Rattle.seccomp_compare.specs.declared.covered.Cover.{Cover}
-use Rattle.seccomp_compare.specs.declared.covered.Cover.TheVariants.{Covered, Escapes}
+use Rattle.seccomp_compare.specs.declared.covered.Cover.TheVariants.{Covered, Escapes, Undecided}
 use Rattle.seccomp_entries.specs.Entries.{Entry, Meets}
 use Rattle.seccomp_entries.specs.declared.verdict.Verdict.{Verdict}
 use Rattle.seccomp_entries.specs.declared.verdict.Verdict.TheVariants as verdict
@@ -53,6 +53,13 @@ pub record AreVerdicts (arch : TargetArch) (entries : List Entry) (verdicts : Li
       → IsSomeAnd (slice_get entries place) (λ own. IsVerdict arch entries place (share_of entries) own v)
 
 -- ---- between the private functions
+
+-- What is said of the conditions of this entry, at a place among these, beside the others, is so: this call meets it and no other entry;
+-- or each call that meets it meets another; or there are more sets of calls than were looked at.
+abbrev pub CoversBeside : TargetArch → List Entry → (place most : ℕ) → Entry → Cover → Type 0
+CoversBeside arch entries place most own (Escapes r) = IsCallAt arch own r × (IsBeside entries place (Meets r) → ⊥)
+CoversBeside arch entries place most own Covered = (r : List ℕ) → IsCallAt arch own r → IsBeside entries place (Meets r)
+CoversBeside arch entries place most own Undecided = AreTooMany entries place most own
 
 -- The verdict of an entry by whether it is covered by no others, and by the others.
 abbrev pub verdict_by : (alone beside : Cover) → Verdict

@@ -1,16 +1,18 @@
 // Whether entries are needed beside each other.
 
-ghost use Rattle.std.specs.Prelude.{◌≡◌, ◌≢◌, ◌<◌, [], Any, Contains, IfNone, IfOk, IfSome, IsSomeAnd, length, map, slice_get};
-ghost use Rattle.seccompiler.specs.Policy.{RuleHolds};
+ghost use Rattle.std.specs.Prelude.{◌≡◌, ◌≢◌, ◌<◌, ℕ, [], IfNone, IfOk, IfSome, IsSomeAnd, length, map, slice_get};
 ghost use Rattle.seccomp_compare.specs.Cover.{Covers};
+ghost use Rattle.seccomp_entries.specs.Drawers.{AreFiled};
 ghost use Rattle.seccomp_entries.specs.Verdicts as spec;
-ghost use Rattle.seccomp_entries.specs.Verdicts.{AreBeside, AreVerdicts, IsVerdict};
+ghost use Rattle.seccomp_entries.specs.Verdicts.{AreBeside, AreVerdicts, CoversBeside, IsVerdict};
 
-use crate::decider::{all_hold, is_own};
+use crate::decider::is_own;
+use crate::drawers::{Drawer, filed, first_beside};
 use crate::entry::Entry;
 use seccomp_compare::{Cover, cover_of};
 use seccompiler::{SeccompCondition, TargetArch};
 use std::alloc::{AllocError, Global};
+use std::collections::BTreeMap;
 
 // How many sets of calls are looked at for all entries.
 const MOST_SETS: usize = 300_000;
@@ -51,9 +53,10 @@ pub fn verdicts_of(
     ensures { IfOk result (λ verdicts. AreVerdicts arch entries.now verdicts.items) }
 {
     let most = (MOST_SETS / entries.len().max(1)).max(1);
+    let files = filed(alloc, entries)?;
     let mut verdicts = Vec::with_capacity(alloc, entries.len())?;
     for place in 0..entries.len() {
-        let verdict = verdict_at(alloc, arch, entries, place, most)?;
+        let verdict = verdict_at(alloc, arch, entries, &files, place, most)?;
         verdicts.push(verdict)?;
     }
     Ok(verdicts)
@@ -64,16 +67,17 @@ fn verdict_at(
     alloc: Global,
     arch: TargetArch,
     entries: &[Entry],
+    files: &BTreeMap<Drawer, Vec<usize>>,
     place: usize,
     most: usize,
 ) -> Result<Verdict, AllocError>
-    requires { place < length entries.now }
+    requires filed { AreFiled entries.now (length entries.now) files.now }
+    requires within { place < length entries.now }
     ensures { IfOk result (λ v. IsSomeAnd (slice_get entries.now place) (λ own. IsVerdict arch entries.now place most own v)) }
 {
     let own = &entries[place];
-    let others = others_of(alloc, entries, place, number_of(own))?;
     let alone = few_at(alloc, arch, own, &[], most)?;
-    let beside = beside_of(alloc, arch, own, &others, most, alone)?;
+    let beside = beside_of(alloc, arch, entries, files, place, own, most, alone)?;
     Ok(verdict_by(alone, beside))
 }
 
@@ -89,18 +93,21 @@ fn verdict_by(alone: Cover, beside: Cover) -> Verdict
     }
 }
 
-// What is so of the conditions of an entry beside others, if this is so of them alone: first beside few of the others, of which calls
-// were found to meet each, and if that doesn't do, beside all.
+// What is so of the conditions of the entry at a place beside the others, if this is so of them alone: first beside few of the others,
+// of which calls were found to meet each, and if that doesn't do, beside all.
 fn beside_of(
     alloc: Global,
     arch: TargetArch,
+    entries: &[Entry],
+    files: &BTreeMap<Drawer, Vec<usize>>,
+    place: usize,
     own: &Entry,
-    others: &[&[SeccompCondition]],
     most: usize,
     alone: Cover,
 ) -> Result<Cover, AllocError>
-    requires { Covers arch own.now.number own.now.conditions [] most alone }
-    ensures { IfOk result (Covers arch own.now.number own.now.conditions (map (λ q. q.now) others.now) most) }
+    requires filed { AreFiled entries.now (length entries.now) files.now }
+    requires alone { Covers arch own.now.number own.now.conditions [] most alone }
+    ensures { IfOk result (CoversBeside arch entries.now place most own.now) }
 {
     let mut few = Vec::new(alloc);
     let mut answer = alone;
@@ -109,7 +116,7 @@ fn beside_of(
             Cover::Covered => return Ok(Cover::Covered),
             Cover::Undecided => break,
             Cover::Escapes(call) => {
-                let Some(rule) = first_held(others, &call) else {
+                let Some(rule) = first_beside(entries, files, place, &call) else {
                     return Ok(Cover::Escapes(call));
                 };
                 few.push(rule)?;
@@ -117,23 +124,8 @@ fn beside_of(
             }
         }
     }
-    cover_at(alloc, arch, own, others, most)
-}
-
-// The first of these all of whose conditions hold.
-fn first_held<'a>(
-    others: &[&'a [SeccompCondition]],
-    call: &[u8; 64],
-) -> Option<&'a [SeccompCondition]>
-    ensures some { IfSome result (λ q. Contains (map (λ p. p.now) others.now) q.now) }
-    ensures none { IfNone result (Any (λ q. RuleHolds q call.now) (map (λ p. p.now) others.now) → ⊥) }
-{
-    for rule in others {
-        if all_hold(rule, call) {
-            return Some(*rule);
-        }
-    }
-    None
+    let others = others_of(alloc, entries, place, number_of(own))?;
+    cover_at(alloc, arch, own, &others, most)
 }
 
 // What is so of the conditions of an entry beside few others, which takes little time.

@@ -2,7 +2,7 @@
 pub mod Words
 pub mod Runs
 pub mod OlderRuns
-pub mod Fits
+pub mod Lengths
 pub mod Decisions
 pub mod Stacked
 pub mod Asked

@@ -1,14 +1,13 @@
 -- One program of the first so many, as one more is joined to it.
 use Rattle.std.proofs.Common.{◌≡◌, ℕ, ◌+◌, ◌<◌, ◌≤◌, List, [], ◌∷◌, ◌++◌, length, take, get_or, Vec, Global, refl, sym, ap, ◌∙◌}
-use Rattle.std.proofs.Common.{subst, arith, length-take, ⊎_elim}
-use Rattle.std.proofs.lemmas.Bool.{cases_lt}
+use Rattle.std.proofs.Common.{subst, arith, length-take}
 use Rattle.std.proofs.lemmas.List.{take_more}
 use Rattle.seccompiler.specs.declared.bpf.sock_filter.{sock_filter}
 use Rattle.seccomp_compare.specs.Machine.{IsChecked}
 use Rattle.seccomp_stack.specs.declared.StackError.{StackError}
 use Rattle.seccomp_stack.specs.declared.StackError.TheVariants.{TooLong, OutOfMemory}
 use Rattle.seccomp_stack.specs.Stack.{IsStack}
-use Rattle.seccomp_stack.specs.Joined.{joined, stacked_on, stacked, AreJoined, IsTooLong, IsJoinRefusal, IsRefusal}
+use Rattle.seccomp_stack.specs.Joined.{joined, stacked_on, stacked, AreJoined, IsJoinRefusal, IsRefusal}
 use Rattle.seccomp_stack.proofs.Decisions.{stack_next}
 
 on_more : (program : List sock_filter) (xs : List (Vec sock_filter Global)) (y : Vec sock_filter Global)
@@ -49,32 +48,11 @@ module _ (programs : List (Vec sock_filter Global)) (count : ℕ) (newer : Vec s
 
   -- the error of the next one is that of all
   pub next_refused : (program : List sock_filter) (e : StackError) → program ≡ stacked (take count programs)
-      → ((fewer : ℕ) → fewer < count + 1 → length (stacked (take fewer programs)) ≤ 4096)
       → IsJoinRefusal program newer.items e → IsRefusal programs e
-  next_refused program (TooLong n) so_far before refused = record {
+  next_refused program (TooLong n) so_far refused = record {
     count = count + 1;
     within = omega arith;
     long = refused.0 ∙ ap length (next_stacked program so_far);
-    exceeds = refused.1;
-    before = before;
+    unfit = λ checked. refused.1 (subst IsChecked (sym (next_stacked program so_far)) checked);
   }
-  next_refused program OutOfMemory so_far before refused = tt
-
--- what holds of fewer, and of so many, holds of fewer than one more
-pub none_longer : (programs : List (Vec sock_filter Global)) (count : ℕ) (program : List sock_filter)
-    → ((fewer : ℕ) → fewer < count → length (stacked (take fewer programs)) ≤ 4096)
-    → program ≡ stacked (take count programs) → length program ≤ 4096
-    → (fewer : ℕ) → fewer < count + 1 → length (stacked (take fewer programs)) ≤ 4096
-none_longer programs count program before so_far few fewer below =
-    ⊎_elim
-    (λ less. before fewer less)
-    (λ (last : count ≤ fewer).
-    let same : fewer ≡ count = omega arith in
-    let long : length program ≡ length (stacked (take count programs)) = ap length so_far in
-    rw same (omega (arith, long, few)))
-    (cases_lt fewer count)
-
--- programs are not too long if no first ones are
-pub none_too_long : (programs : List (Vec sock_filter Global))
-    → ((fewer : ℕ) → fewer ≤ length programs → length (stacked (take fewer programs)) ≤ 4096) → (n : ℕ) → IsTooLong programs n → ⊥
-none_too_long programs short n too = omega (arith, short too.count too.within, too.long, too.exceeds)
+  next_refused program OutOfMemory so_far refused = tt

@@ -1,13 +1,11 @@
--- The words that a program's returns have: each is among them, and has 32 bits.
-use Rattle.std.proofs.Common.{◌≡◌, ℕ, zero, suc, ◌+◌, ◌<◌, ◌≤◌, ◌^◌, List, [], ◌∷◌, ◌++◌, length, Some, sym, subst, arith, length-append}
+-- The words that a program's returns have: each is among them.
+use Rattle.std.proofs.Common.{◌≡◌, ℕ, zero, suc, ◌+◌, ◌<◌, ◌≤◌, List, [], ◌∷◌, ◌++◌, length, Some, sym, subst, arith, length-append}
 use Rattle.std.proofs.Common.{⊎_elim}
-use Rattle.std.specs.Prelude.{All, slice_get}
+use Rattle.std.specs.Prelude.{slice_get}
 use Rattle.std.proofs.lemmas.Bool.{cases_eq}
 use Rattle.std.proofs.lemmas.Bool.Decides.{nat_tests}
 use Rattle.std.proofs.lemmas.Option.{same_Some}
-use Rattle.std.proofs.lemmas.List.Elements.{All-push}
 use Rattle.seccompiler.specs.declared.bpf.sock_filter.{sock_filter}
-use Rattle.seccompiler.specs.Machine.{IsInRange}
 use Rattle.seccomp_stack.specs.Joined.{place_of, with_word, words_from}
 
 -- the place of a word is at most how many words there are
@@ -60,22 +58,6 @@ each_has words (j ∷ program) zero i found returns =
     from_has (with_word words j) program i.k
     (subst (λ (x : sock_filter). place_of (with_word words x) i.k < length (with_word words x)) (sym same) (with_own words i own))
 each_has words (j ∷ program) (suc place) i found returns = each_has (with_word words j) program place i found returns
-
-with_fits : (words : List ℕ) (i : sock_filter) → All (λ w. w < 2 ^ 32) words → i.k < 2 ^ 32 → All (λ w. w < 2 ^ 32) (with_word words i)
-with_fits words i all fits =
-    let more = All-push (λ w. w < 2 ^ 32) words i.k all fits in
-    ⊎_elim
-    (λ returns. ⊎_elim (λ new. grind (arith, nat_tests)) (λ old. grind (arith, nat_tests)) (cases_eq (place_of words i.k) (length words)))
-    (λ other. grind (arith, nat_tests))
-    (cases_eq i.code 6)
-
--- each has 32 bits
-pub each_fits : (words : List ℕ) (program : List sock_filter) → All (λ w. w < 2 ^ 32) words
-    → ((place : ℕ) (i : sock_filter) → slice_get program place ≡ Some i → IsInRange i) → All (λ w. w < 2 ^ 32) (words_from words program)
-each_fits words [] all ranges = all
-each_fits words (i ∷ program) all ranges =
-    let here : IsInRange i = ranges 0 i (cc) in
-    each_fits (with_word words i) program (with_fits words i all here.k) (λ place j found. ranges (suc place) j found)
 
 -- there are at most as many as instructions
 pub words_few : (words : List ℕ) (program : List sock_filter) → length (words_from words program) ≤ length words + length program

@@ -1,6 +1,6 @@
 -- Machinery: how programs are made one. Two are: the older one, and behind it the newer one once for each word that the older
 -- one returns, in the place of whose returns stand jumps.
-use Rattle.std.specs.Prelude.{◌≡◌, ◌==◌, ℕ, suc, ◌+◌, ◌*◌, ◌<◌, ◌≤◌, List, [], ◌∷◌, ◌++◌, length, take, map, if◌then◌else◌, Vec}
+use Rattle.std.specs.Prelude.{◌≡◌, ◌==◌, ℕ, suc, ◌+◌, ◌*◌, ◌≤◌, List, [], ◌∷◌, ◌++◌, length, take, map, if◌then◌else◌, Vec}
 use Rattle.std.specs.List.{flat_map}
 use Rattle.std.specs.declared.alloc.Global.{Global}
 use Rattle.seccompiler.specs.declared.bpf.sock_filter.{sock_filter}
@@ -54,9 +54,9 @@ pub record AreJoined (older newer program : List sock_filter) : Type 0 where
   pub checked : IsChecked program
   pub decides : (r : List ℕ) (n m v w : ℕ) → Ends older r n v → Ends newer r m w → Ends program r (n + 1 + m) (prevailing v w)
 
--- What the error of two programs says is so: how long the program would be, if that is too long.
+-- What the error of two programs says is so: how long the program would be, which can't be run.
 abbrev pub IsJoinRefusal : (older newer : List sock_filter) → StackError → Type 0
-IsJoinRefusal older newer (TooLong n) = (n ≡ length (joined older newer)) × (4096 < n)
+IsJoinRefusal older newer (TooLong n) = (n ≡ length (joined older newer)) × (IsChecked (joined older newer) → ⊥)
 IsJoinRefusal older newer OutOfMemory = Unit {0}
 
 abbrev pub stacked_on : List sock_filter → List (Vec sock_filter Global) → List sock_filter
@@ -68,13 +68,12 @@ abbrev pub stacked : List (Vec sock_filter Global) → List sock_filter
 stacked [] = give 0x7fff0000 ∷ []
 stacked (oldest ∷ programs) = stacked_on oldest.items programs
 
--- The first so many programs, and no fewer, make a program of more than 4096 instructions: of n.
+-- The first so many programs make a program of n instructions, which can't be run.
 pub record IsTooLong (programs : List (Vec sock_filter Global)) (n : ℕ) : Type 0 where
   pub count : ℕ
   pub within : count ≤ length programs
   pub long : n ≡ length (stacked (take count programs))
-  pub exceeds : 4096 < n
-  pub before : (fewer : ℕ) → fewer < count → length (stacked (take fewer programs)) ≤ 4096
+  pub unfit : IsChecked (stacked (take count programs)) → ⊥
 
 -- What the error says is so.
 abbrev pub IsRefusal : List (Vec sock_filter Global) → StackError → Type 0

@@ -5,6 +5,7 @@ ghost use Rattle.seccomp_compare.specs.Machine.{IsChecked};
 ghost use Rattle.seccomp_stack.specs.Joined.{place_of, words_in, front, copy, joined, AreJoined, IsJoinRefusal};
 
 use crate::{StackError, prevailing};
+use seccomp_compare::machine::check;
 use seccompiler::bpf::{BPF_MAX_LEN, BpfProgram, BpfProgramRef, JUMP, MASK, RETURN, bpf_stmt};
 use std::alloc::{AllocError, Global};
 
@@ -32,6 +33,10 @@ pub(crate) fn join(
     let mut program = front_of(alloc, older, &words, size)?;
     for word in &words {
         push_copy(&mut program, newer, *word)?;
+    }
+    // A program of two that may be run is unfit only if it is too long.
+    if !check(&program) {
+        return Err(StackError::TooLong(length));
     }
     Ok(program)
 }

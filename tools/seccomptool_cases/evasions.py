@@ -1,4 +1,4 @@
-"""The evasions of a filter, from the definition of `IsEvasion` in crates/seccomp_warnings: two calls that differ in what changes
+"""The evasions of a filter that are found, each as `IsEvasion` of crates/seccomp_warnings says: two calls that differ in what changes
 nothing of what is denied, or of which the second can do the same; the filter denies the first and lets the second through."""
 
 from model import is_met as holds
@@ -38,6 +38,28 @@ def likely_arguments(conditions):
     return arguments
 
 
+def met_arguments(conditions):
+    """Returns the least arguments that meet conditions, of small numbers and those about the conditions' own; none if there are none."""
+    near = {edge_of(it) + more for it in conditions for more in (0, 1)} | set(range(64))
+    numbers = sorted(near | {2**32 | number & LOW for number in near})
+    met = [[number for number in numbers if all(holds(it, number) for it in conditions if it["index"] == index)] for index in range(6)]
+    return [it[0] for it in met] if all(met) else None
+
+
+def met_pairs(name, conditions, it, permits, bits):
+    """Returns the pair of calls of a condition by a call that meets its entry; of one that lets calls through, a call with these high bits,
+    for which without them the condition doesn't hold."""
+    index, unmet = it["index"], {"ge": "lt", "gt": "le", "ne": "eq"}
+    if permits != (it["op"] in ("ge", "gt", "ne")):
+        return []
+    asked = [{**it, "type": "dword", "op": unmet[it["op"]]}, {**it, "op": {"masked_eq": WHOLE - LOW}, "val": bits}] if permits else []
+    arguments = met_arguments([*conditions, *asked])
+    if arguments is None:
+        return []
+    calls = [(name, arguments), (name, with_argument(arguments, index, arguments[index] ^ bits))]
+    return [calls[::-1] if permits else calls]
+
+
 def bits_of(code, name, it):
     """Returns the bits of an argument in which the two calls of the pairs of a condition on it differ, a number for each; 0 if there
     are none."""
@@ -68,7 +90,9 @@ def pairs_of(code, name, conditions, it, permits):
     """Returns the pairs of calls of a condition among others of an entry, which lets calls through or not."""
     index, edge, arguments = it["index"], edge_of(it), likely_arguments(conditions)
     if code != "condition-evaded":
-        return [[(name, with_argument(arguments, index, value)) for value in (edge, edge ^ bits)] for bits in bits_of(code, name, it)]
+        changed = [bits for bits in bits_of(code, name, it) if bits]
+        pairs = [[(name, with_argument(arguments, index, value)) for value in (edge, edge ^ bits)] for bits in changed]
+        return pairs + [pair for bits in changed for pair in met_pairs(name, conditions, it, permits, bits) if code == "high-half-evades"]
     found = []
     for call, asking, bits, other, other_index, kept in DETOURS:
         above = it["op"] in ("ge", "gt", "ne")
@@ -106,4 +130,6 @@ def evasions_of(filter_):
                 for calls in pairs_of(code, rule["syscall"], conditions, it, permits):
                     if decides(code, it, calls, permits) and [is_let_through(actions, entries, call) for call in calls] == [False, True]:
                         found.setdefault((entry, place, code), []).append(shown(calls))
+                        if code == "high-half-evades":
+                            break
     return found

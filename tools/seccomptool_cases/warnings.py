@@ -162,6 +162,9 @@ BESIDE_OTHERS = [
     ("ioctl", [[(0, "dword", "eq", 1), (1, "qword", "eq", TIOCSTI)]], ["filter[0].args[1] high-half-evades"]),
     ("ioctl", [[(1, "qword", "gt", 4), (1, "qword", "lt", 9)]], ["filter[0].args[1] high-half-evades"]),
     ("ioctl", [[(1, "qword", "gt", 9), (1, "qword", "lt", 10)]], []),
+    # Another condition excludes the number itself.
+    ("ioctl", [[(1, "qword", "le", 9), (1, "qword", "ne", 9)]], ["filter[0].args[0] high-half-evades"]),
+    ("ioctl", [[(1, "qword", "le", 9), (1, "qword", "ne", 9), (0, "dword", "lt", 3)], [(1, "qword", "gt", LOW)]], []),
     ("open", [[(1, "dword", "eq", 0)], [(1, "dword", "eq", O_CLOEXEC)]], []),
     ("open", [[AT_WRITE], [(1, "dword", "eq", O_CLOEXEC)]], ["filter[0].args[0] flag-evades", "filter[1].args[0] flag-evades"]),
     ("open", [[AT_WRITE, (2, "dword", "eq", 5)], [(1, "dword", "eq", O_CLOEXEC | 1), (2, "dword", "le", 4)]], [

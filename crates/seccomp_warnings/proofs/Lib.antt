@@ -1,11 +1,7 @@
--- Lemmas: of conditions, for `condition`; of the rows of a table, for `argument`; of entries, their numbers and judgements, for
--- `judgement` and `sibling`; and of the warnings of a part, for `walk`.
-pub mod Apart
-pub mod Candidates
+-- Lemmas: of conditions, for `condition`; of the rows of tables; of some elements of lists, for `beside`; and of what lists gain and what
+-- warnings are about, for `walk`.
 pub mod ConstantConditions
-pub mod Decided
+pub mod Gained
+pub mod Listed
 pub mod Quantified
-pub mod Judged
-pub mod Numbered
-pub mod Picked
-pub mod Rows
+pub mod Subjects

@@ -31,10 +31,14 @@ IsSoOfAction code.FakeSuccess action = value_of action ≡ 0x00050000
 IsSoOfAction code.ErrnoTooLarge action = IsErrnoTooLarge action
 IsSoOfAction code.EndlessRetry action = value_of action ≡ 0x00050004
 IsSoOfAction code.TraceWithoutTracer action = Traces action
-IsSoOfAction code.AllowsByDefault action = Permits action
 IsSoOfAction other action = ⊥
 
 -- What a code says of both actions together is so.
 abbrev pub IsSoOfBoth : Code → Actions → Type 0
 IsSoOfBoth code.DeniesEverything actions = Denies actions.mismatch × Denies actions.matching
 IsSoOfBoth other actions = ⊥
+
+-- What a code says of the action for calls that no entry matches is so, and of no other.
+abbrev pub IsSoOfDefault : Code → Action → Type 0
+IsSoOfDefault code.AllowsByDefault action = Permits action
+IsSoOfDefault other action = ⊥

@@ -1,9 +1,10 @@
 -- What is so of the calls that entries are for, and of those that none is for, that a part's author may not mean.
-use Rattle.std.specs.Prelude.{◌≡◌, ℕ, pos, ◌⊎◌, List, [], ◌∷◌, Any, IsSome, IsSomeAnd, IsTrue, Some, codes, slice_get}
+use Rattle.std.specs.Prelude.{◌≡◌, ℕ, pos, ◌⊎◌, List, [], ◌∷◌, Any, IsSome, IsSomeAnd, Some, codes, map, slice_get}
 use Rattle.seccompiler.specs.declared.backend.TargetArch.{TargetArch}
 use Rattle.seccompiler.specs.Architecture.{table_of}
 use Rattle.seccompiler.specs.SyscallTable.{number_of}
 use Rattle.seccomp_entries.specs.Entries.{Entry}
+use Rattle.seccomp_entries.specs.declared.verdict.Verdict.{Verdict}
 use Rattle.seccomp_entries.specs.declared.verdict.Verdict.TheVariants as verdict
 use Rattle.seccomp_warnings.specs.ActionWarnings.{Permits}
 use Rattle.seccomp_warnings.specs.Parts.{Part}
@@ -11,7 +12,7 @@ use Rattle.seccomp_warnings.specs.declared.code.Code.{Code}
 use Rattle.seccomp_warnings.specs.declared.code.Code.TheVariants as code
 use Rattle.seccomp_warnings.specs.declared.unlisted.Unlisted.{Unlisted}
 use Rattle.seccomp_warnings.specs.declared.unlisted.Unlisted.TheVariants as unlisted
-use Rattle.seccomp_warnings.specs.declared.judgement.Judgement.{Judgement}
+use Rattle.seccomp_warnings.specs.declared.tables.TheConstants.{SIBLINGS}
 
 -- ---- the entries of a part
 
@@ -49,10 +50,6 @@ abbrev pub DeniesEach : List ℕ → Part → Type 0
 DeniesEach name p = ((Permits p.actions.matching → ⊥) × MatchesEachCall p name) ⊎ IsDeniedUnlisted p name
 
 -- ---- the calls that no entry is for
-
--- The calls that are looked for, in the order in which they are asked about.
-abbrev pub all_unlisted : List Unlisted
-all_unlisted = unlisted.Exit ∷ unlisted.ExitGroup ∷ unlisted.RtSigreturn ∷ unlisted.Clone3 ∷ unlisted.Execve ∷ unlisted.RestartSyscall ∷ []
 
 -- What is listed is allowed, among it set_tid_address, which a program calls once, as it starts, and the calls by which a program
 -- is started are denied.
@@ -97,29 +94,42 @@ abbrev pub LetsClone3Through : Part → Entry → Type 0
 LetsClone3Through p e = Permits p.actions.matching × (Permits p.actions.mismatch → ⊥) × MatchesEach p.target_arch (codes "clone3") e
     × (MatchesEachCall p (codes "clone") → ⊥)
 
+-- The entry matches each of its calls, and another one asks for arguments of the same call.
+abbrev pub IsWithAndWithoutArgs : Part → Entry → Type 0
+IsWithAndWithoutArgs p e = HasNoArgs e × Any (λ other. (other.number ≡ e.number) × (HasNoArgs other → ⊥)) p.entries
+
 -- Calls that an entry matches are denied, the others are let through, and this entry matches each of its calls.
 abbrev pub IsDeniedAlone : Part → Entry → Type 0
 IsDeniedAlone p e = (Permits p.actions.matching → ⊥) × Permits p.actions.mismatch × HasNoArgs e
 
+-- The architecture has the call, and no entry is for it.
+abbrev pub IsUnnamed : Part → (name : List ℕ) → Type 0
+IsUnnamed p name = IsSome (number_of (table_of p.target_arch) name) × (NamesCall p name → ⊥)
+
+-- The first of two calls is the entry's, and the second is unnamed.
+abbrev pub IsOpen : Part → Entry → List ℕ × List ℕ → Type 0
+IsOpen p e pair = Names p.target_arch pair.0 e × IsUnnamed p pair.1
+
+-- The entry denies each of its calls, and another call by which the same can be done (docs/CHECKS.md says how) is let through, as no entry
+-- is for it.
+abbrev pub IsUndone : Part → Entry → Type 0
+IsUndone p e = IsDeniedAlone p e × Any (IsOpen p e) (map (λ row. (row.0.now, row.1.now)) SIBLINGS)
+
 -- What a code says of an entry of the part is so.
-abbrev pub IsSoOfRule : Code → Part → Entry → Type 0
-IsSoOfRule code.KillsExit p e = KillsAtExit p e
-IsSoOfRule code.CloneByClone3 p e = LetsClone3Through p e
-IsSoOfRule other p e = ⊥
+abbrev pub IsSoOfEntry : Code → Part → Entry → Type 0
+IsSoOfEntry code.KillsExit p e = KillsAtExit p e
+IsSoOfEntry code.CloneByClone3 p e = LetsClone3Through p e
+IsSoOfEntry code.SiblingAllowed p e = IsUndone p e
+IsSoOfEntry code.CrateDiffers p e = IsWithAndWithoutArgs p e
+IsSoOfEntry other p e = ⊥
 
--- The part has an entry at the place, of which what a code says is so.
-abbrev pub IsSoOfEntry : Code → Part → ℕ → Type 0
-IsSoOfEntry kind p place = IsSomeAnd (slice_get p.entries place) (IsSoOfRule kind p)
+-- What a code says of an entry with this verdict is so.
+abbrev pub IsOfVerdict : Code → Verdict → Type 0
+IsOfVerdict code.UnreachableEntry v = v ≡ verdict.Unreachable
+IsOfVerdict code.RedundantEntry v = v ≡ verdict.Redundant
+IsOfVerdict code.UndecidedEntry v = v ≡ verdict.Undecided
+IsOfVerdict other v = ⊥
 
--- What a code says of an entry with this judgement is so.
-abbrev pub IsOfJudgement : Code → Judgement → Type 0
-IsOfJudgement code.SiblingAllowed own = IsSome own.sibling
-IsOfJudgement code.CrateDiffers own = IsTrue own.differs
-IsOfJudgement code.UnreachableEntry own = own.verdict ≡ verdict.Unreachable
-IsOfJudgement code.RedundantEntry own = own.verdict ≡ verdict.Redundant
-IsOfJudgement code.UndecidedEntry own = own.verdict ≡ verdict.Undecided
-IsOfJudgement other own = ⊥
-
--- There is a judgement at the place, by which what a code says is so.
-abbrev pub IsJudged : Code → List Judgement → ℕ → Type 0
-IsJudged kind judgements place = IsSomeAnd (slice_get judgements place) (IsOfJudgement kind)
+-- There is a verdict at the place, by which what a code says is so.
+abbrev pub IsJudged : Code → List Verdict → ℕ → Type 0
+IsJudged kind verdicts place = IsSomeAnd (slice_get verdicts place) (IsOfVerdict kind)

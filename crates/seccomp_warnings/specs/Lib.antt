@@ -4,12 +4,8 @@ pub mod AnyArgument
 pub mod Arguments
 pub mod Beside
 pub mod CallWarnings
-pub mod Detours
 pub mod Evasions
-pub mod Flags
-pub mod Judgements
 pub mod Parts
-pub mod Picked
 pub mod Warnings
 -- Between layers.
 pub mod Walks

@@ -1,7 +1,7 @@
 // What is so of an action.
 
 ghost use Rattle.std.specs.Prelude.{◌↔◌, IsTrue};
-ghost use Rattle.seccomp_warnings.specs.ActionWarnings.{Denies, IsSoOfAction, IsSoOfBoth, Permits};
+ghost use Rattle.seccomp_warnings.specs.ActionWarnings.{Denies, IsSoOfAction, IsSoOfBoth, IsSoOfDefault, Permits};
 
 use crate::code::Code;
 use crate::warning::Actions;
@@ -56,7 +56,13 @@ pub(crate) fn is_so_of_action(code: Code, action: Action) -> bool
         (Code::ErrnoTooLarge, Action::Own(SeccompAction::Errno(number))) => number > GREATEST_ERRNO,
         (Code::EndlessRetry, action) => u32::from(action) == ERRNO_EINTR,
         (Code::TraceWithoutTracer, Action::Own(SeccompAction::Trace(_))) => true,
-        (Code::AllowsByDefault, action) => permits(action),
         _ => false,
     }
+}
+
+// Whether what a code says is so of the action for calls that no entry matches, and of no other.
+pub(crate) fn is_so_of_default(code: Code, action: Action) -> bool
+    ensures { IsTrue result ↔ IsSoOfDefault code action }
+{
+    matches!(code, Code::AllowsByDefault) && permits(action)
 }

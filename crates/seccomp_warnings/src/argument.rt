@@ -1,79 +1,57 @@
 // What is so of the arguments of calls.
 
-ghost use Rattle.std.specs.Prelude.{◌≡◌, ◌↔◌, IsTrue, map};
-ghost use Rattle.seccomp_warnings.specs.Arguments as spec;
+ghost use Rattle.std.specs.Prelude.{◌≡◌, ◌↔◌, Any, IsSomeAnd, IsTrue, map, slice_get};
+ghost use Rattle.seccomp_warnings.specs.Arguments.{HasRow, IsSoOfArgument};
+ghost use Rattle.seccomp_warnings.specs.CallWarnings.{IsNumberOf};
 
+use crate::call::is_number_of;
 use crate::code::Code;
+use crate::part::Part;
 use crate::tables::{ADDRESSES, SIGNED};
 use crate::warning::Comparison;
-use seccompiler::{SeccompCmpOp, SyscallTable, TargetArch};
+use seccompiler::{SeccompCmpOp, TargetArch};
 
-// Whether one of the rows has this name and this index.
-fn is_row(name: &str, index: u8, rows: &[(&str, u8)]) -> bool
-    ensures { result ≡ spec.is_row name.now index (map (λ row. (row.0.now, row.1)) rows.now) }
+// Whether one of the rows has the argument of this index of the call of this number.
+fn has_row(arch: TargetArch, number: u32, index: u8, rows: &[(&str, u8)]) -> bool
+    ensures { IsTrue result ↔ HasRow arch number index (map (λ row. (row.0.now, row.1)) rows.now) }
 {
-    for row in rows {
-        if is_of(row.0, row.1, name, index) {
-            return true;
-        }
-    }
-    false
+    is_listed(arch, number, index, rows)
 }
 
-// Whether a row with the first name and index is the one of the second.
-fn is_of(call: &str, at: u8, name: &str, index: u8) -> bool
-    ensures { result ≡ spec.is_of name.now index (call.now, at) }
+// The same, said of the rows as they are lent.
+fn is_listed(arch: TargetArch, number: u32, index: u8, rows: &[(&str, u8)]) -> bool
+    ensures { IsTrue result ↔ Any (λ row. IsNumberOf arch row.0.now number × (row.1 ≡ index)) rows.now }
 {
-    at == index && call == name
-}
-
-// Whether the rows have the argument of this index of the call of this number: one pass over the calls takes less than a look-up of each row.
-fn is_among(arch: TargetArch, number: u32, index: u8, rows: &[(&str, u8)]) -> bool
-    ensures { result ≡ spec.is_among arch number index (map (λ row. (row.0.now, row.1)) rows.now) }
-{
-    let table = SyscallTable::new(arch);
-    let numbers = table.numbers();
-    for place in 0..numbers.len() {
-        if i64::from(number) == numbers[place] && is_row(table.name(place), index, rows) {
-            return true;
-        }
-    }
-    false
-}
-
-// Whether the argument of this index is an address.
-fn is_address(arch: TargetArch, number: u32, index: u8) -> bool
-    ensures { result ≡ spec.is_among arch number index spec.addresses }
-{
-    is_among(arch, number, index, &ADDRESSES)
-}
-
-// Whether it is signed.
-fn is_signed(arch: TargetArch, number: u32, index: u8) -> bool
-    ensures { result ≡ spec.is_among arch number index spec.signed }
-{
-    is_among(arch, number, index, &SIGNED)
+    rows.iter()
+        .any(|row| row.1 == index && is_number_of(arch, row.0, number))
 }
 
 // Whether what a code says is so of a condition on an argument of the call of this number.
-pub(crate) fn is_so_of_call(
-    code: Code,
-    arch: TargetArch,
-    number: u32,
-    comparison: Comparison,
-) -> bool
-    ensures { IsTrue result ↔ spec.IsSoOfArgument code arch number comparison }
+fn is_so_of_call(code: Code, arch: TargetArch, number: u32, comparison: Comparison) -> bool
+    ensures { IsTrue result ↔ IsSoOfArgument code arch number comparison }
 {
     let index = comparison.arg_index;
     match code {
-        Code::PointerCompared => comparison.value != 0 && is_address(arch, number, index),
+        Code::PointerCompared => {
+            comparison.value != 0 && has_row(arch, number, index, &ADDRESSES)
+        }
         // The operator asks for the order of numbers.
         Code::SignedCompared => match comparison.operator {
             SeccompCmpOp::Ge | SeccompCmpOp::Gt | SeccompCmpOp::Le | SeccompCmpOp::Lt => {
-                is_signed(arch, number, index)
+                has_row(arch, number, index, &SIGNED)
             }
             _ => false,
         },
         _ => false,
+    }
+}
+
+// The same of a condition of a part, on an argument of its entry's call.
+pub(crate) fn is_so_of_argument(code: Code, part: &Part, comparison: Comparison) -> bool
+    ensures { IsTrue result ↔ IsSomeAnd (slice_get part.now.entries comparison.entry) (λ e. IsSoOfArgument code part.now.target_arch e.number comparison) }
+{
+    match part.entries.get(comparison.entry) {
+        Some(entry) => is_so_of_call(code, part.target_arch, entry.number, comparison),
+        None => false,
     }
 }

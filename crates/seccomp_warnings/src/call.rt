@@ -1,23 +1,19 @@
 // What is so of the calls that entries are for, and of those that none is for.
 
-ghost use Rattle.std.specs.Prelude.{◌≡◌, ◌↔◌, pos, IsTrue};
-ghost use Rattle.seccompiler.specs.Architecture.{table_of};
-ghost use Rattle.seccompiler.specs.JsonPolicyOf.{is_number};
-ghost use Rattle.seccompiler.specs.SyscallTable.{number_of};
-ghost use Rattle.seccomp_warnings.specs.CallWarnings.{DeniesEach, HasNoArgs, IsDeniedUnlisted, IsExit, IsJudged, IsNumberOf, IsSoOfEntry, IsSoOfUnlisted, IsUnrestartable, IsUnstartable, LetsClone3Through, MatchesEachCall, Names, NamesCall};
+ghost use Rattle.std.specs.Prelude.{◌↔◌, IsSomeAnd, IsTrue, slice_get};
+ghost use Rattle.seccomp_warnings.specs.CallWarnings.{DeniesEach, HasNoArgs, IsDeniedUnlisted, IsExit, IsJudged, IsNumberOf, IsSoOfEntry, IsSoOfUnlisted, IsUnrestartable, IsUnstartable, IsWithAndWithoutArgs, LetsClone3Through, MatchesEachCall, Names, NamesCall};
 
 use crate::action::permits;
 use crate::code::Code;
-use crate::judgement::Judgement;
 use crate::part::Part;
+use crate::sibling::is_undone;
 use crate::unlisted::Unlisted;
 use seccomp_entries::{Entry, Verdict};
 use seccompiler::{SyscallTable, TargetArch};
 
 // Whether the call of this name has this number.
 pub(crate) fn is_number_of(arch: TargetArch, name: &str, number: u32) -> bool
-    ensures test { result ≡ is_number (pos number) (number_of (table_of arch) name.now) }
-    ensures is { IsTrue result ↔ IsNumberOf arch name.now number }
+    ensures { IsTrue result ↔ IsNumberOf arch name.now number }
 {
     Some(i64::from(number)) == SyscallTable::new(arch).get_syscall_nr(name)
 }
@@ -37,7 +33,7 @@ pub(crate) fn has_no_args(entry: &Entry) -> bool
 }
 
 // Whether some entry is for the call.
-fn names_call(part: &Part, name: &str) -> bool
+pub(crate) fn names_call(part: &Part, name: &str) -> bool
     ensures { IsTrue result ↔ NamesCall part.now name.now }
 {
     match SyscallTable::new(part.target_arch).get_syscall_nr(name) {
@@ -141,13 +137,18 @@ fn lets_clone3_through(part: &Part, entry: &Entry) -> bool
         && !matches_each_call(part, "clone")
 }
 
-// Whether the part has an entry at the place, of which what a code says is so.
-pub(crate) fn is_so_of_entry(code: Code, part: &Part, place: usize) -> bool
-    ensures { IsTrue result ↔ IsSoOfEntry code part.now place }
+// Whether the entry has no conditions, and another one of its call has some.
+fn is_with_and_without_args(part: &Part, entry: &Entry) -> bool
+    ensures { IsTrue result ↔ IsWithAndWithoutArgs part.now entry.now }
 {
-    let Some(entry) = part.entries.get(place) else {
-        return false;
-    };
+    let mut entries = part.entries.iter();
+    has_no_args(entry) && entries.any(|other| other.number == entry.number && !has_no_args(other))
+}
+
+// Whether what a code says of an entry is so.
+fn is_so_of_entry(code: Code, part: &Part, entry: &Entry) -> bool
+    ensures { IsTrue result ↔ IsSoOfEntry code part.now entry.now }
+{
     match code {
         // It denies each call by which a thread or a process ends, or a signal handler returns.
         Code::KillsExit => {
@@ -156,23 +157,33 @@ pub(crate) fn is_so_of_entry(code: Code, part: &Part, place: usize) -> bool
                 && is_exit(part.target_arch, entry)
         }
         Code::CloneByClone3 => lets_clone3_through(part, entry),
+        Code::SiblingAllowed => is_undone(part, entry),
+        Code::CrateDiffers => is_with_and_without_args(part, entry),
         _ => false,
     }
 }
 
-// Whether there is a judgement at the place, by which what a code says is so.
-pub(crate) fn is_judged(code: Code, judgements: &[Judgement], place: usize) -> bool
-    ensures { IsTrue result ↔ IsJudged code judgements.now place }
+// Whether the part has an entry at the place, of which what a code says is so.
+pub(crate) fn is_so_at(code: Code, part: &Part, place: usize) -> bool
+    ensures { IsTrue result ↔ IsSomeAnd (slice_get part.now.entries place) (IsSoOfEntry code part.now) }
 {
-    let Some(judgement) = judgements.get(place) else {
+    match part.entries.get(place) {
+        Some(entry) => is_so_of_entry(code, part, entry),
+        None => false,
+    }
+}
+
+// Whether there is a verdict at the place, by which what a code says is so.
+pub(crate) fn is_judged(code: Code, verdicts: &[Verdict], place: usize) -> bool
+    ensures { IsTrue result ↔ IsJudged code verdicts.now place }
+{
+    let Some(verdict) = verdicts.get(place) else {
         return false;
     };
     match code {
-        Code::SiblingAllowed => judgement.sibling.is_some(),
-        Code::CrateDiffers => judgement.differs,
-        Code::UnreachableEntry => matches!(judgement.verdict, Verdict::Unreachable),
-        Code::RedundantEntry => matches!(judgement.verdict, Verdict::Redundant),
-        Code::UndecidedEntry => matches!(judgement.verdict, Verdict::Undecided),
+        Code::UnreachableEntry => matches!(verdict, Verdict::Unreachable),
+        Code::RedundantEntry => matches!(verdict, Verdict::Redundant),
+        Code::UndecidedEntry => matches!(verdict, Verdict::Undecided),
         _ => false,
     }
 }

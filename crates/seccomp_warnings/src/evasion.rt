@@ -1,23 +1,22 @@
-// Evasions: two calls that differ in what changes nothing of what is denied, or do the same, of which one is denied and the other let
-// through.
+// Evasions: two calls of which one is denied and the other let through, though they differ in what changes nothing of what is denied, or
+// the same can be done by the second.
 
-ghost use Rattle.std.specs.Prelude.{◌≡◌, ◌+◌, ◌≤◌, ◌↔◌, ◌∷◌, [], IfOk, IsFalse, IsTrue, OnOk, Some, length, slice_get};
+ghost use Rattle.std.specs.Prelude.{◌≡◌, ◌≤◌, ◌+◌, ◌*◌, ◌↔◌, Any, IfOk, IfSome, IsFalse, IsTrue, OnOk, map};
 ghost use Rattle.seccomp_entries.specs.Rulings.{AreOfCalls};
 ghost use Rattle.seccomp_tree.specs.Decided.{AscendFromZero};
-ghost use Rattle.seccomp_warnings.specs.AnyArgument.{condition_of};
-ghost use Rattle.seccomp_warnings.specs.Detours as detours;
 ghost use Rattle.seccomp_warnings.specs.Evasions as spec;
-ghost use Rattle.seccomp_warnings.specs.Evasions.{AreEvasions, DeniesCall, IsApartBy, IsDecidedBy, IsPermitting, IsShown, LetsThrough, blank_call, entry_pairs, with_argument, with_bytes};
-ghost use Rattle.seccomp_warnings.specs.Walks.{Adds, AreDecisionsOf};
+ghost use Rattle.seccomp_warnings.specs.Evasions.{AreDecisionsOf, AreEvasions, AreSameBut, DeniesCall, IsApart, IsDecidedBy, IsDetour, IsDetoured, IsEvasion, IsFlag, IsFlagApart, IsPermitting, IsSaid, LetsThrough};
 
+use crate::call::is_number_of;
+use crate::candidate::{Pair, pairs_of};
 use crate::code::{Code, is_among};
-use crate::condition::{comparison_at, part_of};
-use crate::detour::push_detours;
-use crate::flag::push_flags;
+use crate::condition::comparison_at;
+use crate::tables::{DETOURS, Detour, FLAGS, Flag};
 use crate::warning::Comparison;
 use seccomp_entries::{Entry, Lowered, decisions_of};
 use seccomp_tree::Decisions;
-use seccompiler::{SeccompCmpArgLen, SeccompCmpOp, SeccompCondition, TargetArch};
+use seccompiler::record::word_at;
+use seccompiler::{SeccompCondition, TargetArch};
 use std::alloc::{AllocError, Global};
 
 /// A condition, and two calls of which one is denied and the other let through, although they differ in what changes nothing of
@@ -34,9 +33,8 @@ pub struct Evasion {
     pub passed: [u8; 64],
 }
 
-/// The evasions of entries and defaults, in the order of the entries, but for those of the allowed codes. Each condition has a pair of
-/// calls for the high half of its argument, one for each flag that the argument has, and some with another call. A pair is an evasion if the first call is denied,
-/// the second is let through, and the condition holds for one of them alone, or, if the second is another call, denies the first.
+/// Evasions of entries and defaults, in the order of the entries, but for those of the allowed codes. What each says is so: both calls are
+/// decided as it says, and they differ as its code says. Few pairs of calls are tried for each condition, so some are missing.
 ///
 /// The defaults start at 0, each above the one before it, and each entry is for a number up to 462.
 ///
@@ -55,238 +53,269 @@ pub fn evasions_of(
     let decisions = decisions_of(alloc, lowered)?;
     let mut found = Vec::new(alloc);
     for (place, entry) in lowered.entries.iter().enumerate() {
-        push_entry(&mut found, lowered, &decisions, allowed, place, entry)?;
+        let pairs = pairs_of(alloc, lowered.target_arch, entry)?;
+        push_shown(&mut found, lowered, &decisions, allowed, place, &pairs)?;
     }
     Ok(found)
 }
 
-// Adds those of the conditions of the entry at a place.
-fn push_entry(
+// Adds those of these pairs of calls of an entry that show an evasion whose code isn't allowed.
+fn push_shown(
     found: &mut Vec<Evasion>,
     lowered: &Lowered,
     decisions: &Decisions,
     allowed: &[Code],
     entry: usize,
-    own: &Entry,
+    pairs: &[Pair],
 ) -> Result<(), AllocError>
-    requires decide { AreDecisionsOf lowered.now decisions.now }
-    requires there { slice_get lowered.now.entries entry ≡ Some own.now }
-    ensures { OnOk result (Adds (IsShown allowed.now lowered.now) (entry_pairs lowered.now.target_arch entry own.now) found.old.items found.new.items) }
+    requires { AreDecisionsOf lowered.now decisions.now }
+    ensures { OnOk result (AreEvasions allowed.now lowered.now found.old.items → AreEvasions allowed.now lowered.now found.new.items) }
 {
-    let call = likely_call(lowered.target_arch, own.number, &own.conditions);
-    for (place, condition) in own.conditions.iter().enumerate() {
-        let high = high_pair(&call, entry, place, condition);
-        push_shown(found, lowered, decisions, allowed, own, condition, &high)?;
-        push_flags(
-            found, lowered, decisions, allowed, &call, own, entry, place, condition,
-        )?;
-        push_detours(
-            found, lowered, decisions, allowed, &call, own, entry, place, condition,
-        )?;
+    for pair in pairs {
+        if is_among(allowed, pair.code) || is_told(found, entry, pair) {
+            continue;
+        }
+        if let Some(evasion) = evasion_by(lowered, decisions, entry, pair) {
+            found.push(evasion)?;
+        }
     }
     Ok(())
 }
 
-// Adds a pair of calls of the condition, if it is an evasion and its code isn't allowed.
-pub(crate) fn push_shown(
-    found: &mut Vec<Evasion>,
+// Whether the last evasion is by the high half of the same condition: one is enough.
+fn is_told(found: &[Evasion], entry: usize, pair: &Pair) -> bool {
+    match (pair.code, found.last()) {
+        (Code::HighHalfEvades, Some(last)) => {
+            let Comparison {
+                entry: at,
+                place,
+                ..
+            } = last.comparison;
+            matches!(last.code, Code::HighHalfEvades) && at == entry && place == pair.place
+        }
+        _ => false,
+    }
+}
+
+// The evasion of an entry that a pair of calls shows, if it does.
+fn evasion_by(
     lowered: &Lowered,
     decisions: &Decisions,
-    allowed: &[Code],
-    own: &Entry,
-    condition: &SeccompCondition,
-    pair: &Evasion,
-) -> Result<(), AllocError>
-    requires decide { AreDecisionsOf lowered.now decisions.now }
-    requires there { slice_get lowered.now.entries pair.now.comparison.entry ≡ Some own.now }
-    requires condition { condition_of pair.now.comparison ≡ condition.now }
-    ensures { OnOk result (Adds (IsShown allowed.now lowered.now) (pair.now ∷ []) found.old.items found.new.items) }
+    entry: usize,
+    pair: &Pair,
+) -> Option<Evasion>
+    requires { AreDecisionsOf lowered.now decisions.now }
+    ensures evasion { IfSome result (IsEvasion lowered.now) }
+    ensures code { IfSome result (λ v. v.code ≡ pair.now.code) }
 {
-    if is_shown(lowered, decisions, allowed, own, condition, pair) {
-        found.push(*pair)?;
+    let own = lowered.entries.get(entry)?;
+    let condition = own.conditions.get(pair.place)?;
+    let arch = lowered.target_arch;
+    let (denied, passed) = (&pair.denied, &pair.passed);
+    if !is_call_of(arch, own.number, denied)
+        || is_let_through(lowered, decisions, denied)
+        || !is_let_through(lowered, decisions, passed)
+        || !is_said(pair.code, arch, own, condition, denied, passed)
+    {
+        return None;
     }
-    Ok(())
+    Some(Evasion {
+        code: pair.code,
+        comparison: comparison_at(entry, pair.place, condition),
+        denied: pair.denied,
+        passed: pair.passed,
+    })
 }
 
-// Whether a pair of calls of the condition is an evasion, and its code isn't allowed.
-fn is_shown(
-    lowered: &Lowered,
-    decisions: &Decisions,
-    allowed: &[Code],
-    own: &Entry,
-    condition: &SeccompCondition,
-    pair: &Evasion,
-) -> bool
-    requires decide { AreDecisionsOf lowered.now decisions.now }
-    requires there { slice_get lowered.now.entries pair.now.comparison.entry ≡ Some own.now }
-    requires condition { condition_of pair.now.comparison ≡ condition.now }
-    ensures { IsTrue result ↔ IsShown allowed.now lowered.now pair.now }
+// Whether the record is of a call of this number on the architecture.
+fn is_call_of(arch: TargetArch, number: u32, call: &[u8; 64]) -> bool
+    ensures { IsTrue result → spec.IsCallOf arch number call.now }
 {
-    if !is_apart_by(pair.code, own, condition, &pair.denied, &pair.passed) {
-        return false;
-    }
-    if is_let_through(lowered, decisions, &pair.denied) {
-        return false;
-    }
-    is_let_through(lowered, decisions, &pair.passed) && !is_among(allowed, pair.code)
-}
-
-// Whether the condition of the entry decides between two calls.
-fn is_apart_by(
-    code: Code,
-    own: &Entry,
-    condition: &SeccompCondition,
-    denied: &[u8; 64],
-    passed: &[u8; 64],
-) -> bool
-    ensures { IsTrue result ↔ IsApartBy code own.now condition.now denied.now passed.now }
-{
-    match code {
-        Code::ConditionEvaded => is_decided_by(own, condition, denied),
-        // It holds for one of them alone.
-        _ => condition.holds(denied) != condition.holds(passed),
-    }
-}
-
-// Whether the entry decides a call by the condition.
-fn is_decided_by(own: &Entry, condition: &SeccompCondition, call: &[u8; 64]) -> bool
-    ensures { IsTrue result ↔ IsDecidedBy own.now condition.now call.now }
-{
-    is_permitting(u32::from(own.action)) != condition.holds(call)
-}
-
-// Whether a return value lets a call through.
-pub(crate) fn is_permitting(word: u32) -> bool
-    ensures is { IsTrue result ↔ IsPermitting word }
-    ensures test { result ≡ detours.is_permitting word }
-{
-    word == 0x7fff_0000 || word == 0x7ffc_0000
+    word_at(call, 4) == arch.get_audit_value() && word_at(call, 0) == number
 }
 
 // Whether the call is let through.
 fn is_let_through(lowered: &Lowered, decisions: &Decisions, call: &[u8; 64]) -> bool
     requires { AreDecisionsOf lowered.now decisions.now }
-    ensures through { IsTrue result ↔ LetsThrough lowered.now call.now }
-    ensures denied { IsFalse result ↔ DeniesCall lowered.now call.now }
+    ensures through { IsTrue result → LetsThrough lowered.now call.now }
+    ensures denied { IsFalse result → DeniesCall lowered.now call.now }
 {
     is_permitting(decisions.decide(call))
 }
 
-// The pair of calls of the condition at a place of the entry at a place that differ in the high half of its argument.
-fn high_pair(call: &[u8; 64], entry: usize, place: usize, condition: &SeccompCondition) -> Evasion
-    ensures { result ≡ spec.high_pair call.now entry place condition.now }
+// Whether a return value lets a call through.
+pub(crate) fn is_permitting(word: u32) -> bool
+    ensures { IsTrue result ↔ IsPermitting word }
 {
-    let bits = high_bits(condition);
-    pair_of(Code::HighHalfEvades, bits, call, entry, place, condition)
+    word == 0x7fff_0000 || word == 0x7ffc_0000
 }
 
-// The pair of calls of the condition at a place of the entry at a place that differ in these bits.
-pub(crate) fn pair_of(
+// Whether two calls differ as a code says of a condition of an entry.
+fn is_said(
     code: Code,
-    bits: u64,
-    call: &[u8; 64],
-    entry: usize,
-    place: usize,
+    arch: TargetArch,
+    own: &Entry,
     condition: &SeccompCondition,
-) -> Evasion
-    ensures { result ≡ spec.pair_of code bits call.now entry place condition.now }
+    denied: &[u8; 64],
+    passed: &[u8; 64],
+) -> bool
+    ensures { IsTrue result → IsSaid code arch own.now condition.now denied.now passed.now }
 {
-    let edge = edge_of(condition);
-    Evasion {
-        code,
-        comparison: comparison_at(entry, place, condition),
-        denied: with_argument(call, condition.arg_index(), edge),
-        passed: with_argument(call, condition.arg_index(), edge ^ bits),
-    }
-}
-
-// High bits of an argument that a condition of 64 bits may compare.
-fn high_bits(condition: &SeccompCondition) -> u64
-    ensures { result ≡ spec.high_bits condition.now }
-{
-    let value = condition.value();
-    match (condition.arg_len(), condition.operator()) {
-        (SeccompCmpArgLen::Dword, _) => 0,
-        (SeccompCmpArgLen::Qword, SeccompCmpOp::MaskedEq(mask)) => {
-            if value & mask <= 0xffff_ffff {
-                mask & 0xffff_ffff_0000_0000
-            } else {
-                0
-            }
+    let index = condition.arg_index();
+    match code {
+        Code::HighHalfEvades => {
+            is_apart(condition, denied, passed)
+                && are_same_but(5 + 2 * usize::from(index), denied, passed)
         }
-        (SeccompCmpArgLen::Qword, _) => {
-            if value <= 0xffff_ffff {
-                0x1_0000_0000
-            } else {
-                0
-            }
+        Code::FlagEvades => {
+            is_apart(condition, denied, passed)
+                && are_same_but(4 + 2 * usize::from(index), denied, passed)
+                && is_flag_apart(arch, own.number, index, denied, passed)
+        }
+        Code::ConditionEvaded => {
+            is_decided_by(own, condition, denied)
+                && is_detoured(arch, own.number, index, denied, passed)
+        }
+        _ => false,
+    }
+}
+
+// Whether the condition holds for one of two calls alone.
+fn is_apart(condition: &SeccompCondition, denied: &[u8; 64], passed: &[u8; 64]) -> bool
+    ensures { IsTrue result → IsApart condition.now denied.now passed.now }
+{
+    if condition.holds(denied) {
+        !condition.holds(passed)
+    } else {
+        condition.holds(passed)
+    }
+}
+
+// Whether the entry decides a call by the condition.
+fn is_decided_by(own: &Entry, condition: &SeccompCondition, call: &[u8; 64]) -> bool
+    ensures { IsTrue result → IsDecidedBy own.now condition.now call.now }
+{
+    if is_permitting(u32::from(own.action)) {
+        !condition.holds(call)
+    } else {
+        condition.holds(call)
+    }
+}
+
+// Whether two records have the same words, but for this one.
+fn are_same_but(word: usize, denied: &[u8; 64], passed: &[u8; 64]) -> bool
+    ensures { IsTrue result → AreSameBut word denied.now passed.now }
+{
+    for at in 0..16 {
+        if at != word && word_at(passed, 4 * at) != word_at(denied, 4 * at) {
+            return false;
         }
     }
+    true
 }
 
-// The number that the condition compares with; of an order the greatest below its border.
-pub(crate) fn edge_of(condition: &SeccompCondition) -> u64
-    ensures { result ≡ spec.edge_of condition.now }
-{
-    let value = part_of(condition.arg_len(), condition.value());
-    match condition.operator() {
-        SeccompCmpOp::Ge | SeccompCmpOp::Lt => value.saturating_sub(1),
-        SeccompCmpOp::MaskedEq(mask) => value & mask,
-        SeccompCmpOp::Eq | SeccompCmpOp::Ne | SeccompCmpOp::Gt | SeccompCmpOp::Le => value,
-    }
-}
-
-// The call of this number that likely meets the conditions.
-fn likely_call(arch: TargetArch, number: u32, conditions: &[SeccompCondition]) -> [u8; 64]
-    ensures { result ≡ spec.likely_call arch number conditions.now }
-{
-    let mut call = blank_call(arch, number);
-    for condition in conditions {
-        let argument = likely(condition);
-        call = with_argument(&call, condition.arg_index(), argument);
-    }
-    call
-}
-
-// A number for which the condition holds, if it does for any.
-pub(crate) fn likely(condition: &SeccompCondition) -> u64
-    ensures { result ≡ spec.likely condition.now }
-{
-    let edge = edge_of(condition);
-    match condition.operator() {
-        SeccompCmpOp::Ge | SeccompCmpOp::Gt | SeccompCmpOp::Ne => edge.wrapping_add(1),
-        _ => edge,
-    }
-}
-
-/// The call of this number whose arguments are 0.
-pub fn blank_call(arch: TargetArch, number: u32) -> [u8; 64]
-    ensures { result ≡ blank_call arch number }
-{
-    let mut call = [0; 64];
-    put(&mut call, 0, &number.to_le_bytes());
-    put(&mut call, 4, &arch.get_audit_value().to_le_bytes());
-    call
-}
-
-// Replaces the bytes from this one on.
-fn put(call: &mut [u8; 64], at: usize, bytes: &[u8])
-    requires { at + length bytes.now ≤ 64 }
-    ensures { call.new ≡ with_bytes at bytes.now call.old }
-{
-    call[at..at + bytes.len()].copy_from_slice(bytes);
-}
-
-/// The same call with this argument.
-pub fn with_argument(call: &[u8; 64], index: u8, argument: u64) -> [u8; 64]
+// Whether the argument of this index has a flag of the call of this number more or less.
+fn is_flag_apart(
+    arch: TargetArch,
+    number: u32,
+    index: u8,
+    denied: &[u8; 64],
+    passed: &[u8; 64],
+) -> bool
     requires { index ≤ 5 }
-    ensures { result ≡ with_argument index argument call.now }
+    ensures { IsTrue result → IsFlagApart arch number index denied.now passed.now }
 {
-    let mut other = *call;
-    put(
-        &mut other,
-        16 + 8 * usize::from(index),
-        &argument.to_le_bytes(),
-    );
-    other
+    let at = 16 + 8 * usize::from(index);
+    let (before, after) = (word_at(denied, at), word_at(passed, at));
+    has_flag(arch, number, index, before, after, &FLAGS)
+}
+
+// Whether by one of these rows the second number is the first but for a flag of the argument of this index of the call.
+fn has_flag(
+    arch: TargetArch,
+    number: u32,
+    index: u8,
+    before: u32,
+    after: u32,
+    rows: &[Flag],
+) -> bool
+    ensures { IsTrue result → Any (IsFlag arch number index before after) (map (λ row. (row.0.now, row.1, row.2)) rows.now) }
+{
+    for row in rows {
+        if is_flag(arch, number, index, before, after, row) {
+            return true;
+        }
+    }
+    false
+}
+
+// Whether it is by this row.
+fn is_flag(arch: TargetArch, number: u32, index: u8, before: u32, after: u32, row: &Flag) -> bool
+    ensures { IsTrue result → IsFlag arch number index before after (row.now.0.now, row.now.1, row.now.2) }
+{
+    let (name, at, flag, _) = *row;
+    at == index && u64::from(after) == u64::from(before) ^ flag && is_number_of(arch, name, number)
+}
+
+// Whether by the table the second call can do what the first one asks for by the argument of this index.
+fn is_detoured(
+    arch: TargetArch,
+    number: u32,
+    index: u8,
+    denied: &[u8; 64],
+    passed: &[u8; 64],
+) -> bool
+    requires { index ≤ 5 }
+    ensures { IsTrue result → IsDetoured arch number index denied.now passed.now }
+{
+    has_detour(arch, number, index, denied, passed, &DETOURS)
+}
+
+// Whether it can by one of these rows.
+fn has_detour(
+    arch: TargetArch,
+    number: u32,
+    index: u8,
+    denied: &[u8; 64],
+    passed: &[u8; 64],
+    rows: &[Detour],
+) -> bool
+    requires { index ≤ 5 }
+    ensures { IsTrue result → Any (IsDetour arch number index denied.now passed.now) (map (λ row. (row.0.now, row.1, row.3.now, row.4, row.5)) rows.now) }
+{
+    for row in rows {
+        if is_detour(arch, number, index, denied, passed, row) {
+            return true;
+        }
+    }
+    false
+}
+
+// Whether it can by this row.
+fn is_detour(
+    arch: TargetArch,
+    number: u32,
+    index: u8,
+    denied: &[u8; 64],
+    passed: &[u8; 64],
+    row: &Detour,
+) -> bool
+    requires { index ≤ 5 }
+    ensures { IsTrue result → IsDetour arch number index denied.now passed.now (row.now.0.now, row.now.1, row.now.3.now, row.now.4, row.now.5) }
+{
+    let (name, asking, _, other, taking, kept) = *row;
+    asking == index
+        && taking <= 5
+        && argument_of(passed, taking) == argument_of(denied, index) & kept
+        && is_number_of(arch, name, number)
+        && is_number_of(arch, other, word_at(passed, 0))
+}
+
+// The argument of this index: its low half, and its high half.
+pub(crate) fn argument_of(call: &[u8; 64], index: u8) -> u64
+    requires { index ≤ 5 }
+    ensures { result ≡ spec.argument_of call.now index }
+{
+    let at = 16 + 8 * usize::from(index);
+    u64::from(word_at(call, at)) + 0x1_0000_0000 * u64::from(word_at(call, at + 4))
 }

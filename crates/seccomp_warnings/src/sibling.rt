@@ -1,52 +1,66 @@
 // Calls by which the same can be done.
 
-ghost use Rattle.std.specs.Prelude.{◌≡◌, ◌↔◌, ℕ, IfNone, IfSome, IsTrue, List, false, map};
-ghost use Rattle.seccomp_entries.specs.Entries.{Entry};
-ghost use Rattle.seccomp_warnings.specs.Judgements as spec;
-ghost use Rattle.seccomp_warnings.specs.Judgements.{IsOpen, IsSetOf, IsSibling, IsUnnamed};
+ghost use Rattle.std.specs.Prelude.{◌≡◌, ◌↔◌, Any, IfNone, IfSome, IsTrue, map};
+ghost use Rattle.seccomp_warnings.specs.CallWarnings.{IsDeniedAlone, IsOpen, IsUndone, IsUnnamed};
 
-use crate::call::is_number_of;
+use crate::action::permits;
+use crate::call::{has_no_args, is_number_of, names_call};
+use crate::part::Part;
 use crate::tables::SIBLINGS;
-use seccompiler::{SyscallTable, TargetArch};
-use std::collections::BTreeSet;
+use seccomp_entries::Entry;
+use seccompiler::SyscallTable;
 
-// All pairs of such calls.
-fn all_siblings() -> &'static [(&'static str, &'static str)]
-    ensures { map (λ row. (row.0.now, row.1.now)) result.now ≡ spec.siblings }
-{
-    &SIBLINGS
+/// The first call of the table by which the same can be done as by those of an entry of a part, and which is let through, as no entry is for
+/// it; none if there is none, or the part has no entry at the place.
+pub fn sibling_of(part: &Part, place: usize) -> Option<&'static str> {
+    let entry = part.entries.get(place)?;
+    open_in(part, entry, &SIBLINGS)
 }
 
-// Whether the architecture has the call, and its number isn't among these.
-fn is_unnamed(arch: TargetArch, named: &BTreeSet<i64>, name: &str) -> bool
-    ensures { (entries : List Entry) → IsSetOf false entries named.now → (IsTrue result ↔ IsUnnamed arch entries name.now) }
+// Whether the entry denies each of its calls, and there is such a call.
+pub(crate) fn is_undone(part: &Part, entry: &Entry) -> bool
+    ensures { IsTrue result ↔ IsUndone part.now entry.now }
 {
-    match SyscallTable::new(arch).get_syscall_nr(name) {
-        Some(number) => !named.contains(&number),
-        None => false,
-    }
+    is_denied_alone(part, entry) && open_in(part, entry, &SIBLINGS).is_some()
 }
 
-// Whether the first call has this number, and the second one is such a call.
-fn is_open(arch: TargetArch, named: &BTreeSet<i64>, number: u32, name: &str, other: &str) -> bool
-    ensures { (entries : List Entry) → IsSetOf false entries named.now → (IsTrue result ↔ IsOpen arch number entries (name.now, other.now)) }
+// Whether calls that an entry matches are denied and the others let through, and this entry matches each of its calls.
+fn is_denied_alone(part: &Part, entry: &Entry) -> bool
+    ensures { IsTrue result ↔ IsDeniedAlone part.now entry.now }
 {
-    is_number_of(arch, name, number) && is_unnamed(arch, named, other)
+    !permits(part.actions.matching) && permits(part.actions.mismatch) && has_no_args(entry)
 }
 
-// The first call by which what the call of this number does can be done too, and of which that is so.
-pub(crate) fn unnamed_sibling(
-    arch: TargetArch,
-    named: &BTreeSet<i64>,
-    number: u32,
+// The second call of the first of these pairs of which the first is the entry's, and the second is unnamed.
+fn open_in(
+    part: &Part,
+    entry: &Entry,
+    rows: &[(&'static str, &'static str)],
 ) -> Option<&'static str>
-    ensures found { (entries : List Entry) → IsSetOf false entries named.now → IfSome result (λ other. IsSibling arch number other.now × IsUnnamed arch entries other.now) }
-    ensures none { (entries : List Entry) → IsSetOf false entries named.now → IfNone result ((other : List ℕ) → IsSibling arch number other → IsUnnamed arch entries other → ⊥) }
+    ensures found { IfSome result (λ other. Any (λ pair. IsOpen part.now entry.now pair × (pair.1 ≡ other.now)) (map (λ row. (row.0.now, row.1.now)) rows.now)) }
+    ensures none { IfNone result (Any (IsOpen part.now entry.now) (map (λ row. (row.0.now, row.1.now)) rows.now) → ⊥) }
 {
-    for row in all_siblings() {
-        if is_open(arch, named, number, row.0, row.1) {
+    for row in rows {
+        if is_open(part, entry, row.0, row.1) {
             return Some(row.1);
         }
     }
     None
+}
+
+// Whether the first call is the entry's, and the second is unnamed.
+fn is_open(part: &Part, entry: &Entry, name: &str, other: &str) -> bool
+    ensures { IsTrue result ↔ IsOpen part.now entry.now (name.now, other.now) }
+{
+    is_number_of(part.target_arch, name, entry.number) && is_unnamed(part, other)
+}
+
+// Whether the architecture has the call, and no entry is for it.
+fn is_unnamed(part: &Part, name: &str) -> bool
+    ensures { IsTrue result ↔ IsUnnamed part.now name.now }
+{
+    SyscallTable::new(part.target_arch)
+        .get_syscall_nr(name)
+        .is_some()
+        && !names_call(part, name)
 }

@@ -1,7 +1,7 @@
 // Calls that a filter may leave to its mismatch action.
 
 ghost use Rattle.std.specs.Prelude.{◌≡◌};
-ghost use Rattle.seccomp_warnings.specs.CallWarnings.{all_unlisted};
+ghost use Rattle.seccomp_warnings.specs.Walks.{all_unlisted};
 
 /// A call that it matters of whether a filter has an entry for it.
 #[derive(Clone, Copy)]

@@ -1,72 +1,50 @@
 // The warnings of a part, in the order of its entries.
 
-ghost use Rattle.std.specs.Prelude.{◌↔◌, map, IfErr, IfOk, OnOk, IsTrue};
+ghost use Rattle.std.specs.Prelude.{◌↔◌, Contains, IfErr, IfOk, OnOk, IsTrue};
 ghost use Rattle.seccompiler.specs.JsonPolicyOf.{IsPolicyOf};
 ghost use Rattle.seccompiler.specs.JsonSteps.{IsPolicyRefusal};
 ghost use Rattle.seccompiler.specs.Policy.{Filter};
-ghost use Rattle.seccomp_warnings.specs.Warnings.{AreTrueWarnings, AreWarned, IsGiven, about, calls_asked, entry_asked};
-ghost use Rattle.seccomp_warnings.specs.CallWarnings.{all_unlisted};
-ghost use Rattle.seccomp_warnings.specs.Walks.{AddsPicked};
+ghost use Rattle.seccomp_entries.specs.Verdicts.{AreVerdicts};
+ghost use Rattle.seccomp_warnings.specs.Walks.{Gains, IsCall, IsOfEntry, IsTold};
+ghost use Rattle.seccomp_warnings.specs.Warnings.{AreTrueWarnings, AreWarned, IsOf, IsSoOf};
+ghost use Rattle.seccomp_warnings.specs.declared.warning.Subject.{Subject as SubjectValue};
 
-use crate::action::{is_so_of_action, is_so_of_both};
-use crate::argument::is_so_of_call;
-use crate::call::{is_judged, is_so_of_entry, is_so_of_unlisted};
+use crate::action::{is_so_of_action, is_so_of_both, is_so_of_default};
+use crate::argument::is_so_of_argument;
+use crate::call::{is_judged, is_so_at, is_so_of_unlisted};
 use crate::code::{Code, is_among};
 use crate::condition::{comparison_at, is_so_of_condition};
 use crate::evasion::evasions_of;
-use crate::judgement::{Judgement, judgements_of};
 use crate::part::Part;
 use crate::unlisted::Unlisted;
 use crate::warning::{Actions, FilterWarned, Subject, Warned, Warning};
-use seccomp_entries::{Action, Entry, lowered_policy};
+use seccomp_entries::{Action, Entry, Verdict, lowered_policy, verdicts_of};
 use seccompiler::{JsonFilter, JsonFrontendError, TargetArch};
 use std::alloc::{AllocError, Global};
 
-// The codes of the action for calls that no entry matches.
-const MISMATCH_CODES: [Code; 5] = [
+// The codes of parts, in the order of `Code::all`.
+pub(crate) const PART_CODES: [Code; 21] = [
     Code::FakeSuccess,
     Code::ErrnoTooLarge,
     Code::EndlessRetry,
     Code::TraceWithoutTracer,
     Code::AllowsByDefault,
-];
-
-// The codes of the calls that no entry names.
-const UNLISTED_CODES: [Code; 4] = [
-    Code::KillsExit,
-    Code::CloneByClone3,
-    Code::NoExecve,
-    Code::NoRestart,
-];
-
-// The codes of the action for calls that some entry matches.
-const MATCH_CODES: [Code; 5] = [
-    Code::FakeSuccess,
-    Code::ErrnoTooLarge,
-    Code::EndlessRetry,
-    Code::TraceWithoutTracer,
     Code::DeniesEverything,
-];
-
-// The codes of entries.
-const ENTRY_CODES: [Code; 7] = [
-    Code::KillsExit,
-    Code::CloneByClone3,
-    Code::SiblingAllowed,
-    Code::CrateDiffers,
-    Code::UnreachableEntry,
-    Code::RedundantEntry,
-    Code::UndecidedEntry,
-];
-
-// The codes of conditions.
-const CONDITION_CODES: [Code; 6] = [
     Code::HighHalfIgnored,
     Code::ValueOutsideMask,
     Code::AlwaysHolds,
     Code::NeverHolds,
     Code::PointerCompared,
     Code::SignedCompared,
+    Code::KillsExit,
+    Code::CloneByClone3,
+    Code::NoExecve,
+    Code::NoRestart,
+    Code::SiblingAllowed,
+    Code::CrateDiffers,
+    Code::UnreachableEntry,
+    Code::RedundantEntry,
+    Code::UndecidedEntry,
 ];
 
 /// The warnings of a filter of a policy: those of its part, and its evasions.
@@ -95,11 +73,14 @@ pub fn policy_warnings_of(
         entries: lowered.entries,
     };
     let of_part = warnings_of(alloc, &part, allowed)?;
-    Ok(FilterWarned { of_part, evasions })
+    Ok(FilterWarned {
+        part,
+        of_part,
+        evasions,
+    })
 }
 
-/// The warnings of a part: exactly those that are true of it and whose codes aren't allowed, beside what is so of its entries beside
-/// each other.
+/// The warnings of a part: exactly those that are true of it and whose codes aren't allowed, and the verdict of each of its entries.
 ///
 /// Warnings come in this order: those of the mismatch action, with its calls that no entry is for; those of the match action; then,
 /// entry by entry, those of the entry and of its conditions. Those of one place are in the order of `Code::all`.
@@ -110,128 +91,117 @@ pub fn policy_warnings_of(
 pub fn warnings_of(alloc: Global, part: &Part, allowed: &[Code]) -> Result<Warned, AllocError>
     ensures { IfOk result (AreWarned allowed.now part.now) }
 {
-    let judgements = judgements_of(alloc, part)?;
-    let judged = judgements.as_slice();
+    let verdicts = verdicts_at(alloc, part)?;
+    let subjects = subjects_of(alloc, part)?;
     let mut warnings = Vec::new(alloc);
-    let mismatch = Subject::MismatchAction(part.actions.mismatch);
-    push_those(
-        &mut warnings,
-        allowed,
-        judged,
-        part,
-        &MISMATCH_CODES,
-        mismatch,
-    )?;
-    push_calls(&mut warnings, allowed, judged, part)?;
-    let matching = Subject::MatchAction(part.actions.matching);
-    push_those(&mut warnings, allowed, judged, part, &MATCH_CODES, matching)?;
-    for (place, entry) in part.entries.iter().enumerate() {
-        push_entry(&mut warnings, allowed, judged, part, place, entry)?;
+    for subject in subjects.iter() {
+        push_those(
+            &mut warnings,
+            allowed,
+            &verdicts,
+            part,
+            &PART_CODES,
+            *subject,
+        )?;
     }
-    Ok(Warned {
-        judgements,
-        warnings,
-    })
+    Ok(Warned { verdicts, warnings })
 }
 
-// Whether a warning is true of the part, and its code isn't allowed.
-fn is_given(allowed: &[Code], judgements: &[Judgement], part: &Part, warning: Warning) -> bool
-    ensures { IsTrue result ↔ IsGiven allowed.now judgements.now part.now warning }
+// The verdicts of the entries of a part.
+fn verdicts_at(alloc: Global, part: &Part) -> Result<Vec<Verdict>, AllocError>
+    ensures { IfOk result (λ verdicts. AreVerdicts part.now.target_arch part.now.entries verdicts.items) }
 {
-    let code = warning.code;
-    if is_among(allowed, code) {
-        return false;
-    }
-    match warning.subject {
-        Subject::MismatchAction(action) => is_so_of_action(code, action),
-        Subject::MatchAction(action) => {
-            is_so_of_action(code, action) || is_so_of_both(code, part.actions)
-        }
-        Subject::MismatchCall(call) => is_so_of_unlisted(code, part, call),
-        Subject::Entry(place) => {
-            is_so_of_entry(code, part, place) || is_judged(code, judgements, place)
-        }
-        Subject::Condition(comparison) => {
-            if is_so_of_condition(code, comparison) {
-                return true;
-            }
-            match part.entries.get(comparison.entry) {
-                Some(entry) => is_so_of_call(code, part.target_arch, entry.number, comparison),
-                None => false,
-            }
-        }
-    }
+    verdicts_of(alloc, part.target_arch, part.entries.as_slice())
 }
 
-// Adds the warnings of these codes that are so of a part of the part.
+// Adds the warnings of these codes that are true of a subject.
 fn push_those(
     warnings: &mut Vec<Warning>,
     allowed: &[Code],
-    judgements: &[Judgement],
+    verdicts: &[Verdict],
     part: &Part,
     codes: &[Code],
     subject: Subject,
 ) -> Result<(), AllocError>
-    ensures { OnOk result (AddsPicked allowed.now judgements.now part.now (map (about subject) codes.now) warnings.old.items warnings.new.items) }
+    ensures { OnOk result (Gains (IsTold allowed.now verdicts.now part.now codes.now subject) warnings.old.items warnings.new.items) }
 {
     for code in codes {
-        let warning = Warning {
-            code: *code,
-            subject,
-        };
-        if is_given(allowed, judgements, part, warning) {
-            warnings.push(warning)?;
+        if is_told(*code, allowed, verdicts, part, subject) {
+            warnings.push(Warning {
+                code: *code,
+                subject,
+            })?;
         }
     }
     Ok(())
 }
 
-// Adds the warnings of the calls that no entry is for.
-fn push_calls(
-    warnings: &mut Vec<Warning>,
+// Whether what a code says of a subject is so, and the code isn't allowed.
+fn is_told(
+    code: Code,
     allowed: &[Code],
-    judgements: &[Judgement],
+    verdicts: &[Verdict],
     part: &Part,
-) -> Result<(), AllocError>
-    ensures { OnOk result (AddsPicked allowed.now judgements.now part.now (calls_asked all_unlisted) warnings.old.items warnings.new.items) }
+    subject: Subject,
+) -> bool
+    ensures { IsTrue result ↔ (IsSoOf code verdicts.now part.now subject × (Contains allowed.now code → ⊥)) }
+{
+    if is_among(allowed, code) {
+        return false;
+    }
+    is_so_of(code, verdicts, part, subject)
+}
+
+// Whether what a code says of a subject is so.
+fn is_so_of(code: Code, verdicts: &[Verdict], part: &Part, subject: Subject) -> bool
+    ensures { IsTrue result ↔ IsSoOf code verdicts.now part.now subject }
+{
+    match subject {
+        Subject::MismatchAction(action) => {
+            is_so_of_action(code, action) || is_so_of_default(code, action)
+        }
+        Subject::MismatchCall(call) => is_so_of_unlisted(code, part, call),
+        Subject::MatchAction(action) => {
+            is_so_of_action(code, action) || is_so_of_both(code, part.actions)
+        }
+        Subject::Entry(place) => { is_judged(code, verdicts, place) || is_so_at(code, part, place) }
+        Subject::Condition(comparison) => {
+            is_so_of_condition(code, comparison) || is_so_of_argument(code, part, comparison)
+        }
+    }
+}
+
+// What warnings of a part are about, in their order.
+fn subjects_of(alloc: Global, part: &Part) -> Result<Vec<Subject>, AllocError>
+    ensures { IfOk result (λ subjects. (s : SubjectValue) → Contains subjects.items s ↔ IsOf part.now s) }
+{
+    let mut subjects = Vec::new(alloc);
+    subjects.push(Subject::MismatchAction(part.actions.mismatch))?;
+    push_calls(&mut subjects)?;
+    subjects.push(Subject::MatchAction(part.actions.matching))?;
+    for (place, entry) in part.entries.iter().enumerate() {
+        push_entry(&mut subjects, place, entry)?;
+    }
+    Ok(subjects)
+}
+
+// Adds the calls that an entry may be missing for.
+fn push_calls(subjects: &mut Vec<Subject>) -> Result<(), AllocError>
+    ensures { OnOk result (Gains IsCall subjects.old.items subjects.new.items) }
 {
     for call in Unlisted::all() {
-        let subject = Subject::MismatchCall(*call);
-        push_those(
-            warnings,
-            allowed,
-            judgements,
-            part,
-            &UNLISTED_CODES,
-            subject,
-        )?;
+        subjects.push(Subject::MismatchCall(*call))?;
     }
     Ok(())
 }
 
-// Adds the warnings of the entry at a place, and of its conditions.
-fn push_entry(
-    warnings: &mut Vec<Warning>,
-    allowed: &[Code],
-    judgements: &[Judgement],
-    part: &Part,
-    entry: usize,
-    own: &Entry,
-) -> Result<(), AllocError>
-    ensures { OnOk result (AddsPicked allowed.now judgements.now part.now (entry_asked entry own.now) warnings.old.items warnings.new.items) }
+// Adds the entry at a place, and its conditions.
+fn push_entry(subjects: &mut Vec<Subject>, place: usize, own: &Entry) -> Result<(), AllocError>
+    ensures { OnOk result (Gains (IsOfEntry place own.now) subjects.old.items subjects.new.items) }
 {
-    let subject = Subject::Entry(entry);
-    push_those(warnings, allowed, judgements, part, &ENTRY_CODES, subject)?;
-    for (place, condition) in own.conditions.iter().enumerate() {
-        let subject = Subject::Condition(comparison_at(entry, place, condition));
-        push_those(
-            warnings,
-            allowed,
-            judgements,
-            part,
-            &CONDITION_CODES,
-            subject,
-        )?;
+    subjects.push(Subject::Entry(place))?;
+    for (nth, condition) in own.conditions.iter().enumerate() {
+        subjects.push(Subject::Condition(comparison_at(place, nth, condition)))?;
     }
     Ok(())
 }

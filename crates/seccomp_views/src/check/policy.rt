@@ -2,7 +2,7 @@
 
 use crate::check::format::{Lines, said_of_calls};
 use seccomp_answers::check::FilterWarnings;
-use seccomp_warnings::{Code, Comparison, Evasion, Subject, Warning};
+use seccomp_warnings::{Code, Comparison, Evasion, Subject, Warning, sibling_of};
 use seccompiler::TargetArch;
 
 // Where a warning stands among those of the entries of a filter: the entry, the condition or 0, and the code.
@@ -87,9 +87,8 @@ fn push_warning(lines: &mut Lines<'_>, own: &FilterWarnings, warning: Warning) {
         Subject::Entry(entry) => {
             lines.key("filter");
             lines.item(entry);
-            let judgement = own.warned.of_part.judgements.get(entry);
-            if let (Code::SiblingAllowed, Some(judgement)) = (code, judgement) {
-                lines.call = judgement.sibling;
+            if let Code::SiblingAllowed = code {
+                lines.call = sibling_of(&own.warned.part, entry);
             }
         }
         Subject::Condition(comparison) => {

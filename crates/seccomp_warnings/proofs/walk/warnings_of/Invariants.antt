@@ -1,10 +1,11 @@
-use Rattle.std.proofs.Common.{take}
-use Rattle.seccomp_warnings.specs.Picked.{numbered}
-use Rattle.seccomp_warnings.specs.Warnings.{entry_asked}
-use Rattle.seccomp_warnings.specs.Walks.{AddsPicked}
+use Rattle.std.proofs.Common.{[], take}
+use Rattle.std.specs.Prelude.{Contains}
+use Rattle.seccomp_warnings.specs.Walks.{Gains, IsTold}
+use Rattle.seccomp_warnings.specs.declared.walk.TheConstants.{PART_CODES}
 use Rattle.seccomp_warnings.proofs.walk.warnings_of.Given as goal
 
--- since those of the actions, the warnings grew by those of the entries so far
-abbrev pub invariant-loop-place : goal.invariant-loop-place
-invariant-loop-place l =
-    AddsPicked l.allowed l.judged l.part (numbered entry_asked 0 (take l.place l.entry-items)) l.initial.warnings.items l.warnings.items
+-- those about the subjects so far
+abbrev pub invariant-loop-subject : goal.invariant-loop-subject
+invariant-loop-subject l =
+    Gains (λ w. Contains (take l.subject-index l.subject-items) w.subject × IsTold l.allowed l.verdicts.items l.part PART_CODES w.subject w)
+    [] l.warnings.items

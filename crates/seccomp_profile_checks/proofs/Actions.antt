@@ -1,52 +1,67 @@
--- For `parts`: the actions of entries, and the parts of actions, one by one.
-use Rattle.std.proofs.Common.{◌≡◌, ◌≢◌, ◌+◌, ◌<◌, ℕ, List, [], ◌∷◌, ◌++◌, ◌⊎◌, inl, inr, get_or, length, refl, subst, sym, take}
-use Rattle.std.specs.Prelude.{All, Any, Contains}
-use Rattle.std.specs.List.{AllZip}
-use Rattle.std.proofs.lemmas.List.{take_more}
-use Rattle.std.proofs.lemmas.List.Elements.{All-nil, All-push, Contains-append_left, Contains-push}
-use Rattle.std.proofs.lemmas.Slice.Zip.{all_zipped_more}
+-- For `actions_of`: the actions that have a part, as one more is looked at.
+use Rattle.std.proofs.Common.{◌≡◌, ◌≢◌, ◌⊎◌, List, [], ◌∷◌, ◌++◌, inl, inr, sym, ◌∙◌, arith, subst, ⊎_elim}
+use Rattle.std.specs.Prelude.{Contains}
+use Rattle.std.proofs.lemmas.List.Elements.{Contains-append_left, Contains-get_or, Contains-push, Contains-push_cases}
+use Rattle.std.proofs.lemmas.List.Quantifiers.{all_pairs_push}
 use Rattle.seccomp_entries.specs.declared.entry.Action.{Action}
 use Rattle.seccomp_entries.specs.declared.entry.Action.TheVariants.{Own}
 use Rattle.seccompiler.specs.declared.backend.SeccompAction.TheVariants.{Allow}
-use Rattle.seccomp_entries.specs.Entries.{Entry}
-use Rattle.seccomp_profile_checks.specs.Parts.{AreActionsOf}
-use Rattle.seccomp_profile_checks.proofs.Settled.{any_end, any_front}
+use Rattle.seccomp_profile_checks.specs.Parts.{AreActions, HasPart}
 
--- One of the entries has the action.
-abbrev Has : List Entry → Action → Type 0
-Has es action = Any (λ (e : Entry). e.action ≡ action) es
+none_there : {X : Type 0} (x : X) → Contains [] x → ⊥
+none_there x (k, within, is) = omega arith
 
--- If the entry has another action than allow, it is one of these.
-abbrev Is : List Action → Entry → Type 0
-Is actions e = e.action ≢ Own Allow → Contains actions e.action
+-- Before the first: that of the default action, if it has a part.
+pub none : (default : Action) → default ≡ Own Allow → AreActions default [] []
+none default allows = record {
+  exactly = λ a. (
+    λ there. absurd (none_there a there),
+    λ has. ⊎_elim (λ allow. absurd (allow.1 allows)) (λ own. absurd (none_there a own.1)) has,
+  );
+  once = λ i j d less within. absurd (omega arith);
+}
 
-pub no_actions : AreActionsOf [] []
-no_actions = record { each = All-nil (λ action. (action ≢ Own Allow) × Has [] action); all = All-nil (Is []) }
+pub of_default : (default : Action) → default ≢ Own Allow → AreActions default [] ([] ++ Own Allow ∷ [])
+of_default default denies = record {
+  exactly = λ a. (
+    λ there. ⊎_elim (λ old. absurd (none_there a old)) (λ same. inl (sym same, denies)) (Contains-push_cases [] (Own Allow) a there),
+    λ has. ⊎_elim (λ allow. subst (Contains ([] ++ Own Allow ∷ [])) (sym allow.0) (Contains-push [] (Own Allow)))
+        (λ own. absurd (none_there a own.1)) has,
+  );
+  once = λ i j d less within. absurd (omega arith);
+}
 
-module _ (es : List Entry) (actions : List Action) (e : Entry) (are : AreActionsOf es actions) where
-  still : All (λ action. (action ≢ Own Allow) × Has (es ++ e ∷ []) action) actions
-  still k d within = let own = are.each k d within in (own.0, any_front (λ (f : Entry). f.action ≡ get_or actions k d) es e own.1)
+module _ (default : Action) (asked actions : List Action) (a : Action) (are : AreActions default asked actions) where
+  still : (b : Action) → HasPart default asked b → HasPart default (asked ++ a ∷ []) b
+  still b (inl allow) = inl allow
+  still b (inr own) = inr (own.0, Contains-append_left asked (a ∷ []) b own.1)
 
-  -- An entry more whose action is known.
-  pub actions_same : (e.action ≡ Own Allow) ⊎ Contains actions e.action → AreActionsOf (es ++ e ∷ []) actions
-  actions_same known = record {
-    each = still;
-    all = All-push (Is actions) es e are.all (λ apart. elim known [ inl same ↦ absurd (apart same) | inr there ↦ there ]);
+  earlier : (b : Action) → HasPart default (asked ++ a ∷ []) b → HasPart default asked b ⊎ ((b ≢ Own Allow) × (a ≡ b))
+  earlier b (inl allow) = inl (inl allow)
+  earlier b (inr own) = ⊎_elim (λ old. inl (inr (own.0, old))) (λ same. inr (own.0, same)) (Contains-push_cases asked a b own.1)
+
+  -- One that has none, or whose part is known.
+  pub known : (a ≡ Own Allow) ⊎ Contains actions a → AreActions default (asked ++ a ∷ []) actions
+  known either = record {
+    exactly = λ b. (
+      λ there. still b ((are.exactly b).0 there),
+      λ has. ⊎_elim (are.exactly b).1
+          (λ new. ⊎_elim (λ allow. absurd (new.0 (sym new.1 ∙ allow))) (λ there. subst (Contains actions) new.1 there) either)
+          (earlier b has),
+    );
+    once = are.once;
   }
 
-  -- One whose action isn't.
-  pub actions_more : (new : List Action) → new ≡ actions ++ e.action ∷ [] → e.action ≢ Own Allow → AreActionsOf (es ++ e ∷ []) new
-  actions_more new pushed apart = subst (AreActionsOf (es ++ e ∷ [])) (sym pushed) (record {
-    each = All-push (λ action. (action ≢ Own Allow) × Has (es ++ e ∷ []) action) actions e.action still
-        (apart, any_end (λ (f : Entry). f.action ≡ e.action) es e refl);
-    all = All-push (Is (actions ++ e.action ∷ [])) es e
-        (λ k d within differs. Contains-append_left actions (e.action ∷ []) (get_or es k d).action (are.all k d within differs))
-        (λ differs. Contains-push actions e.action);
-  })
-
--- One action more, and its part.
-pub zip_more : {X Y : Type 0} (P : X → Y → Type 0) (xs : List X) (k : ℕ) (d : X) (old new : List Y) (y : Y) → k < length xs
-    → new ≡ old ++ y ∷ [] → AllZip P (take k xs) old → P (get_or xs k d) y → AllZip P (take (k + 1) xs) new
-zip_more P xs k d old new y within pushed zip has =
-    subst (λ zs. AllZip P zs new) (sym (take_more xs k d within))
-    (subst (AllZip P (take k xs ++ get_or xs k d ∷ [])) (sym pushed) (all_zipped_more P (take k xs) old (get_or xs k d) y zip has))
+  -- A new one.
+  pub more : a ≢ Own Allow → (Contains actions a → ⊥) → AreActions default (asked ++ a ∷ []) (actions ++ a ∷ [])
+  more apart new = record {
+    exactly = λ b. (
+      λ there. ⊎_elim (λ old. still b ((are.exactly b).0 old))
+          (λ same. inr (λ allow. apart (same ∙ allow), subst (Contains (asked ++ a ∷ [])) same (Contains-push asked a)))
+          (Contains-push_cases actions a b there),
+      λ has. ⊎_elim (λ old. Contains-append_left actions (a ∷ []) b ((are.exactly b).1 old))
+          (λ last. subst (Contains (actions ++ a ∷ [])) last.1 (Contains-push actions a)) (earlier b has),
+    );
+    once = all_pairs_push (λ x y. x ≢ y) actions a are.once
+        (λ k d within same. new (subst (Contains actions) same (Contains-get_or actions k d within)));
+  }

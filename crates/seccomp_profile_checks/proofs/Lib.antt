@@ -1,5 +1,4 @@
--- What holds of lists, and of effective entries.
-pub mod Places
-pub mod Settled
+-- What holds of profiles in one form, of the actions that have a part, and of warnings.
+pub mod Doubted
 pub mod Actions
-pub mod Kept
+pub mod Said

@@ -1,11 +1,12 @@
 -- The parts of a profile of which warnings are told.
-use Rattle.std.specs.Prelude.{◌≡◌, ◌≢◌, List, [], ◌∷◌, ◌++◌, All, Any, Contains}
-use Rattle.std.specs.List.{AllZip}
+use Rattle.std.specs.Prelude.{◌≡◌, ◌≢◌, ◌↔◌, ◌⊎◌, ◌++◌, ◌||◌, ℕ, zero, suc, Bool, true, false, if◌then◌else◌, List, [], ◌∷◌}
+use Rattle.std.specs.Prelude.{Contains, length, map, nat_eq, take}
+use Rattle.std.specs.List.{AllPairs, filter}
 use Rattle.seccomp_entries.specs.declared.entry.Action.{Action}
 use Rattle.seccomp_entries.specs.declared.entry.Action.TheVariants.{Own}
 use Rattle.seccompiler.specs.declared.backend.SeccompAction.TheVariants.{Allow}
 use Rattle.seccompiler.specs.declared.backend.TargetArch.{TargetArch}
-use Rattle.seccomp_entries.specs.Entries.{Entry}
+use Rattle.seccomp_entries.specs.Entries.{Entry, value_of}
 use Rattle.seccomp_profile_checks.specs.declared.parts.Origin.{Origin}
 use Rattle.seccomp_warnings.specs.Parts.{Part}
 
@@ -13,42 +14,65 @@ use Rattle.seccomp_warnings.specs.Parts.{Part}
 abbrev pub origin_of : Entry → Origin
 origin_of e = record { entry = e.place; condition = e.alternative; number = e.number }
 
--- Of these entries exactly those with this action, in their order.
-pub data AreOfAction (action : Action) : (entries own : List Entry) → Type 0 where
-  none : AreOfAction action [] []
-  taken : {es own : List Entry} (e : Entry) → e.action ≡ action → AreOfAction action es own
-      → AreOfAction action (es ++ e ∷ []) (own ++ e ∷ [])
-  passed : {es own : List Entry} (e : Entry) → e.action ≢ action → AreOfAction action es own → AreOfAction action (es ++ e ∷ []) own
+-- ---- the entries that decide some call
 
--- The part of an action: the effective entries that have it, beside which all else is allowed.
-pub record IsPartOfAction (arch : TargetArch) (effective : List Entry) (action : Action) (p : Part) : Type 0 where
-  pub target_arch : p.target_arch ≡ arch
-  pub mismatch : p.actions.mismatch ≡ Own Allow
-  pub matching : p.actions.matching ≡ action
-  pub entries : AreOfAction action effective p.entries
+-- Of these entries those for the calls of this number, in their order.
+abbrev pub entries_of : (number : ℕ) → List Entry → List Entry
+entries_of number all = filter (λ e. nat_eq e.number number) all
 
--- The part of the default action: what any effective entry is for is allowed, and all else has the default action.
-pub record IsPartOfDefault (arch : TargetArch) (effective : List Entry) (default : Action) (p : Part) : Type 0 where
-  pub target_arch : p.target_arch ≡ arch
-  pub mismatch : p.actions.mismatch ≡ default
-  pub matching : p.actions.matching ≡ Own Allow
-  pub entries : p.entries ≡ effective
+-- The first of entries for one call has no conditions, so it decides each of its calls.
+abbrev pub is_settled : List Entry → Bool
+is_settled [] = false
+is_settled (e ∷ es) = nat_eq (length e.conditions) 0
 
--- These are the actions of entries but for allow.
-pub record AreActionsOf (entries : List Entry) (actions : List Action) : Type 0 where
-  pub each : All (λ action. (action ≢ Own Allow) × Any (λ (e : Entry). e.action ≡ action) entries) actions
-  pub all : All (λ (e : Entry). e.action ≢ Own Allow → Contains actions e.action) entries
+-- Of entries for one call those that decide some.
+abbrev pub deciding : List Entry → List Entry
+deciding es = if is_settled es then take 1 es else es
 
--- Behind the parts of actions comes that of the default action, unless this is to allow.
-pub data AreWithDefault (arch : TargetArch) (effective : List Entry) (default : Action) (own : List Part) : List Part → Type 0 where
-  allows : default ≡ Own Allow → AreWithDefault arch effective default own own
-  denies : default ≢ Own Allow → (p : Part) → IsPartOfDefault arch effective default p
-      → AreWithDefault arch effective default own (own ++ p ∷ [])
+-- Those for the calls of the numbers below this one.
+unfoldable pub effective_below : ℕ → List Entry → List Entry
+effective_below zero all = []
+effective_below (suc number) all = effective_below number all ++ deciding (entries_of number all)
 
--- The parts of a profile of this default action, of its effective entries: one for each action but allow, and one of the default action.
+abbrev pub effective_in : List Entry → List Entry
+effective_in all = effective_below 463 all
+
+-- ---- parts
+
+abbrev pub is_allow : Action → Bool
+is_allow (Own Allow) = true
+is_allow action = false
+
+-- The entry is in the part of an action: it has the action, or that is to allow, whose part is that of the default action.
+abbrev pub is_in : Action → Entry → Bool
+is_in action e = is_allow action || nat_eq (value_of e.action) (value_of action)
+
+-- What holds beside the entries of an action: all else is allowed, and beside those that are allowed it is the default action.
+abbrev pub beside : (default action : Action) → Action
+beside default action = if is_allow action then default else Own Allow
+
+-- The part of an action: the effective entries with it, in their order; of allow all, whatever their action is.
+abbrev pub part_of : TargetArch → (default : Action) → (effective : List Entry) → Action → Part
+part_of arch default effective action = record {
+  target_arch = arch;
+  actions = record { mismatch = beside default action; matching = action };
+  entries = filter (is_in action) effective;
+}
+
+-- The action has a part: an entry has it; or it is to allow, and the default action isn't.
+abbrev pub HasPart : (default : Action) → (asked : List Action) → Action → Type 0
+HasPart default asked action = ((action ≡ Own Allow) × (default ≢ Own Allow)) ⊎ ((action ≢ Own Allow) × Contains asked action)
+
+-- Of the actions of entries exactly those that have a part, each once.
+pub record AreActions (default : Action) (asked actions : List Action) : Type 0 where
+  pub exactly : (action : Action) → Contains actions action ↔ HasPart default asked action
+  pub once : AllPairs (λ (a b : Action). a ≢ b) actions
+
+abbrev pub actions_in : List Entry → List Action
+actions_in entries = map (λ (e : Entry). e.action) entries
+
+-- The parts of a profile of this default action and these effective entries: that of each action that has one, once.
 pub record AreParts (arch : TargetArch) (default : Action) (effective : List Entry) (parts : List Part) : Type 0 where
   pub actions : List Action
-  pub are_actions : AreActionsOf effective actions
-  pub own : List Part
-  pub own_are : AllZip (IsPartOfAction arch effective) actions own
-  pub with_default : AreWithDefault arch effective default own parts
+  pub are_actions : AreActions default (actions_in effective) actions
+  pub are : parts ≡ map (part_of arch default effective) actions

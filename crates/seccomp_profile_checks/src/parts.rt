@@ -1,16 +1,18 @@
 // The parts of a profile of which warnings are told.
 
-ghost use Rattle.std.specs.Prelude.{◌≡◌, ◌↔◌, ◌⊎◌, Contains, IfOk, IsTrue};
-ghost use Rattle.std.specs.List.{AllZip};
+ghost use Rattle.std.specs.Prelude.{◌≡◌, ◌↔◌, ◌⊎◌, [], Contains, IfOk, IsTrue, map};
 ghost use Rattle.seccomp_entries.specs.declared.entry.Action.TheVariants.{Own};
 ghost use Rattle.seccompiler.specs.declared.backend.SeccompAction.TheVariants.{Allow};
-ghost use Rattle.seccomp_profile_checks.specs.Parts.{AreActionsOf, AreOfAction, AreParts, AreWithDefault, IsPartOfAction, origin_of};
+ghost use Rattle.seccomp_profile_checks.specs.Parts as spec;
+ghost use Rattle.seccomp_profile_checks.specs.Parts.{AreActions, AreParts, actions_in, deciding, effective_in, entries_of};
 
-use crate::effective::copy_of;
 use seccomp_entries::{Action, Entry};
 use seccomp_warnings::{Actions, Part};
 use seccompiler::{SeccompAction, TargetArch};
 use std::alloc::{AllocError, Global};
+
+// One more than the greatest number of a call that has a name.
+pub(crate) const NUMBERS: u32 = 463;
 
 /// Where an entry is from.
 #[derive(Clone, Copy)]
@@ -25,7 +27,7 @@ pub struct Origin {
 
 /// Where an entry is from.
 pub(crate) fn origin_of(entry: &Entry) -> Origin
-    ensures { result ≡ origin_of entry.now }
+    ensures { result ≡ spec.origin_of entry.now }
 {
     Origin {
         entry: entry.place,
@@ -34,11 +36,62 @@ pub(crate) fn origin_of(entry: &Entry) -> Origin
     }
 }
 
-/// The parts of a profile of this default action and these effective entries, which `check` warns about: those that none in
-/// front settles. They are no program of the profile: [`decisions_of_profile`](seccomp_oci::decisions_of_profile) gives what it decides.
+/// Of the entries of a profile in one form those that decide some call, unless their conditions never hold: of those for the calls of a
+/// number all, or the first alone, if it has no conditions.
+pub(crate) fn effective_of(alloc: Global, entries: &[Entry]) -> Result<Vec<Entry>, AllocError>
+    ensures { IfOk result (λ own. own.items ≡ effective_in entries.now) }
+{
+    let mut all = Vec::new(alloc);
+    for number in 0..NUMBERS {
+        let mut own = deciding_of(alloc, number, entries)?;
+        all.append(&mut own)?;
+    }
+    Ok(all)
+}
+
+// Those of a number.
+fn deciding_of(alloc: Global, number: u32, entries: &[Entry]) -> Result<Vec<Entry>, AllocError>
+    ensures { IfOk result (λ own. own.items ≡ deciding (entries_of number entries.now)) }
+{
+    let mut own = entries_of_number(alloc, number, entries)?;
+    if is_settled(&own) {
+        own.truncate(1);
+    }
+    Ok(own)
+}
+
+/// Of the entries those for the calls of a number.
+pub(crate) fn entries_of_number(
+    alloc: Global,
+    number: u32,
+    entries: &[Entry],
+) -> Result<Vec<Entry>, AllocError>
+    ensures { IfOk result (λ own. own.items ≡ entries_of number entries.now) }
+{
+    let mut own = Vec::new(alloc);
+    for entry in entries {
+        if entry.number == number {
+            own.push(copy_of(alloc, entry)?)?;
+        }
+    }
+    Ok(own)
+}
+
+// Whether the first of these has no conditions.
+fn is_settled(entries: &[Entry]) -> bool
+    ensures { result ≡ spec.is_settled entries.now }
+{
+    match entries {
+        [first, ..] => first.conditions.is_empty(),
+        [] => false,
+    }
+}
+
+/// The parts of a profile of this default action and these effective entries, which `check` warns about. They are no program of the
+/// profile: [`decisions_of_profile`](seccomp_oci::decisions_of_profile) gives what it decides.
 ///
-/// Each action but `allow` has a part of the effective entries with it, beside which all else is allowed. If the default action isn't to
-/// allow, a last part allows what any effective entry is for, and has the default action for all else.
+/// Each action of an entry but `allow` has a part of the entries with it, beside which all else is allowed. If the default action isn't to
+/// allow, a part of all entries allows what they are for, and has the default action for all else.
 ///
 /// # Errors
 ///
@@ -47,38 +100,56 @@ pub fn parts_of(
     alloc: Global,
     target: TargetArch,
     default: Action,
-    effective: Vec<Entry>,
+    effective: &[Entry],
 ) -> Result<Vec<Part>, AllocError>
-    ensures { IfOk result (λ parts. AreParts target default effective.items parts.items) }
+    ensures { IfOk result (λ parts. AreParts target default effective.now parts.items) }
 {
-    let actions = actions_of(alloc, &effective)?;
-    let own = parts_of_actions(alloc, target, &effective, &actions)?;
-    let parts = with_default(own, target, default, effective)?;
+    let actions = actions_of(alloc, default, effective)?;
+    let parts = each_part(alloc, target, default, effective, &actions)?;
     Ok(parts)
 }
 
-// These parts, and behind them that of the default action, unless this is to allow.
-fn with_default(
-    own: Vec<Part>,
+// The parts of these actions.
+fn each_part(
+    alloc: Global,
     target: TargetArch,
     default: Action,
-    effective: Vec<Entry>,
+    effective: &[Entry],
+    actions: &[Action],
 ) -> Result<Vec<Part>, AllocError>
-    ensures { IfOk result (λ parts. AreWithDefault target effective.items default own.items parts.items) }
+    ensures { IfOk result (λ parts. parts.items ≡ map (spec.part_of target default effective.now) actions.now) }
 {
-    if is_same(default, Action::Own(SeccompAction::Allow)) {
-        return Ok(own);
+    let mut parts = Vec::new(alloc);
+    for action in actions {
+        parts.push(part_of(alloc, target, default, effective, *action)?)?;
     }
-    let mut parts = own;
-    parts.push(Part {
-        target_arch: target,
-        actions: Actions {
-            mismatch: default,
-            matching: Action::Own(SeccompAction::Allow),
-        },
-        entries: effective,
-    })?;
     Ok(parts)
+}
+
+// The actions that have a part.
+fn actions_of(alloc: Global, default: Action, entries: &[Entry]) -> Result<Vec<Action>, AllocError>
+    ensures { IfOk result (λ actions. AreActions default (actions_in entries.now) actions.items) }
+{
+    let mut actions = of_default(alloc, default)?;
+    for entry in entries {
+        if is_known(&actions, entry.action) {
+            continue;
+        }
+        actions.push(entry.action)?;
+    }
+    Ok(actions)
+}
+
+// That of the default action's part, if it has one.
+fn of_default(alloc: Global, default: Action) -> Result<Vec<Action>, AllocError>
+    ensures { IfOk result (λ actions. AreActions default [] actions.items) }
+{
+    let mut actions = Vec::new(alloc);
+    if is_same(default, Action::Own(SeccompAction::Allow)) {
+        return Ok(actions);
+    }
+    actions.push(Action::Own(SeccompAction::Allow))?;
+    Ok(actions)
 }
 
 // Whether both are the same action.
@@ -95,58 +166,66 @@ fn is_known(actions: &[Action], action: Action) -> bool
     is_same(action, Action::Own(SeccompAction::Allow)) || actions.contains(&action)
 }
 
-// The actions of entries but for allow, each once.
-fn actions_of(alloc: Global, entries: &[Entry]) -> Result<Vec<Action>, AllocError>
-    ensures { IfOk result (λ actions. AreActionsOf entries.now actions.items) }
-{
-    let mut actions = Vec::new(alloc);
-    for entry in entries {
-        if is_known(&actions, entry.action) {
-            continue;
-        }
-        actions.push(entry.action)?;
-    }
-    Ok(actions)
-}
-
-// The parts of these actions.
-fn parts_of_actions(
+// The part of an action.
+fn part_of(
     alloc: Global,
     target: TargetArch,
+    default: Action,
     effective: &[Entry],
-    actions: &[Action],
-) -> Result<Vec<Part>, AllocError>
-    ensures { IfOk result (λ parts. AllZip (IsPartOfAction target effective.now) actions.now parts.items) }
+    action: Action,
+) -> Result<Part, AllocError>
+    ensures { IfOk result (λ part. part ≡ spec.part_of target default effective.now action) }
 {
-    let mut parts = Vec::new(alloc);
-    for action in actions {
-        let entries = entries_of_action(alloc, effective, *action)?;
-        parts.push(Part {
-            target_arch: target,
-            actions: Actions {
-                mismatch: Action::Own(SeccompAction::Allow),
-                matching: *action,
-            },
-            entries,
-        })?;
+    let mut entries = Vec::new(alloc);
+    for entry in effective {
+        if is_in(action, entry) {
+            entries.push(copy_of(alloc, entry)?)?;
+        }
     }
-    Ok(parts)
+    Ok(Part {
+        target_arch: target,
+        actions: Actions {
+            mismatch: beside(default, action),
+            matching: action,
+        },
+        entries,
+    })
 }
 
-// Of the entries those with this action.
-fn entries_of_action(
-    alloc: Global,
-    entries: &[Entry],
-    action: Action,
-) -> Result<Vec<Entry>, AllocError>
-    ensures { IfOk result (λ own. AreOfAction action entries.now own.items) }
+fn is_in(action: Action, entry: &Entry) -> bool
+    ensures { result ≡ spec.is_in action entry.now }
 {
-    let mut own = Vec::new(alloc);
-    for entry in entries {
-        if !is_same(entry.action, action) {
-            continue;
-        }
-        own.push(copy_of(alloc, entry)?)?;
+    is_allow(action) || u32::from(entry.action) == u32::from(action)
+}
+
+// What is done beside the entries of an action.
+fn beside(default: Action, action: Action) -> Action
+    ensures { result ≡ spec.beside default action }
+{
+    if is_allow(action) {
+        default
+    } else {
+        Action::Own(SeccompAction::Allow)
     }
-    Ok(own)
+}
+
+/// Whether it is to allow.
+pub(crate) fn is_allow(action: Action) -> bool
+    ensures { result ≡ spec.is_allow action }
+{
+    matches!(action, Action::Own(SeccompAction::Allow))
+}
+
+// The same entry once more.
+fn copy_of(alloc: Global, entry: &Entry) -> Result<Entry, AllocError>
+    ensures { IfOk result (λ copy. copy ≡ entry.now) }
+{
+    let conditions = entry.conditions.as_slice().to_vec(alloc)?;
+    Ok(Entry {
+        place: entry.place,
+        alternative: entry.alternative,
+        number: entry.number,
+        conditions,
+        action: entry.action,
+    })
 }

@@ -198,7 +198,7 @@ fn said_of(
             said.finish_string()
         }
         ProfileWarning::Clashing(Clash { effect, beside, .. }) => match effect {
-            Effect::Rejected(_) => {
+            Effect::Rejected => {
                 format!(in alloc;
                     "syscalls[{beside}] has these args and maybe more, and another action, so no container starts; leave the call out of one of them"
                 )

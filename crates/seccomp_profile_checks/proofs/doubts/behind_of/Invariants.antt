@@ -1,7 +1,8 @@
-use Rattle.std.proofs.Common.{take}
-use Rattle.seccomp_profile_checks.specs.Doubts.{AreBehind}
+use Rattle.std.proofs.Common.{All}
+use Rattle.seccomp_profiles.specs.Types.{Profile}
+use Rattle.seccomp_profile_checks.specs.Warnings.{IsWarning}
 use Rattle.seccomp_profile_checks.proofs.doubts.behind_of.Given as goal
 
--- those so far
-abbrev pub invariant-loop-entry : goal.invariant-loop-entry
-invariant-loop-entry l = AreBehind l.entries (take l.entry-index l.entries) l.found.items
+-- those so far are so
+abbrev pub invariant-loop-number : goal.invariant-loop-number
+invariant-loop-number l = (p : Profile) → All (IsWarning p l.lowered) l.all.items

@@ -1,28 +1,12 @@
-use Rattle.std.proofs.Common.{◌≡◌, ◌++◌, ◌∙◌, List, ap, subst}
-use Rattle.seccomp_entries.specs.Entries.{Entry, Lowered}
-use Rattle.seccomp_profile_checks.specs.Doubts.{AreBehind, IsSoAlone, asked_alone, asked_of_default}
-use Rattle.seccomp_profile_checks.specs.declared.doubts.Doubt.{Doubt}
-use Rattle.seccomp_warnings.specs.Picked.{ArePicked}
+use Rattle.std.proofs.lemmas.List.Elements.{All-push}
+use Rattle.seccomp_profile_checks.specs.Warnings.{IsWarning}
+use Rattle.seccomp_profile_checks.proofs.doubts.doubts_of.Goals.{then-is_so+in_ok-push, else-is_so}
 use Rattle.seccomp_profile_checks.proofs.doubts.doubts_of.Goals as goal
 
-pub returns : goal.returns
-returns c =
-    let p = c.args.profile.now in
-    let same : c.as_slice-entries.result.now ≡ c.args.lowered.now.entries =
-    c.as_slice-entries.ensures.value ∙ ap (λ (l : Lowered). l.entries) c.lowered.view_is in
-    let behind : List Doubt = c.in_ok-behind.behind.items in
-    let left_open : List Doubt = c.in_ok-left_open.left_open.items in
-    record {
-      default = c.in_ok-all.all.items;
-      are_of_default = subst (λ (es : List Entry). ArePicked (IsSoAlone p es) asked_of_default c.in_ok-all.all.items) same
-          c.in_ok-all.ensures;
-      alone = c.in_ok-alone.alone.items;
-      are_alone = subst (λ (es : List Entry). ArePicked (IsSoAlone p es) (asked_alone p) c.in_ok-alone.alone.items) same
-          c.in_ok-alone.ensures;
-      behind = behind;
-      are_behind = subst (λ (es : List Entry). AreBehind es es behind) same c.in_ok-behind.ensures;
-      left_open = left_open;
-      are_left_open = c.in_ok-left_open.ensures;
-      all_are = c.in_ok-append-3.ensures.items ∙ ap (λ (ds : List Doubt). ds ++ left_open)
-          (c.in_ok-append-2.ensures.items ∙ ap (λ (ds : List Doubt). ds ++ behind) c.in_ok-append.ensures.items);
-    }
+pub loop-doubt-preserved : goal.loop-doubt-preserved
+loop-doubt-preserved c = elim c.if-is_so.branch [
+  | then-is_so+in_ok-push w ↦ rw (w.all-is, w.in_ok-push.ensures.items)
+      (All-push (IsWarning c.args.profile.now c.args.lowered.now) c.loop-doubt.all.items _ c.loop-doubt.invariant
+      (c.is_so.ensures w.if-is_so.true))
+  | else-is_so w ↦ rw w.all-is c.loop-doubt.invariant
+]

@@ -1,19 +1,12 @@
-use Rattle.std.proofs.Common.{List, subst}
-use Rattle.std.specs.List.{AllZip}
+use Rattle.std.proofs.Common.{◌∙◌, List, ap, map}
 use Rattle.seccomp_entries.specs.declared.entry.Action.{Action}
-use Rattle.seccomp_entries.specs.Entries.{Entry}
-use Rattle.seccomp_profile_checks.specs.Parts.{AreActionsOf, IsPartOfAction}
+use Rattle.seccomp_profile_checks.specs.Parts.{part_of}
 use Rattle.seccomp_profile_checks.proofs.parts.parts_of.Goals as goal
 
 pub returns : goal.returns
-returns c =
-    let actions : List Action = c.in_ok-actions.actions.items in
-    record {
-      actions = actions;
-      are_actions = subst (λ (es : List Entry). AreActionsOf es actions) c.deref.ensures.value c.in_ok-actions.ensures;
-      own = c.in_ok-own.own.items;
-      own_are = subst (λ (es : List Entry). AllZip (IsPartOfAction c.args.target es) actions c.in_ok-own.own.items) c.deref-2.ensures.value
-          (subst (λ (each : List Action). AllZip (IsPartOfAction c.args.target c.deref-2.result.now) each c.in_ok-own.own.items)
-          c.deref-3.ensures.value c.in_ok-own.ensures);
-      with_default = c.in_ok-parts.ensures;
-    }
+returns c = record {
+  actions = c.in_ok-actions.actions.items;
+  are_actions = c.in_ok-actions.ensures;
+  are = c.in_ok-parts.ensures
+      ∙ ap (λ (all : List Action). map (part_of c.args.target c.args.default c.args.effective.now) all) c.deref.ensures.value;
+}

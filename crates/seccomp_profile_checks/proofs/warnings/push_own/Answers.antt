@@ -2,7 +2,7 @@ use Rattle.std.proofs.Common.{◌++◌, ◌∙◌, ◌∷◌, [], List, ap, appe
 use Rattle.std.specs.List.{range_with_len}
 use Rattle.seccomp_profile_checks.specs.declared.warnings.ProfileWarning.{ProfileWarning}
 use Rattle.seccomp_profile_checks.specs.declared.warnings.ProfileWarning.TheVariants.{UnknownKey}
-use Rattle.seccomp_profile_checks.proofs.Kept.{one_place_more}
+use Rattle.seccomp_profile_checks.proofs.Said.{one_place_more}
 use Rattle.seccomp_profile_checks.proofs.warnings.push_own.Goals as goal
 
 pub loop-place-preserved : goal.loop-place-preserved

@@ -1,8 +1,8 @@
 """What tools/check-program runs on large profiles: their answers, and how the work grows with them.
 
 Work is counted in instructions by valgrind's callgrind: twice the profile may take at most MOST times as many, and MOST_CHECK
-for `check`, which looks for the entries of each entry's call among all. Where valgrind isn't there, it is the least processor
-time of some runs, which other processes disturb, so the limit is higher.
+for `check`, which still compares some entries of one call, and warnings, with all others. Where valgrind isn't there, it is the
+least processor time of some runs, which other processes disturb, so the limit is higher.
 """
 
 import json
@@ -62,6 +62,12 @@ def long(number):
     return profile(*entries)
 
 
+def wrong(number):
+    """Returns a policy of so many entries, each of which has an error."""
+    entries = [{"syscall": "read", "args": [], "comment": f"entry {k}"} for k in range(number)]
+    return json.dumps({"main": {"mismatch_action": "trap", "match_action": "allow", "filter": entries}})
+
+
 TOO_LONG = ": The profile's program needs more than 4096 instructions.\n"
 LEFT_OUT = ": 25000 names that x86_64 has no call for are left out\n"
 FIRST = CALLS[0]
@@ -88,8 +94,8 @@ ANSWERS = [
     (long, 1000000, f"explain --cap CAP_SYS_ADMIN FILE {FIRST} 1", 0, f"allow: syscalls[1] of {FIRST} (..", 1, ""),
 ]
 
-# Profiles whose size is doubled, from this one.
-GROWING = [(alternating, 1000), (conditioned, 1000), (named, 10000), (long, 200000)]
+# Profiles whose size is doubled, from this one, and policies that are rejected.
+GROWING = [(alternating, 1000), (conditioned, 1000), (named, 10000), (long, 200000), (wrong, 10000)]
 COMMANDS = ("compile -o program.bpf FILE", "check FILE", f"explain FILE {FIRST}")
 
 

@@ -54,15 +54,16 @@ UNSAID = re.compile(
 )
 
 # What `check` reports after a place: that the shape is wrong there; and what can only be found in one that is right.
+MORE = r"( \(\d+ more errors?; seccomptool check prints (it|them)\))?\n"
 WRONG_AT = re.compile(
     r'(expected .*, found .*|"[^"]*": unknown key; expected .*|missing "\w+"( or "\w+")?'
-    r'|expected one of "\w+" and "\w+", found both)\n'
+    r'|expected one of "\w+" and "\w+", found both)' + MORE
 )
 UNSAID_AT = re.compile(
-    r'(unknown system call ".*" on \w+(; did you mean "\w+"\?)?'
+    r'(unknown system call ".* on \w+(; did you mean "\w+"\?)?'
     r"|needs \d+ instructions in the (linear|tree) layout; 4096 fit(; \d+ in the (linear|tree) layout)?"
     r"|needs more than 4096 instructions in the tree layout(; \d+ in the linear layout)?"
-    r"|expected two actions that differ, found the same one twice)\n"
+    r"|expected two actions that differ, found the same one twice)" + MORE
 )
 
 # So much of a policy is shown of which the schema says something else.
@@ -156,7 +157,7 @@ def is_valid(case):
 def said_by(case, line):
     """Returns that an error is of the policy's shape, by False; None if it says nothing of that, and its message if it is unknown."""
     message = IN_FRONT.sub("", line, count=1)
-    at_place = message.partition(": ")[2] if case.words.startswith(("check", "compile")) else ""
+    at_place = message.partition(": ")[2] if case.words.startswith(OF_TOOL) else ""
     if UNSAID.match(message) or UNSAID_AT.fullmatch(at_place):
         return None
     return False if message.startswith(WRONG) or WRONG_AT.fullmatch(at_place) else message

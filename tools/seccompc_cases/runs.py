@@ -1,8 +1,10 @@
 """What `run` has to do: the lines of calls under a policy's filter, and the faults in their order."""
 
 from model import X86_64, record_of
-from seccomptool_cases.forms import NO_ARCHITECTURE, NO_OBJECT, Case, Failing, refuses, writes
+from program_cases import FRONTEND
+from seccomptool_cases.forms import NO_ARCHITECTURE, Case, Failing, refuses, writes
 
+from .policy_texts import NO_OBJECT
 from .policies import COMPLEX, LOGGED, LOGS, NO_FILTER, SHORT, UNREAD_RECORDS
 
 # Filters without entries under three names, of which `b` has another mismatch action.
@@ -44,7 +46,7 @@ CASES = [
     Case("run x86_64 run-logs.json a", 1, LOGGED, SHORT.format(1), CALL_1 + bytes(1)),
     # `run` tells the first fault; that of the records' reader is the last.
     refuses("run x8664 list.json b", Failing(""), NO_ARCHITECTURE),
-    refuses("run x86_64 list.json b", Failing(""), NO_OBJECT),
+    refuses("run x86_64 list.json b", Failing(""), FRONTEND + NO_OBJECT),
     refuses("run x86_64 run-logs.json b", Failing(""), NO_FILTER),
     # `run` tells that reading the records fails.
     refuses("run x86_64 run-logs.json a", Failing(bytes(64)), UNREAD_RECORDS),

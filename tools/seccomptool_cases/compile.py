@@ -7,7 +7,7 @@ from model import instructions_of
 from program_cases import FRONTEND
 
 from .forms import (
-    CLOSED, FOLDER, FULL, INPUT, LAYOUTS, LOGS, MISSING, NO_OBJECT, OUTPUT, TOOL, fails_to_read_and_write, rejects,
+    CLOSED, FOLDER, FULL, INPUT, LAYOUTS, EMPTY, LOGS, MISSING, NO_OBJECT, OUTPUT, TOOL, fails_to_read_and_write, rejects,
     rejects_in_both, writes
 )
 from .long_filters import of_masks, of_rules
@@ -42,7 +42,7 @@ int main(void)
 COMPILERS = {"cc": "-x c -std=c11", "c++": "-x c++ -std=c++17"}
 
 NO_FILTER = "No filter has this name: b.\n"
-UNKNOWN_CALL = FRONTEND + "Invalid syscall name: nosyscall for given arch: x86_64.\n"
+UNKNOWN_CALL = 'a.filter[0].syscall: unknown system call "nosyscall" on x86_64\n'
 
 # Two filters, one without entries; the other one's name has a byte that steers a terminal.
 TWO = LOGS[:-1] + r',"b\u009b":{"mismatch_action":"trap","match_action":"allow","filter":[]}}'
@@ -113,7 +113,7 @@ CASES = [
     rejects("compile", "{}", "The policy has no filters.\n"),
     rejects("compile", '{"a":' + LOGS[5:-1] + ',"":' + LOGS[5:], WHICH.format("'', a")),
     rejects("compile", "[]", NO_OBJECT),
-    rejects("compile", '{"a":{}}', FRONTEND + "Json filter has a wrong shape: a.\n"),
+    rejects("compile", '{"a":{}}', EMPTY.format("a")),
     # `compile` writes a file, if there is no fault.
     writes("compile logs.json -o written && cat written && rm written", "", TREE),
     rejects("compile no-json.json -o unwritten; status=$?; test ! -e unwritten && (exit $status)", "",

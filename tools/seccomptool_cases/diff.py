@@ -1,6 +1,5 @@
 """What `diff` has to do: the calls on which two policies differ, and the faults."""
 
-from program_cases import FRONTEND
 
 from .forms import CLOSED, FOLDER, FULL, INPUT, LOGS, MISSING, NO_OBJECT, OUTPUT, RESET, TOOL, Case, Command, Failing
 
@@ -52,7 +51,7 @@ OTHER_ERRNO = "  read: errno 1 (EPERM) -> errno 2 (ENOENT), otherwise: read(0x0,
 NAMES = "filter a: same\nfilter b: only in OLD\nfilter c: only in NEW\n"
 
 # The fault of `unknown-call.json`.
-UNKNOWN_CALL = FRONTEND + "Invalid syscall name: nosyscall for given arch: x86_64.\n"
+UNKNOWN_CALL = 'a.filter[0].syscall: unknown system call "nosyscall" on x86_64\n'
 
 
 DIFF = Command("diff ")
@@ -125,7 +124,7 @@ CASES = [
     fails("- unknown-call.json", NO_OBJECT, INPUT, "[]"),
     fails("logs.json unknown-call.json", UNKNOWN_CALL, TOOL + "unknown-call.json: "),
     fails("unknown-call.json logs.json", UNKNOWN_CALL, TOOL + "unknown-call.json: "),
-    fails("-a aarch64 logs.json opens.json", FRONTEND + "Invalid syscall name: open for given arch: aarch64.\n", TOOL + "opens.json: "),
+    fails("-a aarch64 logs.json opens.json", 'a.filter[0].syscall: unknown system call "open" on aarch64; did you mean "openat"?\n', TOOL + "opens.json: "),
     fails("- logs.json", RESET, INPUT, Failing(LOGS)),
     fails("logs.json -", RESET, INPUT, Failing(LOGS)),
     # A filter that neither layout can hold.

@@ -1,7 +1,6 @@
 """What `explain` has to do: what is decided on records, and why, and the faults in their order."""
 
 from model import AARCH64, X86_64, record_of
-from program_cases import FRONTEND, LARGE
 
 from .forms import CLOSED, FOLDER, FULL, INPUT, LOGS, MISSING, NO_OBJECT, OUTPUT, RESET, TOOL, Case, Failing, rejects, writes
 
@@ -101,7 +100,7 @@ CASES = [
     rejects("explain -f b list.json", FAILING_RECORDS, RESET),
     rejects("explain -f b list.json", bytes(64), NO_OBJECT, TOOL + "list.json: "),
     rejects("explain -f b -a aarch64 opens.json", bytes(64),
-            FRONTEND + "Invalid syscall name: open for given arch: aarch64.\n", TOOL + "opens.json: "),
+            'a.filter[0].syscall: unknown system call "open" on aarch64; did you mean "openat"?\n', TOOL + "opens.json: "),
     rejects("explain -f b explained-logs.json", bytes(64), NO_FILTER, TOOL + "explained-logs.json: "),
     rejects("explain explained-logs.json", FAILING_RECORDS, RESET),
     rejects("explain -f b logs.json --records 63-bytes", "", NO_FILTER, TOOL + "logs.json: "),
@@ -110,9 +109,9 @@ CASES = [
     rejects("explain list.json nocall", "", "No call of x86_64 has this name or number: nocall.\n", TOOL),
     # `explain` rejects a filter that is too large.
     rejects("explain -f b many-conditions.json", "",
-            "Backend error: The seccomp filter contains too many BPF instructions: ..",
+            "a: needs 4158 instructions in the linear layout; 4096 fit\n",
             TOOL + "many-conditions.json: "),
-    rejects("explain -f b too-large.json --records 63-bytes", "", LARGE, TOOL + "too-large.json: "),
+    rejects("explain -f b too-large.json --records 63-bytes", "", "a: needs 10130 instructions in the linear layout; 4096 fit\n", TOOL + "too-large.json: "),
     # `explain` answers failing readers and writers.
     rejects("explain examples", "", FOLDER, TOOL + "examples: "),
     ("explain logs.json < examples", 2, "", INPUT + FOLDER),

@@ -21,7 +21,10 @@ RESET = "Connection reset by peer (os error 104)\n"
 SYSTEM = (MISSING, CLOSED, FOLDER, FULL, RESET)
 
 NO_ARCHITECTURE = "Backend error: Invalid target arch: x8664.\n"
-NO_OBJECT = FRONTEND + "Json is not an object of filters.\n"
+NO_OBJECT = "the policy: expected an object of filters, found an empty array\n"
+
+# What a command other than `check` reports of a filter that is an empty object, at whose path it stands.
+EMPTY = '{}: missing "mismatch_action" or "default_action" (2 more errors; seccomptool check prints them)\n'
 
 # A filter without entries.
 LOGS = '{"a":{"mismatch_action":"log","match_action":"allow","filter":[]}}'

@@ -4,12 +4,11 @@ import json
 import shlex
 
 from model import X86_64, record_of
-from program_cases import FRONTEND
 
 from .compile import TREE, listed
 from .compiled_profiles import entry, left_out, profile
 from .diff import policy
-from .forms import INPUT, LOGS, MISSING, TOOL, Case, rejects, writes
+from .forms import EMPTY, INPUT, LOGS, MISSING, TOOL, Case, rejects, writes
 from .learn import filtered
 from .show import LOGS_SHOWN
 from .stats import LOGS_STEPS
@@ -51,9 +50,21 @@ def made_by(name):
 
 NO_FILTER = f"No filter has this name: {told(FIRST)}.\n"
 NO_CALL = f"No call of x86_64 has this name or number: {told(FIRST)}.\n"
-BAD_CALL = FRONTEND + f"Invalid syscall name: {told(FIRST)} for given arch: x86_64.\n"
+
+
+def unknown(name):
+    """Returns what is told of a policy that names this call, which shows it as JSON, of more than 80 bytes the front."""
+    shown = json.dumps(name, ensure_ascii=False)
+    length, front = len(shown.encode()), shown
+    while length > 80 and len(front[:-1].encode()) >= 57:
+        front = front[:-1]
+    front, more = told(front), f" .. ({length} bytes)" if length > 80 else ""
+    return f"a.filter[0].syscall: unknown system call {front}{more} on x86_64\n"
+
+
+BAD_CALL = unknown(FIRST)
 OF_BAD_CALL = policy('{"syscall":' + json.dumps(FIRST) + "}")
-WRONG = FRONTEND + f"Json filter has a wrong shape: {told(FIRST)}.\n"
+WRONG = EMPTY.format(told(FIRST))
 
 # The commands that read a file, and those that read two.
 OF_ONE = ("compile", "show", "check", "check --oci", "explain", "show --stats", "show --stats --oci", "compile --oci")
@@ -89,8 +100,7 @@ CASES = [
     rejects("compile", named(FIRST)[:-1] + "," + LOGS[1:], f"Name one of its filters: a, {told(FIRST)}.\n"),
     *[rejects(it, '{' + json.dumps(FIRST) + ':{}}', WRONG) for it in ("compile", "show", "show --stats")],
     *[rejects(it, OF_BAD_CALL, BAD_CALL) for it in ("compile", "show", "show --stats")],
-    *[rejects("show --stats", policy('{"syscall":' + json.dumps(it) + "}"),
-              FRONTEND + f"Invalid syscall name: {told(it)} for given arch: x86_64.\n") for it in NAMES],
+    *[rejects("show --stats", policy('{"syscall":' + json.dumps(it) + "}"), unknown(it)) for it in NAMES],
     Case("diff -q logs.json -", 2, "", INPUT + BAD_CALL, OF_BAD_CALL),
     Case("diff - hostile.bpf", 2, "", INPUT + BAD_CALL, OF_BAD_CALL),
     # A call that is asked for.

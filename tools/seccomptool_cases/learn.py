@@ -12,7 +12,7 @@ from model import AARCH64, RISCV64, X86_64, record_of
 from program_cases import FRONTEND
 from running import TOP
 
-from .forms import CLOSED, FOLDER, FULL, INPUT, MISSING, NO_OBJECT, OUTPUT, RESET, TOOL, Case, Command, Failing, rejects, writes
+from .forms import CLOSED, FOLDER, FULL, INPUT, MISSING, OUTPUT, RESET, TOOL, Case, Command, Failing, rejects, writes
 
 # A program's calls by strace: arguments are numbers, names, and texts that look like the end of a call.
 NAMED = r"""execve("/usr/bin/cat", ["cat", "a, b)"], 0x7ffd0 /* 20 vars */) = 0
@@ -514,7 +514,7 @@ CASES = [
     fails(shlex.quote(HOSTILE), f"{HOSTILE_TOLD}: {MISSING}"),
     # What is wrong with a policy that is added to.
     Case("learn --into no-json.json short.trace", 2, "", f"{TOOL}no-json.json: {FRONTEND}Error parsing Json: .."),
-    fails("--into list.json short.trace", "list.json: " + NO_OBJECT),
+    fails("--into list.json short.trace", f"list.json: {FRONTEND}Json is not an object of filters."),
     fails("--into no-filter.json short.trace", f"no-filter.json: {FRONTEND}Json filter has a wrong shape: a."),
     fails("--into unknown-call.json short.trace", f"unknown-call.json: {FRONTEND}Invalid syscall name: nosyscall for given arch: x86_64."),
     fails("--into allows-all.json short.trace", f"allows-all.json: {FRONTEND}`match_action` and `mismatch_action` are equal."),

@@ -10,7 +10,7 @@ import re
 from model import ARCHITECTURES, OPERATORS, called, record_of
 from program_cases import FRONTEND
 
-from .forms import CLOSED, FOLDER, FULL, INPUT, LOGS, MISSING, NO_OBJECT, OUTPUT, RESET, TOOL, Case, Command, Failing, named, rejects, writes
+from .forms import CLOSED, EMPTY, FOLDER, FULL, INPUT, LOGS, MISSING, NO_OBJECT, OUTPUT, RESET, TOOL, Case, Command, Failing, named, rejects, writes
 from .compiled_profiles import FITTING, PARSING, TOO_LONG, entry, profile, when
 from .profiles import PROFILES, STRICTEST_FIRST, numbers_of
 
@@ -336,7 +336,7 @@ def sets_of_capabilities():
 # A policy of which the text has the key's bytes.
 COMMENTED = LOGS.replace("[]", '[{"syscall":"read","comment":"defaultAction"}]')
 NO_NAME = "No filter has this name: a.\n"
-WRONG_DEFAULT = FRONTEND + "Json filter has a wrong shape: defaultAction.\n"
+WRONG_DEFAULT = "defaultAction: expected an object with the actions and the entries of a filter, found {}\n"
 REPEATED = '{"defaultAction":%s,"defaultAction":%s}'
 OBJECT = LOGS[len('{"a":'):-1]
 
@@ -359,11 +359,11 @@ CASES = [
     # It has no filter with a name. Each text that has none of the key's bytes, or another value, is a policy.
     rejects("explain --filter a reads-profile.json read", "", NO_NAME, TOOL + "reads-profile.json: "),
     Case("diff reads-profile.json:a reads-profile.json", 2, "", TOOL + "reads-profile.json: " + NO_NAME),
-    rejects("explain - read", r'{"default\u0041ction": "SCMP_ACT_ALLOW"}', WRONG_DEFAULT),
+    rejects("explain - read", r'{"default\u0041ction": "SCMP_ACT_ALLOW"}', WRONG_DEFAULT.format('"SCMP_ACT_ALLOW"')),
     writes("explain --oci - read", r'{"default\u0041ction": "SCMP_ACT_ALLOW"}', "allow: defaultAction of read (0)\n"),
-    rejects("explain - read", '{"defaultAction": null}', WRONG_DEFAULT),
-    rejects("explain - read", json.dumps({"linux": profile()}), FRONTEND + "Json filter has a wrong shape: linux.\n"),
-    rejects("explain - read", json.dumps([profile()]), NO_OBJECT),
+    rejects("explain - read", '{"defaultAction": null}', WRONG_DEFAULT.format("null")),
+    rejects("explain - read", json.dumps({"linux": profile()}), EMPTY.format("linux").replace("2 more", "4 more")),
+    rejects("explain - read", json.dumps([profile()]), NO_OBJECT.replace("empty array", "array of 1 value")),
     rejects("explain - read", '{"defaultAction": "SCMP_ACT_ALLOW"', FRONTEND + "Error parsing Json: .."),
     # Of a key that stands twice the last one counts.
     writes("explain - read", REPEATED % (OBJECT, '"SCMP_ACT_LOG"'), "log: defaultAction of read (0)\n"),

@@ -117,9 +117,9 @@ CASES = [
     writes("show --stats default-action.json", "", LOGS_STEPS.replace("filter a", "filter defaultAction")),
     writes("show --stats", COMMENTED, COMMENTED_STEPS),
     # So is each text that has none of the key's bytes, or another value.
-    rejects("show --stats", r'{"default\u0041ction": "SCMP_ACT_ALLOW"}', WRONG_DEFAULT),
+    rejects("show --stats", r'{"default\u0041ction": "SCMP_ACT_ALLOW"}', WRONG_DEFAULT.format('"SCMP_ACT_ALLOW"')),
     writes("show --stats --oci", r'{"default\u0041ction": "SCMP_ACT_ALLOW"}', ALL),
-    rejects("show --stats", '{"defaultAction": null}', WRONG_DEFAULT),
+    rejects("show --stats", '{"defaultAction": null}', WRONG_DEFAULT.format("null")),
     # What is no command.
     misused("show --stats --oci --kernel 6 reads-profile.json", "the value of --kernel isn't a version of two numbers, such as 6.1"),
     rejects("show --stats --oci --filter a reads-profile.json", "", NO_NAME, TOOL + "reads-profile.json: "),

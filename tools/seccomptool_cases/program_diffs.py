@@ -2,7 +2,6 @@
 the faults."""
 
 from model import RISCV64, X86_64
-from program_cases import FRONTEND
 
 from .diff import policy
 from .forms import CLOSED, FOLDER, FULL, LOGS, MISSING, NO_OBJECT, OUTPUT, RESET, TOOL, Case, Command, Failing
@@ -168,7 +167,7 @@ CASES = [
     fails("examples reads.bpf", FOLDER, TOOL + "examples: "),
     fails("- reads.bpf", NO_OBJECT, TOOL + "standard input: ", "[]"),
     fails("- longest.bpf", RESET, TOOL + "standard input: ", Failing(LOGS)),
-    fails("unknown-call.json reads.bpf", FRONTEND + "Invalid syscall name: nosyscall for given arch: x86_64.\n",
+    fails("unknown-call.json reads.bpf", 'a.filter[0].syscall: unknown system call "nosyscall" on x86_64\n',
           TOOL + "unknown-call.json: "),
     fails("logs.json:b reads.bpf", "No filter has this name: b.\n", TOOL + "logs.json: "),
     fails("two-filters.json reads.bpf", "Name one of its filters: a, b\\xc2\\x9b.\n", TOOL + "two-filters.json: "),

@@ -1,6 +1,6 @@
 """What `show` has to do: programs for people, and the faults."""
 
-from program_cases import FRONTEND, LARGE
+from program_cases import LARGE
 
 from .forms import (
     CLOSED, FOLDER, FULL, INPUT, LAYOUTS, MISSING, NO_OBJECT, OUTPUT, RESET, STEERS, TOOL, Failing,
@@ -146,7 +146,7 @@ CASES = [
     writes("show -a aarch64 --layout linear", CALLS, CALLS_SHOWN),
     # `show` tells the first fault.
     *rejects_in_both("show", "[]", NO_OBJECT),
-    *rejects_in_both("show", BOTH_FAULTY, FRONTEND + "Json filter has a wrong shape: a.\n"),
+    *rejects_in_both("show", BOTH_FAULTY, 'b: expected two actions that differ, found the same one twice (3 more errors; seccomptool check prints them)\n'),
     ("show --layout linear < too-large.json", 2, "", INPUT + LARGE),
     # `show` answers faults of its reader and its writer.
     *[case for it in LAYOUTS for case in fails_to_read_and_write("show" + it, LOGS, LOGS)],

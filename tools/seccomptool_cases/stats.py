@@ -1,8 +1,8 @@
 """What `stats` has to do: lengths and steps of programs, and the faults."""
 
-from program_cases import FRONTEND, LARGE
+from program_cases import LARGE
 
-from .forms import FULL, INPUT, LOGS, NO_OBJECT, OUTPUT, STEERS, fails_to_read_and_write, rejects, writes
+from .forms import EMPTY, FULL, INPUT, LOGS, NO_OBJECT, OUTPUT, STEERS, fails_to_read_and_write, rejects, writes
 from .long_filters import of_masks, of_rules
 
 # The programs of a filter without entries load the architecture's word and compare it, and return.
@@ -40,7 +40,7 @@ CASES = [
     writes("show --stats -a amd64 logs.json", "", LOGS_STEPS),
     # `stats` tells the first fault.
     rejects("show --stats", "[]", NO_OBJECT),
-    rejects("show --stats", '{"a":{},' + LARGE_TREE + "}", FRONTEND + "Json filter has a wrong shape: a.\n"),
+    rejects("show --stats", '{"a":{},' + LARGE_TREE + "}", EMPTY.format("a")),
     rejects("show --stats", "{" + LARGE_TREE + "," + LARGE_CHAINS + "}", TOO_MANY.format(8407)),
     rejects("show --stats", "{" + LARGE_CHAINS + "}", TOO_MANY.format(4101)),
     ("show --stats < too-large.json", 2, "", INPUT + LARGE),

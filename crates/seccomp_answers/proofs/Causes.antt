@@ -1,12 +1,13 @@
 -- For the causes of errors: what a layer below refuses, as an error of the tool.
 use Rattle.std.proofs.Common.{◌≡◌, ℕ, ℤ, pos, negsuc, ◌<◌, ◌^◌, List, ◌∷◌, ◌++◌, Option}
-use Rattle.std.proofs.Common.{IfSome, All, inl, inr, String, Global, string_bytes, string_cmp, refl, subst, arith}
+use Rattle.std.proofs.Common.{IfSome, All, Some, ap, inl, inr, String, Global, string_bytes, string_cmp, refl, subst, sym, ◌∙◌, arith}
 use Rattle.std.specs.BTreeMap.{is_at}
 use Rattle.std.specs.List.Sorted.{IsStrictlySortedBy}
 use Rattle.std.specs.Map.{keys_of, lookup}
 use Rattle.std.proofs.lemmas.Int.{ints}
 use Rattle.std.proofs.lemmas.List.Elements.{All-contains}
 use Rattle.std.proofs.lemmas.Map.Text.{text_cmp}
+use Rattle.std.proofs.lemmas.Option.{slice_get_within}
 use Rattle.serde_json.specs.Data.{Data}
 use Rattle.seccompiler.specs.Compiled.{IsLeastUnfit, IsRefusal, numbers_of}
 use Rattle.seccompiler.specs.Errors.{IsNoMemoryInFrontend, IsNoMemoryInside, IsNoReader, from_backend, from_frontend}
@@ -19,7 +20,6 @@ use Rattle.seccompiler.specs.SyscallTable.{IsTableNumber}
 use Rattle.seccompiler.specs.declared.backend.BackendError.{BackendError}
 use Rattle.seccompiler.specs.declared.backend.BackendError.TheVariants as backend
 use Rattle.seccompiler.specs.declared.backend.TargetArch.{TargetArch}
-use Rattle.seccompiler.specs.declared.error.Error.{Error}
 use Rattle.seccompiler.specs.declared.error.Error.TheVariants as library
 use Rattle.seccompiler.specs.declared.json.error.JsonFrontendError.{JsonFrontendError}
 use Rattle.seccompiler.specs.declared.json.error.JsonFrontendError.TheVariants as frontend
@@ -28,14 +28,18 @@ use Rattle.seccomp_tree.specs.declared.error.FilterError.{FilterError}
 use Rattle.seccomp_tree.specs.declared.error.FilterError.TheVariants as filter
 use Rattle.seccomp_tree.specs.declared.layout.Layout.{Layout}
 use Rattle.seccomp_tree.specs.declared.layout.Layout.TheVariants.{Linear, Tree}
+use Rattle.seccomp_faults.specs.Checks.{IsRefusedFor, IsRejection, IsRejectionOf, cause_told}
+use Rattle.seccomp_faults.specs.declared.policy.Rejection.{Rejection}
+use Rattle.seccomp_faults.specs.declared.policy.Rejection.TheVariants as rejection
 use Rattle.seccomp_answers.proofs.Found.{nowhere, there}
-use Rattle.seccomp_answers.specs.Errors.{from_filter, from_library}
+use Rattle.seccomp_answers.specs.Check.{IsRefusal as IsTextRefusal}
+use Rattle.seccomp_answers.specs.Errors.{IsToldAs, from_filter, from_library}
 use Rattle.seccomp_answers.specs.declared.error.AnswerError.{AnswerError}
-use Rattle.seccomp_answers.specs.declared.error.AnswerError.TheVariants.{NoFilter, OutOfMemory, Unchosen}
+use Rattle.seccomp_answers.specs.declared.error.AnswerError.TheVariants.{Library, NoFilter, OutOfMemory, Placed, Unchosen}
 use Rattle.seccomp_answers.specs.declared.kind.Subject.TheVariants as subject
 use Rattle.seccomp_answers.proofs.diff.Names.{Entries, next_found}
 use Rattle.seccomp_answers.specs.Causes.{IsRefusedPolicy, IsUnpicked, of_name, AreUncompiledIn, IsFilterIn, IsMissing, IsMissingIn}
-use Rattle.seccomp_answers.specs.Causes.{IsRefusedText, IsUnchosen, IsUnchosenIn, IsUnfitIn, IsUnread, TellsLarge, TellsUnfitting}
+use Rattle.seccomp_answers.specs.Causes.{IsUnchosen, IsUnchosenIn, IsUnfitIn, IsUnread, TellsLarge, TellsUnfitting}
 use Rattle.seccomp_answers.specs.Causes.{too_large, unread}
 
 -- ---- texts
@@ -46,18 +50,65 @@ pub unread_for : (target : TargetArch) (text : List ℕ) (e : JsonFrontendError)
 unread_for target text frontend.OutOfMemory first reader memory = tt
 unread_for target text e first reader memory = record { memory = λ same. cc; none_inside = memory; no_reader = reader; first = first }
 
--- The same of the library as a whole.
-pub refused_before : (target : TargetArch) (text : List ℕ) (e : JsonFrontendError) → TellsFrontendFault target text e → IsNoFailedRead e
-    → IsNoMemoryInFrontend e → IsRefusedText target text (from_library (from_frontend e))
-refused_before target text frontend.OutOfMemory first reader memory = tt
-refused_before target text e first reader memory =
-    record { memory = λ same. cc; none_inside = (λ same. cc, memory); no_reader = reader; first = first }
+-- A rejection as an error.
+pub told_refusal : (target : TargetArch) (text : List ℕ) (r : Rejection) (e : AnswerError) → IsRejection target text r → IsToldAs r e
+    → IsTextRefusal target text e
+told_refusal target text (rejection.Library own) e is same = subst (IsTextRefusal target text) (sym same) is
+told_refusal target text (rejection.Placed first faults) e is (inl same) = subst (IsTextRefusal target text) (sym same) tt
+told_refusal target text (rejection.Placed first faults) e is (inr (told, same, within)) =
+    subst (IsTextRefusal target text) (sym same) (record {
+      first = first;
+      placed = is;
+      there = within (slice_get_within faults.items first is.at.0 is.at.1);
+    })
+told_refusal target text rejection.OutOfMemory e is same = subst (IsTextRefusal target text) (sym same) tt
 
-pub refused_for : (target : TargetArch) (text : List ℕ) (e : Error) → TellsFirstFault target text e → IsNoReader e → IsNoMemoryInside e
-    → IsRefusedText target text (from_library e)
-refused_for target text library.OutOfMemory first reader memory = tt
-refused_for target text e first reader memory =
-    record { memory = λ same. cc; none_inside = memory; no_reader = reader; first = first }
+-- The same of the front end's refusal.
+pub told_unread : (target : TargetArch) (text : List ℕ) (own : JsonFrontendError) (r : Rejection) (e : AnswerError)
+    → IsRejection target text r → IsRejectionOf target text (from_frontend own) r → IsToldAs r e → IsUnread target text e
+told_unread target text frontend.OutOfMemory (rejection.Library refusal) e is of same = absurd (is.memory of)
+told_unread target text own (rejection.Library refusal) e is of same =
+    let front : e ≡ Library (library.JsonFrontend own) = same ∙ ap Library of in
+    let refused : IsRefusedFor target text (library.JsonFrontend own) = subst (IsRefusedFor target text) of is in
+    subst (IsUnread target text) (sym front) (record {
+      memory = refused.none_inside.0;
+      none_inside = refused.none_inside.1;
+      no_reader = refused.no_reader;
+      first = refused.first;
+    })
+told_unread target text own (rejection.Placed first faults) e is of (inl same) = subst (IsUnread target text) (sym same) tt
+told_unread target text frontend.OutOfMemory (rejection.Placed first faults) e is of (inr (told, same, within)) =
+    let kind = subst (λ refusal. cause_told refusal ≡ Some of.0.cause) of.1 of.0.kind in cc
+told_unread target text own (rejection.Placed first faults) e is of (inr (told, same, within)) =
+    subst (IsUnread target text) (sym same) (record {
+      are = record {
+        first = first;
+        placed = of.0;
+        there = within (slice_get_within faults.items first is.at.0 is.at.1);
+      };
+      own = own;
+      of_front = of.1;
+    })
+told_unread target text own rejection.OutOfMemory e is of same = subst (IsUnread target text) (sym same) tt
+
+pub told_front : (target : TargetArch) (text : List ℕ) (own : JsonFrontendError) (r : Rejection) (e : AnswerError)
+    → TellsFrontendFault target text own → IsNoFailedRead own → IsNoMemoryInFrontend own
+    → (IsNoMemoryInside (from_frontend own) → IsNoReader (from_frontend own) → TellsFirstFault target text (from_frontend own)
+    → IsRejection target text r)
+    → (TellsFirstFault target text (from_frontend own) → IsRejectionOf target text (from_frontend own) r) → IsToldAs r e
+    → IsUnread target text e
+told_front target text frontend.OutOfMemory r e first reader memory is of same =
+    told_unread target text frontend.OutOfMemory r e (is tt tt tt) (of tt) same
+told_front target text own r e first reader memory is of same =
+    told_unread target text own r e (is (λ none. cc, memory) reader first) (of first) same
+
+-- What the front end refuses is refused by the library as a whole.
+pub refused_unread : (target : TargetArch) (text : List ℕ) (e : AnswerError) → IsUnread target text e → IsTextRefusal target text e
+refused_unread target text (Library (library.JsonFrontend own)) is =
+    record { memory = λ same. cc; none_inside = (is.memory, is.none_inside); no_reader = is.no_reader; first = is.first }
+refused_unread target text (Placed told faults) is = is.are
+refused_unread target text OutOfMemory is = tt
+refused_unread target text e is = absurd is
 
 -- ---- names
 

@@ -24,7 +24,9 @@ use Rattle.seccomp_tree.specs.declared.layout.Layout.TheVariants.{Linear, Tree}
 use Rattle.seccomp_oci.specs.CompiledProfile.{IsCompileFault}
 use Rattle.seccomp_oci.specs.Types.{Container}
 use Rattle.seccomp_oci.specs.declared.compiled.CompileError.TheVariants as fault
-use Rattle.seccomp_faults.specs.Checks.{AreOfProfile, IsRefusedFor}
+use Rattle.seccomp_faults.specs.Checks.{AreOfProfile}
+use Rattle.seccomp_faults.specs.declared.fault.Fault.{Fault}
+use Rattle.seccomp_answers.specs.Check.{AreTold, IsRefusal}
 use Rattle.seccomp_answers.specs.Chosen.{HasOnlyName, IsOnly, text_of}
 use Rattle.seccomp_answers.specs.Diff.{is_whole}
 use Rattle.seccomp_answers.specs.Errors.{IsAtPath, IsOfSecond, from_library}
@@ -80,9 +82,16 @@ pub record IsRejected (target : TargetArch) (text : List ℕ) (e : JsonFrontendE
   pub no_reader : IsNoFailedRead e
   pub first : TellsFrontendFault target text e
 
+-- The faults, with their places, of a text that the library's front end rejects; the one at this place is told.
+pub record AreUnread (target : TargetArch) (text : List ℕ) (told : ℕ) (faults : List Fault) : Type 0 where
+  pub are : AreTold target text told faults
+  pub own : JsonFrontendError
+  pub of_front : are.placed.refusal ≡ library.JsonFrontend own
+
 -- Why a policy's text has no policies.
 abbrev pub IsUnread : TargetArch → (text : List ℕ) → AnswerError → Type 0
 IsUnread target text (Library (library.JsonFrontend e)) = IsRejected target text e
+IsUnread target text (Placed told faults) = AreUnread target text told faults.items
 IsUnread target text OutOfMemory = ⊤
 IsUnread target text e = ⊥
 
@@ -169,15 +178,9 @@ pub data IsOfKind (reading : Reading) (given : List ℕ) (Why : Subject → Type
   unknown : e ≡ OutOfMemory → IsOfKind reading given Why e
   of_kind : (kind : Subject) → IsTakenAs reading given kind → Why kind → IsOfKind reading given Why e
 
--- Why a policy's text has no programs: the library's refusal of its first fault.
-abbrev pub IsRefusedText : TargetArch → (text : List ℕ) → AnswerError → Type 0
-IsRefusedText target text (Library e) = IsRefusedFor target text e
-IsRefusedText target text OutOfMemory = ⊤
-IsRefusedText target text e = ⊥
-
 -- Why `explain` doesn't decide by a filter of a policy's text: the text has no programs; or by the filter's name.
 pub data IsUnexplainedFilter (target : TargetArch) (asked : Option (List ℕ)) (text : List ℕ) (e : AnswerError) : Type 0 where
-  rejected : IsRefusedText target text e → IsUnexplainedFilter target asked text e
+  rejected : IsRefusal target text e → IsUnexplainedFilter target asked text e
   unchosen : IsUnchosen asked text e → IsUnexplainedFilter target asked text e
 
 abbrev pub IsUndecidedAs : TargetArch → Subject → (asked : Option (List ℕ)) → (given : List ℕ) → AnswerError → Type 0

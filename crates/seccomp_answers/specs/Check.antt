@@ -1,5 +1,5 @@
 -- What `check` gives: why a policy is rejected, or else its warnings.
-use Rattle.std.specs.Prelude.{◌≡◌, ◌==◌, if◌then◌else◌, ℕ, ◌+◌, Bool, true, false, List, String, length, string_bytes, ⊤}
+use Rattle.std.specs.Prelude.{◌≡◌, ◌<◌, ◌==◌, if◌then◌else◌, ℕ, ◌+◌, Bool, true, false, List, String, length, string_bytes, ⊤}
 use Rattle.std.specs.List.{AllZip, sum_by}
 use Rattle.std.specs.declared.alloc.Global.{Global}
 use Rattle.seccompiler.specs.declared.backend.TargetArch.{TargetArch}
@@ -8,6 +8,7 @@ use Rattle.seccompiler.specs.JsonAnswers.{OfValue}
 use Rattle.seccompiler.specs.JsonSteps.{AreFilters}
 use Rattle.seccompiler.specs.JsonTypes.{JsonFilter}
 use Rattle.seccomp_faults.specs.Checks.{AreAllCompiled, ArePlaced, IsRefusedFor}
+use Rattle.seccomp_faults.specs.declared.fault.Fault.{Fault}
 use Rattle.seccomp_warnings.specs.Beside.{AreCodesBeside, IsBeside}
 use Rattle.seccomp_warnings.specs.Warnings.{AreTrueWarnings}
 use Rattle.seccomp_warnings.specs.declared.beside.Beside.{Beside}
@@ -46,10 +47,16 @@ pub record IsCheckOf (target : TargetArch) (allowed : List Code) (text : List �
   pub of_text : OfValue text (λ d. AreFilters d filters × AreAllCompiled target d)
   pub are : AreWarningsIn target allowed filters.0.entries checked
 
+-- The faults of a policy's text, with their places, of which the one at this place is told.
+pub record AreTold (target : TargetArch) (text : List ℕ) (told : ℕ) (faults : List Fault) : Type 0 where
+  pub first : ℕ
+  pub placed : ArePlaced target text first faults
+  pub there : told < length faults
+
 -- Why a policy is rejected: its faults, with their places, or the first as the library tells it; or want of memory.
 abbrev pub IsRefusal : TargetArch → List ℕ → AnswerError → Type 0
 IsRefusal target text (Library e) = IsRefusedFor target text e
-IsRefusal target text (Placed first faults) = ArePlaced target text first faults.items
+IsRefusal target text (Placed told faults) = AreTold target text told faults.items
 IsRefusal target text OutOfMemory = ⊤
 IsRefusal target text e = ⊥
 

@@ -8,16 +8,14 @@ ghost use Rattle.seccomp_answers.specs.CheckProfile.{IsProfileCheckOf};
 
 use crate::error::AnswerError;
 use crate::findings::Verdict;
+use crate::policy::{MOST, rejected};
 use crate::profile::compiled_of;
-use seccomp_faults::{Rejection, check};
+use seccomp_faults::check;
 use seccomp_oci::{CompiledProfile, Container};
 use seccomp_profile_checks::{ProfileWarning, profile_warnings_of};
 use seccomp_warnings::{Code, FilterWarned, beside_of, codes_beside, policy_warnings_of};
 use seccompiler::{JsonFilterMap, JsonFrontendError, TargetArch};
 use std::alloc::Global;
-
-// How many unknown names of calls may have suggestions.
-const MOST: usize = 100;
 
 /// A filter's name, and its warnings.
 #[derive(Drop)]
@@ -44,7 +42,7 @@ pub struct CheckedPolicy {
 ///
 /// # Errors
 ///
-/// `Placed` with all faults, of which the one at the place is of the kind that `compile_from_json` reports, if that has a place.
+/// `Placed` with all faults, one of which is of the kind that `compile_from_json` reports, if that has a place.
 /// `Library` with the error of `compile_from_json`, if it has no place: the bytes are no JSON, or a name is repeated.
 /// `OutOfMemory` is returned instead of any of these if memory runs out.
 ///
@@ -61,9 +59,7 @@ pub fn checked(
 {
     let filters = match check(alloc, target, MOST, text) {
         Ok(filters) => filters,
-        Err(Rejection::Library(refusal)) => return Err(AnswerError::Library(refusal)),
-        Err(Rejection::Placed(first, faults)) => return Err(AnswerError::Placed(first, faults)),
-        Err(Rejection::OutOfMemory) => return Err(AnswerError::OutOfMemory),
+        Err(rejection) => return Err(rejected(alloc, text, rejection)),
     };
     // The policy is taken, so that each of its filters is one of the architecture: an error is want of memory.
     match warnings_in(alloc, target, allowed, &filters) {

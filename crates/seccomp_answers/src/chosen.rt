@@ -11,9 +11,10 @@ ghost use Rattle.seccompiler.specs.JsonShape.{IsFilter};
 ghost use Rattle.seccomp_answers.specs.Causes.{IsMissingIn, IsOfName, IsUnchosenIn, IsUnnamed, IsUnpicked};
 
 use crate::error::AnswerError;
+use crate::policy::policies_in;
 use seccomp_text::readable::{TextKind, push_readable};
 use seccompiler::json::filters_of;
-use seccompiler::{JsonCompiler, JsonFilterMap, SeccompFilter, TargetArch};
+use seccompiler::{JsonFilterMap, SeccompFilter, TargetArch};
 use std::alloc::{AllocError, Global};
 use std::collections::BTreeMap;
 
@@ -54,7 +55,7 @@ fn names_of<V>(alloc: Global, filters: &BTreeMap<String, V>) -> Result<String, A
 ///
 /// # Errors
 ///
-/// `Library` with what is at fault in the policy; `NoFilter` with the name if no filter has the one that is asked for; `Unchosen` if
+/// `Placed` or `Library` with what is at fault in the policy; `NoFilter` with the name if no filter has the one that is asked for; `Unchosen` if
 /// none is asked for and the policy doesn't have exactly one. `OutOfMemory` if memory runs out.
 pub fn chosen_filter(
     alloc: Global,
@@ -66,7 +67,7 @@ pub fn chosen_filter(
     ensures fits { IfOk result (λ one. (n : ℤ) → IsLeastUnfit (numbers_of one.1.chains) n → ⊥) }
     ensures cause { IfErr result (IsUnpicked target (text_of asked.entry) text.now) }
 {
-    let mut filters = JsonCompiler::new(target).policies_of(alloc, text)?;
+    let mut filters = policies_in(alloc, target, text)?;
     let name = chosen_name(alloc, asked, &filters)?;
     match filters.remove(name.as_str()) {
         Some(filter) => Ok((name, filter)),

@@ -11,10 +11,11 @@ use crate::error::AnswerError;
 use crate::findings::pieces::found_on;
 use crate::findings::{Filters, Finding, Part, Progress, Terms, Verdict, findings_of, verdict_of};
 use crate::kind::Subject;
+use crate::policy::policies_in;
 use crate::sides::{Ruled, Side, program_in, ruled_like};
 use seccomp_tree::fitting_bpf;
 use seccompiler::bpf::LOAD;
-use seccompiler::{BpfProgramRef, JsonCompiler, SeccompFilter};
+use seccompiler::{BpfProgramRef, SeccompFilter};
 use std::alloc::Global;
 use std::collections::BTreeMap;
 
@@ -203,11 +204,10 @@ fn diff_policies(
     ensures by_name { IfOk result (IsByName terms.target terms.relation old.now new.now) }
     ensures cause { IfErr result (IsOfEither (AreUnfitting terms.target old.now) (AreUnfitting terms.target new.now)) }
 {
-    let compiler = JsonCompiler::new(terms.target);
-    let old = compiler.policies_of(alloc, old)?;
-    let new = match compiler.policies_of(alloc, new) {
+    let old = policies_in(alloc, terms.target, old)?;
+    let new = match policies_in(alloc, terms.target, new) {
         Ok(new) => new,
-        Err(error) => return Err(AnswerError::in_second(alloc, error.into())),
+        Err(error) => return Err(AnswerError::in_second(alloc, error)),
     };
     found_by_name(alloc, terms, &old, &new, progress)
 }

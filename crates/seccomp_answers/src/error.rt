@@ -3,7 +3,7 @@
 ghost use Rattle.seccomp_answers.specs.Errors.{IsAtPath, IsOfSecond};
 
 use crate::program::fault::ProgramFault;
-use seccomp_faults::Fault;
+use seccomp_faults::{Fault, is_of_profile};
 use seccomp_oci::CompileError;
 use seccomp_stack::StackError;
 use seccomp_text::readable::{TextKind, readable};
@@ -30,7 +30,7 @@ pub enum AnswerError {
     Second(String),
     /// This is wrong, and the text says where.
     Told(String),
-    /// The policy or the profile has these faults, of which the one at this place comes first.
+    /// The policy or the profile has these faults, of which the one at this place comes first in the text.
     Placed(usize, Vec<Fault>),
     /// A filter would have more than 4096 instructions as a tree.
     TreeTooLarge,
@@ -116,7 +116,7 @@ impl AnswerError {
                 told.clone()
             }
             AnswerError::Placed(first, faults) => match faults.get(*first) {
-                Some(fault) => fault.text(alloc),
+                Some(fault) => told_of(alloc, fault, faults.len().saturating_sub(1)),
                 None => String::from_str(alloc, "The text has faults."),
             },
             AnswerError::TreeTooLarge => String::from_str(
@@ -130,6 +130,17 @@ impl AnswerError {
             }
             AnswerError::OutOfMemory => String::from_str(alloc, "Out of memory."),
         }
+    }
+}
+
+// What is told of a fault of a text that has so many more.
+fn told_of(alloc: Global, fault: &Fault, more: usize) -> Result<String, AllocError> {
+    let told = fault.text(alloc)?;
+    match more {
+        0 => Ok(told),
+        _ if is_of_profile(fault.form) => Ok(told),
+        1 => format!(in alloc; "{told} (1 more error; seccomptool check prints it)"),
+        _ => format!(in alloc; "{told} ({more} more errors; seccomptool check prints them)"),
     }
 }
 

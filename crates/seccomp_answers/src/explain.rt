@@ -3,7 +3,8 @@
 ghost use Rattle.std.specs.Prelude.{◌≡◌, IfErr, IfOk, false, option_map};
 ghost use Rattle.std.specs.List.{AllZip};
 ghost use Rattle.seccomp_compare.specs.Machine.{IsChecked};
-ghost use Rattle.seccomp_answers.specs.Causes.{IsRefusedProfile, IsRefusedText, IsUndecided, IsUnexplainedFilter};
+ghost use Rattle.seccomp_answers.specs.Check.{IsRefusal};
+ghost use Rattle.seccomp_answers.specs.Causes.{IsRefusedProfile, IsUndecided, IsUnexplainedFilter};
 ghost use Rattle.seccomp_answers.specs.Chosen.{text_of};
 ghost use Rattle.seccomp_answers.specs.Explain.{Explains, IsExplainedBy, IsOfPolicy, IsOfProfile, IsReturned};
 
@@ -11,13 +12,14 @@ use crate::calls::number_for;
 use crate::chosen::{chosen_name, refuse_name};
 use crate::error::AnswerError;
 use crate::kind::{Reading, Subject, subject_of};
+use crate::policy::{MOST, filters_in, rejected};
 use crate::profile::unread;
 use crate::program::program_of;
 use seccomp_compare::machine;
 use seccomp_entries::{Lowered, Reason, explain, lowered_policy};
+use seccomp_faults::rejection_of;
 use seccomp_oci::{Container, lowered_profile, profile_of};
 use seccompiler::bpf::BPF_MAX_LEN;
-use seccompiler::json::filters_of;
 use seccompiler::machine::Outcome;
 use seccompiler::{
     BpfProgramRef, JsonCompiler, JsonFilterMap, JsonFrontendError, TargetArch, programs_of,
@@ -123,7 +125,7 @@ pub fn explain_policy(
     ensures explained { IfOk result (IsOfPolicy target (option_map (λ name. name.now) asked.entry) text.now records.now) }
     ensures cause { IfErr result (IsUnexplainedFilter target (text_of asked.entry) text.now) }
 {
-    let filters = filters_of(alloc, text)?;
+    let filters = filters_in(alloc, target, text)?;
     let name = chosen_name(alloc, asked, &filters.0)?;
     refuse_faulty(alloc, target, &filters, text)?;
     let Some(filter) = filters.0.get(name.as_str()) else {
@@ -150,7 +152,7 @@ fn refuse_faulty(
     filters: &JsonFilterMap,
     text: &[u8],
 ) -> Result<(), AnswerError>
-    ensures { IfErr result (IsRefusedText target text.now) }
+    ensures { IfErr result (IsRefusal target text.now) }
 {
     if let Ok(true) = are_short(alloc, target, filters) {
         return Ok(());
@@ -158,7 +160,11 @@ fn refuse_faulty(
     match programs_of(alloc, text, target) {
         // Memory that was lacking is there again.
         Ok(_) => Err(AnswerError::OutOfMemory),
-        Err(refusal) => Err(refusal.into()),
+        Err(refusal) => Err(rejected(
+            alloc,
+            text,
+            rejection_of(alloc, target, MOST, text, refusal),
+        )),
     }
 }
 

@@ -15,6 +15,7 @@ pub mod findings;
 pub mod kind;
 pub mod layers;
 pub mod measures;
+mod policy;
 pub mod profile;
 pub mod program;
 pub mod programs;

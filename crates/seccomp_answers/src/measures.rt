@@ -7,10 +7,11 @@ ghost use Rattle.seccomp_answers.specs.Causes.{AreUncompiledInSome, IsUnfitIn};
 
 use crate::chosen::refuse_missing;
 use crate::error::AnswerError;
+use crate::policy::policies_in;
 use seccomp_compare::machine::run;
 use seccomp_tree::{FilterError, Layout, to_bpf_in};
 use seccompiler::bpf::{JUMP, LOAD, MASK, RETURN};
-use seccompiler::{BpfProgramRef, JsonCompiler, SeccompFilter, TargetArch, sock_filter};
+use seccompiler::{BpfProgramRef, SeccompFilter, TargetArch, sock_filter};
 use std::alloc::{AllocError, Global};
 
 /// How long a program is, and how many steps it takes.
@@ -48,7 +49,7 @@ pub fn stats_of(
 ) -> Result<Vec<FilterStats>, AnswerError>
     ensures { IfErr result (AreUncompiledInSome target (text_of asked.entry) text.now) }
 {
-    let filters = JsonCompiler::new(target).policies_of(alloc, text)?;
+    let filters = policies_in(alloc, target, text)?;
     refuse_missing(alloc, asked, &filters)?;
     for (_, filter) in &filters {
         filter.compiled_len()?;

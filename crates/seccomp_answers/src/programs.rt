@@ -8,8 +8,9 @@ ghost use Rattle.seccomp_answers.specs.Compiled.{ArePrograms};
 
 use crate::chosen::refuse_missing;
 use crate::error::AnswerError;
+use crate::policy::policies_in;
 use seccomp_tree::{Layout, to_bpf_in};
-use seccompiler::{BpfProgram, JsonCompiler, TargetArch};
+use seccompiler::{BpfProgram, TargetArch};
 use std::alloc::Global;
 
 /// The program of a filter, under its name; or that of a profile, or one that is given.
@@ -23,7 +24,7 @@ pub struct NamedProgram {
 ///
 /// # Errors
 ///
-/// `Library` with what is at fault in the text; `NoFilter` with the name if a filter is asked for and none has it; `Library` with
+/// `Placed` or `Library` with what is at fault in the text; `NoFilter` with the name if a filter is asked for and none has it; `Library` with
 /// `FilterTooLarge`, or `TreeTooLarge`, of the first filter that is too large in the layout. `OutOfMemory` if memory runs out.
 pub fn programs_in(
     alloc: Global,
@@ -35,7 +36,7 @@ pub fn programs_in(
     ensures programs { IfOk result (λ programs. OfValue text.now (λ d. ArePrograms layout target d programs.items)) }
     ensures cause { IfErr result (AreUncompiledIn target layout (text_of asked.entry) text.now) }
 {
-    let filters = JsonCompiler::new(target).policies_of(alloc, text)?;
+    let filters = policies_in(alloc, target, text)?;
     refuse_missing(alloc, asked, &filters)?;
     let mut programs = Vec::new(alloc);
     for (name, filter) in filters {

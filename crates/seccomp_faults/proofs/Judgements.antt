@@ -1,5 +1,5 @@
 -- For `check` and `placed`: what is answered, from what the library answers and from what is found.
-use Rattle.std.proofs.Common.{◌≡◌, ℕ, List, All, Option, Some, Vec, Global, sym, ◌∙◌, subst}
+use Rattle.std.proofs.Common.{◌≡◌, ℕ, List, All, Option, Some, Vec, Global, refl, sym, ◌∙◌, subst}
 use Rattle.serde_json.specs.Data.{Data}
 use Rattle.seccompiler.specs.declared.backend.BackendError.TheVariants as backend
 use Rattle.seccompiler.specs.declared.backend.TargetArch.{TargetArch}
@@ -47,17 +47,19 @@ module _ (target : TargetArch) (text : List ℕ) where
   has_value (library.Backend e) cause first is = absurd first
   has_value _ cause first is = cc
 
-  -- The faults with their places.
+  -- The faults with their places, of a text that is refused for this.
   pub are_placed : (e : Error) (cause : Cause) (first : ℕ) (faults : List Fault) → TellsFirstFault target text e → cause_told e ≡ Some cause
       → ((d : Data) → IsReadAs text d → All (IsFault target form.Policy d) faults) → IsAtOf cause faults first
-      → ArePlaced target text first faults
+      → (are : ArePlaced target text first faults) × (are.refusal ≡ e)
   are_placed e cause first faults told is found at =
-      let value = has_value e cause told is in
-      record {
-        refusal = e;
-        is_first = told;
-        cause = cause;
-        kind = is;
-        placed = (value.0, value.1, found value.0 value.1.is_read);
-        at = at;
-      }
+      let value = has_value e cause told is in (
+        record {
+          refusal = e;
+          is_first = told;
+          cause = cause;
+          kind = is;
+          placed = (value.0, value.1, found value.0 value.1.is_read);
+          at = at;
+        },
+        refl,
+      )

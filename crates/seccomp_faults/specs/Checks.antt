@@ -78,6 +78,12 @@ IsRejection target text (Library e) = IsRefusedFor target text e
 IsRejection target text (Placed first faults) = ArePlaced target text first faults.items
 IsRejection target text OutOfMemory = ⊤
 
+-- The same of this refusal of the library.
+abbrev pub IsRejectionOf : TargetArch → List ℕ → Error → Rejection → Type 0
+IsRejectionOf target text e (Library own) = own ≡ e
+IsRejectionOf target text e (Placed first faults) = (are : ArePlaced target text first faults.items) × (are.refusal ≡ e)
+IsRejectionOf target text e OutOfMemory = ⊤
+
 -- The library's refusal, as a rejection without a place.
 abbrev pub from_library : Error → Rejection
 from_library library.OutOfMemory = OutOfMemory

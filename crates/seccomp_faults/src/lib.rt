@@ -2,7 +2,8 @@
 //!
 //! [`check`] reads a policy's text, and gives all its faults by their paths, what is there and what may, as
 //! `main_thread.filter[1].syscall: unknown system call "fnctl" on x86_64; did you mean "fcntl"?`.
-//! [`profile_faults`] does so for a text that is no profile, and [`json_fault`] says why one is no JSON.
+//! [`profile_faults`] does so for a text that is no profile, and [`outline_of`] says where
+//! the values of a text stand, or why it is no JSON.
 //!
 //! What a value has to be is a [`Form`]. Tables say what is inside values of each form, and one walk goes through
 //! policies and profiles by them.
@@ -21,10 +22,10 @@
 
 pub mod fault;
 mod form;
+mod json_text;
 mod length;
 mod level;
 mod near;
-mod not_json;
 mod part;
 pub mod policy;
 mod profile;
@@ -33,8 +34,10 @@ mod text;
 mod walk;
 
 pub use fault::{Cause, Fault, Problem};
-pub use not_json::{JsonFault, json_fault, json_piece_len};
-pub use policy::{Rejection, cause_of_error, cause_of_frontend, check, faults, first_of};
+pub use json_text::{JsonFault, Located, Outline, Position, outline_of};
+pub use policy::{
+    Rejection, cause_of_error, cause_of_frontend, check, faults, first_of, rejection_of,
+};
 pub use profile::profile_faults;
 pub use seccomp_text::steps::Step;
 pub use table::{Form, is_of_profile};

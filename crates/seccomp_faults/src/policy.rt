@@ -7,7 +7,7 @@ ghost use Rattle.seccompiler.specs.Errors.{IsNoMemoryInside, IsNoReader};
 ghost use Rattle.seccompiler.specs.JsonAnswers.{IsReadAs, OfValue};
 ghost use Rattle.seccompiler.specs.JsonPrograms.{TellsFirstFault};
 ghost use Rattle.seccompiler.specs.JsonSteps.{AreFilters};
-ghost use Rattle.seccomp_faults.specs.Checks.{AreAllCompiled, IsAtOf, IsRejection, frontend_cause, cause_told};
+ghost use Rattle.seccomp_faults.specs.Checks.{AreAllCompiled, IsAtOf, IsRejection, IsRejectionOf, frontend_cause, cause_told};
 ghost use Rattle.seccomp_faults.specs.Faults.{IsFault};
 ghost use Rattle.seccomp_faults.specs.declared.table.Form.TheVariants as form;
 
@@ -67,7 +67,7 @@ pub fn check(
     ensures rejected { IfErr result (IsRejection target text.now) }
 {
     match programs_of(alloc, text, target) {
-        Err(refusal) => Err(placed(alloc, target, most, text, refusal)),
+        Err(refusal) => Err(rejection_of(alloc, target, most, text, refusal)),
         Ok(_programs) => match filters_of(alloc, text) {
             Ok(filters) => Ok(filters),
             // Memory is lacking that was there before.
@@ -151,9 +151,16 @@ pub fn first_of(cause: Cause, faults: &[Fault]) -> Option<usize>
     None
 }
 
-// The faults of a text that is refused so, or the refusal as it is if it has no place.
-fn placed(alloc: Global, target: TargetArch, most: usize, text: &[u8], refusal: Error) -> Rejection
-    ensures { IsNoMemoryInside refusal → IsNoReader refusal → TellsFirstFault target text.now refusal → IsRejection target text.now result }
+/// The rejection of a policy's text that the library rejects so: all faults, or the library's error as it is if it has no place.
+pub fn rejection_of(
+    alloc: Global,
+    target: TargetArch,
+    most: usize,
+    text: &[u8],
+    refusal: Error,
+) -> Rejection
+    ensures own { TellsFirstFault target text.now refusal → IsRejectionOf target text.now refusal result }
+    ensures rejection { IsNoMemoryInside refusal → IsNoReader refusal → TellsFirstFault target text.now refusal → IsRejection target text.now result }
 {
     let Some(cause) = cause_of_error(&refusal) else {
         return refusal.into();

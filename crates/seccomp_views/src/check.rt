@@ -2,6 +2,5 @@
 
 pub mod fault;
 pub mod format;
-mod outline;
 pub mod policy;
 pub mod profile;

@@ -1,7 +1,5 @@
 // What is written of what is decided on records.
 
-ghost use Rattle.std.specs.Prelude.{◌<◌};
-
 use crate::json::{Object, call_name, or_null, push_item, written};
 use crate::lines::{push_word, word_value};
 use crate::log::Caller;
@@ -54,24 +52,42 @@ pub fn explained_text(
     written(text, json, "decisions")
 }
 
-// The kinds of reasons, each with what a line has in front of its path and the call.
-const KINDS: [(&str, &str); 9] = [
-    ("another-architecture", ""),
-    ("no-entry", "no entry of "),
-    ("no-match", "no match: "),
-    ("entry", ""),
-    ("no-entry", "defaultAction of "),
-    ("program", ""),
-    ("no-entry", "libseccomp, for x32: "),
-    ("no-entry", "runc, above all calls that are named: "),
-    ("layer", ""),
-];
+// The kinds of reasons.
+#[derive(Clone, Copy)]
+enum Kind {
+    AnotherArchitecture,
+    NoEntry,
+    NoMatch,
+    Entry,
+    Default,
+    Program,
+    X32,
+    AboveAll,
+    Layer,
+}
 
-// What a line says of a reason: where its kind stands, the number of the call that it is about, if it is of the architecture, the
+impl Kind {
+    // What it is called in JSON, and what a line has in front of its path and the call.
+    fn words(self) -> (&'static str, &'static str) {
+        match self {
+            Kind::AnotherArchitecture => ("another-architecture", ""),
+            Kind::NoEntry => ("no-entry", "no entry of "),
+            Kind::NoMatch => ("no-match", "no match: "),
+            Kind::Entry => ("entry", ""),
+            Kind::Default => ("no-entry", "defaultAction of "),
+            Kind::Program => ("program", ""),
+            Kind::X32 => ("no-entry", "libseccomp, for x32: "),
+            Kind::AboveAll => ("no-entry", "runc, above all calls that are named: "),
+            Kind::Layer => ("layer", ""),
+        }
+    }
+}
+
+// What a line says of a reason: its kind, the number of the call that it is about, if it is of the architecture, the
 // places of its entry and of its condition, if it has one, and how many entries of the text are for the call.
 #[derive(Clone, Copy)]
 struct Told {
-    kind: usize,
+    kind: Kind,
     number: Option<u32>,
     entry: Option<usize>,
     condition: Option<usize>,
@@ -81,11 +97,9 @@ struct Told {
 }
 
 // What is said of a reason.
-fn parts_of(explanation: &Explanation, explained: Explained) -> Told
-    ensures { result.kind < 9 }
-{
+fn parts_of(explanation: &Explanation, explained: Explained) -> Told {
     let mut told = Told {
-        kind: 0,
+        kind: Kind::AnotherArchitecture,
         number: None,
         entry: None,
         condition: None,
@@ -95,12 +109,12 @@ fn parts_of(explanation: &Explanation, explained: Explained) -> Told
     let reason = match explained.why {
         Why::Entries(reason) => reason,
         Why::Program { number, .. } => {
-            told.kind = 5;
+            told.kind = Kind::Program;
             told.number = number;
             return told;
         }
         Why::Layer { number, place, .. } => {
-            told.kind = 8;
+            told.kind = Kind::Layer;
             told.number = number;
             told.layer = place;
             return told;
@@ -111,11 +125,11 @@ fn parts_of(explanation: &Explanation, explained: Explained) -> Told
         Reason::AnotherArchitecture => {}
         Reason::NoEntry { number } => {
             told.kind = match explanation.default {
-                None => 1,
-                Some(word) if word == explained.word => 4,
+                None => Kind::NoEntry,
+                Some(word) if word == explained.word => Kind::Default,
                 // The thread is killed, since the number is one of x32; else it is runc's answer.
-                Some(_) if explained.word == 0 => 6,
-                Some(_) => 7,
+                Some(_) if explained.word == 0 => Kind::X32,
+                Some(_) => Kind::AboveAll,
             };
             told.number = Some(number);
         }
@@ -124,7 +138,7 @@ fn parts_of(explanation: &Explanation, explained: Explained) -> Told
             nearest,
             ..
         } => {
-            told.kind = 2;
+            told.kind = Kind::NoMatch;
             told.number = Some(number);
             told.entries = count_for(entries, number);
             if let Some(entry) = entries.get(nearest.entry) {
@@ -133,7 +147,7 @@ fn parts_of(explanation: &Explanation, explained: Explained) -> Told
             }
         }
         Reason::Entry { number, index } => {
-            told.kind = 3;
+            told.kind = Kind::Entry;
             told.number = Some(number);
             if let Some(entry) = entries.get(index) {
                 told.entry = Some(entry.place);
@@ -199,13 +213,11 @@ fn push_line(
     caller: (&str, &str),
     word: u32,
     told: Told,
-)
-    requires { told.kind < 9 }
-{
+) {
     push_caller(text, caller);
     push_word(text, word);
     text.push_str(": ");
-    text.push_str(KINDS[told.kind].1);
+    text.push_str(told.kind.words().1);
     if !path.is_empty() {
         text.push_readable(path, TextKind::Name);
         text.push_str(" of ");
@@ -274,9 +286,7 @@ fn value_of(
     caller: (&str, &str),
     explained: Explained,
     told: Told,
-) -> Object
-    requires { told.kind < 9 }
-{
+) -> Object {
     let Explained { word, why } = explained;
     let Told {
         kind,
@@ -293,7 +303,7 @@ fn value_of(
     object.field("action", word_value(alloc, word));
     object.field("call", call_name(target, number));
     object.field("number", number);
-    object.field("reason", KINDS[kind].0);
+    object.field("reason", kind.words().0);
     object.field("path", or_null(path));
     object.field("entry", entry);
     object.field("condition", condition);

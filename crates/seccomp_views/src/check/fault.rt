@@ -1,16 +1,15 @@
 // What is said of the errors for which a text is rejected.
 
 use crate::check::format::{CheckFormat, Lines, Place};
-use crate::check::outline::{Located, Outline, Position};
 use crate::notes::{failure, note, readable};
 use seccomp_answers::error::AnswerError;
-use seccomp_faults::{Fault, Form, JsonFault, Problem, Step, is_of_profile, json_fault};
+use seccomp_faults::{Fault, Form, Position, Problem, Step, is_of_profile};
 use seccomp_names::error_number;
 use seccomp_oci::{CompileError, ProfileError};
 use seccomp_text::readable::TextKind;
 use seccompiler::{Error, JsonFrontendError};
 use std::alloc::{AllocError, Global};
-use std::collections::BTreeMap;
+use std::collections::BTreeSet;
 use std::mem;
 
 // The most errors of a text that are told each by itself.
@@ -20,11 +19,14 @@ const MOST: usize = 100;
 /// text's order.
 pub fn push_error(lines: &mut Lines<'_>, given: &[u8], error: &AnswerError) {
     let alloc = lines.text.alloc();
+    if let CheckFormat::Text = lines.format {
+        lines.locate(given);
+    }
     match error {
-        AnswerError::Placed(_, faults) => push_faults(lines, given, faults),
+        AnswerError::Placed(_, faults) => push_faults(lines, faults),
         AnswerError::Library(Error::JsonFrontend(JsonFrontendError::SerdeJson(reader)))
         | AnswerError::Profile(CompileError::Profile(ProfileError::Json(reader))) => {
-            push_no_json(lines, given, reader)
+            push_no_json(lines, reader)
         }
         _ => match (lines.format, error.told(alloc)) {
             (CheckFormat::Text, _) => {
@@ -37,125 +39,64 @@ pub fn push_error(lines: &mut Lines<'_>, given: &[u8], error: &AnswerError) {
     }
 }
 
-// Why a text is no JSON; or, if that isn't found, what its reader says.
+// Where a text stops being JSON, and what is wrong there; or, if that isn't found, what its reader says.
 fn reason_of(
-    alloc: Global,
-    given: &[u8],
+    lines: &mut Lines<'_>,
     reader: &serde_json::Error,
-) -> Result<JsonFault, AllocError> {
-    if let Some(fault) = json_fault(alloc, given)? {
-        return Ok(fault);
+) -> Result<(Position, String), AllocError> {
+    if let Some(found) = lines.no_json.take() {
+        return Ok(found);
     }
-    let told = reader.to_string(alloc)?;
-    Ok(JsonFault {
-        line: reader.line().max(1),
-        column: reader.column().max(1),
-        told,
-    })
+    let (line, column) = (reader.line().max(1), reader.column().max(1));
+    Ok((
+        Position { line, column },
+        reader.to_string(lines.text.alloc())?,
+    ))
 }
 
 // Adds that a text is no JSON, and why.
-fn push_no_json(lines: &mut Lines<'_>, given: &[u8], reader: &serde_json::Error) {
+fn push_no_json(lines: &mut Lines<'_>, reader: &serde_json::Error) {
     let alloc = lines.text.alloc();
-    let Ok(JsonFault { line, column, told }) = reason_of(alloc, given, reader) else {
+    let Ok((place, told)) = reason_of(lines, reader) else {
         return lines.text.fail();
     };
     if let CheckFormat::Text = lines.format {
+        let Position { line, column } = place;
         let said = format!(in alloc; "line {line}, column {column}: invalid JSON: {told}");
         return note(&mut lines.notes, lines.file, said);
     }
-    lines.place = Place::At(Some(Position { line, column }));
+    lines.place = Place::At(Some(place));
     match format!(in alloc; "invalid JSON: {told}") {
         Ok(message) => lines.push("error", "not-json", message.as_str()),
         Err(_) => lines.text.fail(),
     }
 }
 
-// Adds what is said of the faults of a text.
-fn push_faults(lines: &mut Lines<'_>, given: &[u8], all: &[Fault]) {
-    let alloc = lines.text.alloc();
-    let mut ordered = Ordered::new(alloc, given);
-    for fault in all {
-        let strange = match &fault.problem {
-            Problem::Strange(key) if !is_of_profile(fault.form) => Some(key.as_str()),
-            _ => None,
-        };
-        ordered.push(alloc, &fault.path, strange);
+// Adds what is said of the faults of a text, in the order of their places.
+fn push_faults(lines: &mut Lines<'_>, all: &[Fault]) {
+    // Of each fault its line, its column and how many stand in front of it.
+    let mut places = BTreeSet::new(lines.text.alloc());
+    for (nth, fault) in all.iter().enumerate() {
+        let Position { line, column } = lines.outline.place_of(fault);
+        if places.insert((line, column, nth)).is_err() {
+            lines.text.fail();
+        }
     }
-    for nth in ordered.places.values().take(MOST) {
+    for (_, _, nth) in places.iter().take(MOST) {
         if let Some(fault) = all.get(*nth) {
             push_fault(lines, fault);
         }
     }
-    push_more(lines, &ordered);
-}
-
-// Faults in the order of their places in a text.
-#[derive(Drop)]
-struct Ordered {
-    // Where the values of the text stand.
-    outline: Outline,
-    // Of each fault its line, its column and how many stand in front of it, and this again.
-    places: BTreeMap<(usize, usize, usize), usize>,
-    // Whether memory ran out.
-    is_missing: bool,
-}
-
-impl Ordered {
-    fn new(alloc: Global, given: &[u8]) -> Ordered {
-        Ordered {
-            outline: Outline::of(alloc, given),
-            places: BTreeMap::new(alloc),
-            is_missing: false,
-        }
-    }
-
-    // Adds a fault of the value to which this way leads, or of the key of this name there.
-    fn push(&mut self, alloc: Global, path: &[Step], strange: Option<&str>) {
-        let mut value = self.outline.whole;
-        for step in path {
-            value = match step {
-                Step::Key(key) => self.inner(alloc, value, format!(in alloc; ".{key}")),
-                Step::Item(place) => self.inner(alloc, value, format!(in alloc; "[{place}]")),
-            };
-        }
-        let Position { line, column } = match strange {
-            Some(key) => self.inner(alloc, value, format!(in alloc; ".{key}")).key,
-            None => value.begins,
-        };
-        let nth = self.places.len();
-        if self.places.insert((line, column, nth), nth).is_err() {
-            self.is_missing = true;
-        }
-    }
-
-    // The value to which a step leads.
-    fn inner(
-        &mut self,
-        alloc: Global,
-        outer: Located,
-        step: Result<String, AllocError>,
-    ) -> Located {
-        match step {
-            Ok(step) => self.outline.inner(alloc, outer, step.as_str()),
-            Err(_) => {
-                self.is_missing = true;
-                outer
-            }
-        }
-    }
+    push_more(lines, all.len().saturating_sub(MOST));
 }
 
 // Adds that there are more errors than are told, if there are some.
-fn push_more(lines: &mut Lines<'_>, ordered: &Ordered) {
+fn push_more(lines: &mut Lines<'_>, more: usize) {
     let alloc = lines.text.alloc();
-    if ordered.is_missing || ordered.outline.is_missing {
-        lines.text.fail();
-    }
-    let said = match ordered.places.len().saturating_sub(MOST) {
+    let said = match more {
         0 => return,
         1 => String::from_str(alloc, "1 more error"),
-        more => format!(in alloc; "{more} more errors"),
+        _ => format!(in alloc; "{more} more errors"),
     };
     if let CheckFormat::Text = lines.format {
         return note(&mut lines.notes, lines.file, said);

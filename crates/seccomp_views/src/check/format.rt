@@ -1,10 +1,10 @@
 // The forms of what `check` says.
 
-use crate::check::outline::{Located, Outline, Position};
 use crate::json::{Object, OrNull, push_item};
 use crate::lines::push_example;
 use crate::notes::push_front;
 use crate::text::Text;
+use seccomp_faults::{JsonFault, Located, Outline, Position, outline_of};
 use seccomp_text::readable::TextKind;
 use seccomp_warnings::Evasion;
 use seccompiler::TargetArch;
@@ -57,6 +57,8 @@ pub struct Lines<'a> {
     pub file: &'a str,
     /// Where the values of the text stand.
     pub outline: Outline,
+    /// If it is no JSON, where it stops being so, and what is wrong there.
+    pub no_json: Option<(Position, String)>,
     /// What is said so far.
     pub text: Text,
     /// What is noted so far on standard error.
@@ -94,17 +96,13 @@ pub(crate) fn said_of_calls(
 impl Lines<'_> {
     /// None yet, of this text.
     pub fn new<'a>(alloc: Global, format: CheckFormat, file: &'a str, text: &[u8]) -> Lines<'a> {
-        // Lines for people don't say where.
-        let text = match format {
-            CheckFormat::Text => b"",
-            _ => text,
-        };
-        let outline = Outline::of(alloc, text);
-        Lines {
+        let outline = Outline::new(alloc);
+        let mut lines = Lines {
             format,
             file,
             value: outline.whole,
             outline,
+            no_json: None,
             text: Text::new(alloc),
             notes: Text::new(alloc),
             path: String::new(alloc),
@@ -112,28 +110,44 @@ impl Lines<'_> {
             call: None,
             suggestion: None,
             pending: Vec::new(alloc),
+        };
+        // Lines for people don't say where.
+        if !matches!(format, CheckFormat::Text) {
+            lines.locate(text);
+        }
+        lines
+    }
+
+    /// Looks where the values of the text stand.
+    pub fn locate(&mut self, text: &[u8]) {
+        match outline_of(self.text.alloc(), text) {
+            Ok(outline) => {
+                self.value = outline.whole;
+                self.outline = outline;
+            }
+            Err(JsonFault::At(place, told)) => self.no_json = Some((place, told)),
+            Err(JsonFault::OutOfMemory) => self.text.fail(),
         }
     }
 
     /// Goes on to what is under this key.
     pub fn key(&mut self, key: &str) {
         let alloc = self.text.alloc();
+        self.value = self.outline.under(self.value, key);
         self.step(format!(in alloc; ".{key}"));
     }
 
     /// Goes on to the item at this place.
     pub fn item(&mut self, place: usize) {
         let alloc = self.text.alloc();
+        self.value = self.outline.item(self.value, place);
         self.step(format!(in alloc; "[{place}]"));
     }
 
-    // Goes on by a step.
+    // Adds a step to the path.
     fn step(&mut self, step: Result<String, AllocError>) {
         match step {
-            Ok(step) if self.path.push_str(step.as_str()).is_ok() => {
-                let alloc = self.text.alloc();
-                self.value = self.outline.inner(alloc, self.value, step.as_str());
-            }
+            Ok(step) if self.path.push_str(step.as_str()).is_ok() => {}
             _ => self.text.fail(),
         }
     }
@@ -169,9 +183,6 @@ impl Lines<'_> {
             .push_line(path, position, severity, code, message)
             .is_err()
         {
-            self.text.fail();
-        }
-        if self.outline.is_missing {
             self.text.fail();
         }
         self.value = self.outline.whole;

@@ -2,12 +2,12 @@ use Rattle.std.proofs.Common.{◌≡◌, ◌∙◌, All, IfSome, None, Option, S
 use Rattle.std.specs.BTreeMap.{get_by_text}
 use Rattle.std.proofs.lemmas.Result.{err_from_is_err_and}
 use Rattle.seccompiler.specs.Compiled.{numbers_of}
-use Rattle.seccompiler.specs.JsonAnswers.{ArePoliciesOf, HasPolicy, OfValue, TellsFrontendFault}
+use Rattle.seccompiler.specs.JsonAnswers.{HasPolicy}
 use Rattle.seccompiler.specs.Policy.{Filter}
 use Rattle.seccompiler.specs.SyscallTable.{IsTableNumber}
 use Rattle.seccomp_answers.specs.Chosen.{text_of}
 use Rattle.seccomp_answers.specs.declared.error.AnswerError.TheVariants.{NoFilter}
-use Rattle.seccomp_answers.proofs.Causes.{never_unfit, unchosen_in, unread_for}
+use Rattle.seccomp_answers.proofs.Causes.{never_unfit, unchosen_in}
 use Rattle.seccomp_answers.proofs.chosen.Names.{asked_for}
 use Rattle.seccomp_answers.proofs.chosen.chosen_filter.Goals as goal
 
@@ -17,7 +17,7 @@ returns-in-Some-clause-chosen c =
     let read = c.in_ok-filters.ensures.policies in
     record {
       filters = find;
-      of_text = (read.0, read.1, subst (λ t. ArePoliciesOf t find read.0) c.new.ensures read.2);
+      of_text = read;
       name = string_bytes c.in_ok-name.name;
       chosen = (c.in_ok-name.ensures.named, ap find (sym c.as_str.ensures.value) ∙ sym c.in-Some.ensures.value);
     }
@@ -35,20 +35,14 @@ returns-in-Some-clause-fits c =
 pub returns-in_err-filters-clause-cause : goal.returns-in_err-filters-clause-cause
 returns-in_err-filters-clause-cause c =
     let error = err_from_is_err_and c.from_residual.result c.from_residual.ensures.1 in
-    let target = c.args.target in
-    let text = c.args.text.now in
-    let own = c.in_err-filters.field-0.0 in
-    let is = c.in_err-filters.ensures in
-    let first = subst (λ t. TellsFrontendFault t text own) c.new.ensures is.fault in
-    rw (error.1, error.2) (inl (unread_for target text own first is.no_reader is.memory))
+    rw (error.1, error.2) (inl c.in_err-filters.ensures.unread)
 
 pub returns-in_err-name-clause-cause : goal.returns-in_err-name-clause-cause
 returns-in_err-name-clause-cause c =
     let target = c.args.target in
     let text = c.args.text.now in
     let find = get_by_text c.in_ok-filters.filters in
-    let of = c.in_ok-filters.ensures.policies in
-    let read : OfValue text (ArePoliciesOf target find) = (of.0, of.1, subst (λ t. ArePoliciesOf t find of.0) c.new.ensures of.2) in
+    let read = c.in_ok-filters.ensures.policies in
     let error = err_from_is_err_and c.from_residual-in_err-name.result c.from_residual-in_err-name.ensures.1 in
     rw (error.1, error.2) (inr (unchosen_in (HasPolicy target) text find read (text_of c.args.asked) c.in_err-name.field-0.0
     c.in_err-name.ensures.cause))
@@ -57,9 +51,7 @@ pub returns-clause-cause : goal.returns-clause-cause
 returns-clause-cause c =
     let target = c.args.target in
     let find = get_by_text c.in_ok-filters.filters in
-    let of = c.in_ok-filters.ensures.policies in
-    let read : OfValue c.args.text.now (ArePoliciesOf target find) =
-    (of.0, of.1, subst (λ t. ArePoliciesOf t find of.0) c.new.ensures of.2) in
+    let read = c.in_ok-filters.ensures.policies in
     let name = string_bytes c.in_ok-name.name in
     let none : find name ≡ None = ap find (sym c.as_str.ensures.value) ∙ sym c.remove.ensures.value ∙ c.in-None.is in
     inr (unchosen_in (HasPolicy target) c.args.text.now find read (text_of c.args.asked) (NoFilter c.in_ok-name.name)

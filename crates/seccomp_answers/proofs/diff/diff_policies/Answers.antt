@@ -1,9 +1,6 @@
-use Rattle.std.proofs.Common.{subst, sym}
 use Rattle.std.proofs.lemmas.Result.{IfErr-weaker, IfOk-weaker, err_from_is_err_and}
 use Rattle.std.specs.BTreeMap.{get_by_text}
-use Rattle.seccompiler.specs.JsonAnswers.{ArePoliciesOf, OfValue, TellsFrontendFault}
 use Rattle.seccomp_answers.proofs.diff.Texts.{by_name}
-use Rattle.seccomp_answers.proofs.Causes.{unread_for}
 use Rattle.seccomp_answers.proofs.diff.Causes.{either_more, of_text}
 use Rattle.seccomp_answers.proofs.diff.diff_policies.Goals as goal
 use Rattle.seccomp_answers.specs.Causes.{AreUnfitting, IsOfEither, IsUnfittingIn, of_new, of_old, unread}
@@ -12,39 +9,24 @@ pub returns-clause-by_name : goal.returns-clause-by_name
 returns-clause-by_name g c =
     let old = get_by_text c.in_ok-old.old in
     let new = get_by_text c.in-Ok.new in
-    let target = c.new-compiler.ensures in
     IfOk-weaker c.found_by_name.result _ _ (by_name c.args.terms.target c.args.terms.relation c.args.old.now c.args.new.now old new
-    (subst (λ t. OfValue c.args.old.now (ArePoliciesOf t old)) target c.in_ok-old.ensures.policies)
-    (subst (λ t. OfValue c.args.new.now (ArePoliciesOf t new)) target c.in-Ok.ensures.policies)) c.found_by_name.ensures.found
+    c.in_ok-old.ensures.policies c.in-Ok.ensures.policies) c.found_by_name.ensures.found
 
 pub returns-in_err-old-clause-cause : goal.returns-in_err-old-clause-cause
 returns-in_err-old-clause-cause g c =
     let error = err_from_is_err_and c.from_residual.result c.from_residual.ensures.1 in
-    let text = c.args.old.now in
-    let own = c.in_err-old.field-0.0 in
-    let is = c.in_err-old.ensures in
-    let first = subst (λ t. TellsFrontendFault t text own) c.new-compiler.ensures is.fault in
-    rw (error.1, error.2) (of_old (unread (unread_for c.args.terms.target text own first is.no_reader is.memory)))
+    rw (error.1, error.2) (of_old (unread c.in_err-old.ensures.unread))
 
 pub returns-in-Err-clause-cause : goal.returns-in-Err-clause-cause
-returns-in-Err-clause-cause g c =
-    let text = c.args.new.now in
-    let own = c.in-Err.error in
-    let is = c.in-Err.ensures in
-    let first = subst (λ t. TellsFrontendFault t text own) c.new-compiler.ensures is.fault in
-    of_new c.into.result (subst (AreUnfitting c.args.terms.target text) (sym c.into.ensures)
-    (unread (unread_for c.args.terms.target text own first is.no_reader is.memory))) c.in_second.ensures
+returns-in-Err-clause-cause g c = of_new c.in-Err.error (unread c.in-Err.ensures.unread) c.in_second.ensures
 
 pub returns-clause-cause : goal.returns-clause-cause
 returns-clause-cause g c =
     let old = get_by_text c.in_ok-old.old in
     let new = get_by_text c.in-Ok.new in
     let target = c.args.terms.target in
-    let same = c.new-compiler.ensures in
-    let of_old = of_text target c.args.old.now old
-    (subst (λ t. OfValue c.args.old.now (ArePoliciesOf t old)) same c.in_ok-old.ensures.policies) c.in_ok-old.ensures.numbers in
-    let of_new = of_text target c.args.new.now new
-    (subst (λ t. OfValue c.args.new.now (ArePoliciesOf t new)) same c.in-Ok.ensures.policies) c.in-Ok.ensures.numbers in
+    let of_old = of_text target c.args.old.now old c.in_ok-old.ensures.policies c.in_ok-old.ensures.numbers in
+    let of_new = of_text target c.args.new.now new c.in-Ok.ensures.policies c.in-Ok.ensures.numbers in
     IfErr-weaker c.found_by_name.result _ (IsOfEither (AreUnfitting target c.args.old.now) (AreUnfitting target c.args.new.now))
     (either_more (IsUnfittingIn old) (IsUnfittingIn new) (AreUnfitting target c.args.old.now) (AreUnfitting target c.args.new.now) of_old
     of_new) c.found_by_name.ensures.cause

@@ -10,7 +10,7 @@ use Rattle.std.proofs.lemmas.Result.{err_from_is_err_and}
 use Rattle.seccompiler.specs.JsonTypes.{JsonFilter}
 use Rattle.seccomp_answers.specs.Causes.{rejected, unchosen}
 use Rattle.seccomp_answers.specs.declared.error.AnswerError.TheVariants.{NoFilter}
-use Rattle.seccomp_answers.proofs.Causes.{refused_before, unchosen_in}
+use Rattle.seccomp_answers.proofs.Causes.{refused_unread, unchosen_in}
 use Rattle.seccomp_answers.proofs.explain.explain_policy.Goals as goal
 
 pub returns-clause-explained : goal.returns-clause-explained
@@ -37,9 +37,8 @@ returns-clause-explained c =
 pub returns-in_err-filters-clause-cause : goal.returns-in_err-filters-clause-cause
 returns-in_err-filters-clause-cause c =
     let error = err_from_is_err_and c.from_residual.result c.from_residual.ensures.1 in
-    let is = c.in_err-filters.ensures in
-    rw (error.1, error.2) (rejected (refused_before c.args.target c.args.text.now c.in_err-filters.field-0.0 (is.fault c.args.target)
-    is.no_reader is.memory))
+    rw (error.1, error.2)
+    (rejected (refused_unread c.args.target c.args.text.now c.in_err-filters.field-0.0 c.in_err-filters.ensures.unread))
 
 pub returns-in_err-name-clause-cause : goal.returns-in_err-name-clause-cause
 returns-in_err-name-clause-cause c =

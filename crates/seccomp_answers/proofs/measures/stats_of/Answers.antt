@@ -4,11 +4,11 @@ use Rattle.std.specs.BTreeMap.{get_by_text}
 use Rattle.std.specs.List.Sorted.{IsStrictlySortedBy}
 use Rattle.std.specs.Map.{keys_of}
 use Rattle.std.proofs.lemmas.Result.{err_from_is_err_and}
-use Rattle.seccompiler.specs.JsonAnswers.{ArePoliciesOf, HasPolicy, OfValue, TellsFrontendFault}
+use Rattle.seccompiler.specs.JsonAnswers.{HasPolicy}
 use Rattle.seccompiler.specs.Policy.{Filter}
 use Rattle.seccomp_tree.specs.declared.layout.Layout.TheVariants.{Linear, Tree}
 use Rattle.seccomp_answers.specs.Chosen.{text_of}
-use Rattle.seccomp_answers.proofs.Causes.{missing_in, next_in, next_fits, next_refused, told_linear, unread_for}
+use Rattle.seccomp_answers.proofs.Causes.{missing_in, next_in, next_fits, next_refused, told_linear}
 use Rattle.seccomp_answers.proofs.diff.Names.{Entries}
 use Rattle.seccomp_answers.proofs.measures.stats_of.Goals as goal
 use Rattle.seccomp_answers.specs.Causes.{of_name, too_large, unread}
@@ -38,20 +38,14 @@ loop-filter-preserved c =
 pub returns-in_err-filters : goal.returns-in_err-filters
 returns-in_err-filters c =
     let error = err_from_is_err_and c.from_residual.result c.from_residual.ensures.1 in
-    let text = c.args.text.now in
-    let own = c.in_err-filters.field-0.0 in
-    let is = c.in_err-filters.ensures in
-    let first = subst (λ t. TellsFrontendFault t text own) c.new.ensures is.fault in
-    rw (error.1, error.2) (Linear, unread (unread_for c.args.target text own first is.no_reader is.memory))
+    rw (error.1, error.2) (Linear, unread c.in_err-filters.ensures.unread)
 
 pub returns-in_err-refuse_missing : goal.returns-in_err-refuse_missing
 returns-in_err-refuse_missing c =
     let at = c.from_residual-in_err-refuse_missing in
     let error = err_from_is_err_and at.result at.ensures.1 in
     let find = get_by_text c.in_ok-filters.filters in
-    let of = c.in_ok-filters.ensures.policies in
-    let read : OfValue c.args.text.now (ArePoliciesOf c.args.target find) =
-    (of.0, of.1, subst (λ t. ArePoliciesOf t find of.0) c.new.ensures of.2) in
+    let read = c.in_ok-filters.ensures.policies in
     rw (error.1, error.2) (
       Linear,
       of_name (missing_in (HasPolicy c.args.target) c.args.text.now find read (text_of c.args.asked)
@@ -67,9 +61,7 @@ returns-in_err-compiled_len c =
     let text = c.args.text.now in
     let filters = c.in_ok-filters.filters in
     let entries = filters.entries in
-    let of = c.in_ok-filters.ensures.policies in
-    let read : OfValue text (ArePoliciesOf target (get_by_text filters)) =
-    (of.0, of.1, subst (λ t. ArePoliciesOf t (get_by_text filters) of.0) c.new.ensures of.2) in
+    let read = c.in_ok-filters.ensures.policies in
     let order : IsStrictlySortedBy string_cmp (keys_of entries) = search rules in
     let given : entries ≡ c.into_iter-filter-iterator.result = search rules in
     let e : String Global × Filter = (c.in-Some.field-0-0.now, c.in-Some.filter.now) in
@@ -90,9 +82,7 @@ returns-in_err-linear c =
     let target = c.args.target in
     let text = c.args.text.now in
     let filters = c.in_ok-filters.filters in
-    let of = c.in_ok-filters.ensures.policies in
-    let read : OfValue text (ArePoliciesOf target (get_by_text filters)) =
-    (of.0, of.1, subst (λ t. ArePoliciesOf t (get_by_text filters) of.0) c.new.ensures of.2) in
+    let read = c.in_ok-filters.ensures.policies in
     let order : IsStrictlySortedBy string_cmp (keys_of filters.entries) = search rules in
     let e : String Global × Filter = (c.in-Some-2.name, c.in-Some-2.filter) in
     let whole : filters.entries ≡ l.yielded ++ l.name-iterator =
@@ -112,9 +102,7 @@ returns-in_err-tree c =
     let target = c.args.target in
     let text = c.args.text.now in
     let filters = c.in_ok-filters.filters in
-    let of = c.in_ok-filters.ensures.policies in
-    let read : OfValue text (ArePoliciesOf target (get_by_text filters)) =
-    (of.0, of.1, subst (λ t. ArePoliciesOf t (get_by_text filters) of.0) c.new.ensures of.2) in
+    let read = c.in_ok-filters.ensures.policies in
     let order : IsStrictlySortedBy string_cmp (keys_of filters.entries) = search rules in
     let e : String Global × Filter = (c.in-Some-2.name, c.in-Some-2.filter) in
     let whole : filters.entries ≡ l.yielded ++ l.name-iterator =

@@ -5,15 +5,14 @@ use Rattle.std.specs.List.{AllZip}
 use Rattle.std.specs.List.Sorted.{IsStrictlySortedBy}
 use Rattle.std.specs.Map.{keys_of}
 use Rattle.std.proofs.lemmas.Slice.Zip.{all_zipped_more}
-use Rattle.seccompiler.specs.JsonAnswers.{ArePoliciesOf, HasPolicy, OfValue, TellsFrontendFault}
-use Rattle.seccompiler.specs.JsonFilters.{AreNamed}
+use Rattle.seccompiler.specs.JsonAnswers.{HasPolicy}
 use Rattle.seccompiler.specs.Policy.{Filter}
 use Rattle.seccomp_answers.specs.declared.programs.NamedProgram.{NamedProgram}
 use Rattle.seccomp_answers.proofs.Named.{are_named}
 use Rattle.seccomp_answers.proofs.programs.programs_in.Invariants.{IsCompiledAs}
 use Rattle.std.proofs.lemmas.Result.{err_from_is_err_and}
 use Rattle.seccomp_answers.specs.Chosen.{text_of}
-use Rattle.seccomp_answers.proofs.Causes.{missing_in, next_refused, unfit_for, unread_for}
+use Rattle.seccomp_answers.proofs.Causes.{missing_in, next_refused, unfit_for}
 use Rattle.seccomp_answers.proofs.programs.programs_in.Goals as goal
 use Rattle.seccomp_answers.specs.Compiled.{HasProgram, name_of}
 use Rattle.seccomp_answers.specs.Causes.{of_name, unread}
@@ -48,8 +47,7 @@ returns-clause-programs c =
       of.0,
       of.1,
       are_named (HasPolicy c.args.target) of.0 filters.entries
-          (subst (λ t. AreNamed (λ (f : String Global × Filter). string_bytes f.0) (λ f value. HasPolicy t value f.1) of.0 filters.entries)
-          c.new.ensures named)
+          named
           name_of (IsCompiledAs c.args.layout)
           (λ made value. HasProgram c.args.layout c.args.target value made.program.items) (λ e made is. ap string_bytes is.name)
           (λ e made value is has. record { policy = e.1; is_policy = has; compiled = is.compiled })
@@ -59,18 +57,12 @@ returns-clause-programs c =
 pub returns-in_err-filters-clause-cause : goal.returns-in_err-filters-clause-cause
 returns-in_err-filters-clause-cause c =
     let error = err_from_is_err_and c.from_residual.result c.from_residual.ensures.1 in
-    let text = c.args.text.now in
-    let own = c.in_err-filters.field-0.0 in
-    let first = subst (λ t. TellsFrontendFault t text own) c.new.ensures c.in_err-filters.ensures.fault in
-    rw (error.1, error.2)
-    (unread (unread_for c.args.target text own first c.in_err-filters.ensures.no_reader c.in_err-filters.ensures.memory))
+    rw (error.1, error.2) (unread c.in_err-filters.ensures.unread)
 
 pub returns-in_err-refuse_missing-clause-cause : goal.returns-in_err-refuse_missing-clause-cause
 returns-in_err-refuse_missing-clause-cause c =
     let find = get_by_text c.in_ok-filters.filters in
-    let of = c.in_ok-filters.ensures.policies in
-    let read : OfValue c.args.text.now (ArePoliciesOf c.args.target find) =
-    (of.0, of.1, subst (λ target. ArePoliciesOf target find of.0) c.new.ensures of.2) in
+    let read = c.in_ok-filters.ensures.policies in
     let error = err_from_is_err_and c.from_residual-in_err-refuse_missing.result c.from_residual-in_err-refuse_missing.ensures.1 in
     rw (error.1, error.2) (of_name (missing_in (HasPolicy c.args.target) c.args.text.now find read
     (text_of c.args.asked) c.in_err-refuse_missing.field-0.0 c.in_err-refuse_missing.ensures))
@@ -80,9 +72,7 @@ returns-in_err-program-clause-cause c =
     let error = err_from_is_err_and c.from_residual-in_err-program.result c.from_residual-in_err-program.ensures.1 in
     let l = c.loop-name in
     let filters = c.in_ok-filters.filters in
-    let of = c.in_ok-filters.ensures.policies in
-    let read : OfValue c.args.text.now (ArePoliciesOf c.args.target (get_by_text filters)) =
-    (of.0, of.1, subst (λ target. ArePoliciesOf target (get_by_text filters) of.0) c.new.ensures of.2) in
+    let read = c.in_ok-filters.ensures.policies in
     let order : IsStrictlySortedBy string_cmp (keys_of filters.entries) = search rules in
     let all : filters.entries ≡ l.yielded ++ l.name-iterator =
     sym c.into_iter-name-iterator.ensures.into_iter_gives.0 ∙ l.invariant.whole in

@@ -1,0 +1,100 @@
+// The filters of a policy's text, or why it is rejected.
+
+ghost use Rattle.std.specs.Prelude.{◌<◌, ℕ, List, All, IfErr, IfOk, IfSome, length};
+ghost use Rattle.std.specs.BTreeMap.{get_by_text};
+ghost use Rattle.serde_json.specs.Data.{Data};
+ghost use Rattle.seccompiler.specs.Compiled.{numbers_of};
+ghost use Rattle.seccompiler.specs.JsonAnswers.{ArePoliciesOf, HasPolicy, OfValue, TellsFrontendFault};
+ghost use Rattle.seccompiler.specs.JsonFilters.{IsReadBack};
+ghost use Rattle.seccompiler.specs.SyscallTable.{IsTableNumber};
+ghost use Rattle.seccompiler.specs.Errors.{IsNoMemoryInFrontend};
+ghost use Rattle.seccompiler.specs.JsonSteps.{AreFilters, IsNoFailedRead};
+ghost use Rattle.seccomp_answers.specs.Causes.{IsUnread};
+ghost use Rattle.seccomp_answers.specs.Errors.{IsToldAs};
+
+use crate::error::AnswerError;
+use seccomp_faults::{Fault, JsonFault, Rejection, outline_of, rejection_of};
+use seccompiler::json::{JsonFrontendError, filters_of};
+use seccompiler::{JsonCompiler, JsonFilterMap, SeccompFilter, TargetArch};
+use std::alloc::{AllocError, Global};
+use std::collections::BTreeMap;
+
+/// How many unknown names of calls may have suggestions.
+pub(crate) const MOST: usize = 100;
+
+// The policies of a policy's text, by the names of its filters.
+pub(crate) fn policies_in(
+    alloc: Global,
+    target: TargetArch,
+    text: &[u8],
+) -> Result<BTreeMap<String, SeccompFilter>, AnswerError>
+    ensures policies { IfOk result (λ m. OfValue text.now (ArePoliciesOf target (get_by_text m))) }
+    ensures read_back { IfOk result (λ m. (d : Data) → ArePoliciesOf target (get_by_text m) d → IsReadBack (HasPolicy target) m d) }
+    ensures numbers { IfOk result (λ m. (name : List ℕ) → IfSome (get_by_text m name) (λ f. All IsTableNumber (numbers_of f.chains))) }
+    ensures unread { IfErr result (IsUnread target text.now) }
+{
+    match JsonCompiler::new(target).policies_of(alloc, text) {
+        Ok(policies) => Ok(policies),
+        Err(refusal) => Err(unread(alloc, target, text, refusal)),
+    }
+}
+
+// The filters of a policy's text.
+pub(crate) fn filters_in(
+    alloc: Global,
+    target: TargetArch,
+    text: &[u8],
+) -> Result<JsonFilterMap, AnswerError>
+    ensures filters { IfOk result (λ filters. OfValue text.now (λ d. AreFilters d filters)) }
+    ensures unread { IfErr result (IsUnread target text.now) }
+{
+    match filters_of(alloc, text) {
+        Ok(filters) => Ok(filters),
+        Err(refusal) => Err(unread(alloc, target, text, refusal)),
+    }
+}
+
+// Why a policy's text is rejected, of which this is the library's refusal.
+fn unread(alloc: Global, target: TargetArch, text: &[u8], refusal: JsonFrontendError) -> AnswerError
+    ensures { TellsFrontendFault target text.now refusal → IsNoFailedRead refusal → IsNoMemoryInFrontend refusal → IsUnread target text.now result }
+{
+    rejected(
+        alloc,
+        text,
+        rejection_of(alloc, target, MOST, text, refusal.into()),
+    )
+}
+
+/// A rejection of a policy's text as an error, of which the fault that comes first in the text is printed.
+pub(crate) fn rejected(alloc: Global, text: &[u8], rejection: Rejection) -> AnswerError
+    ensures { IsToldAs rejection result }
+{
+    match rejection {
+        Rejection::Library(refusal) => AnswerError::Library(refusal),
+        Rejection::OutOfMemory => AnswerError::OutOfMemory,
+        Rejection::Placed(first, faults) => match earliest(alloc, text, first, &faults) {
+            Ok(told) => AnswerError::Placed(told, faults),
+            Err(_) => AnswerError::OutOfMemory,
+        },
+    }
+}
+
+// The place of the fault that comes first in the text, among these, of which one is at this place.
+fn earliest(alloc: Global, text: &[u8], first: usize, faults: &[Fault]) -> Result<usize, AllocError>
+    ensures { first < length faults.now → IfOk result (λ told. told < length faults.now) }
+{
+    let outline = match outline_of(alloc, text) {
+        Ok(outline) => outline,
+        Err(JsonFault::At(_, _)) => return Ok(first),
+        Err(JsonFault::OutOfMemory) => return Err(AllocError),
+    };
+    let (mut told, mut least) = (first, (usize::MAX, usize::MAX));
+    for (place, fault) in faults.iter().enumerate() {
+        let at = outline.place_of(fault);
+        if (at.line, at.column) < least {
+            told = place;
+            least = (at.line, at.column);
+        }
+    }
+    Ok(told)
+}

@@ -2,16 +2,16 @@
 use Rattle.std.proofs.Common.{◌≡◌, ℕ, List, Option, Result, Ok, Err, IfOk, IfErr, arith}
 use Rattle.std.specs.Prelude.{OnErr, ⊤}
 use Rattle.std.specs.declared.io.Error.{Error as IoError}
-use Rattle.seccompc.specs.Commands.{AnswersOpened, IsUnopened, IsPerformed}
+use Rattle.seccompc.specs.Commands.{AnswersCommand, IsUnopened, IsPerformed}
 use Rattle.seccompc.specs.Statuses.{HasNoFault}
-use Rattle.seccompc.specs.declared.failure.Failure.{Failure}
+use Rattle.seccompc.specs.declared.error.ToolError.{ToolError}
 use Rattle.seccompc.specs.declared.words.Command.{Command}
 use Rattle.seccompc.specs.declared.words.Command.TheVariants.{Probe, List as Listing, Run}
 
 -- The answer that ends with 0 reports no failure, so that FILE is opened.
 pub performed : {F : Type 0} (command : Command) (file : Result F IoError) (remaining : F → Option (List ℕ)) (input : Option (List ℕ))
-    (r : Result ⊤ Failure) (old new : Option (List ℕ)) (status : ℕ)
-    → IfOk file (λ opened. AnswersOpened command (remaining opened) input r old new) → IfErr file (λ e. IsUnopened e r)
+    (r : Result ⊤ ToolError) (old new : Option (List ℕ)) (status : ℕ)
+    → IfOk file (λ opened. AnswersCommand command (remaining opened) input r old new) → IfErr file (λ e. IsUnopened e r)
     → OnErr r (status ≡ 1) → status ≡ 0 → IsPerformed command input old new
 performed command (Ok opened) remaining input (Ok tt) old new status answers unopened failed zero =
     record { file = remaining opened; answers = answers }

@@ -7,9 +7,7 @@ use Rattle.seccompc.specs.Policies.{AnswersList, AnswersRun}
 use Rattle.seccompc.specs.Probe.{AnswersProbe}
 use Rattle.seccompc.specs.Errors.{IsReadFault}
 use Rattle.seccompc.specs.declared.error.ToolError.{ToolError}
-use Rattle.seccompc.specs.declared.error.ToolError.TheVariants.{OutOfMemory}
-use Rattle.seccompc.specs.declared.failure.Failure.{Failure}
-use Rattle.seccompc.specs.declared.failure.Failure.TheVariants.{Unopened, Engine}
+use Rattle.seccompc.specs.declared.error.ToolError.TheVariants.{Unopened, OutOfMemory}
 use Rattle.seccompc.specs.declared.words.Command.{Command}
 use Rattle.seccompc.specs.declared.words.Command.TheVariants.{Probe, List as Listing, Run}
 
@@ -21,17 +19,11 @@ AnswersCommand (Probe arch nr index value) file input answer old new = AnswersPr
 AnswersCommand (Listing arch) file input answer old new = AnswersList arch.now input answer old new
 AnswersCommand (Run arch named name) file input answer old new = AnswersRun arch.now file name.now input answer old new
 
--- The answer of a command whose FILE is opened: it isn't that FILE couldn't be.
-abbrev pub AnswersOpened : Command → (file input : Option (List ℕ)) → Result ⊤ Failure → (old new : Option (List ℕ)) → Type 0
-AnswersOpened command file input (Ok done) old new = AnswersCommand command file input (Ok done) old new
-AnswersOpened command file input (Err (Engine e)) old new = AnswersCommand command file input (Err e) old new
-AnswersOpened command file input (Err Unopened) old new = ⊥
-
 -- The answer if opening FILE fails so: that it can't be opened, or, if memory runs out, that.
-abbrev pub IsUnopened : IoError → Result ⊤ Failure → Type 0
-IsUnopened e (Ok done) = ⊥
+abbrev pub IsUnopened : IoError → Result ⊤ ToolError → Type 0
 IsUnopened e (Err Unopened) = IsReadFault e
-IsUnopened e (Err (Engine error)) = (error ≡ OutOfMemory) × (error_kind e ≡ kind.OutOfMemory)
+IsUnopened e (Err OutOfMemory) = error_kind e ≡ kind.OutOfMemory
+IsUnopened e answer = ⊥
 
 -- The command is carried out without a fault, for this standard input and some contents of FILE, and what is written grows by
 -- what it answers.

@@ -7,7 +7,7 @@ use Rattle.seccompiler.specs.declared.error.Error.{Error as LibraryError}
 use Rattle.seccompiler.specs.declared.error.Error.TheVariants as library
 use Rattle.seccompiler.specs.Errors.{error_text}
 use Rattle.seccompc.specs.declared.error.ToolError.{ToolError}
-use Rattle.seccompc.specs.declared.error.ToolError.TheVariants.{Library, NoFilter, ShortRecord, Read, Write, OutOfMemory}
+use Rattle.seccompc.specs.declared.error.ToolError.TheVariants.{Library, Unopened, NoFilter, ShortRecord, Read, Write, OutOfMemory}
 
 -- A refusal of the library; lack of memory stays lack of memory.
 abbrev pub from_library : LibraryError → ToolError
@@ -17,6 +17,7 @@ from_library refusal = Library refusal
 -- The text of an error, if it is known.
 abbrev pub tool_text : ToolError → Option (List ℕ)
 tool_text (Library e) = error_text e
+tool_text Unopened = Some (codes "Error opening the policy file.")
 tool_text (NoFilter name) = Some (codes "No filter has this name: " ++ string_bytes name ++ codes ".")
 tool_text (ShortRecord rest) = Some (codes "The input ends inside a record, after " ++ decimal rest ++ codes " bytes of it.")
 tool_text (Read e) = Some (codes "Error reading input.")

@@ -1,16 +1,18 @@
-// Why an engine fails.
+// Why a command isn't carried out.
 
 use seccompiler::BackendError;
 use std::alloc::{AllocError, AllocFailed};
 use std::{fmt, io};
 
-/// Why an engine fails.
+/// Why a command isn't carried out.
 ///
 /// Running out of memory is `OutOfMemory` alone, and never inside another variant.
-#[derive(Debug, Drop)]
+#[derive(Drop)]
 pub(crate) enum ToolError {
     /// The library's error.
     Library(seccompiler::Error),
+    /// The file that the command names can't be opened.
+    Unopened,
     /// No filter of the policy has this name.
     NoFilter(String),
     /// The records end inside a record, after so many bytes of it, from 1 to 63.
@@ -31,7 +33,8 @@ impl fmt::Display for ToolError {
 
     fn fmt<W: fmt::Write>(&self, f: &mut fmt::Formatter<W>) -> fmt::Result {
         match self {
-            ToolError::Library(error) => write!(f, "{error}"),
+            ToolError::Library(error) => fmt::Display::fmt(error, f),
+            ToolError::Unopened => f.write_str("Error opening the policy file."),
             ToolError::NoFilter(name) => write!(f, "No filter has this name: {name}."),
             ToolError::ShortRecord(rest) => {
                 write!(
@@ -45,8 +48,6 @@ impl fmt::Display for ToolError {
         }
     }
 }
-
-impl std::error::Error for ToolError {}
 
 /// The library's `OutOfMemory` is the program's.
 impl From<seccompiler::Error> for ToolError {

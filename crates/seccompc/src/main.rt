@@ -3,7 +3,6 @@
 
 mod architecture;
 mod error;
-mod failure;
 mod list;
 mod perform;
 mod policy;
@@ -20,7 +19,6 @@ ghost use Rattle.seccompc.specs.Commands.{IsPerformed};
 ghost use Rattle.seccompc.specs.Statuses.{HasNoFault};
 
 use crate::error::ToolError;
-use crate::failure::Failure;
 use crate::perform::perform_on;
 use crate::words::{Command, read_words};
 use seccomp_text::arguments::behind_the_name;
@@ -36,7 +34,7 @@ fn main(rt: HostRuntime) -> ExitCode {
             carry_out(&rt, command, rt.reader(), &mut io::writer(&rt))
         }
         Err(error) if error.kind() == ErrorKind::OutOfMemory => {
-            answered(&rt, Err(Failure::Engine(ToolError::OutOfMemory)))
+            answered(&rt, Err(ToolError::OutOfMemory))
         }
         // A word that is no text is no command's.
         Err(_) => misused(&rt),
@@ -71,15 +69,15 @@ fn carry_out<I: Read + Drop, W: Write>(
     )
 }
 
-// Status 0, or status 1 if a command failed, with the failure's text on standard error.
-fn answered(rt: &impl Eprint, answer: Result<(), Failure>) -> ExitCode
+// Status 0, or status 1 if a command failed, with the error's text on standard error.
+fn answered(rt: &impl Eprint, answer: Result<(), ToolError>) -> ExitCode
     ensures done { OnOk answer (exit_status result ≡ 0) }
     ensures failed { OnErr answer (exit_status result ≡ 1) }
 {
     match answer {
         Ok(()) => ExitCode::SUCCESS,
-        Err(failure) => {
-            let _ = rt.eprintln(&failure);
+        Err(error) => {
+            let _ = rt.eprintln(&error);
             ExitCode::FAILURE
         }
     }

@@ -1,11 +1,10 @@
 // A command, carried out on what is opened for it.
 
 ghost use Rattle.std.specs.Prelude.{◌≡◌, IfOk, IfErr};
-ghost use Rattle.seccompc.specs.Commands.{AnswersCommand, AnswersOpened, IsUnopened};
+ghost use Rattle.seccompc.specs.Commands.{AnswersCommand, IsUnopened};
 ghost use Rattle.seccompc.specs.Errors.{KeepsOutput};
 
 use crate::error::ToolError;
-use crate::failure::Failure;
 use crate::list::list;
 use crate::probe::probe;
 use crate::run::run_policy;
@@ -19,29 +18,24 @@ use std::io::{self, ErrorKind, Read, Write};
 ///
 /// # Errors
 ///
-/// `Unopened` if the file can't be opened, and then nothing is read or written; or else those of [`perform`].
-/// If memory runs out while it is opened, that is the engine's `OutOfMemory`.
+/// `Unopened` if the file can't be opened, or `OutOfMemory` if memory runs out while it is, and then nothing is read or written; or
+/// else those of [`perform`].
 pub fn perform_on<F: Read + Drop, I: Read + Drop, W: Write>(
     alloc: Global,
     command: Command<'_>,
     file: io::Result<F>,
     input: I,
     out: &mut W,
-) -> Result<(), Failure>
+) -> Result<(), ToolError>
     // A file that is opened is not told as one that isn't.
-    ensures opened { IfOk file (λ opened. AnswersOpened command.entry (F.remaining opened) (I.remaining input) result (W.contents out.old) (W.contents out.new)) }
+    ensures opened { IfOk file (λ opened. AnswersCommand command.entry (F.remaining opened) (I.remaining input) result (W.contents out.old) (W.contents out.new)) }
     ensures unopened { IfErr file (λ e. IsUnopened e result) }
     ensures unwritten { IfErr file (λ e. out.new ≡ out.old) }
 {
     match file {
-        Ok(file) => match perform(alloc, command, file, input, out) {
-            Ok(()) => Ok(()),
-            Err(error) => Err(Failure::Engine(error)),
-        },
-        Err(error) if error.kind() == ErrorKind::OutOfMemory => {
-            Err(Failure::Engine(ToolError::OutOfMemory))
-        }
-        Err(_) => Err(Failure::Unopened),
+        Ok(file) => perform(alloc, command, file, input, out),
+        Err(error) if error.kind() == ErrorKind::OutOfMemory => Err(ToolError::OutOfMemory),
+        Err(_) => Err(ToolError::Unopened),
     }
 }
 

@@ -1,4 +1,0 @@
--- Lemmas for the functions of `doubts`.
-pub mod Own
-pub mod Found
-pub mod Settlers

@@ -1,3 +1,0 @@
--- Lemmas for the functions of `multiplexed`.
-pub mod From
-pub mod InFront

@@ -1,4 +1,0 @@
-use Rattle.seccomp_warnings.proofs.argument.is_signed.Goals as goal
-
-pub returns : goal.returns
-returns c = c.is_among.ensures

@@ -52,3 +52,5 @@ for _name, _other in rows_of("SIBLINGS"):
     SIBLINGS.setdefault(_name, []).append(_other)
 # The codes, in their order.
 CODES = codes_in()
+# The codes of which a part of a filter or of a profile may have warnings, in their order.
+PART_CODES = re.findall(r"Code::(\w+),", re.search(r"PART_CODES: .*?\];", (SOURCES / "walk.rt").read_text(encoding="utf-8"), re.S)[0])

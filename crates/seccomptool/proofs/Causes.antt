@@ -3,10 +3,7 @@ use Rattle.std.proofs.Common.{ℤ, ◌≡◌, ℕ, List, Bool, map, Option}
 use Rattle.std.proofs.Common.{string_bytes, refl, sym, subst, ◌∙◌}
 use Rattle.seccompiler.specs.Compiled.{IsLeastUnfit, numbers_of}
 use Rattle.seccompiler.specs.Policy.{Filter}
-use Rattle.seccompiler.specs.declared.backend.BackendError.TheVariants as backend
 use Rattle.seccompiler.specs.declared.backend.TargetArch.{TargetArch}
-use Rattle.seccompiler.specs.declared.error.Error.TheVariants as library
-use Rattle.seccompiler.specs.declared.json.error.JsonFrontendError.TheVariants as frontend
 use Rattle.seccomp_oci.specs.Types.{Container}
 use Rattle.seccomp_tree.specs.Layouts.{IsRefusalIn}
 use Rattle.seccomp_tree.specs.declared.error.FilterError.{FilterError}

@@ -7,7 +7,7 @@ use Rattle.seccomp_answers.specs.Calls.{IsUncalled}
 use Rattle.seccomp_answers.specs.declared.error.AnswerError.{AnswerError}
 use Rattle.seccomp_answers.specs.declared.error.AnswerError.TheVariants.{OutOfMemory}
 use Rattle.seccomptool.specs.declared.learn.AskedArguments.{AskedArguments}
-use Rattle.seccomptool.specs.declared.words.Asked.{Asked}
+use Rattle.seccomptool.specs.declared.command.Learn.{Learn}
 
 -- What an element has, one has.
 pub some_has : {X : Type 0} (P : X → Type 0) (xs : List X) (i : ℕ) (d : X) → i < length xs → P (get_or xs i d) → Any P xs
@@ -42,7 +42,7 @@ index_at (suc (suc (suc (suc (suc zero))))) within = refl
 index_at (suc (suc (suc (suc (suc (suc i)))))) within = absurd (omega arith)
 
 -- One of the calls that are asked for is unknown.
-pub unknown_of : (asked : Asked) (e : AnswerError)
+pub unknown_of : (asked : Learn) (e : AnswerError)
     → Any (λ (call : AskedArguments). IsUncalled asked.arch call.call.now e) asked.arguments.items → IsUnknown asked e
 unknown_of asked OutOfMemory is = tt
 unknown_of asked e is = is

@@ -1,15 +1,12 @@
 -- Why an engine gives no answer: each error has its cause in what is given. Lack of memory may come in place of all.
-use Rattle.std.specs.Prelude.{◌≡◌, ℕ, Bool, true, false, List, [], Option, String, Vec}
+use Rattle.std.specs.Prelude.{◌≡◌, ℕ, Bool, true, false, List, [], ◌∷◌, Option, String, Vec}
 use Rattle.std.specs.Prelude.{⊤}
 use Rattle.std.specs.List.{AllZip}
 use Rattle.std.specs.declared.alloc.Global.{Global}
 use Rattle.seccompiler.specs.Compiled.{IsTooLarge}
 use Rattle.seccompiler.specs.Policy.{Filter}
-use Rattle.seccompiler.specs.declared.backend.BackendError.TheVariants as backend
 use Rattle.seccompiler.specs.declared.backend.TargetArch.{TargetArch}
 use Rattle.seccompiler.specs.declared.bpf.sock_filter.{sock_filter}
-use Rattle.seccompiler.specs.declared.error.Error.TheVariants as library
-use Rattle.seccompiler.specs.declared.json.error.JsonFrontendError.TheVariants as frontend
 use Rattle.seccomp_tree.specs.Layouts.{IsTreeTooLarge}
 use Rattle.seccomp_tree.specs.declared.error.FilterError.{FilterError}
 use Rattle.seccomp_tree.specs.declared.error.FilterError.TheVariants as filter
@@ -33,8 +30,13 @@ use Rattle.seccomp_answers.specs.declared.kind.Subject.{Subject}
 use Rattle.seccomp_answers.specs.declared.kind.Subject.TheVariants as subject
 use Rattle.seccomp_answers.specs.declared.sides.Side.{Side}
 use Rattle.seccomp_answers.specs.declared.layers.Layer.{Layer}
-use Rattle.seccomptool.specs.declared.words.Asked.{Asked}
-use Rattle.seccomptool.specs.declared.words.Calls.TheVariants.{One}
+use Rattle.seccomptool.specs.declared.command.Call.{Call}
+use Rattle.seccomptool.specs.declared.command.Calls.TheVariants.{One}
+use Rattle.seccomptool.specs.declared.command.Compile.{Compile}
+use Rattle.seccomptool.specs.declared.command.Diff.{Diff}
+use Rattle.seccomptool.specs.declared.command.Explain.{Explain}
+use Rattle.seccomptool.specs.declared.command.Show.{Show}
+use Rattle.seccomptool.specs.declared.command.Stack.{Stack}
 use Rattle.seccomp_answers.specs.Causes.{IsRefusedProfile}
 use Rattle.seccomp_answers.specs.Layers.{IsLayer}
 
@@ -73,13 +75,13 @@ pub data IsUncompiledProfile (target : TargetArch) (container : Container) (stri
 -- ---- commands
 
 -- Why `compile` has no program of what is given.
-abbrev pub IsUncompiledAs : Asked → Subject → (given : List ℕ) → AnswerError → Type 0
-IsUncompiledAs asked subject.Policy text e = IsUncompiledIn asked.arch asked.layout (text_of asked.filter) text e
+abbrev pub IsUncompiledAs : Compile → Subject → (given : List ℕ) → AnswerError → Type 0
+IsUncompiledAs asked subject.Policy text e = IsUncompiledIn asked.arch asked.layout (text_of asked.subject.filter) text e
 IsUncompiledAs asked (subject.Profile container) text e =
-    IsRefusedBeside (text_of asked.filter) (IsUncompiledProfile asked.arch container.now asked.strict text) e
-IsUncompiledAs asked subject.Program bytes e = IsRefusedBeside (text_of asked.filter) (IsRefusedProgram bytes) e
+    IsRefusedBeside (text_of asked.subject.filter) (IsUncompiledProfile asked.arch container.now asked.strict text) e
+IsUncompiledAs asked subject.Program bytes e = IsRefusedBeside (text_of asked.subject.filter) (IsRefusedProgram bytes) e
 
-abbrev pub IsUncompiled : Asked → (given : List ℕ) → AnswerError → Type 0
+abbrev pub IsUncompiled : Compile → (given : List ℕ) → AnswerError → Type 0
 IsUncompiled asked given e = IsOfKind asked.reading given (λ kind. IsUncompiledAs asked kind given e) e
 
 -- Why `show` has no programs of a policy's text, or no numbers of theirs in one of the layouts.
@@ -87,28 +89,31 @@ abbrev pub AreUnshown : (measured : Bool) → TargetArch → Layout → (asked :
 AreUnshown false target layout asked text e = AreUncompiledIn target layout asked text e
 AreUnshown true target layout asked text e = AreUncompiledInSome target asked text e
 
-abbrev pub IsUnshownAs : Asked → Subject → (given : List ℕ) → AnswerError → Type 0
+abbrev pub IsUnshownAs : Show → Subject → (given : List ℕ) → AnswerError → Type 0
 IsUnshownAs asked kind given e =
-    IsRefusedAs (AreUnshown asked.measured asked.arch asked.layout (text_of asked.filter) given) asked.arch kind (text_of asked.filter)
+    IsRefusedAs (AreUnshown asked.measured asked.arch asked.layout (text_of asked.subject.filter) given) asked.arch kind (text_of
+    asked.subject.filter)
     given e
 
-abbrev pub IsUnshown : Asked → (given : List ℕ) → AnswerError → Type 0
+abbrev pub IsUnshown : Show → (given : List ℕ) → AnswerError → Type 0
 IsUnshown asked given e = IsOfKind asked.reading given (λ kind. IsUnshownAs asked kind given e) e
 
 -- Why `diff` compares nothing.
-pub data IsUncompared (asked : Asked) (old_given new_given : List ℕ) (e : AnswerError) : Type 0 where
+pub data IsUncompared (asked : Diff) (old_given new_given : List ℕ) (e : AnswerError) : Type 0 where
   unknown_kind : e ≡ OutOfMemory → IsUncompared asked old_given new_given e
-  of_sides : (old new : Side) → IsSideOf asked.reading asked.old old_given old → IsSideOf asked.reading asked.new new_given new
+  of_sides : (old new : Side) → IsSideOf asked.reading asked.old.filter old_given old
+      → IsSideOf asked.reading asked.new.filter new_given new
       → IsUndiffed asked.terms.target old new e → IsUncompared asked old_given new_given e
 
--- Why `explain` explains nothing: one call is asked about, and is none of the architecture; or by what is given, or by the layers.
-pub data IsUnexplained (asked : Asked) (layers : List Layer) (given : List ℕ) (e : AnswerError) : Type 0 where
-  uncalled : asked.calls ≡ One → IsUncalled asked.arch asked.call.name.now e → IsUnexplained asked layers given e
-  undecided : layers ≡ [] → IsUndecided asked.arch asked.reading (text_of asked.filter) given e → IsUnexplained asked layers given e
-  of_layers : IsOfLayers asked.arch asked.reading layers e → IsUnexplained asked layers given e
+-- Why `explain` explains nothing: one call is asked about, and is none of the architecture; or by the only one of what is given, or by all.
+pub data IsUnexplained (asked : Explain) (layers : List Layer) (e : AnswerError) : Type 0 where
+  uncalled : (call : Call) → asked.calls ≡ One call → IsUncalled asked.arch call.name.now e → IsUnexplained asked layers e
+  undecided : (subject : Layer) → layers ≡ subject ∷ []
+      → IsUndecided asked.arch asked.reading (text_of subject.filter) subject.text.items e → IsUnexplained asked layers e
+  of_layers : IsOfLayers asked.arch asked.reading layers e → IsUnexplained asked layers e
 
 -- Why `stack` writes nothing: by the layers; or the program of all would be too long.
-pub data IsUnstacked (asked : Asked) (layers : List Layer) (e : AnswerError) : Type 0 where
+pub data IsUnstacked (asked : Stack) (layers : List Layer) (e : AnswerError) : Type 0 where
   unstacked : IsOfLayers asked.arch asked.reading layers e → IsUnstacked asked layers e
   too_long : (programs : List (Vec sock_filter Global)) → AllZip (IsLayer asked.arch asked.reading) layers programs → (refusal : StackError)
       → IsRefusal programs refusal → e ≡ from_stack refusal → IsUnstacked asked layers e

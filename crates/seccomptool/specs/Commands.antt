@@ -1,5 +1,7 @@
 -- What it means that a command is carried out on the texts that it is given.
-use Rattle.std.specs.Prelude.{◌≡◌, ◌≢◌, ◌<◌, ◌↔◌, ℕ, ◌/◌, ◌%◌, Bool, true, false, IsTrue, List, [], Option, Vec, length, ⊤}
+use Rattle.std.specs.Prelude.{◌≡◌, ◌≢◌, ◌<◌, ◌↔◌, ℕ, ◌/◌, ◌%◌, Bool, true, false, IsTrue, List, [], ◌∷◌, ◌++◌, Option, None, Some, Vec, ⊤}
+use Rattle.std.specs.Prelude.{length}
+use Rattle.std.specs.Borrow.{Bor}
 use Rattle.std.specs.List.{AllZip}
 use Rattle.std.specs.Simd.{first_chunks}
 use Rattle.std.specs.declared.alloc.Global.{Global}
@@ -30,19 +32,27 @@ use Rattle.seccomptool.specs.declared.made.Made.{Made}
 use Rattle.seccomp_answers.specs.declared.calls.KnownCall.{KnownCall}
 use Rattle.seccomp_answers.specs.declared.sides.Side.{Side}
 use Rattle.seccomp_answers.specs.declared.layers.Layer.{Layer}
-use Rattle.seccomptool.specs.declared.words.Call.{Call}
-use Rattle.seccomptool.specs.declared.words.Calls.{Calls}
-use Rattle.seccomptool.specs.declared.words.Calls.TheVariants.{One, Records, Log}
-use Rattle.seccomptool.specs.declared.words.Asked.{Asked}
-use Rattle.seccomptool.specs.declared.words.Verb.{Verb}
-use Rattle.seccomptool.specs.declared.words.Verb.TheVariants as verb
+use Rattle.seccomptool.specs.declared.command.Call.{Call}
+use Rattle.seccomptool.specs.declared.command.Calls.{Calls}
+use Rattle.seccomptool.specs.declared.command.Calls.TheVariants.{One, Records, Log}
+use Rattle.seccomptool.specs.declared.command.Check.{Check}
+use Rattle.seccomptool.specs.declared.command.Command.{Command}
+use Rattle.seccomptool.specs.declared.command.Command.TheVariants as command
+use Rattle.seccomptool.specs.declared.command.Compile.{Compile}
+use Rattle.seccomptool.specs.declared.command.Diff.{Diff as AskedDiff}
+use Rattle.seccomptool.specs.declared.command.Explain.{Explain}
+use Rattle.seccomptool.specs.declared.command.Lookup.{Lookup}
+use Rattle.seccomptool.specs.declared.command.Show.{Show}
+use Rattle.seccomptool.specs.declared.command.Stack.{Stack}
 use Rattle.seccomp_answers.specs.Check.{IsCheckOf, IsRefusal, verdict_where}
 use Rattle.seccomp_answers.specs.CheckProfile.{IsProfileCheckOf}
 use Rattle.seccomp_answers.specs.Chosen.{text_of}
 use Rattle.seccomp_views.specs.Written.{IsWrittenAs}
 use Rattle.seccomp_answers.specs.Diff.{IsDiff, verdict_in}
 use Rattle.seccomp_answers.specs.Kinds.{IsTakenAs}
-use Rattle.seccomptool.specs.Learn.{IsLesson}
+use Rattle.seccomptool.specs.declared.command.Learn.{Learn}
+use Rattle.seccomptool.specs.Files.{calls_file, start_file}
+use Rattle.seccomptool.specs.Learn.{IsLessonOf}
 use Rattle.seccomp_answers.specs.Calls.{AreKnownCalls, IsRecordOf}
 use Rattle.seccomp_answers.specs.Programs.{IsProgramOf, IsRefusedProgram}
 use Rattle.seccomp_answers.specs.Explain.{Explains}
@@ -59,19 +69,19 @@ IsFilterCompiled target layout asked text program =
     (filter : Filter) × IsFilterOf target asked text filter × IsCompiledIn layout filter program
 
 -- The program of what is given: compiled for a filter, or for a profile, or given itself.
-abbrev pub IsCompiledAs : Asked → Subject → (given : List ℕ) → (program : List sock_filter) → Type 0
-IsCompiledAs asked subject.Policy text program = IsFilterCompiled asked.arch asked.layout (text_of asked.filter) text program
+abbrev pub IsCompiledAs : Compile → Subject → (given : List ℕ) → (program : List sock_filter) → Type 0
+IsCompiledAs asked subject.Policy text program = IsFilterCompiled asked.arch asked.layout (text_of asked.subject.filter) text program
 IsCompiledAs asked (subject.Profile container) text program =
     (compiled : CompiledProfile) × IsCompiledProfile asked.arch container.now asked.strict text compiled
     × (compiled.program.items ≡ program)
 IsCompiledAs asked subject.Program bytes program = IsProgramOf bytes program × IsChecked program
 
 -- It is what is written.
-abbrev pub IsWrittenOf : Asked → Subject → (given written : List ℕ) → Type 0
+abbrev pub IsWrittenOf : Compile → Subject → (given written : List ℕ) → Type 0
 IsWrittenOf asked kind given written =
     (program : List sock_filter) × IsCompiledAs asked kind given program × IsWrittenAs asked.format program written
 
-abbrev pub IsCompiled : Asked → (given written : List ℕ) → Type 0
+abbrev pub IsCompiled : Compile → (given written : List ℕ) → Type 0
 IsCompiled asked given written = (kind : Subject) × IsTakenAs asked.reading given kind × IsWrittenOf asked kind given written
 
 -- The program of a profile.
@@ -93,12 +103,12 @@ abbrev pub IsShownUnless : (measured : Bool) → TargetArch → Subject → Layo
 IsShownUnless false arch kind layout given = IsShownAs arch kind layout given
 IsShownUnless true arch kind layout given = ⊤
 
-abbrev pub IsShown : Asked → (given : List ℕ) → Type 0
+abbrev pub IsShown : Show → (given : List ℕ) → Type 0
 IsShown asked given =
     (kind : Subject) × IsTakenAs asked.reading given kind × IsShownUnless asked.measured asked.arch kind asked.layout given
 
 -- What is given is accepted, with its warnings, and whether they count.
-abbrev pub IsAccepted : Asked → Subject → (given : List ℕ) → Verdict → Type 0
+abbrev pub IsAccepted : Check → Subject → (given : List ℕ) → Verdict → Type 0
 IsAccepted asked subject.Policy text v =
     (checked : CheckedPolicy) × IsCheckOf asked.arch asked.allowed.items text checked × (v ≡ verdict_where asked.denied checked.count)
 IsAccepted asked (subject.Profile container) text v =
@@ -113,11 +123,11 @@ IsRejectedFor arch (subject.Profile container) text e = IsRefusedProfile arch co
 IsRejectedFor arch subject.Program bytes e = IsRefusedProgram bytes e
 
 -- What is given is accepted; or it is rejected, and not for want of memory.
-pub data IsJudged (asked : Asked) (kind : Subject) (given : List ℕ) (v : Verdict) : Type 0 where
+pub data IsJudged (asked : Check) (kind : Subject) (given : List ℕ) (v : Verdict) : Type 0 where
   accepted : IsAccepted asked kind given v → IsJudged asked kind given v
   rejected : (e : AnswerError) → IsRejectedFor asked.arch kind given e → e ≢ OutOfMemory → v ≡ Different → IsJudged asked kind given v
 
-abbrev pub IsCheck : Asked → (given : List ℕ) → Verdict → Type 0
+abbrev pub IsCheck : Check → (given : List ℕ) → Verdict → Type 0
 IsCheck asked given v = (kind : Subject) × IsTakenAs asked.reading given kind × IsJudged asked kind given v
 
 -- The whole records of these bytes.
@@ -125,14 +135,14 @@ abbrev pub records_in : List ℕ → List (List ℕ)
 records_in bytes = first_chunks 64 (length bytes / 64) bytes
 
 -- P holds of the records that are asked about: that of a call, those of these bytes, or those of calls that lines are about.
-abbrev pub OnRecordsOf : Calls → TargetArch → Call → (bytes : List ℕ) → (List (List ℕ) → Type 0) → Type 0
-OnRecordsOf One arch call bytes P =
+abbrev pub OnRecordsOf : Calls → TargetArch → (bytes : List ℕ) → (List (List ℕ) → Type 0) → Type 0
+OnRecordsOf (One call) arch bytes P =
     (record_of : List ℕ) × IsRecordOf arch call.name.now call.arguments record_of × P (records_in record_of)
-OnRecordsOf Records arch call bytes P = P (records_in bytes)
-OnRecordsOf Log arch call bytes P = (records : List (List ℕ)) × P records
+OnRecordsOf (Records path) arch bytes P = P (records_in bytes)
+OnRecordsOf (Log path) arch bytes P = (records : List (List ℕ)) × P records
 
-abbrev pub OnRecords : Asked → (bytes : List ℕ) → (List (List ℕ) → Type 0) → Type 0
-OnRecords asked bytes P = OnRecordsOf asked.calls asked.arch asked.call bytes P
+abbrev pub OnRecords : Explain → (bytes : List ℕ) → (List (List ℕ) → Type 0) → Type 0
+OnRecords asked bytes P = OnRecordsOf asked.calls asked.arch bytes P
 
 -- The architecture that is asked about, or each.
 abbrev pub IsAskedAbout : (each : Bool) → (asked of : TargetArch) → Type 0
@@ -146,65 +156,79 @@ IsCalledOn true each arch call written = IsRecordOf arch call.name.now call.argu
 IsCalledOn false each arch call written =
     (calls : List KnownCall) × AreKnownCalls (IsAskedAbout each arch) call.name.now calls
 
-abbrev pub IsCalled : Asked → (written : List ℕ) → Type 0
+abbrev pub IsCalled : Lookup → (written : List ℕ) → Type 0
 IsCalled asked written = IsCalledOn asked.recorded asked.each_arch asked.arch asked.call written
 
 -- On which calls the one decides otherwise than the other, and whether on any that counts.
-pub record IsCompared (asked : Asked) (old_given new_given : List ℕ) (v : Verdict) : Type 0 where
+pub record IsCompared (asked : AskedDiff) (old_given new_given : List ℕ) (v : Verdict) : Type 0 where
   pub old : Side
   pub new : Side
-  pub of_old : IsSideOf asked.reading asked.old old_given old
-  pub of_new : IsSideOf asked.reading asked.new new_given new
+  pub of_old : IsSideOf asked.reading asked.old.filter old_given old
+  pub of_new : IsSideOf asked.reading asked.new.filter new_given new
   pub found : Diff
   pub is : IsDiff asked.terms.target asked.terms.relation old new found
   pub verdict : v ≡ verdict_in asked.scope found
 
 -- One program answers as the kernel makes it of those of all layers, and it is what is written.
-pub record IsStacked (asked : Asked) (layers : List Layer) (written : List ℕ) : Type 0 where
+pub record IsStacked (asked : Stack) (layers : List Layer) (written : List ℕ) : Type 0 where
   pub programs : List (Vec sock_filter Global)
   pub each : AllZip (IsLayer asked.arch asked.reading) layers programs
   pub program : List sock_filter
   pub stack : IsStack programs program
   pub is_written : IsWrittenAs asked.format program written
 
--- What is given decides so on the records, and why; or, if there are layers, all of them do together.
-abbrev pub ExplainsIn : Asked → List Layer → (given : List ℕ) → (records : List (List ℕ)) → Explanation → Type 0
-ExplainsIn asked [] given records e = Explains asked.arch asked.reading (text_of asked.filter) given records e
-ExplainsIn asked layers given records e = IsStackExplained asked.arch asked.reading layers records e
+-- The one of what is given decides so on the records, and why; or, if there are several, all of them do together.
+abbrev pub ExplainsIn : Explain → List Layer → (records : List (List ℕ)) → Explanation → Type 0
+ExplainsIn asked (subject ∷ []) records e =
+    Explains asked.arch asked.reading (text_of subject.filter) subject.text.items records e
+ExplainsIn asked layers records e = IsStackExplained asked.arch asked.reading layers records e
 
-abbrev pub IsExplainedIn : Asked → List Layer → (given : List ℕ) → (records : List (List ℕ)) → Type 0
-IsExplainedIn asked layers given records = (e : Explanation) × ExplainsIn asked layers given records e
+abbrev pub IsExplainedIn : Explain → List Layer → (records : List (List ℕ)) → Type 0
+IsExplainedIn asked layers records = (e : Explanation) × ExplainsIn asked layers records e
 
 -- ---- a command
 
 -- The bytes end inside a record, if they are records.
 abbrev pub EndsInside : Calls → (bytes : List ℕ) → Type 0
-EndsInside Records bytes = 0 < length bytes % 64
+EndsInside (Records path) bytes = 0 < length bytes % 64
 EndsInside calls bytes = ⊥
 
 -- This is made: the command finds nothing, and isn't given records that end inside of one.
 abbrev pub IsPlain : Made → Type 0
 IsPlain made = (made.verdict ≡ Same) × (made.is_cut ≡ false)
 
--- What is asked for is carried out on these bytes, the first and the second that are read, on these traces, and on these layers: a value
--- is made that is so, with this verdict and what is written. The bytes say what is given.
-abbrev pub IsDone : Verb → Asked → List Trace → List Layer → (first second : List ℕ) → Made → Type 0
-IsDone verb.Compile asked traces layers given none made = IsCompiled asked given made.text.items × IsPlain made
-IsDone verb.Show asked traces layers given none made = IsShown asked given × IsPlain made
-IsDone verb.Check asked traces layers given none made = IsCheck asked given made.verdict × (made.is_cut ≡ false)
-IsDone verb.Codes asked traces layers none other made = IsPlain made
-IsDone verb.Explain asked traces layers given bytes made =
-    OnRecords asked bytes (IsExplainedIn asked layers given) × (made.verdict ≡ Same) × (IsTrue made.is_cut ↔ EndsInside asked.calls bytes)
-IsDone verb.Call asked traces layers none other made = IsCalled asked made.text.items × IsPlain made
-IsDone verb.Diff asked traces layers old new made = IsCompared asked old new made.verdict × (made.is_cut ≡ false)
-IsDone verb.Stack asked traces layers none other made = IsStacked asked layers made.text.items × IsPlain made
-IsDone verb.Learn asked traces layers none policy made = IsLesson asked traces policy made.text.items × IsPlain made
+-- What is read is what stands in front, and behind it these bytes, if a file is named there.
+abbrev pub IsParted : (behind : Option (Bor (List ℕ))) → (inputs front : List Layer) → (bytes : List ℕ) → Type 0
+IsParted None inputs front bytes = (front ≡ inputs) × (bytes ≡ [])
+IsParted (Some path) inputs front bytes = (last : Layer) × (inputs ≡ front ++ last ∷ []) × (bytes ≡ last.text.items)
 
-abbrev pub IsCarriedOut : Asked → List Trace → List Layer → (first second : List ℕ) → Made → Type 0
-IsCarriedOut asked traces layers first second made = IsDone asked.verb asked traces layers first second made
+-- What `explain` makes of the layers, and of the records or the log behind them, if it isn't asked about one call.
+pub record IsExplained (asked : Explain) (inputs : List Layer) (made : Made) : Type 0 where
+  pub layers : List Layer
+  pub bytes : List ℕ
+  pub parted : IsParted (calls_file asked.calls) inputs layers bytes
+  pub decided : OnRecords asked bytes (IsExplainedIn asked layers)
+  pub verdict : made.verdict ≡ Same
+  pub cut : IsTrue made.is_cut ↔ EndsInside asked.calls bytes
 
--- It is carried out on some bytes, traces and layers.
-abbrev pub IsPerformed : Asked → Made → Type 0
-IsPerformed asked made =
-    (traces : List Trace) × (layers : List Layer) × (first : List ℕ) × (second : List ℕ)
-    × IsCarriedOut asked traces layers first second made
+-- What `learn` makes of the traces, and of the policy behind them, if calls are added to one.
+pub record IsTaught (reads : TargetArch → List ℕ → Trace → Type 0) (asked : Learn) (inputs : List Layer) (made : Made) : Type 0 where
+  pub traced : List Layer
+  pub bytes : List ℕ
+  pub parted : IsParted (start_file asked.start) inputs traced bytes
+  pub lesson : IsLessonOf reads asked traced bytes made.text.items
+  pub plain : IsPlain made
+
+-- This is made of what is read for a command: a value is found in it that is so, with this verdict and what is written.
+abbrev pub Answers : (reads : TargetArch → List ℕ → Trace → Type 0) → Command → List Layer → Made → Type 0
+Answers reads (command.Check asked) (one ∷ []) made = IsCheck asked one.text.items made.verdict × (made.is_cut ≡ false)
+Answers reads (command.Codes json) inputs made = IsPlain made
+Answers reads (command.Compile asked) (one ∷ []) made = IsCompiled asked one.text.items made.text.items × IsPlain made
+Answers reads (command.Show asked) (one ∷ []) made = IsShown asked one.text.items × IsPlain made
+Answers reads (command.Explain asked) inputs made = IsExplained asked inputs made
+Answers reads (command.Diff asked) (old ∷ new ∷ []) made =
+    IsCompared asked old.text.items new.text.items made.verdict × (made.is_cut ≡ false)
+Answers reads (command.Stack asked) layers made = IsStacked asked layers made.text.items × IsPlain made
+Answers reads (command.Learn asked) inputs made = IsTaught reads asked inputs made
+Answers reads (command.Call asked) inputs made = IsCalled asked made.text.items × IsPlain made
+Answers reads other inputs made = ⊥

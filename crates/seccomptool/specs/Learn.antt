@@ -1,6 +1,7 @@
 -- What `learn` gives: a policy of the calls that were observed, which are added to a filter.
 use Rattle.std.specs.Prelude.{◌≡◌, ◌≤◌, ℕ, List, [], ◌∷◌, ◌++◌, All, Any, Bool, true, false, Option, Some, None, codes, slice_index_or, ⊤}
 use Rattle.std.specs.Prelude.{unwrap_or}
+use Rattle.std.specs.List.{AllZip}
 use Rattle.seccompiler.specs.declared.backend.TargetArch.{TargetArch}
 use Rattle.seccompiler.specs.declared.backend.SeccompAction.{SeccompAction}
 use Rattle.seccompiler.specs.declared.backend.SeccompAction.TheVariants.{Allow, Errno}
@@ -17,7 +18,8 @@ use Rattle.seccomp_answers.specs.declared.error.AnswerError.TheVariants.{OutOfMe
 use Rattle.seccomptool.specs.declared.learn.AskedArguments.{AskedArguments}
 use Rattle.seccomptool.specs.declared.learn.Start.{Start}
 use Rattle.seccomptool.specs.declared.learn.Start.TheVariants.{Otherwise, Into}
-use Rattle.seccomptool.specs.declared.words.Asked.{Asked}
+use Rattle.seccomp_answers.specs.declared.layers.Layer.{Layer}
+use Rattle.seccomptool.specs.declared.command.Learn.{Learn}
 use Rattle.seccomp_answers.specs.Chosen.{IsChosen, text_of}
 use Rattle.seccomp_answers.specs.Calls.{IsCall, IsUncalled}
 
@@ -27,7 +29,7 @@ abbrev pub IsBase : Start → (asked : Option (List ℕ)) → (text name : List 
 IsBase (Otherwise action) asked text name base others =
     (name ≡ unwrap_or asked (codes "main")) × (base ≡ record { mismatch_action = action; match_action = Allow; rules = [] })
     × ((other : List ℕ) → others other ≡ None)
-IsBase Into asked text name base others =
+IsBase (Into path) asked text name base others =
     IsChosen text asked name × HasFilters text (beside others name base) × (base.match_action ≡ Allow)
 
 -- The filter that answers `clone3` with ENOSYS, and allows other calls.
@@ -55,7 +57,7 @@ IsUntaken as_unit action OutOfMemory = ⊤
 IsUntaken as_unit action e = ⊥
 
 -- The lesson is learned of the observed calls, which are added to this; it has this name, and these others beside it.
-pub record IsLearned (asked : Asked) (wanted : List Kept) (observed : List Observation) (text name : List ℕ) (lesson : Lesson)
+pub record IsLearned (asked : Learn) (wanted : List Kept) (observed : List Observation) (text name : List ℕ) (lesson : Lesson)
     (beside_it : List ℕ → Option JsonFilter) : Type 0 where
   pub base : JsonFilter
   pub others : List ℕ → Option JsonFilter
@@ -70,7 +72,7 @@ Unless true P = ⊤
 Unless false P = P
 
 -- A policy is written that has this filter under this name, and the others; unless it is a profile or a drop-in.
-abbrev pub IsWrittenPolicy : Asked → (others : List ℕ → Option JsonFilter) → (name : List ℕ) → JsonFilter → (text : List ℕ) → Type 0
+abbrev pub IsWrittenPolicy : Learn → (others : List ℕ → Option JsonFilter) → (name : List ℕ) → JsonFilter → (text : List ℕ) → Type 0
 IsWrittenPolicy asked others name filter text =
     Unless asked.as_profile (Unless asked.as_unit (HasFilters text (beside others name filter)))
 
@@ -90,7 +92,7 @@ AreCloningIf arch true calls = AreCloning arch calls
 AreCloningIf arch false calls = calls ≡ []
 
 -- These are allowed too, and no others.
-pub record AreAdded (asked : Asked) (added : List Observation) : Type 0 where
+pub record AreAdded (asked : Learn) (added : List Observation) : Type 0 where
   pub runnable : List Observation
   pub are_runnable : AreRunnableIf asked.arch asked.runnable runnable
   pub cloning : List Observation
@@ -98,7 +100,7 @@ pub record AreAdded (asked : Asked) (added : List Observation) : Type 0 where
   pub are : added ≡ runnable ++ cloning
 
 -- The observed calls are those that were read, and those that are added.
-pub record AreObserved (asked : Asked) (traces : List Trace) (observed : List Observation) : Type 0 where
+pub record AreObserved (asked : Learn) (traces : List Trace) (observed : List Observation) : Type 0 where
   pub added : List Observation
   pub are : observed ≡ read_in traces ++ added
   pub are_added : AreAdded asked added
@@ -132,13 +134,13 @@ AreWithCall arch observed call before after =
     (number : ℕ) × IsCall arch call.call.now number × InTurn (IsWithArgument observed number call.indices) indices before after
 
 -- These are the usual ones, to which those that are asked for are added, of one call after the other.
-pub record AreWanted (asked : Asked) (observed : List Observation) (wanted : List Kept) : Type 0 where
+pub record AreWanted (asked : Learn) (observed : List Observation) (wanted : List Kept) : Type 0 where
   pub usual : List Kept
   pub are_usual : AreUsual asked.arch usual
   pub are : InTurn (AreWithCall asked.arch observed) asked.arguments.items usual wanted
 
 -- The error tells of one of the calls that are asked for that it is none of the architecture; or memory ran out.
-abbrev pub IsUnknown : Asked → AnswerError → Type 0
+abbrev pub IsUnknown : Learn → AnswerError → Type 0
 IsUnknown asked OutOfMemory = ⊤
 IsUnknown asked e = Any (λ (call : AskedArguments). IsUncalled asked.arch call.call.now e) asked.arguments.items
 
@@ -159,7 +161,7 @@ IsStrange strict trace e = ⊥
 -- ---- a lesson
 
 -- A lesson is learned of what was read of these traces, and of no other call. The traces are understood. It is written.
-pub record IsLesson (asked : Asked) (traces : List Trace) (text written : List ℕ) : Type 0 where
+pub record IsLesson (asked : Learn) (traces : List Trace) (text written : List ℕ) : Type 0 where
   pub understood : All (IsUnderstood asked.strict) traces
   pub observed : List Observation
   pub are_observed : AreObserved asked traces observed
@@ -170,3 +172,18 @@ pub record IsLesson (asked : Asked) (traces : List Trace) (text written : List �
   pub others : List ℕ → Option JsonFilter
   pub is : IsLearned asked wanted observed text name lesson others
   pub policy : Unless asked.json (IsWrittenPolicy asked others name lesson.learned.json written)
+
+-- The trace is what is read of these bytes.
+abbrev pub IsTraceOf : (reads : TargetArch → List ℕ → Trace → Type 0) → TargetArch → Layer → Trace → Type 0
+IsTraceOf reads arch input trace = reads arch input.text.items trace
+
+-- The same of what was read of exactly these, in their order.
+abbrev pub IsLessonOf : (reads : TargetArch → List ℕ → Trace → Type 0) → Learn → List Layer → (text written : List ℕ) → Type 0
+IsLessonOf reads asked traced text written =
+    (traces : List Trace) × AllZip (IsTraceOf reads asked.arch) traced traces × IsLesson asked traces text written
+
+-- The error is a text, or lack of memory.
+abbrev pub IsTold : AnswerError → Type 0
+IsTold (Told text) = ⊤
+IsTold OutOfMemory = ⊤
+IsTold e = ⊥

@@ -1,11 +1,12 @@
 -- The definitions that the contracts cite.
 
--- What is promised, in reading order: which words are which command, what is written and found, what each command does, and why it
--- fails.
-pub mod Arguments
+-- What is promised, in reading order: which words are which command, what each command does, and why it fails; what is done outside,
+-- and with which status a command ends.
+pub mod Files
 pub mod Learn
 pub mod Commands
 pub mod Causes
 pub mod Unlearned
 pub mod Failures
 pub mod Outside
+pub mod Ends

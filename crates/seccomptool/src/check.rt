@@ -4,9 +4,10 @@ ghost use Rattle.std.specs.Prelude.{◌≡◌, IfErr, IfOk, false};
 ghost use Rattle.seccomp_answers.specs.declared.error.AnswerError.TheVariants.{OutOfMemory};
 ghost use Rattle.seccomptool.specs.Commands.{IsAccepted, IsCheck, IsPlain, IsRejectedFor};
 
-use crate::made::Made;
+use crate::command::Check;
+use crate::made::{Made, shown};
 use crate::notes::warnings_of;
-use crate::words::Asked;
+use crate::progress::Watch;
 use seccomp_answers::check::{checked, profile_checked, verdict_where};
 use seccomp_answers::error::AnswerError;
 use seccomp_answers::findings::Verdict;
@@ -14,26 +15,27 @@ use seccomp_answers::kind::{Subject, subject_of};
 use seccomp_answers::program::program_of;
 use seccomp_faults::{Fault, Problem};
 use seccomp_views::check::fault::push_error;
-use seccomp_views::check::format::Lines;
+use seccomp_views::check::format::{CheckFormat, Lines};
 use seccomp_views::check::policy::push_warnings;
 use seccomp_views::check::profile::push_profile_warnings;
 use seccomp_views::json::{Object, push_item, written};
 use seccomp_views::notes::push_left_out;
 use seccomp_views::text::Text;
 use seccomp_warnings::Code;
-use std::alloc::Global;
+use std::alloc::{AllocError, Global};
 
 pub(crate) fn check_made(
     alloc: Global,
-    asked: &Asked<'_>,
+    asked: &Check<'_>,
     path: &str,
     given: &[u8],
+    progress: &mut Watch<'_>,
 ) -> Result<Made, AnswerError>
     ensures made { IfOk result (λ made. IsCheck asked.now given.now made.verdict × (made.is_cut ≡ false)) }
     ensures failed { IfErr result (λ error. error ≡ OutOfMemory) }
 {
     let subject = subject_of(alloc, &asked.reading, given)?;
-    let mut lines = Lines::new(alloc, asked.check_format, path, given);
+    let mut lines = Lines::new(alloc, asked.format, path, given);
     let verdict = match accepted(&mut lines, asked, subject, given) {
         Ok(verdict) => verdict,
         Err(AnswerError::OutOfMemory { .. }) => {
@@ -46,13 +48,30 @@ pub(crate) fn check_made(
         }
     };
     let (text, notes) = lines.finish();
-    Ok(Made::noting(text.finish()?, verdict, notes.finish()?))
+    let text = match asked.format {
+        CheckFormat::Json => items_of(text.finish()?, progress)?,
+        _ => shown(text.finish())?,
+    };
+    Ok(Made::noting(text, verdict, notes.finish()?))
+}
+
+// The items of a list, each of which has a comma behind it, as they stand there: behind those that are written before, and without the
+// last comma.
+fn items_of(text: Vec<u8>, progress: &mut Watch<'_>) -> Result<Vec<u8>, AllocError> {
+    let Some(items) = text.strip_suffix(b",\n") else {
+        return Ok(text);
+    };
+    let front: &[u8] = if progress.is_listed { b",\n" } else { b"\n" };
+    let mut piece = Vec::from_slice(*text.allocator(), front)?;
+    piece.extend_from_slice(items)?;
+    progress.is_listed = true;
+    Ok(piece)
 }
 
 // What is found of a subject that is accepted.
 fn accepted(
     lines: &mut Lines<'_>,
-    asked: &Asked<'_>,
+    asked: &Check<'_>,
     subject: Subject<'_>,
     given: &[u8],
 ) -> Result<Verdict, AnswerError>
@@ -81,7 +100,7 @@ fn accepted(
 }
 
 // Adds what is said of a rejection, and the warnings of a policy whose programs are too long in the linear layout alone.
-fn push_rejected(lines: &mut Lines<'_>, asked: &Asked<'_>, given: &[u8], error: AnswerError) {
+fn push_rejected(lines: &mut Lines<'_>, asked: &Check<'_>, given: &[u8], error: AnswerError) {
     push_error(lines, given, &error);
     let is_long = is_too_long(&error);
     drop(error);
@@ -103,7 +122,7 @@ fn is_too_long(error: &AnswerError) -> bool {
 
 // Adds what is said of the warnings of a policy whose programs may be too long: they may fit in the tree layout, and `compile` counts
 // the warnings then.
-fn push_warnings_of(lines: &mut Lines<'_>, asked: &Asked<'_>, given: &[u8]) {
+fn push_warnings_of(lines: &mut Lines<'_>, asked: &Check<'_>, given: &[u8]) {
     match warnings_of(lines.text.alloc(), asked.arch, &asked.allowed, given) {
         Ok(checked) => push_warnings(lines, asked.arch, &checked.filters),
         Err(error) => {

@@ -7,9 +7,9 @@ ghost use Rattle.seccomptool.specs.Causes.{AreNamesTold, IsSizeTold, IsUncompile
 ghost use Rattle.seccomptool.specs.Commands.{IsCompiled, IsPlain, IsWrittenOf};
 ghost use Rattle.seccomp_views.specs.Written.{IsWrittenAs};
 
-use crate::made::Made;
+use crate::command::Compile;
+use crate::made::{Made, shown};
 use crate::notes::push_counted;
-use crate::words::Asked;
 use seccomp_answers::chosen::{chosen_filter, refuse_name};
 use seccomp_answers::error::AnswerError;
 use seccomp_answers::findings::Verdict;
@@ -20,14 +20,14 @@ use seccomp_oci::{CompileError, Container};
 use seccomp_text::readable::TextKind;
 use seccomp_tree::{FilterError, Layout, to_bpf_in};
 use seccomp_views::notes::{each_once, push_install_notes, push_left_out};
-use seccomp_views::program::program_text;
+use seccomp_views::program::{ProgramFormat, program_text};
 use seccomp_views::text::Text;
-use seccompiler::{SeccompFilter, TargetArch};
-use std::alloc::Global;
+use seccompiler::{BpfProgramRef, SeccompFilter, TargetArch};
+use std::alloc::{AllocError, Global};
 
 pub(crate) fn compile_made(
     alloc: Global,
-    asked: &Asked<'_>,
+    asked: &Compile<'_>,
     path: &str,
     given: &[u8],
 ) -> Result<Made, AnswerError>
@@ -37,15 +37,15 @@ pub(crate) fn compile_made(
     match subject_of(alloc, &asked.reading, given)? {
         Subject::Policy => policy_made(alloc, asked, path, given),
         Subject::Profile(container) => {
-            refuse_name(alloc, asked.filter)?;
+            refuse_name(alloc, asked.subject.filter)?;
             profile_made(alloc, asked, container, path, given)
         }
         Subject::Program => {
-            refuse_name(alloc, asked.filter)?;
+            refuse_name(alloc, asked.subject.filter)?;
             let program = program_of(alloc, given)?;
             Made::plain(
                 alloc,
-                program_text(alloc, asked.format, "program", &program),
+                program_written(alloc, asked.format, "program", &program),
             )
         }
     }
@@ -55,7 +55,7 @@ pub(crate) fn compile_made(
 // another one is too large is no error.
 fn policy_made(
     alloc: Global,
-    asked: &Asked<'_>,
+    asked: &Compile<'_>,
     path: &str,
     policy: &[u8],
 ) -> Result<Made, AnswerError>
@@ -63,20 +63,20 @@ fn policy_made(
     ensures cause { IfErr result (IsUncompiledAs asked.now Policy policy.now) }
 {
     let arch = asked.arch;
-    let (name, chosen) = chosen_filter(alloc, arch, asked.filter, policy)?;
+    let (name, chosen) = chosen_filter(alloc, arch, asked.subject.filter, policy)?;
     let program = match to_bpf_in(alloc, &chosen, asked.layout) {
         Ok(program) => program,
         Err(cause) => return Err(too_large(alloc, &chosen, name.as_str(), cause)),
     };
     let mut notes = Text::new(alloc);
     push_counted(&mut notes, asked.quiet, arch, path, policy);
-    let text = program_text(alloc, asked.format, name.as_str(), &program);
+    let text = program_written(alloc, asked.format, name.as_str(), &program);
     Made::of(text, Verdict::Same, notes)
 }
 
 fn profile_made(
     alloc: Global,
-    asked: &Asked<'_>,
+    asked: &Compile<'_>,
     container: &Container,
     path: &str,
     profile: &[u8],
@@ -95,8 +95,24 @@ fn profile_made(
         push_left_out(&mut notes, arch, path, listed, left_out);
         push_install_notes(&mut notes, path, &compiled);
     }
-    let text = program_text(alloc, asked.format, "profile", &compiled.program);
+    let text = program_written(alloc, asked.format, "profile", &compiled.program);
     Made::of(text, Verdict::Same, notes)
+}
+
+// What is written of a program: its bytes, or a text as people read it.
+pub(crate) fn program_written(
+    alloc: Global,
+    format: ProgramFormat,
+    name: &str,
+    program: BpfProgramRef<'_>,
+) -> Result<Vec<u8>, AllocError>
+    ensures { IfOk result (λ written. IsWrittenAs format program.now written.items) }
+{
+    let text = program_text(alloc, format, name, program);
+    match format {
+        ProgramFormat::Raw => text,
+        _ => shown(text),
+    }
 }
 
 // Why a filter of this name has no program in a layout: if it is too large, with the length that it would have, if that is known,

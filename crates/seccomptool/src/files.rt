@@ -1,32 +1,18 @@
 // The files that a command reads, and the one that it writes.
 
-ghost use Rattle.std.specs.Prelude.{IfErr};
-ghost use Rattle.seccomptool.specs.Outside.{IsOfFile};
-
-use seccomp_answers::error::{AnswerError, path_text};
-use std::alloc::Global;
 use std::fs::File;
 use std::io::{ErrorKind, Read};
 use std::os::unix::fs::MetadataExt;
 use std::{fs, io};
 
-// All that stands at a path, or that standard input gives if it is `-`; nothing if there is no path.
-pub(crate) fn whole_of(rt: &HostRuntime, path: Option<&str>) -> Result<Vec<u8>, AnswerError>
-    ensures { IfErr result IsOfFile }
-{
-    let mut text = Vec::new(rt.alloc());
-    let Some(path) = path else { return Ok(text) };
-    let read = match path {
-        "-" => match rt.reader().read_to_end(&mut text) {
-            Ok(_) => Ok(text),
-            Err(error) => Err(error),
-        },
-        _ => fs::read(rt, path),
-    };
-    match read {
-        Ok(text) => Ok(text),
-        Err(error) => Err(of_io(rt.alloc(), path, error)),
+// All that stands at a path, or that standard input gives if it is `-`.
+pub(crate) fn whole_of(rt: &HostRuntime, path: &str) -> io::Result<Vec<u8>> {
+    if path != "-" {
+        return fs::read(rt, path);
     }
+    let mut text = Vec::new(rt.alloc());
+    rt.reader().read_to_end(&mut text)?;
+    Ok(text)
 }
 
 // Whether what is read at the first path, or from standard input if that is `-`, is the file to which the second path leads: by its
@@ -113,24 +99,4 @@ fn fill(rt: &HostRuntime, beside: &str, path: &str, bytes: &[u8]) -> io::Result<
         fs::set_permissions(rt, beside, older.permissions())?;
     }
     fs::rename(rt, beside, path)
-}
-
-// That what is at a path can't be opened, read or written.
-pub(crate) fn of_io(alloc: Global, path: &str, error: io::Error) -> AnswerError
-    ensures { IsOfFile result }
-{
-    match (error.kind(), error.to_string(alloc)) {
-        (ErrorKind::OutOfMemory, _) | (_, Err(_)) => AnswerError::OutOfMemory,
-        (_, Ok(told)) => of_path(alloc, path, told.as_str()),
-    }
-}
-
-// What is wrong with what is at a path.
-pub(crate) fn of_path(alloc: Global, path: &str, told: &str) -> AnswerError
-    ensures { IsOfFile result }
-{
-    match path_text(alloc, path, told) {
-        Ok(text) => AnswerError::Told(text),
-        Err(error) => error.into(),
-    }
 }

@@ -4,26 +4,30 @@ mod arguments;
 pub(crate) mod notes;
 
 ghost use Rattle.std.specs.Prelude.{◌≡◌, ◌++◌, All, Any, IfErr, IfOk, OnOk, codes, string_bytes};
+ghost use Rattle.std.specs.List.{AllZip};
 ghost use Rattle.seccomp_learn.specs.Written.{found_in};
 ghost use Rattle.seccomp_answers.specs.Chosen.{text_of};
 ghost use Rattle.seccomptool.specs.Commands.{IsPlain};
-ghost use Rattle.seccomptool.specs.Learn.{AreAdded, AreCloningIf, AreObserved, AreRunnableIf, IsBase, IsLearned, IsLesson, IsStrange, IsTaken, IsUnderstood, IsUntaken, IsWrittenPolicy, Unless, clone3_filter, with_second};
-ghost use Rattle.seccomptool.specs.Unlearned.{IsNoBase, IsOfStart, IsUnlearned, IsUntaught, IsUnwritten};
+ghost use Rattle.seccomptool.specs.Files.{start_file};
+ghost use Rattle.seccomptool.specs.Learn.{AreAdded, AreCloningIf, AreObserved, AreRunnableIf, IsBase, IsLearned, IsLesson, IsLessonOf, IsStrange, IsTaken, IsTraceOf, IsUnderstood, IsUntaken, IsWrittenPolicy, Unless, clone3_filter, with_second};
+ghost use Rattle.seccomptool.specs.Unlearned.{IsNoBase, IsOfStart, IsUnlearned, IsUnlearnedOf, IsUntaught, IsUnwritten};
 
+use crate::command::Learn;
 use crate::learn::arguments::{push_asked_notes, wanted_in};
-use crate::learn::notes::{learned_json, push_notes, refuse_trace};
-use crate::made::Made;
-use crate::words::{Asked, Inputs};
+use crate::learn::notes::{learned_json, path_at, push_notes, refuse_trace};
+use crate::made::{Made, shown};
+use crate::outside::Outside;
 use seccomp_answers::chosen::named_filters;
 use seccomp_answers::error::AnswerError;
 use seccomp_answers::findings::Verdict;
+use seccomp_answers::layers::Layer;
 use seccomp_learn::{
     Kept, Lesson, Observation, Trace, cloning_calls, learn_within, profile_text, runnable_calls,
     take_filter, written_policy,
 };
 use seccomp_views::text::Text;
 use seccomp_views::unit::{push_unit_notes, unit_text};
-use seccompiler::{JsonFilter, JsonFilterMap, JsonRule, SeccompAction};
+use seccompiler::{JsonFilter, JsonFilterMap, JsonRule, SeccompAction, TargetArch};
 use std::alloc::{AllocError, Global};
 use std::collections::BTreeMap;
 
@@ -32,11 +36,23 @@ const UNIT_ERRNO_MAX: u32 = 4095;
 
 /// What the calls of a trace are added to.
 #[derive(Clone, Copy)]
-pub enum Start {
+pub enum Start<'a> {
     /// Nothing: other calls get this action.
     Otherwise(SeccompAction),
-    /// A filter of a policy.
-    Into,
+    /// A filter of the policy at this path.
+    Into(&'a str),
+}
+
+impl<'a> Start<'a> {
+    /// The path of the policy that calls are added to, if there is one.
+    pub fn file(&self) -> Option<&'a str>
+        ensures { result ≡ start_file self.now }
+    {
+        match *self {
+            Start::Otherwise(_) => None,
+            Start::Into(path) => Some(path),
+        }
+    }
 }
 
 /// An argument of a call, or all of them.
@@ -51,41 +67,66 @@ pub struct AskedArguments<'a> {
 // The name of a filter that calls are added to, the filter or what is learned, and the policy's other filters.
 type Named<F> = (String, F, JsonFilterMap);
 
-pub(crate) fn learn_made(
+pub(crate) fn learn_made<O: Outside>(
     alloc: Global,
-    asked: &Asked<'_>,
-    inputs: Inputs<'_>,
+    out: &O,
+    asked: &Learn<'_>,
+    traced: &[Layer<'_>],
+    policy: &[u8],
+) -> Result<Made, AnswerError>
+    ensures lesson { IfOk result (λ made. IsLessonOf O.reads asked.now traced.now policy.now made.text.items × IsPlain made) }
+    ensures cause { IfErr result (IsUnlearnedOf O.reads asked.now traced.now policy.now) }
+{
+    let traces = traces_of(alloc, out, asked.arch, traced)?;
+    lesson_made(alloc, asked, &traces, policy)
+}
+
+// What was read of these.
+fn traces_of<O: Outside>(
+    alloc: Global,
+    out: &O,
+    arch: TargetArch,
+    traced: &[Layer<'_>],
+) -> Result<Vec<Trace>, AllocError>
+    ensures { IfOk result (λ traces. AllZip (IsTraceOf O.reads arch) traced.now traces.items) }
+{
+    let mut traces = Vec::new(alloc);
+    for input in traced {
+        traces.push(out.trace(alloc, arch, &input.text)?)?;
+    }
+    Ok(traces)
+}
+
+// What is learned of these traces, and what it is added to.
+fn lesson_made(
+    alloc: Global,
+    asked: &Learn<'_>,
     traces: &[Trace],
     policy: &[u8],
 ) -> Result<Made, AnswerError>
     ensures lesson { IfOk result (λ made. IsLesson asked.now traces.now policy.now made.text.items × IsPlain made) }
     ensures cause { IfErr result (IsUnlearned asked.now traces.now policy.now) }
 {
-    refuse_traces(alloc, asked, inputs, traces)?;
+    refuse_traces(alloc, asked, traces)?;
     let observed = observed_in(alloc, asked, traces)?;
     let wanted = wanted_in(alloc, asked, &observed)?;
     let learned = match learned_of(alloc, asked, &observed, &wanted, policy) {
         Ok(learned) => learned,
         Err(error) => return Err(of_start(alloc, asked.start, error)),
     };
-    let made = views_of(alloc, asked, inputs, traces, &observed, &wanted, &learned);
+    let made = views_of(alloc, asked, traces, &observed, &wanted, &learned);
     // Here, so that no branch has to.
     drop((observed, wanted, learned));
     made
 }
 
 // Rejects what is no trace; and, if it is asked for, a trace of which something isn't understood.
-fn refuse_traces(
-    alloc: Global,
-    asked: &Asked<'_>,
-    inputs: Inputs<'_>,
-    traces: &[Trace],
-) -> Result<(), AnswerError>
+fn refuse_traces(alloc: Global, asked: &Learn<'_>, traces: &[Trace]) -> Result<(), AnswerError>
     ensures understood { OnOk result (All (IsUnderstood asked.now.strict) traces.now) }
     ensures cause { IfErr result (λ error. Any (λ trace. IsStrange asked.now.strict trace error) traces.now) }
 {
     for (index, trace) in traces.iter().enumerate() {
-        refuse_trace(alloc, asked, inputs, index, trace)?;
+        refuse_trace(alloc, asked, index, trace)?;
     }
     Ok(())
 }
@@ -93,7 +134,7 @@ fn refuse_traces(
 // The calls that all traces have, and those that are allowed too.
 fn observed_in(
     alloc: Global,
-    asked: &Asked<'_>,
+    asked: &Learn<'_>,
     traces: &[Trace],
 ) -> Result<Vec<Observation>, AllocError>
     ensures { IfOk result (λ observed. AreObserved asked.now traces.now observed.items) }
@@ -108,7 +149,7 @@ fn observed_in(
 }
 
 // The calls that are allowed too.
-fn added_in(alloc: Global, asked: &Asked<'_>) -> Result<Vec<Observation>, AllocError>
+fn added_in(alloc: Global, asked: &Learn<'_>) -> Result<Vec<Observation>, AllocError>
     ensures { IfOk result (λ added. AreAdded asked.now added.items) }
 {
     let cloning = cloning_in(alloc, asked)?;
@@ -118,7 +159,7 @@ fn added_in(alloc: Global, asked: &Asked<'_>) -> Result<Vec<Observation>, AllocE
 }
 
 // The calls that the C library makes by itself, if they are asked for.
-fn runnable_in(alloc: Global, asked: &Asked<'_>) -> Result<Vec<Observation>, AllocError>
+fn runnable_in(alloc: Global, asked: &Learn<'_>) -> Result<Vec<Observation>, AllocError>
     ensures { IfOk result (λ calls. AreRunnableIf asked.now.arch asked.now.runnable calls.items) }
 {
     if asked.runnable {
@@ -128,7 +169,7 @@ fn runnable_in(alloc: Global, asked: &Asked<'_>) -> Result<Vec<Observation>, All
 }
 
 // The calls by which threads and processes are made, if a second filter answers one of them.
-fn cloning_in(alloc: Global, asked: &Asked<'_>) -> Result<Vec<Observation>, AllocError>
+fn cloning_in(alloc: Global, asked: &Learn<'_>) -> Result<Vec<Observation>, AllocError>
     ensures { IfOk result (λ calls. AreCloningIf asked.now.arch asked.now.old_clone calls.items) }
 {
     if asked.old_clone {
@@ -140,8 +181,7 @@ fn cloning_in(alloc: Global, asked: &Asked<'_>) -> Result<Vec<Observation>, Allo
 // What is written of what is learned, or an object with it, and the notes.
 fn views_of(
     alloc: Global,
-    asked: &Asked<'_>,
-    inputs: Inputs<'_>,
+    asked: &Learn<'_>,
     traces: &[Trace],
     observed: &[Observation],
     wanted: &[Kept],
@@ -151,19 +191,20 @@ fn views_of(
     ensures cause { IfErr result (IsUnwritten asked.now) }
 {
     let text = lesson_text(alloc, asked, learned)?;
-    let notes = notes_in(alloc, asked, inputs, traces, wanted, &learned.1)?;
+    let notes = notes_in(alloc, asked, traces, wanted, &learned.1)?;
     if !asked.json {
         return Ok(Made::noting(text, Verdict::Same, notes.into_bytes()));
     }
     let kept = &learned.1.kept;
-    let object = learned_json(alloc, asked, observed, kept, notes.as_str(), &text)?;
+    let object = learned_json(alloc, asked, observed, kept, notes.as_str(), &text);
+    let object = shown(object)?;
     Ok(Made::noting(object, Verdict::Same, notes.into_bytes()))
 }
 
 // The text of what is learned: a policy's, a profile's or a drop-in of systemd.
 fn lesson_text(
     alloc: Global,
-    asked: &Asked<'_>,
+    asked: &Learn<'_>,
     learned: &Named<Lesson>,
 ) -> Result<Vec<u8>, AnswerError>
     ensures policy { IfOk result (λ text. IsWrittenPolicy asked.now (found_in learned.now.2) (string_bytes learned.now.0) learned.now.1.learned.json text.items) }
@@ -172,10 +213,10 @@ fn lesson_text(
     let (name, lesson, others) = learned;
     let filter = &lesson.learned.json;
     if asked.as_profile {
-        return Ok(profile_text(alloc, asked.arch, filter)?);
+        return Ok(shown(profile_text(alloc, asked.arch, filter))?);
     }
     if asked.as_unit {
-        return Ok(unit_text(alloc, filter)?);
+        return Ok(shown(unit_text(alloc, filter))?);
     }
     Ok(written_policy(alloc, others, name.as_str(), filter)?)
 }
@@ -183,21 +224,16 @@ fn lesson_text(
 // The notes on traces, and on what is learned.
 fn notes_in(
     alloc: Global,
-    asked: &Asked<'_>,
-    inputs: Inputs<'_>,
+    asked: &Learn<'_>,
     traces: &[Trace],
     wanted: &[Kept],
     lesson: &Lesson,
 ) -> Result<String, AllocError> {
     let mut notes = Text::new(alloc);
-    push_notes(&mut notes, asked, inputs, traces, wanted, &lesson.kept);
-    push_asked_notes(&mut notes, asked, inputs, traces, &lesson.kept);
+    push_notes(&mut notes, asked, traces, wanted, &lesson.kept);
+    push_asked_notes(&mut notes, asked, traces, &lesson.kept);
     if asked.as_unit {
-        push_unit_notes(
-            &mut notes,
-            inputs.first.unwrap_or("-"),
-            &lesson.learned.json,
-        );
+        push_unit_notes(&mut notes, path_at(asked, 0), &lesson.learned.json);
     }
     notes.finish_string()
 }
@@ -205,7 +241,7 @@ fn notes_in(
 // The filter that allows the observed calls, with the values of the arguments that are wanted, and what it is added to.
 fn learned_of(
     alloc: Global,
-    asked: &Asked<'_>,
+    asked: &Learn<'_>,
     observed: &[Observation],
     wanted: &[Kept],
     policy: &[u8],
@@ -222,12 +258,12 @@ fn learned_of(
 }
 
 // The error as one of the policy that calls are added to, if there is one.
-fn of_start(alloc: Global, start: Start, error: AnswerError) -> AnswerError
-    ensures { IsOfStart start error result }
+fn of_start(alloc: Global, start: Start<'_>, error: AnswerError) -> AnswerError
+    ensures { IsOfStart start.entry error result }
 {
     match start {
         Start::Otherwise(_) => error,
-        Start::Into => AnswerError::in_second(alloc, error),
+        Start::Into(_) => AnswerError::in_second(alloc, error),
     }
 }
 
@@ -285,12 +321,12 @@ fn second_filter(alloc: Global) -> Result<JsonFilter, AllocError>
 // What calls are added to: nothing yet, or the filter that is asked for, or a policy's only one, if it allows what it lists.
 fn base_of(
     alloc: Global,
-    start: Start,
+    start: Start<'_>,
     asked: Option<&str>,
     policy: &[u8],
 ) -> Result<Named<JsonFilter>, AnswerError>
-    ensures base { IfOk result (λ base. IsBase start (text_of asked.entry) policy.now (string_bytes base.0) base.1 (found_in base.2)) }
-    ensures cause { IfErr result (IsNoBase start (text_of asked.entry) policy.now) }
+    ensures base { IfOk result (λ base. IsBase start.entry (text_of asked.entry) policy.now (string_bytes base.0) base.1 (found_in base.2)) }
+    ensures cause { IfErr result (IsNoBase start.entry (text_of asked.entry) policy.now) }
 {
     match start {
         Start::Otherwise(action) => {
@@ -302,7 +338,7 @@ fn base_of(
             };
             return Ok((name, filter, JsonFilterMap(BTreeMap::new(alloc))));
         }
-        Start::Into => {}
+        Start::Into(_) => {}
     }
     let (mut others, name) = named_filters(alloc, asked, policy)?;
     let Some(filter) = take_filter(&mut others, name.as_str()) else {

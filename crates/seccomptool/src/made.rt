@@ -6,13 +6,15 @@ ghost use Rattle.seccomp_answers.specs.declared.error.AnswerError.TheVariants.{O
 
 use seccomp_answers::error::AnswerError;
 use seccomp_answers::findings::Verdict;
+use seccomp_text::readable::TextKind;
+use seccomp_views::notes::readable;
 use seccomp_views::text::Text;
 use std::alloc::{AllocError, Global};
 
 /// What a command makes of the texts that it is given.
 #[derive(Drop)]
 pub(crate) struct Made {
-    /// What it writes.
+    /// What it writes, as it is written.
     pub text: Vec<u8>,
     /// Whether records end inside of one, which is trouble.
     pub is_cut: bool,
@@ -59,4 +61,14 @@ impl Made {
             notes,
         }
     }
+}
+
+/// A text as people read it. Lines in ASCII, as most texts are, need no change.
+pub(crate) fn shown(text: Result<Vec<u8>, AllocError>) -> Result<Vec<u8>, AllocError> {
+    let text = text?;
+    if text.iter().all(|byte| matches!(*byte, b'\n' | b' '..=b'~')) {
+        return Ok(text);
+    }
+    let lines = readable(*text.allocator(), &text, TextKind::Lines)?;
+    Ok(lines.into_bytes())
 }

@@ -1,35 +1,104 @@
 // What the program tells on standard error: failures, and notes on what stands at a path.
 
-use crate::outside::Outside;
-use crate::words::{Inputs, read};
+ghost use Rattle.std.specs.Prelude.{◌≡◌, ◌≤◌, ◌⊎◌};
+ghost use Rattle.clap.specs.Words.{kind_of};
+ghost use Rattle.clap.specs.declared.error.kind.ErrorKind.TheVariants.{DisplayHelp, DisplayVersion};
+ghost use Rattle.seccomptool.specs.Learn.{IsTold};
+
+use crate::outside::{Cause, Failure, Outside};
+use crate::words::read;
 use clap::error::ErrorKind;
 use seccomp_answers::check::{CheckedPolicy, warnings_in};
-use seccomp_answers::error::AnswerError;
+use seccomp_answers::error::{AnswerError, path_text};
 use seccomp_text::readable::TextKind;
-use seccomp_views::notes::{failure, note, readable};
+use seccomp_views::notes::{failure as failure_line, note, readable};
 use seccomp_views::text::Text;
 use seccomp_warnings::Code;
 use seccompiler::json::filters_of;
 use seccompiler::{JsonFrontendError, TargetArch};
 use std::alloc::{AllocError, Global};
+use std::io;
 
 // Tells a failure, and the file that it is in. Fails if there is no memory for the line.
-pub(crate) fn tell(
-    rt: &HostRuntime,
-    inputs: Inputs<'_>,
-    error: &AnswerError,
-) -> Result<(), AllocError> {
-    let path = match error {
-        AnswerError::OutOfMemory
-        | AnswerError::UnknownCall(_, _)
-        | AnswerError::StackTooLong(_)
-        | AnswerError::Told(_) => None,
-        AnswerError::Second(_) => Some(inputs.second.unwrap_or("-")),
-        _ => Some(inputs.first.unwrap_or("-")),
+pub(crate) fn tell(rt: &HostRuntime, failure: &Failure<'_>) -> Result<(), AllocError> {
+    let alloc = rt.alloc();
+    let path = failure.input.unwrap_or("standard output");
+    let line = match &failure.cause {
+        Cause::Answer(error) => failure_line(alloc, failure.input, error),
+        Cause::Io(error) => {
+            let told = error.to_string(alloc)?;
+            failure_line(alloc, None, &of_path(alloc, path, told.as_str()))
+        }
+        Cause::Closed => failure_line(alloc, None, &of_path(alloc, path, "nobody reads it")),
+        Cause::Terminal => {
+            let told = "bytes aren't written to a terminal; use a file or a pipe";
+            failure_line(alloc, None, &of_path(alloc, path, told))
+        }
+        Cause::Overwrites => {
+            let told = "the output would overwrite the input";
+            failure_line(alloc, None, &of_path(alloc, path, told))
+        }
     };
-    let line = failure(rt.alloc(), path, error)?;
+    let line = line?;
     let _ = eprint!(rt; "{line}");
     Ok(())
+}
+
+// What is wrong with what is at a path.
+pub(crate) fn of_path(alloc: Global, path: &str, told: &str) -> AnswerError
+    ensures { IsTold result }
+{
+    match path_text(alloc, path, told) {
+        Ok(text) => AnswerError::Told(text),
+        Err(error) => error.into(),
+    }
+}
+
+// Tells what `clap` has to say: status 0 where that is help or the version, and it is written; else 2.
+pub(crate) fn misused<O: Outside>(
+    rt: &HostRuntime,
+    out: &O,
+    words: &[String],
+    error: &clap::Error,
+) -> u8
+    ensures ended { result ≤ 2 }
+    ensures shown { result ≤ 1 → (kind_of error.now ≡ DisplayHelp) ⊎ (kind_of error.now ≡ DisplayVersion) }
+{
+    match error.kind() {
+        ErrorKind::DisplayHelp | ErrorKind::DisplayVersion => match error.print(rt) {
+            Ok(()) => 0,
+            Err(error) => {
+                if error.kind() != io::ErrorKind::BrokenPipe {
+                    let _ = eprintln!(rt; "seccomptool: standard output: {error}");
+                }
+                2
+            }
+        },
+        ErrorKind::OutOfMemory => {
+            let _ = eprintln!(rt; "seccomptool: Out of memory.");
+            2
+        }
+        _ => {
+            let told = match error_text(rt.alloc(), out, words, error) {
+                Ok(told) => readable(rt.alloc(), told.as_bytes(), TextKind::Lines),
+                Err(error) => Err(error),
+            };
+            let _ = match told {
+                Ok(lines) => eprint!(rt; "{lines}"),
+                Err(_) => eprintln!(rt; "seccomptool: Out of memory."),
+            };
+            2
+        }
+    }
+}
+
+// Tells that the words can't be read: for want of memory, or as one of them is no text.
+pub(crate) fn unread(rt: &HostRuntime, error: &io::Error) {
+    if error.kind() == io::ErrorKind::OutOfMemory {
+        let _ = eprintln!(rt; "seccomptool: Out of memory.");
+    } else {
+        let _ = eprintln!(rt; "seccomptool: the arguments aren't UTF-8");
+    }
 }
 
 // What `clap` says of words that are wrong. It writes words as they are, and all but their line feeds are written by number later. So
@@ -61,7 +130,7 @@ pub(crate) fn error_text<O: Outside>(
 fn error_of<O: Outside>(alloc: Global, out: &O, words: &[String]) -> Option<clap::Error> {
     let mut codes = Vec::new(alloc);
     match read(alloc, out, words, &mut codes) {
-        Ok(_asked) => None,
+        Ok(_command) => None,
         Err(error) => Some(error),
     }
 }

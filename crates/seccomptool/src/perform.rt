@@ -1,54 +1,86 @@
 // A command, carried out on what is read for it.
 
-ghost use Rattle.std.specs.Prelude.{IfErr, IfOk};
-ghost use Rattle.seccomptool.specs.Commands.{IsCarriedOut};
-ghost use Rattle.seccomptool.specs.Failures.{IsFailure};
+ghost use Rattle.std.specs.Prelude.{◌≤◌, IfErr, IfOk, IfSome, length, map};
+ghost use Rattle.seccomptool.specs.Commands.{Answers, IsParted};
+ghost use Rattle.seccomptool.specs.Ends.{AreOf};
+ghost use Rattle.seccomptool.specs.Failures.{Fails};
+ghost use Rattle.seccomptool.specs.Outside.{named_of};
 
 use crate::call::call_made;
 use crate::check::{check_made, codes_made};
+use crate::command::Command;
 use crate::compile::compile_made;
 use crate::diff::diff_made;
 use crate::explain::explain_made;
 use crate::learn::learn_made;
 use crate::made::Made;
+use crate::outside::Outside;
 use crate::progress::Watch;
 use crate::show::show_made;
 use crate::stack::stack_made;
-use crate::words::{Asked, Inputs, Verb};
 use seccomp_answers::error::AnswerError;
 use seccomp_answers::layers::Layer;
-use seccomp_learn::Trace;
 use std::alloc::Global;
 
-/// What a command makes of these texts, the first and the second that it reads, ready to be written; `learn` has traces in place of
-/// the first, and `stack`, and `explain` of several programs, have layers. `inputs` are their paths; `progress` gets how far comparisons are.
+/// What a command makes of what is read for it, ready to be written.
 ///
 /// # Errors
 ///
 /// The engine's.
-pub(crate) fn perform(
+pub(crate) fn perform<O: Outside>(
     alloc: Global,
-    asked: &Asked<'_>,
-    inputs: Inputs<'_>,
-    traces: &[Trace],
-    layers: &[Layer<'_>],
-    first: &[u8],
-    second: &[u8],
+    out: &O,
+    command: &Command<'_>,
+    inputs: &[Layer<'_>],
     progress: &mut Watch<'_>,
 ) -> Result<Made, AnswerError>
-    ensures carried_out { IfOk result (λ made. IsCarriedOut asked.now traces.now layers.now first.now second.now made) }
-    ensures failed { IfErr result (IsFailure asked.now traces.now layers.now first.now second.now) }
+    requires { AreOf command.now (map named_of inputs.now) }
+    ensures answers { IfOk result (Answers O.reads command.now inputs.now) }
+    ensures fails { IfErr result (Fails O.reads command.now inputs.now) }
 {
-    let path = inputs.first.unwrap_or("-");
-    match asked.verb {
-        Verb::Compile => compile_made(alloc, asked, path, first),
-        Verb::Show => show_made(alloc, asked, first),
-        Verb::Check => check_made(alloc, asked, path, first),
-        Verb::Codes => codes_made(alloc, asked.json),
-        Verb::Explain => explain_made(alloc, asked, inputs, layers, first, second),
-        Verb::Call => call_made(alloc, asked),
-        Verb::Diff => diff_made(alloc, asked, inputs, first, second, progress),
-        Verb::Stack => stack_made(alloc, asked, layers),
-        Verb::Learn => learn_made(alloc, asked, inputs, traces, second),
+    match command {
+        Command::Check(asked) => {
+            let [one] = inputs else { unreachable!() };
+            check_made(alloc, asked, one.path, &one.text, progress)
+        }
+        Command::Codes(json) => codes_made(alloc, *json),
+        Command::Compile(asked) => {
+            let [one] = inputs else { unreachable!() };
+            compile_made(alloc, asked, one.path, &one.text)
+        }
+        Command::Show(asked) => {
+            let [one] = inputs else { unreachable!() };
+            show_made(alloc, asked, &one.text)
+        }
+        Command::Explain(asked) => {
+            let (layers, bytes) = parted(inputs, asked.calls.file());
+            explain_made(alloc, asked, layers, bytes)
+        }
+        Command::Diff(asked) => {
+            let [old, new] = inputs else { unreachable!() };
+            diff_made(alloc, asked, old, new, progress)
+        }
+        Command::Stack(asked) => stack_made(alloc, asked, inputs),
+        Command::Learn(asked) => {
+            let (traced, policy) = parted(inputs, asked.start.file());
+            learn_made(alloc, out, asked, traced, policy)
+        }
+        Command::Call(asked) => call_made(alloc, asked),
+    }
+}
+
+// What is read in front of the last file, and the bytes of that one, if it is read behind the others.
+fn parted<'b, 'a>(inputs: &'b [Layer<'a>], behind: Option<&str>) -> (&'b [Layer<'a>], &'b [u8])
+    requires { IfSome behind (λ path. 1 ≤ length inputs.now) }
+    ensures { IsParted behind.entry inputs.now result.0.now result.1.now }
+{
+    match behind {
+        None => (inputs, b""),
+        Some(_) => {
+            let [front @ .., last] = inputs else {
+                unreachable!()
+            };
+            (front, &last.text)
+        }
     }
 }

@@ -1,4 +1,4 @@
-// What is shown of a comparison while it lasts.
+// What is shown so far: of a comparison while it lasts, and of a list.
 
 use seccomp_answers::findings::parts::name_of;
 use seccomp_answers::findings::{Part, Progress};
@@ -10,6 +10,7 @@ const SECONDS: u64 = 2;
 
 /// One line of a terminal, on standard error, with how many sets of calls were looked at so far. It is written
 /// once the program ran for two seconds, anew in its place, and erased at the end. No answer depends on it.
+/// Beside that, what a list's next item needs.
 #[derive(Drop)]
 pub(crate) struct Watch<'a> {
     rt: &'a HostRuntime,
@@ -17,6 +18,8 @@ pub(crate) struct Watch<'a> {
     start: Option<Instant>,
     sets: usize,
     written: bool,
+    /// Whether an item of the list is written, where one is.
+    pub is_listed: bool,
 }
 
 impl<'a> Watch<'a> {
@@ -31,6 +34,7 @@ impl<'a> Watch<'a> {
             },
             sets: 0,
             written: false,
+            is_listed: false,
         }
     }
 

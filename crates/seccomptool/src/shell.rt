@@ -1,351 +1,287 @@
-// What the program does with its arguments: opens what a command reads, and ends with a status.
+// What the program does with its arguments: carries out what they ask for, and ends with a status.
 
-ghost use Rattle.std.specs.Prelude.{◌≡◌, ◌≤◌, ◌⊎◌, [], IfErr, IfOk, OnErr, OnOk};
-ghost use Rattle.std.specs.Process.{exit_status};
-ghost use Rattle.clap.specs.Words.{kind_of};
-ghost use Rattle.clap.specs.declared.error.kind.ErrorKind.TheVariants.{DisplayHelp, DisplayVersion};
-ghost use Rattle.seccomptool.specs.Commands.{IsPerformed};
-ghost use Rattle.seccomptool.specs.Outside as spec;
-ghost use Rattle.seccomptool.specs.Outside.{Adds, EndWith, Ends, EndsGathered, IsDelivered, IsOfFile, IsTrouble, WritesAll, made_status};
+ghost use Rattle.std.specs.Prelude.{◌≡◌, IfErr, IfOk, IsSome, OnErr, OnOk, [], false, map};
+ghost use Rattle.seccomp_answers.specs.Chosen.{text_of};
+ghost use Rattle.seccomptool.specs.Ends as spec;
+ghost use Rattle.seccomptool.specs.Ends.{AreOf, Ends, EndsInList, EndsOnEach, EndsWith, IsAnswered, IsCarriedOut, IsKept, IsOfOutside, IsRefused, IsSaid, apart_of};
+ghost use Rattle.seccomptool.specs.Files.{guarded as guarded_of, lists, output_of, subjects_of, writes_bytes};
+ghost use Rattle.seccomptool.specs.Outside.{Does, got_of, named_of, writes};
+ghost use Rattle.seccomptool.specs.declared.outside.Cause.TheVariants.{Answer};
 
-use crate::delivery::{deliver, gathers, writes_bytes};
-use crate::files::{is_same, of_path, whole_of};
+use crate::command::{Command, Named};
 use crate::made::Made;
-use crate::notes::error_text;
-use crate::outside::{OUTPUT, Outside};
+use crate::outside::{Cause, Failure, Outside};
 use crate::perform::perform;
 use crate::progress::Watch;
-use crate::words::{Asked, Inputs, Verb, named_in, read};
-use clap::error::ErrorKind;
+use crate::words::read;
 use seccomp_answers::error::AnswerError;
 use seccomp_answers::findings::Verdict;
 use seccomp_answers::layers::Layer;
-use seccomp_learn::{Trace, read_trace};
 use seccomp_text::readable::TextKind;
-use seccomp_views::json::list_text;
 use seccomp_views::notes::readable;
 use std::alloc::Global;
-use std::io;
-use std::process::ExitCode;
 
 // The status of a command that fails.
 const TROUBLE: u8 = 2;
 
-/// Carries out what the arguments after the program's name ask for, or says what is wrong with
-/// them, or writes the help or the version that they ask for. `to_terminal` says whether standard output
-/// is a terminal; `progress` gets how far comparisons are.
+/// Carries out what the arguments after the program's name ask for. The exit status is that of what is found.
+///
+/// # Errors
+///
+/// What is wrong with the arguments, or the help or the version that they ask for. Nothing is done then.
 pub(crate) fn answer<O: Outside>(
-    rt: &HostRuntime,
-    out: &mut O,
-    words: &[String],
-    to_terminal: bool,
-    progress: &mut Watch<'_>,
-) -> ExitCode
-    ensures ended { exit_status result ≤ 3 }
-{
-    let mut codes = Vec::new(rt.alloc());
-    match read(rt.alloc(), out, words, &mut codes) {
-        Ok(asked) => ExitCode::from(carry_out_each(rt, out, &asked, to_terminal, progress)),
-        Err(error) => misused(rt, out, words, &error),
-    }
-}
-
-// Tells what `clap` has to say: status 0 where that is help or the version, and it is written; else 2.
-fn misused<O: Outside>(rt: &HostRuntime, out: &O, words: &[String], error: &clap::Error) -> ExitCode
-    ensures ended { exit_status result ≤ 2 }
-    ensures shown { exit_status result ≤ 1 → (kind_of error.now ≡ DisplayHelp) ⊎ (kind_of error.now ≡ DisplayVersion) }
-{
-    match error.kind() {
-        ErrorKind::DisplayHelp | ErrorKind::DisplayVersion => match error.print(rt) {
-            Ok(()) => ExitCode::SUCCESS,
-            Err(error) => {
-                if error.kind() != io::ErrorKind::BrokenPipe {
-                    let _ = eprintln!(rt; "seccomptool: standard output: {error}");
-                }
-                ExitCode::from(TROUBLE)
-            }
-        },
-        ErrorKind::OutOfMemory => {
-            let _ = eprintln!(rt; "seccomptool: Out of memory.");
-            ExitCode::from(2)
-        }
-        _ => {
-            let told = match error_text(rt.alloc(), out, words, error) {
-                Ok(told) => readable(rt.alloc(), told.as_bytes(), TextKind::Lines),
-                Err(error) => Err(error),
-            };
-            let _ = match told {
-                Ok(lines) => eprint!(rt; "{lines}"),
-                Err(_) => eprintln!(rt; "seccomptool: Out of memory."),
-            };
-            ExitCode::from(2)
-        }
-    }
-}
-
-// Tells that the words can't be read: for want of memory, or as one of them is no text.
-pub(crate) fn unread(rt: &HostRuntime, error: &io::Error) -> ExitCode {
-    if error.kind() == io::ErrorKind::OutOfMemory {
-        let _ = eprintln!(rt; "seccomptool: Out of memory.");
-    } else {
-        let _ = eprintln!(rt; "seccomptool: the arguments aren't UTF-8");
-    }
-    ExitCode::from(2)
-}
-
-// Carries out a command on one after the other of what it is asked for: one that fails doesn't keep those behind it from being
-// carried out. The status is the greatest of theirs.
-fn carry_out_each<O: Outside>(
-    rt: &HostRuntime,
-    out: &mut O,
-    asked: &Asked<'_>,
-    to_terminal: bool,
-    progress: &mut Watch<'_>,
-) -> u8
-    ensures ended { result ≤ 3 }
-    ensures each { EndWith asked.now (O.done out.old) (O.done out.new) result }
-{
-    let mut status: u8 = 0;
-    let mut gathered = Vec::new(rt.alloc());
-    for inputs in &asked.inputs {
-        let own = carry_out(
-            rt,
-            out,
-            asked,
-            *inputs,
-            to_terminal,
-            progress,
-            &mut gathered,
-        );
-        status = status.max(own);
-    }
-    if gathers(asked) {
-        status = status.max(end_gathered(rt.alloc(), out, &gathered));
-    }
-    status
-}
-
-// Writes what is gathered of all that a command is carried out on. The status is that of trouble if that fails.
-fn end_gathered<O: Outside>(alloc: Global, out: &mut O, gathered: &[u8]) -> u8
-    ensures ended { result ≤ 3 }
-    ensures written { EndsGathered (O.done out.old) (O.done out.new) result }
-{
-    let Err(error) = write_gathered(alloc, out, gathered) else {
-        return 0;
-    };
-    let none = Inputs {
-        first: None,
-        second: None,
-    };
-    out.tell(none, &error);
-    TROUBLE
-}
-
-fn write_gathered<O: Outside>(
     alloc: Global,
     out: &mut O,
-    gathered: &[u8],
-) -> Result<(), AnswerError>
-    ensures written { OnOk result (WritesAll (O.done out.old) (O.done out.new)) }
-    ensures unwritten { OnErr result (Adds (O.done out.old) (O.done out.new) []) }
-    ensures cause { IfErr result IsOfFile }
+    words: &[String],
+    progress: &mut Watch<'_>,
+) -> Result<u8, clap::Error>
+    ensures answered { IfOk result (λ status. Does (O.did out.old out.new) (λ events. IsAnswered O.reads (O.there out.old) events status)) }
+    ensures misused { OnErr result (O.did out.old out.new []) }
 {
-    let text = list_text(alloc, "diagnostics", gathered)?;
-    out.write(None, &text)
+    let mut codes: Vec<&'static str> = Vec::new(alloc);
+    match read(alloc, out, words, &mut codes) {
+        Ok(command) => Ok(carry_out_with(alloc, out, &command, progress)),
+        Err(error) => Err(error),
+    }
 }
 
-// Carries out a command on the files and standard input that it names. Where standard output is a terminal, no bytes of programs
-// or records are written there. A status that isn't that of trouble comes only where the command is carried out, and is that of what
-// it finds. Records that end inside of one are trouble, once the whole ones are written.
-fn carry_out<O: Outside>(
-    rt: &HostRuntime,
+// Carries out a command: a check on one file after the other, another on all of its files.
+fn carry_out_with<O: Outside>(
+    alloc: Global,
     out: &mut O,
-    asked: &Asked<'_>,
-    inputs: Inputs<'_>,
-    to_terminal: bool,
+    command: &Command<'_>,
     progress: &mut Watch<'_>,
-    gathered: &mut Vec<u8>,
 ) -> u8
-    ensures ended { result ≤ 3 }
-    ensures performed { Ends asked.now (record { done = O.done out.old; gathered = gathered.old.items }) (record { done = O.done out.new; gathered = gathered.new.items }) result }
+    ensures { Does (O.did out.old out.new) (λ events. EndsWith O.reads command.now events result) }
 {
-    match carried_out(rt, out, asked, inputs, to_terminal, progress, gathered) {
-        Ok(made) => status_of(made.is_cut, made.verdict),
+    if let Some(subjects) = command.subjects() {
+        if command.lists() {
+            return carry_out_list(alloc, out, command, subjects, progress);
+        }
+        return carry_out_each(alloc, out, command, subjects, progress);
+    }
+    match command.files(alloc) {
+        Ok(files) => carry_out(alloc, out, command, &files, progress),
         Err(error) => {
-            out.tell(inputs, &error);
+            out.tell(&Failure::from(error));
             TROUBLE
         }
     }
 }
 
-// Carries out a command on what it reads, writes what it makes of that, at once, and reports its notes. On an error nothing is written.
-fn carried_out<O: Outside>(
-    rt: &HostRuntime,
+// Writes a list of what is found in one file after the other.
+fn carry_out_list<O: Outside>(
+    alloc: Global,
     out: &mut O,
-    asked: &Asked<'_>,
-    inputs: Inputs<'_>,
-    to_terminal: bool,
+    command: &Command<'_>,
+    subjects: &[&str],
     progress: &mut Watch<'_>,
-    gathered: &mut Vec<u8>,
-) -> Result<Made, AnswerError>
-    ensures performed { IfOk result (IsPerformed asked.now) }
-    ensures delivered { IfOk result (λ made. IsDelivered (spec.gathers asked.now) asked.now made.text.items (record { done = O.done out.old; gathered = gathered.old.items }) (record { done = O.done out.new; gathered = gathered.new.items })) }
-    ensures cause { IfErr result (IsTrouble asked.now) }
-    ensures unwritten { OnErr result (Adds (O.done out.old) (O.done out.new) []) }
-    ensures ungathered { OnErr result (gathered.new.items ≡ gathered.old.items) }
+) -> u8
+    requires { IsSome (subjects_of command.now) }
+    ensures { Does (O.did out.old out.new) (λ events. EndsInList O.reads command.now subjects.now events result) }
 {
-    out.check_reader(rt.alloc())?;
-    refuse_output(rt, out, asked, inputs, to_terminal)?;
-    let first = first_of(rt, asked, inputs)?;
-    let traces = traces_of(rt, asked, inputs)?;
-    let layers = layers_of(rt, out, asked, inputs)?;
-    let second = whole_of(rt, inputs.second)?;
-    let made = perform(
-        rt.alloc(),
-        asked,
-        inputs,
-        &traces,
-        &layers,
-        &first,
-        &second,
-        progress,
-    );
-    // Here, so that no branch below has to.
-    drop((traces, layers, first, second));
-    let made = made?;
-    deliver(rt.alloc(), out, asked, &made.text, &made.notes, gathered)?;
-    Ok(made)
-}
-
-// Refuses to write bytes to a terminal, and to write over what is read.
-fn refuse_output<O: Outside>(
-    rt: &HostRuntime,
-    out: &O,
-    asked: &Asked<'_>,
-    inputs: Inputs<'_>,
-    to_terminal: bool,
-) -> Result<(), AnswerError>
-    ensures { IfErr result IsOfFile }
-{
-    let told = match asked.output {
-        None if to_terminal && writes_bytes(asked) => {
-            "bytes aren't written to a terminal; use a file or a pipe"
-        }
-        Some(path) if is_read(rt, out, asked, inputs, path) => {
-            "the output would overwrite the input"
-        }
-        _ => return Ok(()),
+    if !say(out, b"{\"diagnostics\":[") {
+        return TROUBLE;
+    }
+    let status = carry_out_each(alloc, out, command, subjects, progress);
+    let end: &[u8] = if progress.is_listed {
+        b"\n]}\n"
+    } else {
+        b"]}\n"
     };
-    Err(of_path(rt.alloc(), asked.output.unwrap_or(OUTPUT), told))
+    if say(out, end) { status } else { TROUBLE }
 }
 
-// The first one of what a command reads: nothing if that is traces or layers.
-fn first_of(rt: &HostRuntime, asked: &Asked<'_>, inputs: Inputs<'_>) -> Result<Vec<u8>, AnswerError>
-    ensures { IfErr result IsOfFile }
+// Writes a text to standard output, or reports why it can't.
+fn say<O: Outside>(out: &mut O, text: &[u8]) -> bool
+    ensures { Does (O.did out.old out.new) (λ events. IsSaid events result) }
 {
-    match asked.verb {
-        Verb::Learn | Verb::Stack => Ok(Vec::new(rt.alloc())),
-        Verb::Explain if !asked.further.is_empty() => Ok(Vec::new(rt.alloc())),
-        _ => whole_of(rt, inputs.first),
-    }
-}
-
-// The traces of `learn`, each read by itself.
-fn traces_of(
-    rt: &HostRuntime,
-    asked: &Asked<'_>,
-    inputs: Inputs<'_>,
-) -> Result<Vec<Trace>, AnswerError>
-    ensures { IfErr result IsOfFile }
-{
-    let mut traces = Vec::new(rt.alloc());
-    if let Verb::Learn = asked.verb {
-        traces.push(trace_of(rt, asked, inputs.first)?)?;
-        for path in &asked.further {
-            traces.push(trace_of(rt, asked, Some(path))?)?;
-        }
-    }
-    Ok(traces)
-}
-
-// The layers of `stack`, or of `explain` if it has several, in the order in which they were installed.
-fn layers_of<'a, O: Outside>(
-    rt: &HostRuntime,
-    out: &O,
-    asked: &Asked<'a>,
-    inputs: Inputs<'a>,
-) -> Result<Vec<Layer<'a>>, AnswerError>
-    ensures { IfErr result IsOfFile }
-{
-    let mut layers = Vec::new(rt.alloc());
-    let path = inputs.first.unwrap_or("-");
-    if let Verb::Stack = asked.verb {
-        layers.push(layer_of(rt, out, path)?)?;
-    }
-    if matches!(asked.verb, Verb::Stack | Verb::Explain) {
-        for text in &asked.further {
-            layers.push(layer_of(rt, out, text)?)?;
-        }
-    }
-    if matches!(asked.verb, Verb::Explain) && !layers.is_empty() {
-        layers.push(Layer {
-            path,
-            filter: asked.filter,
-            text: whole_of(rt, inputs.first)?,
-        })?;
-    }
-    Ok(layers)
-}
-
-// The layer at a path, behind which the name of a filter may stand.
-fn layer_of<'a, O: Outside>(
-    rt: &HostRuntime,
-    out: &O,
-    text: &'a str,
-) -> Result<Layer<'a>, AnswerError>
-    ensures { IfErr result IsOfFile }
-{
-    let (path, filter) = named_in(out, text);
-    Ok(Layer {
-        path,
-        filter,
-        text: whole_of(rt, Some(path))?,
-    })
-}
-
-// The trace at a path.
-fn trace_of(rt: &HostRuntime, asked: &Asked<'_>, path: Option<&str>) -> Result<Trace, AnswerError>
-    ensures { IfErr result IsOfFile }
-{
-    let text = whole_of(rt, path)?;
-    Ok(read_trace(rt.alloc(), asked.arch, &text)?)
-}
-
-// Whether a command reads the file at a path.
-fn is_read<O: Outside>(
-    rt: &HostRuntime,
-    out: &O,
-    asked: &Asked<'_>,
-    inputs: Inputs<'_>,
-    path: &str,
-) -> bool {
-    for text in asked.further.iter().chain(inputs.first.as_ref()) {
-        // Behind the path `stack` has the name of a filter.
-        let read = match asked.verb {
-            Verb::Stack => named_in(out, text).0,
-            _ => *text,
-        };
-        if is_same(rt, read, path) {
-            return true;
-        }
-    }
+    let Err(cause) = out.write(None, text) else {
+        return true;
+    };
+    out.tell(&Failure { input: None, cause });
     false
+}
+
+// Carries out a check on one file after the other: one that fails doesn't keep those behind it from being checked. The status is the
+// greatest of theirs.
+fn carry_out_each<O: Outside>(
+    alloc: Global,
+    out: &mut O,
+    command: &Command<'_>,
+    subjects: &[&str],
+    progress: &mut Watch<'_>,
+) -> u8
+    requires { IsSome (subjects_of command.now) }
+    ensures { Does (O.did out.old out.new) (λ events. EndsOnEach O.reads command.now subjects.now events result) }
+{
+    let mut status = 0;
+    for subject in subjects {
+        let own = carry_out(
+            alloc,
+            out,
+            command,
+            &[Named {
+                path: *subject,
+                filter: None,
+            }],
+            progress,
+        );
+        status = own.max(status);
+    }
+    status
+}
+
+// Carries out a command on these files, and reports what keeps it from that.
+fn carry_out<O: Outside>(
+    alloc: Global,
+    out: &mut O,
+    command: &Command<'_>,
+    files: &[Named<'_>],
+    progress: &mut Watch<'_>,
+) -> u8
+    requires { AreOf command.now files.now }
+    ensures { Does (O.did out.old out.new) (λ events. Ends O.reads command.now files.now events result) }
+{
+    match carried_out(alloc, out, command, files, progress) {
+        Ok(made) => status_of(made.is_cut, made.verdict),
+        Err(failure) => {
+            out.tell(&failure);
+            TROUBLE
+        }
+    }
+}
+
+// Carries out a command on these files, writes what it makes of them, at once, and reports its notes, which are made first, so that
+// nothing fails behind what is written.
+fn carried_out<'a, O: Outside>(
+    alloc: Global,
+    out: &mut O,
+    command: &Command<'a>,
+    files: &[Named<'a>],
+    progress: &mut Watch<'_>,
+) -> Result<Made, Failure<'a>>
+    requires { AreOf command.now files.now }
+    ensures carries { IfOk result (λ made. Does (O.did out.old out.new) (λ events. IsCarriedOut O.reads command.now files.now events made)) }
+    ensures kept { IfErr result (λ f. Does (O.did out.old out.new) (λ events. IsKept O.reads command.now files.now events f × (writes events ≡ false))) }
+{
+    let output = command.output();
+    refuse_output(out, output, command.writes_bytes(), guarded(command, files))?;
+    let inputs = read_all(alloc, out, files)?;
+    let made = perform(alloc, out, command, &inputs, progress);
+    // Here, so that no branch below has to.
+    drop(inputs);
+    let made = match made {
+        Ok(made) => made,
+        Err(error) => return Err(failure_of(files, error)),
+    };
+    let notes = readable(alloc, &made.notes, TextKind::Lines)?;
+    match out.write(output, &made.text) {
+        Ok(()) => {
+            out.note(notes.as_str());
+            Ok(made)
+        }
+        Err(cause) => {
+            drop(made);
+            Err(Failure {
+                input: output,
+                cause,
+            })
+        }
+    }
+}
+
+// Of the files that are read those over which nothing is written: all but the policy that calls are added to.
+fn guarded<'b, 'a>(command: &Command<'_>, files: &'b [Named<'a>]) -> &'b [Named<'a>]
+    ensures { result.now ≡ guarded_of command.now files.now }
+{
+    match command {
+        Command::Learn(asked) => &files[..asked.traces.len().min(files.len())],
+        _ => files,
+    }
+}
+
+// Refuses to write bytes to a terminal, and to write over these files.
+fn refuse_output<'a, O: Outside>(
+    out: &mut O,
+    output: Option<&'a str>,
+    of_bytes: bool,
+    files: &[Named<'_>],
+) -> Result<(), Failure<'a>>
+    ensures apart { OnOk result (O.did out.old out.new (apart_of (text_of output.entry) of_bytes files.now)) }
+    ensures refused { IfErr result (λ f. Does (O.did out.old out.new) (λ events. IsRefused (text_of output.entry) of_bytes files.now events f × (writes events ≡ false))) }
+{
+    let Some(written) = output else {
+        if of_bytes && out.is_terminal() {
+            return Err(Failure {
+                input: None,
+                cause: Cause::Terminal,
+            });
+        }
+        return Ok(());
+    };
+    for file in files {
+        if out.is_same(file.path, written) {
+            return Err(Failure {
+                input: Some(written),
+                cause: Cause::Overwrites,
+            });
+        }
+    }
+    Ok(())
+}
+
+// Reads what stands at each path.
+fn read_all<'a, O: Outside>(
+    alloc: Global,
+    out: &mut O,
+    files: &[Named<'a>],
+) -> Result<Vec<Layer<'a>>, Failure<'a>>
+    ensures named { IfOk result (λ inputs. map named_of inputs.items ≡ files.now) }
+    ensures read { IfOk result (λ inputs. O.did out.old out.new (map got_of inputs.items)) }
+    ensures lost { IfErr result (λ f. Does (O.did out.old out.new) (λ events. IsOfOutside events f × (writes events ≡ false))) }
+{
+    let mut inputs = Vec::new(alloc);
+    for file in files {
+        let Named { path, filter } = *file;
+        match out.read(alloc, path) {
+            Ok(text) => inputs.push(Layer { path, filter, text })?,
+            Err(cause) => {
+                return Err(Failure {
+                    input: Some(path),
+                    cause,
+                });
+            }
+        }
+    }
+    Ok(inputs)
+}
+
+// The failure of an error of what is read, and the file that it is in.
+fn failure_of<'a>(files: &[Named<'a>], error: AnswerError) -> Failure<'a>
+    ensures { result.cause ≡ Answer error }
+{
+    let file = match &error {
+        AnswerError::OutOfMemory
+        | AnswerError::UnknownCall(_, _)
+        | AnswerError::StackTooLong(_)
+        | AnswerError::Told(_) => None,
+        AnswerError::Second(_) => files.last(),
+        _ => files.first(),
+    };
+    let input = match file {
+        Some(file) => Some(file.path),
+        None => None,
+    };
+    Failure {
+        input,
+        cause: Cause::Answer(error),
+    }
 }
 
 // The status of what a command finds; that of trouble if records end inside of one.
 fn status_of(is_cut: bool, verdict: Verdict) -> u8
-    ensures is { result ≡ made_status is_cut verdict }
-    ensures ended { result ≤ 3 }
+    ensures { result ≡ spec.made_status is_cut verdict }
 {
     if is_cut {
         return TROUBLE;

@@ -4,8 +4,8 @@ ghost use Rattle.std.specs.Prelude.{IfErr, IfOk, OnOk};
 ghost use Rattle.seccomptool.specs.Causes.{IsUnshown, IsUnshownAs};
 ghost use Rattle.seccomptool.specs.Commands.{IsPlain, IsShown, IsShownUnless};
 
-use crate::made::Made;
-use crate::words::Asked;
+use crate::command::Show;
+use crate::made::{Made, shown};
 use seccomp_answers::error::AnswerError;
 use seccomp_answers::kind::{Subject, subject_of};
 use seccomp_answers::measures::{measure_of, stats_of};
@@ -16,7 +16,7 @@ use seccomp_views::program::{push_measure, push_program, push_programs, push_sta
 use seccomp_views::text::Text;
 use std::alloc::Global;
 
-pub(crate) fn show_made(alloc: Global, asked: &Asked<'_>, given: &[u8]) -> Result<Made, AnswerError>
+pub(crate) fn show_made(alloc: Global, asked: &Show<'_>, given: &[u8]) -> Result<Made, AnswerError>
     ensures made { IfOk result (λ made. IsShown asked.now given.now × IsPlain made) }
     ensures cause { IfErr result (IsUnshown asked.now given.now) }
 {
@@ -28,21 +28,21 @@ pub(crate) fn show_made(alloc: Global, asked: &Asked<'_>, given: &[u8]) -> Resul
     } else {
         "programs"
     };
-    Made::plain(alloc, written(text, asked.json, name))
+    Made::plain(alloc, shown(written(text, asked.json, name)))
 }
 
 // Adds the programs of what is given, or how long they are and how many steps they take: of a policy those of all filters, or of the
 // one that is asked for.
 fn push_shown(
     text: &mut Text,
-    asked: &Asked<'_>,
+    asked: &Show<'_>,
     subject: Subject<'_>,
     given: &[u8],
 ) -> Result<(), AnswerError>
     ensures shown { OnOk result (IsShownUnless asked.now.measured asked.now.arch subject.entry asked.now.layout given.now) }
     ensures cause { IfErr result (IsUnshownAs asked.now subject.entry given.now) }
 {
-    let (alloc, arch, filter, json) = (text.alloc(), asked.arch, asked.filter, asked.json);
+    let (alloc, arch, filter, json) = (text.alloc(), asked.arch, asked.subject.filter, asked.json);
     if let Subject::Policy = subject {
         if asked.measured {
             push_stats(text, json, filter, &stats_of(alloc, arch, filter, given)?);

@@ -1,34 +1,27 @@
 // The words that the program is called with.
 
-mod paths;
+mod files;
 mod program;
 mod values;
 
 ghost use Rattle.std.specs.Prelude.{IfOk};
 ghost use Rattle.clap.specs.Words.{found_of};
-ghost use Rattle.seccomptool.specs.Arguments.{IsAskedFor, IsVerbFor};
+ghost use Rattle.seccomptool.specs.Files.{IsAsked, IsCheckFor, IsCompileFor, IsDiffFor, IsExplainFor, IsFor, IsLearnFor, IsLookupFor, IsShowFor, IsStackFor};
 
-use crate::learn::{AskedArguments, Start};
+use crate::command::{Check, Command, Compile, Diff, Explain, Learn, Lookup, Show, Stack};
 use crate::outside::Outside;
-use crate::words::paths::{further_in, inputs_in};
+use crate::words::files::{
+    all_named_in, calls_in, named_in, output_in, path_in, paths_in, refuse_both, subject_in,
+};
 use crate::words::program::program;
-pub(crate) use crate::words::values::named_in;
 use crate::words::values::{
-    allowed_in, arch_in, arguments_in, calls_in, check_format_in, filter_in, is_json, kept_in,
-    layout_in, number_in, output_in, path_in, program_format_in, reading_in, relation_in, scope_in,
-    start_in, verb_in,
+    allowed_in, arch_in, call_in, check_format_in, is_json, kept_in, layout_in, number_in,
+    program_format_in, reading_in, scope_in, start_in, terms_in,
 };
 use clap::ArgMatches;
 use clap::error::ErrorKind;
-use seccomp_answers::diff::Scope;
-use seccomp_answers::findings::Terms;
-use seccomp_answers::kind::Reading;
-use seccomp_tree::Layout;
-use seccomp_views::check::format::CheckFormat;
-use seccomp_views::program::ProgramFormat;
 use seccomp_views::text::Text;
 use seccomp_warnings::Code;
-use seccompiler::TargetArch;
 use std::alloc::{AllocError, Global};
 
 // A table of each command: its name and what it does, and in a line each its options and arguments, with what the help says of them
@@ -142,128 +135,6 @@ const TABLES: [(&str, &str); 8] = [
     ("", CALL),
 ];
 
-/// What the program is to do.
-#[derive(Clone, Copy)]
-pub enum Verb {
-    /// Write the program of what is given.
-    Compile,
-    /// Print the programs of what is given for people, or how long they are and how many steps they take.
-    Show,
-    /// Print what is wrong with what is given, or else its warnings.
-    Check,
-    /// Print the codes of warnings.
-    Codes,
-    /// Print what is decided for calls, and why.
-    Explain,
-    /// Print the name and the number of a call, or write its record.
-    Call,
-    /// Print the calls that two sides decide otherwise.
-    Diff,
-    /// Write one program that answers as several do that hold together.
-    Stack,
-    /// Write a policy of the calls that a trace has.
-    Learn,
-}
-
-/// A call that a command is asked about.
-#[derive(Clone, Copy)]
-pub struct Call<'a> {
-    /// Its name or number.
-    pub name: &'a str,
-    /// Its arguments, 0 if none is given.
-    pub arguments: [u64; 6],
-}
-
-/// Where the calls are that `explain` is asked about.
-#[derive(Clone, Copy)]
-pub enum Calls {
-    /// In the arguments: one.
-    One,
-    /// In records.
-    Records,
-    /// In lines of a log or of a trace.
-    Log,
-}
-
-/// The paths of what a command reads, `-` of standard input.
-#[derive(Clone, Copy)]
-pub struct Inputs<'a> {
-    /// A policy, a profile, a program or a trace; of two that are compared the old one.
-    pub first: Option<&'a str>,
-    /// Records or a log; of two that are compared the new one; the policy that a trace's calls are added to.
-    pub second: Option<&'a str>,
-}
-
-/// What the arguments ask for. An option that a command doesn't have is as if it weren't given.
-#[derive(Drop)]
-pub struct Asked<'a> {
-    /// What is to be done.
-    pub verb: Verb,
-    /// The path of the file that is written, in place of standard output.
-    pub output: Option<&'a str>,
-    /// Whether the answer is written as JSON; `check` and `compile` have formats for it.
-    pub json: bool,
-    /// The architecture: x86_64 if none is named.
-    pub arch: TargetArch,
-    /// Whether none is named: `call` prints a call of each then.
-    pub each_arch: bool,
-    /// The filter's name. If there is none, it is the policy's only one; `show` shows all filters.
-    pub filter: Option<&'a str>,
-    pub layout: Layout,
-    /// How `compile` writes a program.
-    pub format: ProgramFormat,
-    /// How `check` writes errors and warnings.
-    pub check_format: CheckFormat,
-    /// Whether names that no call of the architecture has are an error, in a profile; or lines of a trace that aren't understood.
-    pub strict: bool,
-    /// Whether the numbers of warnings are left out.
-    pub quiet: bool,
-    /// Whether warnings count for the exit status of `check`.
-    pub denied: bool,
-    /// Whether `show` measures programs.
-    pub measured: bool,
-    /// The call that is asked about, if one is.
-    pub call: Call<'a>,
-    /// Where the calls are that `explain` is asked about.
-    pub calls: Calls,
-    /// Whether `call` writes the call's record.
-    pub recorded: bool,
-    /// On which terms two sides are compared.
-    pub terms: Terms,
-    /// Whether `diff` prints a line for each call.
-    pub each: bool,
-    /// The name of the old filter, if it is asked for.
-    pub old: Option<&'a str>,
-    /// The name of the new one.
-    pub new: Option<&'a str>,
-    /// Which calls count for the exit status of `diff`.
-    pub scope: Scope,
-    /// What the calls of a trace are added to.
-    pub start: Start,
-    /// The name of the filter that is learned, if it is given.
-    pub name: Option<&'a str>,
-    /// The most different values that are kept of a call.
-    pub most: usize,
-    /// Whether the calls that the C library makes by itself are allowed too.
-    pub runnable: bool,
-    /// Whether a second filter answers `clone3` with ENOSYS, and `clone` is allowed too.
-    pub old_clone: bool,
-    /// Whether a profile is written.
-    pub as_profile: bool,
-    /// Whether a drop-in of systemd is written.
-    pub as_unit: bool,
-    /// How what is given is read.
-    pub reading: Reading,
-    /// On what it is done, one after the other.
-    pub inputs: Vec<Inputs<'a>>,
-    /// The codes whose warnings aren't printed.
-    pub allowed: Vec<Code>,
-    /// The arguments whose values are kept, beside the usual ones.
-    pub arguments: Vec<AskedArguments<'a>>,
-    /// The paths of traces or layers after the first one; of what `explain` has before it.
-    pub further: Vec<&'a str>,
-}
-
 /// Reads the arguments that follow the program's name: what they ask for. The names of all codes of warnings are added to `codes`.
 ///
 /// # Errors
@@ -279,7 +150,9 @@ pub(crate) fn read<'a, O: Outside>(
     out: &O,
     words: &'a [String],
     codes: &'a mut Vec<&'static str>,
-) -> Result<Asked<'a>, clap::Error> {
+) -> Result<Command<'a>, clap::Error>
+    ensures { IfOk result (IsAsked (O.there out.now)) }
+{
     for code in Code::all() {
         codes.push(code.name)?;
     }
@@ -297,21 +170,25 @@ fn asked_of<'a, O: Outside>(
     out: &O,
     program: &mut clap::Command<'a>,
     words: &'a [String],
-) -> Result<Asked<'a>, clap::Error> {
+) -> Result<Command<'a>, clap::Error>
+    ensures { IfOk result (IsAsked (O.there out.now)) }
+{
     let matches = program.try_get_matches_from_mut(words)?;
     let mut wrong = Text::new(alloc);
     // clap lets no words pass without a subcommand.
     let (name, found) = matches.subcommand().unwrap_or(("", &matches));
-    let asked = asked_for(out, name, found, &mut wrong);
+    let asked = command_for(out, name, found, &mut wrong);
     // Here, so that no branch below has to.
     drop(matches);
-    let asked = asked?;
+    let Some(command) = asked? else {
+        return Err(program.error(ErrorKind::InvalidSubcommand, "no command is named")?);
+    };
     // `--list` prints the codes, whatever else is asked for.
-    let is_list = matches!(asked.verb, Verb::Codes);
+    let is_list = matches!(command, Command::Codes(_));
     match wrong.finish_string() {
-        Ok(lines) if is_list || lines.is_empty() => Ok(asked),
+        Ok(lines) if is_list || lines.is_empty() => Ok(command),
         lines => {
-            drop(asked);
+            drop(command);
             let lines = lines?;
             let first = lines.as_str().lines().next().unwrap_or("");
             Err(program.error(ErrorKind::ValueValidation, first)?)
@@ -320,48 +197,135 @@ fn asked_of<'a, O: Outside>(
 }
 
 // What the matches of the subcommand of this name ask for. What clap can't check is checked here: each fault is a line of `wrong`.
-fn asked_for<'a, O: Outside>(
+fn command_for<'a, O: Outside>(
     out: &O,
     name: &str,
     found: &ArgMatches<'a>,
     wrong: &mut Text,
-) -> Result<Asked<'a>, AllocError>
-    ensures asked { IfOk result (IsAskedFor (O.there out.now) (found_of found.now)) }
-    ensures verb { IfOk result (λ asked. IsVerbFor (found_of found.now) name.now asked.verb) }
+) -> Result<Option<Command<'a>>, AllocError>
+    ensures { IfOk result (IsFor (O.there out.now) (found_of found.now) name.now) }
 {
-    let verb = verb_in(name, found.get_flag("list"));
-    let further = further_in(wrong.alloc(), found, verb)?;
-    let inputs = inputs_in(out, found, wrong, verb)?;
-    // What drops comes last, so that no branch before it has to.
-    Ok(Asked {
-        verb,
-        output: output_in(found),
-        json: is_json(found),
+    match name {
+        "check" if found.get_flag("list") => Ok(Some(Command::Codes(is_json(found)))),
+        "check" => Ok(Some(Command::Check(check_for(found, wrong)?))),
+        "compile" => Ok(Some(Command::Compile(compile_for(out, found, wrong)))),
+        "show" => Ok(Some(Command::Show(show_for(out, found, wrong)))),
+        "explain" => Ok(Some(Command::Explain(explain_for(out, found, wrong)?))),
+        "diff" => Ok(Some(Command::Diff(diff_for(out, found, wrong)))),
+        "stack" => Ok(Some(Command::Stack(stack_for(out, found, wrong)?))),
+        "learn" => Ok(Some(Command::Learn(learn_for(found, wrong)?))),
+        "call" => Ok(Some(Command::Call(lookup_for(found, wrong)))),
+        _ => Ok(None),
+    }
+}
+
+fn check_for<'a>(found: &ArgMatches<'a>, wrong: &mut Text) -> Result<Check<'a>, AllocError>
+    ensures { IfOk result (IsCheckFor (found_of found.now)) }
+{
+    let subjects = paths_in(wrong.alloc(), found, "SUBJECT")?;
+    Ok(Check {
         arch: arch_in(found),
-        each_arch: found.get_str("arch").is_none(),
-        filter: filter_in(out, found, wrong),
+        denied: found.get_flag("deny-warnings"),
+        format: check_format_in(found),
+        reading: reading_in(found, wrong),
+        allowed: allowed_in(found, wrong),
+        subjects,
+    })
+}
+
+fn compile_for<'a, O: Outside>(out: &O, found: &ArgMatches<'a>, wrong: &mut Text) -> Compile<'a>
+    ensures { IsCompileFor (O.there out.now) (found_of found.now) result }
+{
+    Compile {
+        arch: arch_in(found),
         layout: layout_in(found),
         format: program_format_in(found),
-        check_format: check_format_in(found),
         strict: found.get_flag("strict"),
         quiet: found.get_flag("quiet"),
-        denied: found.get_flag("deny-warnings"),
+        subject: subject_in(out, found, wrong),
+        output: output_in(found),
+        reading: reading_in(found, wrong),
+    }
+}
+
+fn show_for<'a, O: Outside>(out: &O, found: &ArgMatches<'a>, wrong: &mut Text) -> Show<'a>
+    ensures { IsShowFor (O.there out.now) (found_of found.now) result }
+{
+    Show {
+        arch: arch_in(found),
+        layout: layout_in(found),
         measured: found.get_flag("stats"),
-        call: Call {
-            name: path_in(found, "CALL"),
-            arguments: arguments_in(found, wrong),
-        },
-        calls: calls_in(found),
-        recorded: found.get_flag("record"),
-        terms: Terms {
-            target: arch_in(found),
-            relation: relation_in(found),
-            most: number_in(found, wrong, "most"),
-        },
-        each: found.get_flag("each"),
-        old: named_in(out, path_in(found, "OLD")).1,
-        new: named_in(out, path_in(found, "NEW")).1,
+        json: is_json(found),
+        subject: subject_in(out, found, wrong),
+        reading: reading_in(found, wrong),
+    }
+}
+
+fn explain_for<'a, O: Outside>(
+    out: &O,
+    found: &ArgMatches<'a>,
+    wrong: &mut Text,
+) -> Result<Explain<'a>, AllocError>
+    ensures { IfOk result (IsExplainFor (O.there out.now) (found_of found.now)) }
+{
+    let before = all_named_in(wrong.alloc(), out, found, "after")?;
+    refuse_both(out, found, wrong, &before);
+    Ok(Explain {
+        arch: arch_in(found),
+        json: is_json(found),
+        before,
+        subject: subject_in(out, found, wrong),
+        calls: calls_in(found, wrong),
+        reading: reading_in(found, wrong),
+    })
+}
+
+fn diff_for<'a, O: Outside>(out: &O, found: &ArgMatches<'a>, wrong: &mut Text) -> Diff<'a>
+    ensures { IsDiffFor (O.there out.now) (found_of found.now) result }
+{
+    let old = named_in(out, path_in(found, "OLD"));
+    let new = named_in(out, path_in(found, "NEW"));
+    if old.path == "-" && new.path == "-" {
+        wrong.push_str("OLD and NEW can't both be read from standard input\n");
+    }
+    Diff {
+        terms: terms_in(found, wrong),
         scope: scope_in(found),
+        each: found.get_flag("each"),
+        json: is_json(found),
+        quiet: found.get_flag("quiet"),
+        old,
+        new,
+        reading: reading_in(found, wrong),
+    }
+}
+
+fn stack_for<'a, O: Outside>(
+    out: &O,
+    found: &ArgMatches<'a>,
+    wrong: &mut Text,
+) -> Result<Stack<'a>, AllocError>
+    ensures { IfOk result (IsStackFor (O.there out.now) (found_of found.now)) }
+{
+    let layers = all_named_in(wrong.alloc(), out, found, "SUBJECT")?;
+    Ok(Stack {
+        arch: arch_in(found),
+        format: program_format_in(found),
+        layers,
+        output: output_in(found),
+        reading: reading_in(found, wrong),
+    })
+}
+
+fn learn_for<'a>(found: &ArgMatches<'a>, wrong: &mut Text) -> Result<Learn<'a>, AllocError>
+    ensures { IfOk result (IsLearnFor (found_of found.now)) }
+{
+    let traces = paths_in(wrong.alloc(), found, "TRACE")?;
+    if found.get_str("into") == Some("-") && traces.contains(&"-") {
+        wrong.push_str("TRACE and POLICY can't both be read from standard input\n");
+    }
+    Ok(Learn {
+        arch: arch_in(found),
         start: start_in(found, wrong),
         name: found.get_str("name"),
         most: number_in(found, wrong, "values"),
@@ -369,10 +333,23 @@ fn asked_for<'a, O: Outside>(
         old_clone: found.get_flag("old-clone"),
         as_profile: found.get_flag("profile"),
         as_unit: found.get_flag("unit"),
-        reading: reading_in(found, wrong),
-        inputs,
-        allowed: allowed_in(found, wrong),
+        strict: found.get_flag("strict"),
+        json: is_json(found),
         arguments: kept_in(found, wrong),
-        further,
+        traces,
+        output: output_in(found),
     })
+}
+
+fn lookup_for<'a>(found: &ArgMatches<'a>, wrong: &mut Text) -> Lookup<'a>
+    ensures { IsLookupFor (found_of found.now) result }
+{
+    Lookup {
+        arch: arch_in(found),
+        each_arch: found.get_str("arch").is_none(),
+        call: call_in(found, wrong),
+        recorded: found.get_flag("record"),
+        json: is_json(found),
+        output: output_in(found),
+    }
 }

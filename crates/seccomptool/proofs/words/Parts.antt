@@ -1,16 +1,15 @@
--- For what is read: a path and the name of a filter in one text, and what is read of each of several.
-use Rattle.std.proofs.Common.{◌≡◌, ◌≢◌, ◌==◌, ◌<◌, ◌+◌, ◌∙◌, ℕ, Bool, Bor, List, [], ◌∷◌, ◌++◌, Option, None, Some, IfSome, ap, arith}
-use Rattle.std.proofs.Common.{drop, false, get_or, map}
-use Rattle.std.proofs.Common.{length, refl, subst, sym, take}
+-- A path and the name of a filter in one text.
+use Rattle.std.proofs.Common.{◌≡◌, ◌≢◌, ◌==◌, ◌∙◌, ◌+◌, ◌<◌, ℕ, Bool, Bor, List, [], ◌∷◌, ◌++◌, None, Some, IfSome, ap, arith}
+use Rattle.std.proofs.Common.{drop, false, get_or, length, map, refl, subst, sym, take}
+use Rattle.std.specs.List.{AllZip}
 use Rattle.std.specs.Str.{NoCharPasses}
 use Rattle.std.specs.Str.Pattern.{RFindsChar, SplitsAroundMatch}
 use Rattle.std.proofs.lemmas.List.{map-append, take-append-drop, take_more}
 use Rattle.std.proofs.lemmas.List.Elements.{All-from_get_or}
+use Rattle.std.proofs.lemmas.Slice.Zip.{all_zipped_more}
 use Rattle.std.proofs.lemmas.Str.Pattern.{NoCharPasses-char, drop_at_char}
-use Rattle.seccomptool.specs.Arguments.{HasNoColon, IsPathAndName, Paths, both, each_alone, name_given, paths_of}
-use Rattle.seccomptool.specs.declared.words.Inputs.{Inputs}
-
--- ---- a path and a name
+use Rattle.seccomptool.specs.Files.{HasNoColon, IsNamedBy, IsPathAndName, Paths, both, name_given}
+use Rattle.seccomptool.specs.declared.command.Named.{Named}
 
 -- What the search for a colon doesn't find isn't there.
 pub no_colon : (text : List ℕ) → NoCharPasses (λ c. c == 0x3a) text → HasNoColon text
@@ -30,24 +29,12 @@ pub found_there : (paths : Paths) (text : List ℕ) (result value : Bool) → If
 found_there None text result value is same = tt
 found_there (Some there) text result value is same = sym is ∙ same
 
--- ---- each of several
-
--- A path that is read by itself.
-abbrev pub by_itself : Bor (List ℕ) → Option (List ℕ) × Option (List ℕ)
-by_itself path = (Some path.now, None)
-
--- All of them are.
-pub each_by_itself : (xs : List (Bor (List ℕ))) → map by_itself xs ≡ each_alone (map (λ (x : Bor (List ℕ)). x.now) xs)
-each_by_itself [] = refl
-each_by_itself (x ∷ xs) = ap (λ (rest : List (Option (List ℕ) × Option (List ℕ))). by_itself x ∷ rest) (each_by_itself xs)
-
--- One more of those that are gone through.
-pub paths_more : (paths : List (Bor (List ℕ))) (i : ℕ) (d : Bor (List ℕ)) (items new : List Inputs) (own : Inputs) → i < length paths
-    → map paths_of items ≡ map by_itself (take i paths) → new ≡ items ++ own ∷ [] → paths_of own ≡ by_itself (get_or paths i d)
-    → map paths_of new ≡ map by_itself (take (i + 1) paths)
-paths_more paths i d items new own within so_far is read =
-    ap (map paths_of) is ∙ map-append paths_of items (own ∷ [])
-    ∙ ap (λ (front : List (Option (List ℕ) × Option (List ℕ))). front ++ paths_of own ∷ []) so_far
-    ∙ ap (λ (last : Option (List ℕ) × Option (List ℕ)). map by_itself (take i paths) ++ last ∷ []) read
-    ∙ sym (map-append by_itself (take i paths) (get_or paths i d ∷ []))
-    ∙ ap (map by_itself) (sym (take_more paths i d within))
+-- One more of those that are named.
+pub named_more : (paths : Paths) (texts : List (Bor (List ℕ))) (at : ℕ) (d : Bor (List ℕ)) (all new : List Named) (named : Named)
+    → at < length texts → AllZip (IsNamedBy paths) (map (λ text. text.now) (take at texts)) all
+    → IsNamedBy paths (get_or texts at d).now named → new ≡ all ++ named ∷ []
+    → AllZip (IsNamedBy paths) (map (λ text. text.now) (take (at + 1) texts)) new
+named_more paths texts at d all new named room so_far own is =
+    rw (is, take_more texts at d room, map-append)
+    (all_zipped_more (IsNamedBy paths) (map (λ (text : Bor (List ℕ)). text.now) (take at texts)) all (get_or texts at d).now named so_far
+    own)

@@ -6,7 +6,7 @@ ghost use Rattle.seccomp_answers.specs.Calls.{IsUncalled};
 
 use super::AskedArguments;
 use super::notes::{has, note_at};
-use crate::words::{Asked, Inputs};
+use crate::command::Learn;
 use seccomp_answers::calls::call_number;
 use seccomp_answers::error::AnswerError;
 use seccomp_learn::{Kept, Observation, Symbolic, Trace, asked_kept, usual_kept};
@@ -18,7 +18,7 @@ use std::alloc::{AllocError, Global};
 // The arguments whose values are kept: the usual ones, and those that are asked for.
 pub(super) fn wanted_in(
     alloc: Global,
-    asked: &Asked<'_>,
+    asked: &Learn<'_>,
     observed: &[Observation],
 ) -> Result<Vec<Kept>, AnswerError>
     ensures wanted { IfOk result (λ wanted. AreWanted asked.now observed.now wanted.items) }
@@ -86,8 +86,7 @@ fn push_argument(
 // Adds a note for each argument that is asked for and isn't a number in a trace, and for each call of which nothing is kept.
 pub(super) fn push_asked_notes(
     notes: &mut Text,
-    asked: &Asked<'_>,
-    inputs: Inputs<'_>,
+    asked: &Learn<'_>,
     traces: &[Trace],
     kept: &[Kept],
 ) {
@@ -105,13 +104,7 @@ pub(super) fn push_asked_notes(
             for symbolic in trace.symbolic.as_slice() {
                 if symbolic.number == number && is_asked(each, symbolic.arg_index) {
                     has_effect = true;
-                    note_at(
-                        notes,
-                        asked,
-                        inputs,
-                        index,
-                        uncompared(alloc, each, symbolic),
-                    );
+                    note_at(notes, asked, index, uncompared(alloc, each, symbolic));
                 }
             }
             has_effect |= has_value(trace, number, each);
@@ -121,7 +114,7 @@ pub(super) fn push_asked_notes(
             let told = format!(in alloc;
                 "--args {call} keeps nothing: no such argument of {call} was read"
             );
-            note_at(notes, asked, inputs, 0, told);
+            note_at(notes, asked, 0, told);
         }
     }
 }

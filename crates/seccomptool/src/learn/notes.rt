@@ -3,8 +3,8 @@
 ghost use Rattle.std.specs.Prelude.{◌↔◌, Any, IfErr, IsTrue, OnOk};
 ghost use Rattle.seccomptool.specs.Learn.{IsArgument, IsStrange, IsUnderstood};
 
-use crate::files::of_path;
-use crate::words::{Asked, Inputs};
+use crate::command::Learn;
+use crate::notes::of_path;
 use seccomp_answers::error::AnswerError;
 use seccomp_answers::findings::parts::name_of;
 use seccomp_learn::{Kept, Observation, StrangeLine, Trace};
@@ -18,15 +18,14 @@ use std::alloc::{AllocError, Global};
 // Adds the notes on traces, and on calls with too many values.
 pub(super) fn push_notes(
     notes: &mut Text,
-    asked: &Asked<'_>,
-    inputs: Inputs<'_>,
+    asked: &Learn<'_>,
     traces: &[Trace],
     wanted: &[Kept],
     kept: &[Kept],
 ) {
     let alloc = notes.alloc();
     for (index, trace) in traces.iter().enumerate() {
-        note_trace(notes, asked, inputs, index, trace);
+        note_trace(notes, asked, index, trace);
     }
     // The calls that are allowed with any arguments, since more values of them were seen than are kept.
     let most = asked.most;
@@ -39,7 +38,7 @@ pub(super) fn push_notes(
             let told = format!(in alloc;
                 "{name} is allowed with any arguments, since more than {most} different values were seen"
             );
-            note(notes, inputs.first.unwrap_or("-"), told);
+            note(notes, path_at(asked, 0), told);
         }
     }
 }
@@ -47,33 +46,24 @@ pub(super) fn push_notes(
 // Adds a note on the trace of this index.
 pub(super) fn note_at(
     notes: &mut Text,
-    asked: &Asked<'_>,
-    inputs: Inputs<'_>,
+    asked: &Learn<'_>,
     index: usize,
     told: Result<String, AllocError>,
 ) {
-    match index.checked_sub(1) {
-        None => note(notes, inputs.first.unwrap_or("-"), told),
-        Some(place) => note(
-            notes,
-            asked.further.get(place).copied().unwrap_or("-"),
-            told,
-        ),
-    }
+    note(notes, path_at(asked, index), told);
+}
+
+// The path of the trace of this index.
+pub(super) fn path_at<'a>(asked: &Learn<'a>, index: usize) -> &'a str {
+    asked.traces.get(index).copied().unwrap_or("-")
 }
 
 // Adds the notes on a trace.
-fn note_trace(
-    notes: &mut Text,
-    asked: &Asked<'_>,
-    inputs: Inputs<'_>,
-    index: usize,
-    trace: &Trace,
-) {
+fn note_trace(notes: &mut Text, asked: &Learn<'_>, index: usize, trace: &Trace) {
     let alloc = notes.alloc();
     let mut more = trace.strange_count;
     for line in trace.strange.as_slice() {
-        note_at(notes, asked, inputs, index, strange_line(alloc, line));
+        note_at(notes, asked, index, strange_line(alloc, line));
         more = more.saturating_sub(1);
     }
     for (count, one, some) in [
@@ -98,16 +88,16 @@ fn note_trace(
             1 => String::from_str(alloc, one),
             _ => format!(in alloc; "{count} {some}"),
         };
-        note_at(notes, asked, inputs, index, told);
+        note_at(notes, asked, index, told);
     }
     if !trace.unnamed.is_empty() {
         let told = unnamed_line(alloc, asked.arch, trace);
-        note_at(notes, asked, inputs, index, told);
+        note_at(notes, asked, index, told);
     }
     if trace.observed.is_empty() {
         let arch = asked.arch;
         let told = format!(in alloc; "it has no call of {arch}");
-        note_at(notes, asked, inputs, index, told);
+        note_at(notes, asked, index, told);
     }
 }
 
@@ -139,8 +129,7 @@ fn strange_line(alloc: Global, line: &StrangeLine) -> Result<String, AllocError>
 /// What isn't understood, with the path, or `OutOfMemory`.
 pub(super) fn refuse_trace(
     alloc: Global,
-    asked: &Asked<'_>,
-    inputs: Inputs<'_>,
+    asked: &Learn<'_>,
     index: usize,
     trace: &Trace,
 ) -> Result<(), AnswerError>
@@ -159,13 +148,7 @@ pub(super) fn refuse_trace(
         );
     }
     let told = told.finish_string()?;
-    Err(match index.checked_sub(1) {
-        None => of_path(alloc, inputs.first.unwrap_or("-"), told.as_str()),
-        Some(place) => {
-            let path = asked.further.get(place).copied().unwrap_or("-");
-            of_path(alloc, path, told.as_str())
-        }
-    })
+    Err(of_path(alloc, path_at(asked, index), told.as_str()))
 }
 
 // Adds what of a trace isn't understood: the first line, or the bytes behind the last record.
@@ -221,7 +204,7 @@ pub(crate) fn note_strange(notes: &mut Text, path: &str, strange: usize, first: 
 /// profile of this text, which is JSON in ASCII.
 pub(super) fn learned_json(
     alloc: Global,
-    asked: &Asked<'_>,
+    asked: &Learn<'_>,
     observed: &[Observation],
     all: &[Kept],
     notes: &str,

@@ -3,15 +3,17 @@
 
 ghost use Rattle.std.specs.Prelude.{◌≡◌, codes};
 ghost use Rattle.clap.specs.Words.{first_value, found_of};
-ghost use Rattle.seccomptool.specs.Arguments.{IsByFormat, IsFilterIn, IsFlag, IsFormatName, IsPathAndName, IsReadingFor, arch_named, calls_named, check_format_named, is_json, is_of_all, is_only_more, layout_named, name_given, output_named, path_given, program_format_named, records_given, verb_named};
 ghost use Rattle.seccomp_answers.specs.Chosen.{text_of};
+ghost use Rattle.seccomptool.specs.Files as spec;
+ghost use Rattle.seccomptool.specs.Files.{path_given, start_file};
 
-use super::{Calls, Verb};
+use super::files::path_in;
+use crate::command::Call;
 use crate::learn::{AskedArguments, Start};
-use crate::outside::Outside;
 use clap::ArgMatches;
 use seccomp_answers::calls::read_number;
 use seccomp_answers::diff::Scope;
+use seccomp_answers::findings::Terms;
 use seccomp_answers::kind::Reading;
 use seccomp_compare::Relation;
 use seccomp_names::{capabilities, capability};
@@ -63,98 +65,6 @@ fn push<T: Drop>(wrong: &mut Text, list: &mut Vec<T>, item: T) {
     }
 }
 
-// What a subcommand is to do. `--list` is an option of `check`.
-pub(super) fn verb_in(name: &str, is_list: bool) -> Verb
-    ensures { result ≡ verb_named is_list name.now }
-{
-    match name {
-        "check" if is_list => Verb::Codes,
-        "check" => Verb::Check,
-        "compile" => Verb::Compile,
-        "show" => Verb::Show,
-        "explain" => Verb::Explain,
-        "diff" => Verb::Diff,
-        "stack" => Verb::Stack,
-        "learn" => Verb::Learn,
-        _ => Verb::Call,
-    }
-}
-
-// The path that is given, or standard input.
-pub(super) fn path_in<'a>(found: &ArgMatches<'a>, id: &str) -> &'a str
-    ensures { result.now ≡ path_given (found_of found.now) id.now }
-{
-    found.get_str(id).unwrap_or("-")
-}
-
-// A path, and the name of a filter, if one stands behind the last colon: none if nothing does, or if something is at the path that is
-// the whole text.
-pub(crate) fn named_in<'a, O: Outside>(out: &O, text: &'a str) -> (&'a str, Option<&'a str>)
-    ensures { IsPathAndName (O.there out.now) text.now result.0.now (text_of result.1) }
-{
-    let Some((path, name)) = text.rsplit_once(':') else {
-        return (text, None);
-    };
-    if out.is_there(text) {
-        return (text, None);
-    }
-    if name.is_empty() {
-        return (path, None);
-    }
-    (path, Some(name))
-}
-
-// The name of the filter that is asked for: by --filter, or behind the subject's path.
-pub(super) fn filter_in<'a, O: Outside>(
-    out: &O,
-    found: &ArgMatches<'a>,
-    wrong: &mut Text,
-) -> Option<&'a str>
-    ensures { IsFilterIn (O.there out.now) (found_of found.now) (text_of result) }
-{
-    let (_, behind) = named_in(out, path_in(found, "SUBJECT"));
-    let given = found.get_str("filter");
-    if given.is_some() && behind.is_some() {
-        wrong.push_str("the filter is named twice: behind SUBJECT and by --filter\n");
-    }
-    match given {
-        Some(filter) => Some(filter),
-        None => behind,
-    }
-}
-
-// Where the calls are that are explained.
-pub(super) fn calls_in(found: &ArgMatches<'_>) -> Calls
-    ensures { result ≡ calls_named (first_value (found_of found.now) (codes "CALL")) (first_value (found_of found.now) (codes "log")) }
-{
-    match (found.get_str("CALL"), found.get_str("log")) {
-        (Some(_), _) => Calls::One,
-        (None, None) => Calls::Records,
-        (None, Some(_)) => Calls::Log,
-    }
-}
-
-// The path of the records or the log that is explained, if a call isn't.
-pub(super) fn records_in<'a>(found: &ArgMatches<'a>) -> Option<&'a str>
-    ensures { text_of result ≡ records_given (found_of found.now) (first_value (found_of found.now) (codes "CALL")) (first_value (found_of found.now) (codes "log")) }
-{
-    match (found.get_str("CALL"), found.get_str("log")) {
-        (Some(_), _) => None,
-        (None, None) => Some(path_in(found, "records")),
-        (None, Some(path)) => Some(path),
-    }
-}
-
-// The path of the file that is written, if it isn't standard output.
-pub(super) fn output_in<'a>(found: &ArgMatches<'a>) -> Option<&'a str>
-    ensures { text_of result ≡ output_named (first_value (found_of found.now) (codes "output")) }
-{
-    match found.get_str("output") {
-        Some("-" | "/dev/stdout" | "/dev/fd/1") => None,
-        output => output,
-    }
-}
-
 // The codes whose warnings aren't printed.
 pub(super) fn allowed_in(found: &ArgMatches<'_>, wrong: &mut Text) -> Vec<Code> {
     let mut allowed = Vec::new(wrong.alloc());
@@ -167,7 +77,7 @@ pub(super) fn allowed_in(found: &ArgMatches<'_>, wrong: &mut Text) -> Vec<Code> 
 }
 
 pub(super) fn arch_in(found: &ArgMatches<'_>) -> TargetArch
-    ensures { result ≡ arch_named (first_value (found_of found.now) (codes "arch")) }
+    ensures { result ≡ spec.arch_in (found_of found.now) }
 {
     match found.get_str("arch") {
         Some("aarch64" | "arm64") => TargetArch::aarch64,
@@ -176,9 +86,7 @@ pub(super) fn arch_in(found: &ArgMatches<'_>) -> TargetArch
     }
 }
 
-pub(super) fn layout_in(found: &ArgMatches<'_>) -> Layout
-    ensures { result ≡ layout_named (first_value (found_of found.now) (codes "layout")) }
-{
+pub(super) fn layout_in(found: &ArgMatches<'_>) -> Layout {
     match found.get_str("layout") {
         Some("linear") => Layout::Linear,
         _ => Layout::Tree,
@@ -186,15 +94,11 @@ pub(super) fn layout_in(found: &ArgMatches<'_>) -> Layout
 }
 
 // Whether the answer is written as JSON.
-pub(super) fn is_json(found: &ArgMatches<'_>) -> bool
-    ensures { IsByFormat (found_of found.now) is_json result }
-{
+pub(super) fn is_json(found: &ArgMatches<'_>) -> bool {
     format_in(found) == "json"
 }
 
-pub(super) fn program_format_in(found: &ArgMatches<'_>) -> ProgramFormat
-    ensures { IsByFormat (found_of found.now) program_format_named result }
-{
+pub(super) fn program_format_in(found: &ArgMatches<'_>) -> ProgramFormat {
     match format_in(found) {
         "listing" => ProgramFormat::Listing,
         "c" => ProgramFormat::C,
@@ -203,9 +107,7 @@ pub(super) fn program_format_in(found: &ArgMatches<'_>) -> ProgramFormat
     }
 }
 
-pub(super) fn check_format_in(found: &ArgMatches<'_>) -> CheckFormat
-    ensures { IsByFormat (found_of found.now) check_format_named result }
-{
+pub(super) fn check_format_in(found: &ArgMatches<'_>) -> CheckFormat {
     match format_in(found) {
         "gcc" => CheckFormat::Gcc,
         "json" => CheckFormat::Json,
@@ -214,27 +116,29 @@ pub(super) fn check_format_in(found: &ArgMatches<'_>) -> CheckFormat
 }
 
 // The name of the format that is asked for.
-fn format_in<'a>(found: &ArgMatches<'a>) -> &'a str
-    ensures { IsFormatName (found_of found.now) result.now }
-{
+fn format_in<'a>(found: &ArgMatches<'a>) -> &'a str {
     if found.get_flag("json") {
         return "json";
     }
     found.get_str("format").unwrap_or("")
 }
 
-pub(super) fn relation_in(found: &ArgMatches<'_>) -> Relation
-    ensures { IsFlag (found_of found.now) (codes "only-more") (is_only_more result) }
+// The terms on which two files are compared.
+pub(super) fn terms_in(found: &ArgMatches<'_>, wrong: &mut Text) -> Terms
+    ensures { result.target ≡ spec.arch_in (found_of found.now) }
 {
-    if found.get_flag("only-more") {
-        return Relation::AtMostAsPermissive;
+    Terms {
+        target: arch_in(found),
+        relation: if found.get_flag("only-more") {
+            Relation::AtMostAsPermissive
+        } else {
+            Relation::Alike
+        },
+        most: number_in(found, wrong, "most"),
     }
-    Relation::Alike
 }
 
-pub(super) fn scope_in(found: &ArgMatches<'_>) -> Scope
-    ensures { IsFlag (found_of found.now) (codes "all") (is_of_all result) }
-{
+pub(super) fn scope_in(found: &ArgMatches<'_>) -> Scope {
     if found.get_flag("all") {
         return Scope::All;
     }
@@ -252,8 +156,18 @@ pub(super) fn number_in(found: &ArgMatches<'_>, wrong: &mut Text, option: &str) 
     number.unwrap_or(0) as usize
 }
 
+// The call that is asked about.
+pub(super) fn call_in<'a>(found: &ArgMatches<'a>, wrong: &mut Text) -> Call<'a>
+    ensures { result.name.now ≡ path_given (found_of found.now) (codes "CALL") }
+{
+    Call {
+        name: path_in(found, "CALL"),
+        arguments: arguments_in(found, wrong),
+    }
+}
+
 // The arguments of a call, a negative one as its two's complement, with zeros behind them.
-pub(super) fn arguments_in(found: &ArgMatches<'_>, wrong: &mut Text) -> [u64; 6] {
+fn arguments_in(found: &ArgMatches<'_>, wrong: &mut Text) -> [u64; 6] {
     let mut arguments = [0; 6];
     for (index, text) in found.get_strs("ARG").unwrap_or(&[]).iter().enumerate() {
         let number = match text.strip_prefix("-") {
@@ -276,9 +190,7 @@ pub(super) fn arguments_in(found: &ArgMatches<'_>, wrong: &mut Text) -> [u64; 6]
 
 // How what is given is read: whether as profiles, and in the container of the capabilities that `--cap` names, of the kernel that
 // `--kernel` names, and of the runtime of `--runtime`; and whether names that are left out are listed.
-pub(super) fn reading_in(found: &ArgMatches<'_>, wrong: &mut Text) -> Reading
-    ensures { IsReadingFor (found_of found.now) result }
-{
+pub(super) fn reading_in(found: &ArgMatches<'_>, wrong: &mut Text) -> Reading {
     let version = found.get_str("kernel");
     let kernel = kernel_of(version.unwrap_or(""));
     if version.is_some() && kernel.is_none() {
@@ -337,15 +249,19 @@ fn push_caps(wrong: &mut Text, caps: &mut Vec<String>, added: &[&str]) {
 }
 
 // What the calls of a trace are added to.
-pub(super) fn start_in(found: &ArgMatches<'_>, wrong: &mut Text) -> Start {
-    match action_of(found.get_str("otherwise").unwrap_or("kill_process")) {
-        Some(action) if found.get_str("into").is_none() => return Start::Otherwise(action),
-        Some(_) => {}
-        None => wrong.push_str(
-            "the value of --otherwise isn't kill_process, kill_thread, log, trap, errno:N or trace:N\n",
-        ),
+pub(super) fn start_in<'a>(found: &ArgMatches<'a>, wrong: &mut Text) -> Start<'a>
+    ensures { text_of (start_file result) ≡ first_value (found_of found.now) (codes "into") }
+{
+    if let Some(path) = found.get_str("into") {
+        return Start::Into(path);
     }
-    Start::Into
+    let action = action_of(found.get_str("otherwise").unwrap_or("kill_process"));
+    if action.is_none() {
+        wrong.push_str(
+            "the value of --otherwise isn't kill_process, kill_thread, log, trap, errno:N or trace:N\n",
+        );
+    }
+    Start::Otherwise(action.unwrap_or(SeccompAction::KillProcess))
 }
 
 // The action that a text names; a number that it has is one that 16 bits hold.

@@ -15,8 +15,8 @@ use Rattle.seccomptool.proofs.compile.policy_made.Goals as goal
 pub returns-clause-made : goal.returns-clause-made
 returns-clause-made c =
     let program = c.in-Ok.program.items in
-    let written = subst (λ p. IfOk c.program_text-text.result (λ w. IsWrittenAs c.args.asked.now.format p w.items))
-    c.deref.ensures.value c.program_text-text.ensures in
+    let written = subst (λ p. IfOk c.program_written-text.result (λ w. IsWrittenAs c.args.asked.now.format p w.items))
+    c.deref.ensures.value c.program_written-text.ensures in
     IfOk-weaker c.of.result _ _ (λ (made : Made) is. (
       (
         program,
@@ -36,14 +36,14 @@ pub returns-in_err-name-clause-cause : goal.returns-in_err-name-clause-cause
 returns-in_err-name-clause-cause c =
     let asked = c.args.asked.now in
     let error = err_from_is_err_and c.from_residual.result c.from_residual.ensures.1 in
-    rw (error.1, error.2) (uncompiled asked.arch asked.layout (text_of asked.filter) c.args.policy.now c.in_err-name.field-0.0
+    rw (error.1, error.2) (uncompiled asked.arch asked.layout (text_of asked.subject.filter) c.args.policy.now c.in_err-name.field-0.0
     c.in_err-name.ensures.cause)
 
 pub returns-in-Err-clause-cause : goal.returns-in-Err-clause-cause
 returns-in-Err-clause-cause c =
     let asked = c.args.asked.now in
     let of = c.in_ok-name.ensures in
-    size_told asked.arch asked.layout (text_of asked.filter) c.args.policy.now c.in_ok-name.chosen of.chosen of.fits c.in-Err.cause
+    size_told asked.arch asked.layout (text_of asked.subject.filter) c.args.policy.now c.in_ok-name.chosen of.chosen of.fits c.in-Err.cause
     c.too_large.result c.in-Err.ensures.refused c.too_large.ensures
 
 pub returns-clause-cause : goal.returns-clause-cause

@@ -12,7 +12,7 @@ returns-clause-made c =
     let program = c.in-Ok.compiled.program.items in
     let format = c.args.asked.now.format in
     let same : c.deref-2.result.now ≡ program = search rules in
-    let written = subst (λ p. IfOk c.program_text-text.result (λ w. IsWrittenAs format p w.items)) same c.program_text-text.ensures in
+    let written = subst (λ p. IfOk c.program_written-text.result (λ w. IsWrittenAs format p w.items)) same c.program_written-text.ensures in
     IfOk-weaker c.of.result _ _ (λ (made : Made) is. (
       (
         program,

@@ -1,24 +1,25 @@
-use Rattle.std.proofs.Common.{◌∙◌}
+use Rattle.std.proofs.Common.{◌∙◌, ℕ, List, subst}
 use Rattle.std.proofs.lemmas.Result.{IfErr-at_err, IfOk-at_ok, IfOk-weaker, err_from_is_err_and}
+use Rattle.seccomp_answers.specs.Causes.{IsUndiffed}
 use Rattle.seccomp_answers.specs.Diff.{IsDiff}
+use Rattle.seccomp_answers.specs.Sides.{IsSideOf}
 use Rattle.seccomptool.specs.declared.made.Made.{Made}
 use Rattle.seccomptool.specs.Causes.{of_sides}
 use Rattle.seccomptool.proofs.diff.diff_made.Goals as goal
-use Rattle.seccomp_answers.specs.Causes.{IsUndiffed}
 
 pub returns-clause-made : goal.returns-clause-made
 returns-clause-made c =
-    let terms = c.args.asked.now.terms in
+    let asked = c.args.asked.now in
     let old = c.in_ok-old.old in
     let new = c.in_ok-new.new in
     IfOk-weaker c.of.result _ _ (λ (made : Made) is. (
       record {
         old = old;
         new = new;
-        of_old = c.in_ok-old.ensures;
-        of_new = c.in_ok-new.ensures;
+        of_old = subst (λ (given : List ℕ). IsSideOf asked.reading asked.old.filter given old) c.deref.ensures.value c.in_ok-old.ensures;
+        of_new = subst (λ (given : List ℕ). IsSideOf asked.reading asked.new.filter given new) c.deref-2.ensures.value c.in_ok-new.ensures;
         found = c.in_ok-found.found;
-        is = IfOk-at_ok (IsDiff terms.target terms.relation old new) c.in_ok-found.was c.diff_of-found.ensures.diff;
+        is = IfOk-at_ok (IsDiff asked.terms.target asked.terms.relation old new) c.in_ok-found.was c.diff_of-found.ensures.diff;
         verdict = is.1 ∙ c.verdict-verdict.ensures;
       },
       is.2,
@@ -26,8 +27,11 @@ returns-clause-made c =
 
 pub returns-in_err-found-clause-cause : goal.returns-in_err-found-clause-cause
 returns-in_err-found-clause-cause c =
+    let asked = c.args.asked.now in
     let old = c.in_ok-old.old in
     let new = c.in_ok-new.new in
-    let why = IfErr-at_err (IsUndiffed c.args.asked.now.terms.target old new) c.in_err-found.was c.diff_of-found.ensures.cause in
+    let why = IfErr-at_err (IsUndiffed asked.terms.target old new) c.in_err-found.was c.diff_of-found.ensures.cause in
     let error = err_from_is_err_and c.from_residual-in_err-found.result c.from_residual-in_err-found.ensures.1 in
-    rw (error.1, error.2) (of_sides old new c.in_ok-old.ensures c.in_ok-new.ensures why)
+    rw (error.1, error.2) (of_sides old new
+    (subst (λ (given : List ℕ). IsSideOf asked.reading asked.old.filter given old) c.deref.ensures.value c.in_ok-old.ensures)
+    (subst (λ (given : List ℕ). IsSideOf asked.reading asked.new.filter given new) c.deref-2.ensures.value c.in_ok-new.ensures) why)

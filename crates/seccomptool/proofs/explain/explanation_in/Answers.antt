@@ -1,22 +1,35 @@
-use Rattle.std.proofs.Common.{◌≡◌, ◌∙◌, [], ◌∷◌, List, arith, length, refl, sym}
-use Rattle.std.proofs.lemmas.Bool.{eqb-true}
-use Rattle.std.proofs.lemmas.Result.{IfErr-weaker}
-use Rattle.seccomptool.specs.Causes.{IsUnexplained, of_layers, undecided}
+use Rattle.std.proofs.Common.{List, ℕ, subst, sym}
+use Rattle.std.proofs.lemmas.Result.{IfErr-weaker, IfOk-weaker}
+use Rattle.seccomp_answers.specs.Causes.{IsUndecided}
+use Rattle.seccomp_answers.specs.Chosen.{text_of}
+use Rattle.seccomp_answers.specs.Explain.{Explains}
 use Rattle.seccomp_answers.specs.declared.layers.Layer.{Layer}
+use Rattle.seccomptool.specs.Causes.{IsUnexplained, of_layers, undecided}
+use Rattle.seccomptool.specs.Commands.{ExplainsIn}
+use Rattle.seccomptool.proofs.Layers.{one_layer}
 use Rattle.seccomptool.proofs.explain.explanation_in.Goals as goal
 
--- a list of no length
-none_in : (layers : List Layer) → length layers ≡ 0 → layers ≡ []
-none_in [] none = refl
-none_in (layer ∷ layers) none = absurd (omega (arith, none))
+pub returns-in-len1-clause-explained : goal.returns-in-len1-clause-explained
+returns-in-len1-clause-explained c =
+    let asked = c.args.asked.now in
+    let subject = c.subject-item.result in
+    let one = one_layer c.args.layers.now subject c.in-len1.len_at_least c.in-len1.len_below c.subject-item.is in
+    IfOk-weaker c.explanation_of.result _ (ExplainsIn asked c.args.layers.now c.args.records.now)
+    (λ e is. subst (λ (ls : List Layer). ExplainsIn asked ls c.args.records.now e) (sym one)
+    (subst (λ (given : List ℕ). Explains asked.arch asked.reading (text_of subject.filter) given c.args.records.now e)
+    c.deref.ensures.value is)) c.explanation_of.ensures.explained
 
-pub returns-then-is_empty-clause-cause : goal.returns-then-is_empty-clause-cause
-returns-then-is_empty-clause-cause c =
-    let none = none_in c.args.layers.now (eqb-true (length c.args.layers.now) 0 (sym c.is_empty.ensures ∙ c.if-is_empty.true)) in
-    IfErr-weaker c.explanation_of.result _ (IsUnexplained c.args.asked.now c.args.layers.now c.args.given.now)
-    (λ e is. undecided none is) c.explanation_of.ensures.cause
+pub returns-in-len1-clause-cause : goal.returns-in-len1-clause-cause
+returns-in-len1-clause-cause c =
+    let asked = c.args.asked.now in
+    let subject = c.subject-item.result in
+    let one = one_layer c.args.layers.now subject c.in-len1.len_at_least c.in-len1.len_below c.subject-item.is in
+    IfErr-weaker c.explanation_of.result _ (IsUnexplained asked c.args.layers.now)
+    (λ e is. undecided subject one
+    (subst (λ (given : List ℕ). IsUndecided asked.arch asked.reading (text_of subject.filter) given e) c.deref.ensures.value is))
+    c.explanation_of.ensures.cause
 
 pub returns-clause-cause : goal.returns-clause-cause
 returns-clause-cause c =
-    IfErr-weaker c.stack_explanation.result _ (IsUnexplained c.args.asked.now c.args.layers.now c.args.given.now) (λ e is. of_layers is)
+    IfErr-weaker c.stack_explanation.result _ (IsUnexplained c.args.asked.now c.args.layers.now) (λ e is. of_layers is)
     c.stack_explanation.ensures.cause

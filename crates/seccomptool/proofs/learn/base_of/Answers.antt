@@ -1,4 +1,4 @@
-use Rattle.std.proofs.Common.{◌≡◌, ◌≢◌, ◌∙◌, ℕ, List, None, Option, Some, ap, inl, inr, rules, string_bytes, subst, sym}
+use Rattle.std.proofs.Common.{◌≡◌, ◌≢◌, ◌∙◌, ℕ, Bor, List, None, Option, Some, ap, inl, inr, rules, string_bytes, subst, sym}
 use Rattle.std.proofs.lemmas.Result.{err_from_is_err_and}
 use Rattle.std.specs.BTreeMap.{get_by_text}
 use Rattle.seccompiler.specs.JsonFilters.{AreFound}
@@ -26,15 +26,16 @@ returns-in-Allow-clause-base c =
     )
 
 -- what isn't named is no base
-unnamed : (start : Start) (asked : Option (List ℕ)) (text : List ℕ) (e : AnswerError) → start ≡ Into → IsUnnamed asked text e
+unnamed : (start : Start) (asked : Option (List ℕ)) (text : List ℕ) (e : AnswerError) (path : Bor (List ℕ)) → start ≡ Into path
+    → IsUnnamed asked text e
     → IsNoBase start asked text e
-unnamed start asked text e into (inl is) = unread into is
-unnamed start asked text e into (inr is) = unchosen into is
+unnamed start asked text e path into (inl is) = unread path into is
+unnamed start asked text e path into (inr is) = unchosen path into is
 
 pub returns-in_err-others-clause-cause : goal.returns-in_err-others-clause-cause
 returns-in_err-others-clause-cause c =
     let error = err_from_is_err_and c.from_residual-in_err-others.result c.from_residual-in_err-others.ensures.1 in
-    rw (error.1, error.2) (unnamed _ _ _ _ c.in-Into.is c.in_err-others.ensures.cause)
+    rw (error.1, error.2) (unnamed _ _ _ _ _ c.in-Into.is c.in_err-others.ensures.cause)
 
 pub returns-in_default-clause-cause : goal.returns-in_default-clause-cause
 returns-in_default-clause-cause c =
@@ -58,6 +59,6 @@ returns-in_ok-from_str-in_default-match_action c =
     let of = has.of_text in
     record {
       base = tt;
-      cause = denying c.in-Into.is name filter c.in_ok-others.ensures.chosen
+      cause = denying _ c.in-Into.is name filter c.in_ok-others.ensures.chosen
           (of.0, of.1, (of.2.0, of.2.1, subst (λ (f : JsonFilter). IsFilter of.2.0 f) own of.2.2)) denies tt;
     }

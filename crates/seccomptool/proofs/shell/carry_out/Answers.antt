@@ -1,17 +1,17 @@
-use Rattle.std.proofs.Common.{[], ◌∷◌, refl}
-use Rattle.seccomptool.specs.Outside.{carried_out, kept, told}
-use Rattle.seccomptool.proofs.shell.Written.{adds_both}
+use Rattle.std.proofs.Common.{refl}
+use Rattle.seccomptool.specs.Ends.{carried_out, kept}
 use Rattle.seccomptool.proofs.shell.carry_out.Goals as goal
 
-pub returns-in-Ok-clause-performed : goal.returns-in-Ok-clause-performed
-returns-in-Ok-clause-performed g c = carried_out c.in-Ok.made c.in-Ok.ensures.performed c.in-Ok.ensures.delivered c.status_of.ensures.is
+pub returns-in-Ok : goal.returns-in-Ok
+returns-in-Ok g c =
+    let r = c.in-Ok.ensures.carries in
+    record { events = r.events; did = r.did; is = carried_out c.in-Ok.made r.is c.status_of.ensures }
 
-pub returns-in-Err-clause-performed : goal.returns-in-Err-clause-performed
-returns-in-Err-clause-performed g c =
-    let e = c.in-Err.error in
-    let before = g.O.Outside.done c.args.out.now in
-    let between = g.O.Outside.done c.carried_out.new.out in
-    let after = g.O.Outside.done c.tell.new.self in
-    kept e c.in-Err.ensures.cause
-    (adds_both before between after [] (told e ∷ []) c.in-Err.ensures.unwritten c.tell.ensures, c.in-Err.ensures.ungathered)
-    refl
+pub returns-in-Err : goal.returns-in-Err
+returns-in-Err g c =
+    let r = c.in-Err.ensures.kept in
+    record {
+      events = _;
+      did = g.met.O.Outside.did_both _ _ _ _ _ r.did c.tell.ensures;
+      is = kept c.in-Err.failure r.events r.is.0 r.is.1 refl refl;
+    }

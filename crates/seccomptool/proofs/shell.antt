@@ -1,2 +1,0 @@
--- Lemmas for the functions of `shell`.
-pub mod Written

@@ -90,7 +90,7 @@ def compare_table(results, arch):
     results.compare(f"{arch}: names, numbers", (len(pairs),) * 2, (len(numbers), len(set(numbers.values()))))
     results.compare(f"{arch}: the table's pairs", (sorted(pairs),), (pairs_in(driver_rows.TOP / f"crates/seccomp_tables/src/{arch}.rt"),))
     asked = [*dict.fromkeys([*numbers, *(name[:-1] for name in numbers), *ABSENT])]
-    status, told = driver_rows.ask([f"number of call {arch} {name}" for name in asked])
+    status, told = driver_rows.ask([f"call {driver_rows.ARCHES.index(arch)}\t{name}" for name in asked])
     results.compare(f"{arch}: look-ups", (0, len(asked)), (status, len(told)))
     for name, row in zip(asked, told):
         found = FOUND.fullmatch(row)

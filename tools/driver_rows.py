@@ -2,9 +2,9 @@
 """What the program of crates/seccomp_vectors is asked: questions of rows (tools/row_grammar.py) that no other program can answer, about
 scripted kernels and readers, copies, counts of comparisons, and values that no program shows; and each question of tools/rows/memory.
 
-A question is a line `ASKED of KIND ..`, with numbers in place of most words. `stdin` of that crate has the lines of tools/rows, and
-`stdout` what is answered, which `rt ci` compares as two compilers build the program; but no long lines, and of readers that fail only the
-first and the last. `tools/driver_rows.py --write` writes both anew.
+A question is a line `KIND SUBJECT VERB ..`, with numbers in place of most words, the length of each list before it, and a text behind a
+tab. `stdin` of that crate has the lines of tools/rows, and `stdout` what is answered, which `rt ci` compares as two compilers build the
+program; but no long lines, and of readers that fail only the first and the last. `tools/driver_rows.py --write` writes both anew.
 """
 
 import collections
@@ -17,7 +17,8 @@ import tempfile
 
 import row_grammar
 from library_calls import OPERATORS, RELATIONS
-from row_grammar import NoRow, conditions, numbers_in, record_of, rows_of, runs, runs_of, shown_as
+from model import ARCHITECTURES
+from row_grammar import NoRow, conditions, numbers_in, record_of, rows_of, runs_of, shown_as
 from running import PROGRAMS, TOP, run_refused
 
 CRATE = TOP / "crates/seccomp_vectors"
@@ -25,6 +26,7 @@ PROGRAM = PROGRAMS["seccomp_vectors"]
 MEMORY = TOP / "tools/rows/memory"
 
 ACTIONS = ("allow", "errno", "kill_process", "kill_thread", "log", "trap")
+ARCHES = tuple(ARCHITECTURES)
 COUNTED = re.compile(r"(.*?)(?: \[([0-9]+|\+)\])?")
 OUT_OF_MEMORY = "Out of memory."
 
@@ -34,9 +36,9 @@ REFUSALS = (("REFUSED", 1), ("GRANTED", 0))
 # A stored line has fewer characters.
 LONGEST = 4000
 
-# How an answer of numbers reads; any other is an error's text.
-NUMBERS = re.compile(r"-?\d+(?: -?\d+)*")
-CODE = re.compile(r"(?:\d+ \d+ \d+ \d+;)*")
+# How an answer of numbers reads, and of names with numbers; any other is an error's text.
+NUMBERS = re.compile(r"\d+(?: \d+)*")
+NAMED = re.compile(r"(\S+ \d+)(?: |$)")
 COUNT = re.compile(r"\d+ instructions")
 
 
@@ -52,32 +54,31 @@ def condition_words(it):
     return f"{it['index']} {4 if it['type'] == 'dword' else 8} {OPERATORS.index(operator)} {mask} {it['val']}"
 
 
+def counted(items):
+    """Returns words with how many there are in front of them."""
+    return " ".join([str(len(items)), *items])
+
+
 def rule_words(rule):
     """Returns the numbers of a rule."""
-    return "&".join(f"{count} {condition_words(it)}" for count, it in runs(rule))
+    return counted([condition_words(it) for it in rule])
 
 
 def filter_words(filter):
     """Returns the numbers of a filter."""
-    if filter.entries:
-        calls = [(number, 1, 1, rules) for number, rules in filter.chains().items()]
-    else:
-        calls = [(*it, ()) for it in filter.steps]
-    chains = [f";{first} {step} {count}" + "".join(f"|{times}:{rule_words(it)}" for times, it in runs(rules))
-              for first, step, count, rules in calls]
-    return f"{filter.arch} {action_words(filter.mismatch)} {action_words(filter.match)}{''.join(chains)}"
+    calls = [f"{number} {counted([*map(rule_words, rules)])}" for number, rules in filter.chains().items()]
+    return f"{ARCHES.index(filter.arch)} {action_words(filter.mismatch)} {action_words(filter.match)} {counted(calls)}"
 
 
 def decisions_words(decisions):
     """Returns the numbers of decisions."""
-    defaults = ["=".join(str(int(it, 0)) for it in word.split("=")) for word in decisions.defaults]
-    calls = [f";{number}|" + "|".join(f"{value}:{rule_words(rule)}" for rule, value in rulings)
-             for number, rulings in decisions.calls.items()]
-    return " ".join([decisions.arch, *defaults]) + "".join(calls)
+    defaults = [" ".join(str(int(it, 0)) for it in word.split("=")) for word in decisions.defaults]
+    calls = [f"{number} {counted([f'{value} {rule_words(rule)}' for rule, value in rulings])}" for number, rulings in decisions.calls.items()]
+    return f"{ARCHES.index(decisions.arch)} {counted(defaults)} {counted(calls)}"
 
 
 def about(it):
-    """Returns what a question about a filter or decisions ends with."""
+    """Returns what a question about a filter or decisions begins with."""
     return f"filter {filter_words(it)}" if isinstance(it, row_grammar.Filter) else f"decisions {decisions_words(it)}"
 
 
@@ -88,34 +89,45 @@ def record_words(record):
 
 def code_words(text):
     """Returns the numbers of instructions."""
-    return ";".join(" ".join(map(str, (count, code, k, *distances))) for count, code, k, *distances in runs_of(text))
+    return counted([f"{code} {k} " + " ".join(map(str, distances or (0, 0))) for count, code, k, *distances in runs_of(text) for _ in range(count)])
 
 
 def comparison_words(text):
-    """Returns the numbers of a comparison, and the architecture."""
-    relation, *rest = text.split()
-    return " ".join([str(RELATIONS[relation]), *rest])
+    """Returns the numbers of a comparison: of all calls, those of an architecture, or some of its numbers."""
+    relation, most, *calls = text.split()
+    of_arch = [str(ARCHES.index(calls[0])), *calls[1:]] if calls else []
+    return " ".join([str(RELATIONS[relation]), most, str(min(len(calls), 2)), *of_arch])
+
+
+def as_it_is(told, _):
+    """Reads a text."""
+    return told
 
 
 def in_numbers(form):
     """Returns what reads an answer of numbers, and gives another back as it is."""
-    def read(told, _):
-        return form(*map(int, told.split())) if NUMBERS.fullmatch(told) else told
-    return read
+    return lambda told, _: form(*map(int, told.split())) if NUMBERS.fullmatch(told) else told
+
+
+def in_words(true, false, read=as_it_is):
+    """Returns what reads whether something is so, and has another answer read."""
+    return lambda told, wanted: {"true": true, "false": false}.get(told) or read(told, wanted)
 
 
 def code_in(told, wanted):
     """Reads instructions."""
-    if not CODE.fullmatch(told):
-        return told
-    parts = [tuple(map(int, it.split())) for it in told.split(";")[:-1]]
-    return shown_as(wanted, parts)
+    numbers = iter(map(int, told.split())) if NUMBERS.fullmatch(told) else None
+    return shown_as(wanted, list(zip(*[numbers] * 4))) if numbers else told
 
 
-def fields_in(told, _):
-    """Reads the fields of the first instruction."""
-    code, *rest = map(int, told.split(";")[0].split())
-    return f"{code:#06x} " + " ".join(map(str, rest))
+def named_in(told, _):
+    """Reads names with numbers, in any order."""
+    return told if NAMED.sub("", told) else ", ".join(sorted(NAMED.findall(told))) or "none"
+
+
+def calls_in(told, _):
+    """Reads numbers of calls."""
+    return told if NUMBERS.sub("", told) else f"[{', '.join(told.split())}]"
 
 
 def architecture_in(told, _):
@@ -124,27 +136,18 @@ def architecture_in(told, _):
     return f"{name} {int(value):#010x}" if value.isdigit() else told
 
 
-def named_in(told, _):
-    """Reads names with numbers."""
-    return told.removesuffix(", ") or "none"
-
-
-def as_it_is(told, _):
-    """Reads a text."""
-    return told
-
-
 number_in = in_numbers(str)
 value_in = in_numbers(lambda value, *_: f"{value:#010x}")
 outcome_in = in_numbers(lambda value, steps: f"{value:#010x} {steps}")
-yes_in = in_numbers(lambda it: ("no", "yes")[it])
-check_in = in_numbers(lambda taken, *place: "checked" if taken else f"unfit at {place[0]}")
 facts_in = in_numbers(lambda high, low, *rest: "offsets {} {}, value {} {}, length {}".format(high, low, *rest))
-comparison_in = in_numbers(lambda *it: ("undecided", "holds")[it[0]] if len(it) == 1 else " and ".join(f"{word:#010x}" for word in it))
+fields_in = in_numbers(lambda code, *rest: f"{code:#06x} " + " ".join(map(str, rest)))
 count_in = in_numbers(lambda length: f"{length} instructions")
 bytes_in = in_numbers(lambda length: f"{length} bytes")
+yes_in = in_words("yes", "no")
+check_in = in_words("checked", "", lambda told, _: told.replace("false", "unfit at"))
+comparison_in = in_words("holds", "undecided", in_numbers(lambda *it: " and ".join(f"{word:#010x}" for word in it)))
 
-# What is asked of a filter or of decisions: the question before `of`, from what stands in the row, and what reads the answer.
+# What is asked of a filter or of decisions: the verb, from what stands in the row, and what reads the answer.
 OF_FILTER = {
     "program_len": (lambda _: "length", number_in),
     "copy": (lambda _: "copy", yes_in),
@@ -166,24 +169,30 @@ OF_DECISIONS = {
     "returns": (lambda rest: f"run {record_words(rest)}", value_in),
 }
 
-# What is asked of a text: the question, and what reads the answer.
+# What is asked of a text, or of a reader of it: the kind, the verb, and what reads the answer.
 OF_TEXT = {
-    **{it: (f"{it} of text", named_in) for it in ("compile_from_json", "programs_of", "compile", "policies_of", "filters_of")},
-    "text_of": ("text_of of text", bytes_in),
-    "make_seccomp_filter": ("length of entries", number_in),
-    "widened": ("widened of entries", as_it_is),
-    "read_filters": ("read of value", named_in),
-    "repeats_key": ("repeats_key of text x86_64", yes_in),
+    **{it: ("reader", it, named_in) for it in ("compile_from_json", "compile")},
+    **{it: ("text", it, named_in) for it in ("programs_of", "policies_of", "filters_of", "read_filters")},
+    "text_of": ("reader", "text_of", bytes_in),
+    "repeats_key": ("text", "repeats_key", yes_in),
+    "make_seccomp_filter": ("entries", "length", number_in),
+    "widened": ("entries", "widened", calls_in),
 }
+WITHOUT_ARCH = ("read_filters", "repeats_key")
+
+
+def of_text(call, rest, fault=""):
+    """Returns the line about a text, or about a reader that fails so, and what reads the answer."""
+    kind, verb, read = OF_TEXT[call]
+    arch, _, text = ("x86_64", "", rest) if call in WITHOUT_ARCH else rest.partition(" ")
+    return f"{kind} {ARCHES.index(arch)} {verb}{fault}\t{row_grammar.expanded(text)}", read
 
 
 def of_part(kind, rest):
     """Returns the line about a condition at an offset, or a rule, and what reads the answer."""
     text, has_offset, offset = rest.partition(" @ ")
-    if has_offset:
-        (condition,) = conditions(text)
-        return f"{'code' if kind == 'code' else 'buffer'} {offset} of condition {condition_words(condition)}", code_in
-    return f"{'code' if kind == 'rule' else 'buffer'} of rule {rule_words(conditions(rest))}", code_in
+    about_it = f"condition {condition_words(*conditions(text))}" if has_offset else f"rule {rule_words(conditions(rest))}"
+    return f"{about_it} {'buffer' if kind == 'buffer' else 'code'} {offset}".rstrip(), code_in
 
 
 def of_row(kind, rest):
@@ -192,17 +201,17 @@ def of_row(kind, rest):
     if kind in ("code", "rule", "buffer"):
         return of_part(kind, rest)
     made = {
-        "architecture": (lambda: f"value of architecture {rest}", architecture_in),
-        "guard": (lambda: f"code of guard {rest}", code_in),
-        "action": (lambda: f"word of action {action_words(row_grammar.action(rest))}", value_in),
-        "fields": (lambda: f"code of code {code_words(rest)}", fields_in),
-        "check": (lambda: f"check of code {code_words(rest)}", check_in),
-        "run": (lambda: f"run {record_words(second)} of code {code_words(first)}", outcome_in),
-        "install": (lambda: f"install {first} of code {code_words(second)}", as_it_is),
-        "condition": (lambda: f"facts of condition {condition_words(*conditions(rest))}", facts_in),
-        "copy": (lambda: f"copy of rule {rule_words(conditions(rest))}", yes_in),
-        "holds": (lambda: f"holds {record_words(second)} of rule {rule_words(conditions(first))}", yes_in),
-        "equal": (lambda: f"equal of rules {rule_words(conditions(first))} with {rule_words(conditions(second))}", yes_in),
+        "architecture": (lambda: f"arch value\t{rest}", architecture_in),
+        "guard": (lambda: f"arch guard\t{rest}", code_in),
+        "action": (lambda: f"action {action_words(row_grammar.action(rest))}", value_in),
+        "fields": (lambda: f"code {code_words(rest)}", fields_in),
+        "check": (lambda: f"code {code_words(rest)} check", check_in),
+        "run": (lambda: f"code {code_words(first)} run {record_words(second)}", outcome_in),
+        "install": (lambda: f"code {code_words(second)} install {first}", as_it_is),
+        "condition": (lambda: f"condition {condition_words(*conditions(rest))} facts", facts_in),
+        "copy": (lambda: f"rule {rule_words(conditions(rest))} copy", yes_in),
+        "holds": (lambda: f"rule {rule_words(conditions(first))} holds {record_words(second)}", yes_in),
+        "equal": (lambda: f"rule {rule_words(conditions(first))} equal {rule_words(conditions(second))}", yes_in),
     }
     if kind not in made:
         raise NoRow(f"not understood: {kind}")
@@ -214,13 +223,14 @@ def question(asked, above, kept, wanted=""):
     """Returns the lines of a question about its row, or what stands above it, and what reads an answer to one. If the number of
     instructions is wanted alone, they aren't printed."""
     lines, read = asked_in(asked, above, kept)
-    if read is code_in and COUNT.fullmatch(wanted) and re.match("(linear |tree )?code of (rule|filter|decisions)", lines[0]):
-        return [lines[0].replace("code of", "count of", 1)], count_in
+    lines = [lines] if isinstance(lines, str) else lines
+    if read is code_in and COUNT.fullmatch(wanted) and lines[0].endswith(" code"):
+        return [lines[0].removesuffix("code") + "count"], count_in
     return lines, read
 
 
 def asked_in(asked, above, kept):
-    """Returns the lines of a question, and what reads an answer to one."""
+    """Returns the line of a question, or its lines, and what reads an answer to one."""
     kind, _, rest = asked.partition(" ")
     two = " ".join(asked.split()[:2])
     of_above = OF_FILTER if isinstance(above, row_grammar.Filter) else OF_DECISIONS
@@ -228,22 +238,21 @@ def asked_in(asked, above, kept):
         fault, call, text = rest.split(" ", 2)
         text = text if text.partition(" ")[1] else f"{text} "
         count = len(row_grammar.expanded(text.partition(" ")[2]).encode()) + 1
-        line, read = OF_TEXT[call]
-        return [line.replace(" of ", f" {fault} {before} of ") + f" {row_grammar.expanded(text)}" for before in range(count)], read
+        return [of_text(call, text, f" {fault} {before}")[0] for before in range(count)], OF_TEXT[call][2]
     if kind in OF_TEXT:
-        line, read = OF_TEXT[kind]
-        return [f"{line} {row_grammar.expanded(rest)}"], read
+        return of_text(kind, rest)
     if kind in ("made_by", "made_of"):
-        return [f"{filter_words(above)} of {'text' if kind == 'made_by' else 'entries'} {above.arch} {rest}"], yes_in
-    if kind == "compare_filters" or asked == "equal":
-        line = "equal" if asked == "equal" else comparison_words(rest)
-        return [f"{line} of filters {filter_words(kept)} with {filter_words(above)}"], yes_in if asked == "equal" else comparison_in
+        of = "text" if kind == "made_by" else "entries"
+        return f"{of} {ARCHES.index(above.arch)} {kind} {filter_words(above)}\t{rest}", yes_in
+    if asked == "equal":
+        return f"filters {filter_words(kept)} {filter_words(above)} equal", yes_in
+    if kind == "compare_filters":
+        return f"filters {filter_words(kept)} {filter_words(above)} compare {comparison_words(rest)}", comparison_in
     for word, of_rest in ((two, asked[len(two) + 1:]), (kind, rest)):
         if word in of_above and (kind != "copy" or not rest):
-            line, read = of_above[word]
-            return [f"{line(of_rest)} of {about(above)}"], read
-    line, read = of_row(kind, rest)
-    return [line], read
+            verb, read = of_above[word]
+            return f"{about(above)} {verb(of_rest)}", read
+    return of_row(kind, rest)
 
 
 def ask(lines, **how):

@@ -64,7 +64,6 @@ An answer of instructions may begin with their number, and with how many relays 
 rejected the answer is the error's text. In a TEXT `<3 x ENTRY>` stands for an entry three times.
 """
 
-import itertools
 import re
 import struct
 
@@ -224,8 +223,3 @@ def stated(row, above):
         return Decisions(*words)
     above.add(row)
     return above
-
-
-def runs(items):
-    """Returns equal items next to each other, as how many they are and the first of them."""
-    return [(len(list(them)), it) for it, them in itertools.groupby(items)]

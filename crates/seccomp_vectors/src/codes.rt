@@ -1,57 +1,76 @@
-// Code as a list of instructions, what is asked of it, and a kernel that gives the answers of a row and counts what it is asked.
+// Code, what is asked of it, and a kernel that gives the answers of a row and counts what it is asked.
 
-use crate::words::{number, number_32, parts, record};
-use crate::{Answer, Fault, Told};
+use crate::question::Question;
 use seccompiler::bpf::{bpf_jump, bpf_stmt};
 use seccompiler::machine::{check, first_unfit, run};
 use seccompiler::{
-    BpfProgram, BpfProgramRef, Kernel, apply_filter, apply_filter_all_threads, sock_filter,
+    BackendError, BpfProgram, BpfProgramRef, Kernel, apply_filter, apply_filter_all_threads,
+    sock_filter,
 };
-use std::alloc::Global;
 
-// One instruction: its code and k, and of a jump jt and jf.
-fn instruction(text: &str) -> sock_filter {
-    let mut words = text.split_whitespace();
-    let code = u16::try_from(number(&mut words)).unwrap_or(0);
-    let k = number_32(&mut words);
-    match words.next() {
-        None => bpf_stmt(code, k),
-        Some(jt) => bpf_jump(
-            code,
-            k,
-            jt.parse().unwrap_or(0),
-            number(&mut words).to_le_bytes()[0],
-        ),
+impl<'a> Question<'a> {
+    /// So many instructions: code and k, and jt and jf, which are both 0 if it isn't a jump.
+    pub(crate) fn program(&mut self) -> BpfProgram {
+        let mut made = Vec::new(self.alloc);
+        for _ in 0..self.number::<u64>() {
+            let (code, k) = (self.number(), self.number());
+            let instruction = match (self.number(), self.number()) {
+                (0, 0) => bpf_stmt(code, k),
+                (jt, jf) => bpf_jump(code, k, jt, jf),
+            };
+            self.is_short |= made.push(instruction).is_err();
+        }
+        made
     }
-}
 
-/// Instructions with `;` between, each so many times.
-pub(crate) fn program(alloc: Global, text: &str) -> Result<BpfProgram, Fault> {
-    let mut made = Vec::new(alloc);
-    for part in text.split(';') {
-        let (count, part) = parts(part, " ");
-        for _ in 0..count.parse::<u32>().unwrap_or(0) {
-            made.push(instruction(part))?;
+    pub(crate) fn about_made(&mut self, asked: &str, made: Result<BpfProgram, BackendError>) {
+        if let Some(code) = self.kept(made) {
+            self.about_code(asked, &code);
         }
     }
-    Ok(made)
-}
 
-/// What is asked of code: itself, where a kernel doesn't take it, what it returns for a call after which steps, and installing it.
-pub(crate) fn of_code(alloc: Global, asked: &str, code: BpfProgram) -> Told {
-    match parts(asked, " ") {
-        ("code", _) => Ok(Answer::Code(code)),
-        ("count", _) => Ok(Answer::Number(code.len() as u64)),
-        ("check", _) => match first_unfit(&code) {
-            None => Ok(Answer::Number(u64::from(check(&code)))),
-            Some(place) => Ok(Answer::Pair(u64::from(check(&code)), place as u64)),
-        },
-        ("run", rest) if check(&code) => {
-            let outcome = run(&code, &record(rest));
-            Ok(Answer::Pair(u64::from(outcome.word), outcome.steps as u64))
+    /// What is asked of code: itself, where a kernel doesn't take it, what it returns for a call after which steps, and installing it.
+    pub(crate) fn about_code(&mut self, asked: &str, code: &[sock_filter]) {
+        match asked {
+            "count" => self.tell(&code.len()),
+            "check" => {
+                self.tell(&check(code));
+                if let Some(place) = first_unfit(code) {
+                    self.tell(&place);
+                }
+            }
+            "run" if check(code) => {
+                let outcome = run(code, &self.record());
+                self.tell(&outcome.word);
+                self.tell(&outcome.steps);
+            }
+            "install" => self.install(code),
+            _ => self.tell_code(code),
         }
-        ("install", rest) => installed(alloc, rest, &code),
-        _ => Err(Fault::Row),
+    }
+
+    // How often each call was made, and how installing ended: for all threads if the flags are not 0.
+    fn install(&mut self, program: &[sock_filter]) {
+        if program.len() > 65535 {
+            return;
+        }
+        let mut kernel = ScriptedKernel {
+            flags: self.number(),
+            program,
+            no_new_privs: (self.number(), self.number()),
+            mode_filter: (self.number(), self.number()),
+            privileges: 0,
+            filters: 0,
+        };
+        let installed = match kernel.flags {
+            0 => apply_filter(&mut kernel, program),
+            _ => apply_filter_all_threads(&mut kernel, program),
+        };
+        self.tell(&kernel.privileges);
+        self.tell(&kernel.filters);
+        if self.kept(installed).is_some() {
+            self.tell(&"installed");
+        }
     }
 }
 
@@ -86,34 +105,4 @@ impl Kernel for ScriptedKernel<'_> {
         }
         self.mode_filter
     }
-}
-
-// The kernel of a row: flags, and code and errno of both answers.
-fn kernel_of<'a>(rest: &str, program: BpfProgramRef<'a>) -> Option<ScriptedKernel<'a>> {
-    let mut words = rest.split_whitespace();
-    Some(ScriptedKernel {
-        flags: number(&mut words),
-        program,
-        no_new_privs: (words.next()?.parse().ok()?, words.next()?.parse().ok()?),
-        mode_filter: (words.next()?.parse().ok()?, words.next()?.parse().ok()?),
-        privileges: 0,
-        filters: 0,
-    })
-}
-
-// How often each call was made, and how installing ended: for all threads if the flags are not 0.
-fn installed(alloc: Global, rest: &str, program: BpfProgramRef<'_>) -> Told {
-    let mut kernel = kernel_of(rest, program).ok_or(Fault::Row)?;
-    if program.len() > 65535 {
-        return Err(Fault::Row);
-    }
-    let installed = match kernel.flags {
-        0 => apply_filter(&mut kernel, program),
-        _ => apply_filter_all_threads(&mut kernel, program),
-    };
-    let (privileges, filters) = (kernel.privileges, kernel.filters);
-    Ok(Answer::Text(match installed {
-        Ok(()) => format!(in alloc; "{privileges} {filters} installed")?,
-        Err(error) => format!(in alloc; "{privileges} {filters} {error}")?,
-    }))
 }

@@ -1,12 +1,11 @@
 // Policies as JSON text: what each call gives for a text, and for readers of it that do as they are told.
 
-use crate::filters::filter;
-use crate::words::parts;
-use crate::{Answer, Fault, Told};
-use seccompiler::json::{filters_of, repeats_key, text_of};
-use seccompiler::{JsonCompiler, TargetArch, compile_from_json, programs_of};
+use crate::question::Question;
+use seccompiler::json::{
+    JsonFilter, JsonFilterMap, filters_of, read_filters, repeats_key, text_of,
+};
+use seccompiler::{JsonCompiler, JsonFrontendError, SeccompFilter, compile_from_json, programs_of};
 use serde_json::Value;
-use std::alloc::Global;
 use std::io::{self, ErrorKind, Read};
 
 // Gives its bytes, one a call. The call after the first `before` bytes fails with the fault, if there is one; later calls go on.
@@ -24,77 +23,122 @@ impl Read for ScriptedReader<'_> {
                 return Err(io::Error::from(kind));
             }
         }
-        let Some((first, rest)) = self.bytes.split_first() else {
-            return Ok(0);
-        };
-        let Some(place) = buf.first_mut() else {
-            return Ok(0);
-        };
-        *place = *first;
-        self.bytes = rest;
         self.before = self.before.saturating_sub(1);
-        Ok(1)
+        let most = buf.len().min(1);
+        self.bytes.read(&mut buf[..most])
     }
 }
 
-// A reader, and how it fails: the kind of the error, and how many bytes it gives before.
-fn reader_of<'a>(bytes: &'a [u8], told: &str) -> ScriptedReader<'a> {
-    let (kind, before) = parts(told, " ");
-    let fault = match kind {
-        "broken_pipe" => Some(ErrorKind::BrokenPipe),
-        "out_of_memory" => Some(ErrorKind::OutOfMemory),
-        "interrupted" => Some(ErrorKind::Interrupted),
-        "other" => Some(ErrorKind::Other),
-        _ => None,
-    };
-    let before = before.parse().unwrap_or(0);
-    ScriptedReader {
-        bytes,
-        before,
-        fault,
+impl<'a> Question<'a> {
+    // A reader of the text: how it fails, and how many bytes it gives before.
+    fn reader(&mut self) -> ScriptedReader<'a> {
+        let fault = match self.word() {
+            "broken_pipe" => Some(ErrorKind::BrokenPipe),
+            "out_of_memory" => Some(ErrorKind::OutOfMemory),
+            "interrupted" => Some(ErrorKind::Interrupted),
+            "other" => Some(ErrorKind::Other),
+            _ => None,
+        };
+        ScriptedReader {
+            bytes: self.text.as_bytes(),
+            before: self.number(),
+            fault,
+        }
     }
-}
 
-/// What a call gives for a text, or for a reader of it.
-pub(crate) fn of_text(alloc: Global, asked: &str, arch: TargetArch, text: &str) -> Told {
-    let (call, told) = parts(asked, " ");
-    let (bytes, compiler) = (text.as_bytes(), JsonCompiler::new(arch));
-    match call {
-        "compile_from_json" => {
-            let made = compile_from_json(alloc, reader_of(bytes, told), arch);
-            Ok(Answer::Programs(made.map_err(Fault::Library)?.into_iter().collect(alloc)?))
-        }
-        "programs_of" => {
-            let programs = programs_of(alloc, bytes, arch).map_err(Fault::Library)?;
-            Ok(Answer::Programs(programs))
-        }
-        "compile" => {
-            let filters = compiler.compile(alloc, reader_of(bytes, told))?;
-            Ok(Answer::Filters(filters.into_iter().collect(alloc)?))
-        }
-        "policies_of" => Ok(Answer::Filters(compiler.policies_of(alloc, bytes)?)),
-        "filters_of" => Ok(Answer::Entries(filters_of(alloc, bytes)?)),
-        "repeats_key" => Ok(Answer::Number(u64::from(repeats_key(bytes, &Value::Null)))),
-        "text_of" => Ok(Answer::Number(text_of(alloc, reader_of(bytes, told))?.len() as u64)),
-        _ => {
-            let made = compiler.policies_of(alloc, bytes)?;
-            Ok(Answer::Number(u64::from(made.get("a") == Some(&filter(alloc, asked)?))))
+    // The names of JSON filters, with how many entries each has.
+    fn tell_entries(&mut self, read: Result<JsonFilterMap, JsonFrontendError>) {
+        if let Some(filters) = self.kept(read) {
+            for (name, filter) in &filters.0 {
+                self.tell_named(name, filter.rules.len());
+            }
         }
     }
-}
 
-/// What is asked of the JSON filter `a` of a text: which calls are widened, and how long its filter is, or whether it is another one.
-pub(crate) fn of_entries(alloc: Global, asked: &str, arch: TargetArch, text: &str) -> Told {
-    let compiler = JsonCompiler::new(arch);
-    let filters = filters_of(alloc, text.as_bytes())?;
-    let entries = filters.0.get("a").ok_or(Fault::Row)?;
-    if asked == "widened" {
-        let numbers = compiler.widened(alloc, entries)?;
-        return Ok(Answer::Text(format!(in alloc; "{:?}", numbers.as_slice())?));
+    /// What is asked of the JSON filter `a` of the text: which calls it widens, how long its filter is, or whether that is another one.
+    pub(crate) fn about_entries(&mut self) {
+        let (compiler, alloc) = (JsonCompiler::new(self.arch()), self.alloc);
+        let (asked, read) = (self.word(), filters_of(alloc, self.text.as_bytes()));
+        let Some(filters) = self.kept(read) else {
+            return;
+        };
+        let Some(entries) = filters.0.get("a") else {
+            return;
+        };
+        if asked == "widened" {
+            if let Some(numbers) = self.kept(compiler.widened(alloc, entries)) {
+                for number in &numbers {
+                    self.tell(number);
+                }
+            }
+        } else if let Some(made) = self.kept(compiler.make_seccomp_filter(alloc, entries)) {
+            match asked {
+                "length" => self.tell(&made.program_len()),
+                _ => {
+                    let is_equal = self.filter() == Some(made);
+                    self.tell(&is_equal);
+                }
+            }
+        }
     }
-    let made = compiler.make_seccomp_filter(alloc, entries)?;
-    if asked == "length" {
-        return Ok(Answer::Number(made.program_len() as u64));
+
+    /// What a call gives for a text, or for a reader of it; or whether the filter `a` of the text is another one.
+    pub(crate) fn about_text(&mut self) {
+        let (arch, alloc, bytes) = (self.arch(), self.alloc, self.text.as_bytes());
+        match self.word() {
+            "programs_of" => {
+                if let Some(programs) = self.kept(programs_of(alloc, bytes, arch)) {
+                    for (name, program) in &programs {
+                        self.tell_named(name, program.len());
+                    }
+                }
+            }
+            "filters_of" => self.tell_entries(filters_of(alloc, bytes)),
+            "read_filters" => match Value::from_str(alloc, self.text) {
+                Ok(value) => self.tell_entries(read_filters(alloc, &value)),
+                Err(_) => self.is_short = true,
+            },
+            "repeats_key" => self.tell(&repeats_key(bytes, &Value::Null)),
+            asked => {
+                let made = JsonCompiler::new(arch).policies_of(alloc, bytes);
+                let Some(filters) = self.kept(made) else {
+                    return;
+                };
+                if asked == "made_by" {
+                    let is_equal = filters.get("a") == self.filter().as_ref();
+                    return self.tell(&is_equal);
+                }
+                for (name, filter) in &filters {
+                    self.tell_named(name, filter.program_len());
+                }
+            }
+        }
     }
-    Ok(Answer::Number(u64::from(made == filter(alloc, asked)?)))
+
+    pub(crate) fn about_reader(&mut self) {
+        let (arch, alloc, asked) = (self.arch(), self.alloc, self.word());
+        let reader = self.reader();
+        match asked {
+            "compile_from_json" => {
+                if let Some(programs) = self.kept(compile_from_json(alloc, reader, arch)) {
+                    for (name, program) in &programs {
+                        self.tell_named(name, program.len());
+                    }
+                }
+            }
+            "compile" => {
+                let made = JsonCompiler::new(arch).compile(alloc, reader);
+                if let Some(filters) = self.kept(made) {
+                    for (name, filter) in &filters {
+                        self.tell_named(name, filter.program_len());
+                    }
+                }
+            }
+            _ => {
+                if let Some(text) = self.kept(text_of(alloc, reader)) {
+                    self.tell(&text.len());
+                }
+            }
+        }
+    }
 }

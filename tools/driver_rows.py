@@ -73,7 +73,8 @@ def filter_words(filter):
 def decisions_words(decisions):
     """Returns the numbers of decisions."""
     defaults = [" ".join(str(int(it, 0)) for it in word.split("=")) for word in decisions.defaults]
-    calls = [f"{number} {counted([f'{value} {rule_words(rule)}' for rule, value in rulings])}" for number, rulings in decisions.calls.items()]
+    calls = [f"{number} {counted([f'{value} {rule_words(rule)}' for rule, value in rulings])}"
+             for number, rulings in decisions.calls.items()]
     return f"{ARCHES.index(decisions.arch)} {counted(defaults)} {counted(calls)}"
 
 
@@ -89,7 +90,8 @@ def record_words(record):
 
 def code_words(text):
     """Returns the numbers of instructions."""
-    return counted([f"{code} {k} " + " ".join(map(str, distances or (0, 0))) for count, code, k, *distances in runs_of(text) for _ in range(count)])
+    return counted([" ".join(map(str, (code, k, *(distances or (0, 0))))) for count, code, k, *distances in runs_of(text)
+                    for _ in range(count)])
 
 
 def comparison_words(text):
@@ -100,7 +102,7 @@ def comparison_words(text):
 
 
 def as_it_is(told, _):
-    """Reads a text."""
+    """Reads a text, or numbers."""
     return told
 
 
@@ -130,17 +132,9 @@ def calls_in(told, _):
     return told if NUMBERS.sub("", told) else f"[{', '.join(told.split())}]"
 
 
-def architecture_in(told, _):
-    """Reads a name and a value."""
-    name, _, value = told.partition(" ")
-    return f"{name} {int(value):#010x}" if value.isdigit() else told
-
-
-number_in = in_numbers(str)
 value_in = in_numbers(lambda value, *_: f"{value:#010x}")
 outcome_in = in_numbers(lambda value, steps: f"{value:#010x} {steps}")
 facts_in = in_numbers(lambda high, low, *rest: "offsets {} {}, value {} {}, length {}".format(high, low, *rest))
-fields_in = in_numbers(lambda code, *rest: f"{code:#06x} " + " ".join(map(str, rest)))
 count_in = in_numbers(lambda length: f"{length} instructions")
 bytes_in = in_numbers(lambda length: f"{length} bytes")
 yes_in = in_words("yes", "no")
@@ -149,7 +143,7 @@ comparison_in = in_words("holds", "undecided", in_numbers(lambda *it: " and ".jo
 
 # What is asked of a filter or of decisions: the verb, from what stands in the row, and what reads the answer.
 OF_FILTER = {
-    "program_len": (lambda _: "length", number_in),
+    "program_len": (lambda _: "length", as_it_is),
     "copy": (lambda _: "copy", yes_in),
     "decide": (lambda rest: f"decide {record_words(rest)}", value_in),
     "to_bpf": (lambda _: "linear code", code_in),
@@ -175,16 +169,15 @@ OF_TEXT = {
     **{it: ("text", it, named_in) for it in ("programs_of", "policies_of", "filters_of", "read_filters")},
     "text_of": ("reader", "text_of", bytes_in),
     "repeats_key": ("text", "repeats_key", yes_in),
-    "make_seccomp_filter": ("entries", "length", number_in),
+    "make_seccomp_filter": ("entries", "length", as_it_is),
     "widened": ("entries", "widened", calls_in),
 }
-WITHOUT_ARCH = ("read_filters", "repeats_key")
 
 
 def of_text(call, rest, fault=""):
     """Returns the line about a text, or about a reader that fails so, and what reads the answer."""
     kind, verb, read = OF_TEXT[call]
-    arch, _, text = ("x86_64", "", rest) if call in WITHOUT_ARCH else rest.partition(" ")
+    arch, _, text = ("x86_64", "", rest) if call in ("read_filters", "repeats_key") else rest.partition(" ")
     return f"{kind} {ARCHES.index(arch)} {verb}{fault}\t{row_grammar.expanded(text)}", read
 
 
@@ -201,10 +194,10 @@ def of_row(kind, rest):
     if kind in ("code", "rule", "buffer"):
         return of_part(kind, rest)
     made = {
-        "architecture": (lambda: f"arch value\t{rest}", architecture_in),
+        "architecture": (lambda: f"arch value\t{rest}", as_it_is),
         "guard": (lambda: f"arch guard\t{rest}", code_in),
         "action": (lambda: f"action {action_words(row_grammar.action(rest))}", value_in),
-        "fields": (lambda: f"code {code_words(rest)}", fields_in),
+        "fields": (lambda: f"code {code_words(rest)}", as_it_is),
         "check": (lambda: f"code {code_words(rest)} check", check_in),
         "run": (lambda: f"code {code_words(first)} run {record_words(second)}", outcome_in),
         "install": (lambda: f"code {code_words(second)} install {first}", as_it_is),

@@ -15,10 +15,15 @@ def kit():
     return pathlib.Path(named or pathlib.Path(subprocess.check_output(["rt", "doc"], text=True).strip()).parent)
 
 
-def listed():
-    """Returns what crates.txt lists: of each crate whether it is a static library, and what it uses."""
-    rows = [row.partition(":") for row in (TOP / "crates.txt").read_text(encoding="utf-8").splitlines()]
+def crates_in(text):
+    """Returns what a text of the form of crates.txt lists: of each crate whether it is a static library, and what it uses."""
+    rows = [row.partition(":") for row in text.splitlines()]
     return {head.split()[0]: ("staticlib" in head.split(), uses.split()) for head, _, uses in rows}
+
+
+def listed():
+    """Returns what crates.txt lists."""
+    return crates_in((TOP / "crates.txt").read_text(encoding="utf-8"))
 
 
 def below(name, crates):

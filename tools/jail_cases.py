@@ -69,24 +69,14 @@ POLICIES = {
         "TIOCSTI of 32 bits": denying(when("ioctl", (1, "dword", "eq", TIOCSTI))),
         "request of 64 bits": denying(when("ioctl", (1, "qword", "eq", FIONREAD))),
         "request of 32 bits": denying(when("ioctl", (1, "dword", "eq", FIONREAD))),
-        "no execve": filter_of({"errno": 13}, "allow", "execve"),
-        "no write": filter_of("kill_process", "allow", "write"),
-        "no prctl": filter_of({"errno": 13}, "allow", "prctl"),
-        "no seccomp": filter_of({"errno": 13}, "allow", "seccomp"),
+        "no execve": filter_of({"errno": 13}, "allow", "execve"), "no write": filter_of("kill_process", "allow", "write"),
+        "no prctl": filter_of({"errno": 13}, "allow", "prctl"), "no seccomp": filter_of({"errno": 13}, "allow", "seccomp"),
         "seccomp as if done": filter_of({"errno": 0}, "allow", "seccomp"),
         "no memory to read": filter_of({"errno": 12}, "allow", when("read", (0, "dword", "eq", 0))),
         "nothing logged": filter_of({"errno": 13}, "allow", when("seccomp", (1, "dword", {"masked_eq": 2}, 2))),
     },
-    "one.json": {"the only": CALLS},
-    "--strict": {"the only": CALLS},
-    "empty": "",
-    "zero": bytes(8),
-    "zeros": bytes(8 * 4096),
-    "no-json.json": "{1}",
-    "no-text.json": b'{"\xff": 1}',
-    "list.json": [],
-    "repeated.json": '{"a":{"x":1,"x":1}}',
-    "shape.json": {"a": {}},
+    "one.json": {"the only": CALLS}, "--strict": {"the only": CALLS}, "empty": "", "zero": bytes(8), "zeros": bytes(8 * 4096),
+    "no-json.json": "{1}", "no-text.json": b'{"\xff": 1}', "list.json": [], "repeated.json": '{"a":{"x":1,"x":1}}', "shape.json": {"a": {}},
     "unknown-call.json": {"a": denying("nosyscall")},
     "no-conditions.json": {"a": denying({"syscall": "read", "args": []})},
     "index.json": {"a": denying(when("read", (6, "dword", "eq", 5)))},
@@ -110,11 +100,7 @@ LARGE = "The seccomp filter contains too many BPF instructions: {}. Max length i
 
 # The policy, the filter, and why the jailer refuses it: the library's text, or an error number.
 REFUSED = [
-    ("missing.json", "a", 2),
-    (".", "a", 21),
-    ("empty", "a", PARSING),
-    ("no-json.json", "a", PARSING),
-    ("no-text.json", "a", PARSING),
+    ("missing.json", "a", 2), (".", "a", 21), ("empty", "a", PARSING), ("no-json.json", "a", PARSING), ("no-text.json", "a", PARSING),
     ("list.json", "a", "the policy: expected an object of filters, found an empty array"),
     ("repeated.json", "a", "Repeated key in Json."),
     ("shape.json", "a", 'a: missing "mismatch_action" or "default_action"'),
@@ -127,9 +113,7 @@ REFUSED = [
     ("actions.json", b"\xff", NO_FILTER + "\\xff."),
     ("actions.json", "a\x1b]\u0085", NO_FILTER + "a\\x1b]\\xc2\\x85."),
     # Names are separated by commas, and the command isn't run if one of them is no filter's.
-    ("comma.json", "a,b", NO_FILTER + "b."),
-    ("comma.json", "a,", NO_FILTER + "."),
-    ("actions.json", "errno,dog", NO_FILTER + "dog."),
+    ("comma.json", "a,b", NO_FILTER + "b."), ("comma.json", "a,", NO_FILTER + "."), ("actions.json", "errno,dog", NO_FILTER + "dog."),
     ("actions.json", "dog,errno", NO_FILTER + "dog."),
     # No filter is installed before the next is compiled: this one would kill the jailer, which writes the line.
     ("actions.json", "no write,dog", NO_FILTER + "dog."),
@@ -168,9 +152,7 @@ CALLED = [
     ("errno 0,errno", "sched_yield", "errno 1: Operation not permitted\n", 0),
     ("errno,log", "sched_yield", "errno 1: Operation not permitted\n", 0),
     ("errno,trace", "sched_yield", "errno 1: Operation not permitted\n", 0),
-    ("errno,trap", "sched_yield", "", KILLED),
-    ("trap,errno", "sched_yield", "", KILLED),
-    ("kill_process,errno", "sched_yield", "", KILLED),
+    ("errno,trap", "sched_yield", "", KILLED), ("trap,errno", "sched_yield", "", KILLED), ("kill_process,errno", "sched_yield", "", KILLED),
     ("errno,kill_process,log", "sched_yield", "", KILLED),
     ("errno,errno 0,large errno,log", "sched_yield", "errno 1000: Unknown error 1000\n", 0),
     # The empty text is a name too.
@@ -188,11 +170,8 @@ FAKED = [f"errno {it}" for it, number in LARGE_ERRNOS.items() if number == 0]
 # Filters of actions.json that can't be installed one after the other: the first that isn't, and the call that fails,
 # which the jailer in Rust names. With --log the flags of `seccomp` have SECCOMP_FILTER_FLAG_LOG, which is 2.
 UNINSTALLED = [
-    ([], "no seccomp,errno", "errno", "seccomp"),
-    ([], "errno,no seccomp,errno 0,log", "errno 0", "seccomp"),
-    ([], "no prctl,errno", "errno", "prctl"),
-    ([], "no prctl,", "", "prctl"),
-    (["--log"], "nothing logged,errno", "errno", "seccomp"),
+    ([], "no seccomp,errno", "errno", "seccomp"), ([], "errno,no seccomp,errno 0,log", "errno 0", "seccomp"),
+    ([], "no prctl,errno", "errno", "prctl"), ([], "no prctl,", "", "prctl"), (["--log"], "nothing logged,errno", "errno", "seccomp"),
 ]
 
 # Other commands under a filter of actions.json: standard output, and the status.
@@ -265,12 +244,8 @@ READING = [
 
 # Commands that can't be run: the filter, the command, the status, and the error number.
 UNRUN = [
-    ("errno", "no-such-command", 127, 2),
-    ("errno", "./no-such-command", 127, 2),
-    ("errno", "", 127, 2),
-    ("errno", "./list.json", 126, 13),
-    ("errno", "/", 126, 13),
-    ("no execve", "{call}", 126, 13),
+    ("errno", "no-such-command", 127, 2), ("errno", "./no-such-command", 127, 2), ("errno", "", 127, 2), ("errno", "./list.json", 126, 13),
+    ("errno", "/", 126, 13), ("no execve", "{call}", 126, 13),
 ]
 
 # `uretprobe` and `uprobe`, and the releases from which on the kernel asks no filter about them (kernel/seccomp.c).
@@ -292,25 +267,10 @@ CAT_COMMANDS = [
     "sed s/1/2/ numbers", "ls",
 ]
 CAT_CALLS = [
-    ("openat 0 0 0", 14),
-    ("openat 0 0 0x80000", 14),
-    ("openat 0 0 1", 1),
-    ("openat 0 0 2", 1),
-    ("openat 0 0 0100", 1),
-    ("openat 0 0 01000", 1),
-    ("mmap 0 4096 7 0x22 -1", 1),
-    ("mmap 0 4096 3 0x22 -1", None),
-    ("mmap 0 4096 5 0x22 -1", None),
-    ("mprotect 0 0 7", 1),
-    ("mprotect 0 0 5", None),
-    ("mprotect 0 0 3", None),
-    ("fcntl 99 2", 9),
-    ("fcntl 99 4", 1),
-    ("prlimit64 0 99 1", 1),
-    ("socket 2 1", 1),
-    ("clone 17", 1),
-    ("kill 0 0", 1),
-    ("unlink", 1),
+    ("openat 0 0 0", 14), ("openat 0 0 0x80000", 14), ("openat 0 0 1", 1), ("openat 0 0 2", 1), ("openat 0 0 0100", 1),
+    ("openat 0 0 01000", 1), ("mmap 0 4096 7 0x22 -1", 1), ("mmap 0 4096 3 0x22 -1", None), ("mmap 0 4096 5 0x22 -1", None),
+    ("mprotect 0 0 7", 1), ("mprotect 0 0 5", None), ("mprotect 0 0 3", None), ("fcntl 99 2", 9), ("fcntl 99 4", 1),
+    ("prlimit64 0 99 1", 1), ("socket 2 1", 1), ("clone 17", 1), ("kill 0 0", 1), ("unlink", 1),
     # Numbers without a name, of which no list of what is allowed has one: `sched_yield` of x32, whose other number
     # is allowed, and a newer call.
     (str(X32_BIT + X32_CALLS["sched_yield"]), 1),
@@ -319,21 +279,9 @@ CAT_CALLS = [
 
 # Under examples/web-server-policy.json, whose refusal is error number 38.
 WEB_CALLS = [
-    ("socket 1 1", 38),
-    ("socket 2 2", 38),
-    ("socket 16 3", 38),
-    ("connect 99", 38),
-    ("sendto 99 0 0 0", 9),
-    ("sendto 99 0 0 0x20000000", 38),
-    ("sendmsg 99 0 0", 9),
-    ("sendmsg 99 0 0x20000000", 38),
-    ("clone 17", 38),
-    ("clone 0x40010000", 38),
-    ("clone3", 38),
-    ("openat 0 0 1", 38),
-    ("openat 0 0 0", 14),
-    ("bind 99", 9),
-    ("kill 0 0", 38),
+    ("socket 1 1", 38), ("socket 2 2", 38), ("socket 16 3", 38), ("connect 99", 38), ("sendto 99 0 0 0", 9),
+    ("sendto 99 0 0 0x20000000", 38), ("sendmsg 99 0 0", 9), ("sendmsg 99 0 0x20000000", 38), ("clone 17", 38), ("clone 0x40010000", 38),
+    ("clone3", 38), ("openat 0 0 1", 38), ("openat 0 0 0", 14), ("bind 99", 9), ("kill 0 0", 38),
 ]
 
 # What that policy doesn't tell apart from TCP: a socket of MPTCP. A kernel without it answers with another number.
@@ -367,9 +315,6 @@ print(subprocess.run(["echo", "a child"], capture_output=True, text=True).stdout
 # and the error number that it answers, or None if it is made.
 WRAPPED = [denying("sched_yield", "getpgid"), filter_of({"errno": 1001}, "allow", "sched_yield")]
 WRAPPED_CALLS = [
-    (["--seccomp"], "sched_yield", 1000),
-    (["--seccomp"] * 2, "sched_yield", 1001),
-    (["--seccomp"] * 2, "getpgid", None),
-    (["--add-seccomp-fd"] * 2, "sched_yield", 1001),
-    (["--add-seccomp-fd"] * 2, "getpgid", 1000),
+    (["--seccomp"], "sched_yield", 1000), (["--seccomp"] * 2, "sched_yield", 1001), (["--seccomp"] * 2, "getpgid", None),
+    (["--add-seccomp-fd"] * 2, "sched_yield", 1001), (["--add-seccomp-fd"] * 2, "getpgid", 1000),
 ]

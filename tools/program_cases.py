@@ -13,18 +13,9 @@ def reads(entry):
 
 # The files of the folder. A text or bytes stand as they are, anything else as JSON.
 FILES = {
-    "logs.json": {"a": LOGS},
-    "names.json": {"b": LOGS, "a\n\\": LOGS, "\u00b5": LOGS},
-    "no-filters.json": {},
-    "empty": "",
-    "no-json.json": "{a}",
-    "large-number.json": "1e999",
-    "comma.json": "[1,]",
-    "list.json": [],
-    "repeated.json": '{"a":{"x":1,"x":1}}',
-    "no-filter.json": {"a": {}},
-    "unknown-call.json": reads({"syscall": "nosyscall"}),
-    "no-conditions.json": reads({"args": []}),
+    "logs.json": {"a": LOGS}, "names.json": {"b": LOGS, "a\n\\": LOGS, "\u00b5": LOGS}, "no-filters.json": {}, "empty": "",
+    "no-json.json": "{a}", "large-number.json": "1e999", "comma.json": "[1,]", "list.json": [], "repeated.json": '{"a":{"x":1,"x":1}}',
+    "no-filter.json": {"a": {}}, "unknown-call.json": reads({"syscall": "nosyscall"}), "no-conditions.json": reads({"args": []}),
     "index.json": reads({"args": [{**READ, "index": 6}]}),
     "equal-actions.json": {"a": {**LOGS, "match_action": "log"}},
     "too-large.json": reads({"args": [READ] * 5000}),

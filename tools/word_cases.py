@@ -34,24 +34,10 @@ REFUSED = [
 
 # Words that are no command.
 OTHERS = [
-    [],
-    [""],
-    ["probe"],
-    probe("72", "1"),
-    probe("72", "1", "0", "0"),
-    probe("72", "1", "0", ""),
-    ["Probe", "x86_64", "72", "1", "0"],
-    ["probe ", "x86_64", "72", "1", "0"],
-    ["list", "x86_64", "72", "1", "0"],
-    ["x86_64", "72", "1", "0"],
-    ["list"],
-    ["list", "x86_64", "x86_64"],
-    ["List", "x86_64"],
-    ["probe", "x86_64"],
-    ["run", "x86_64", "policy.json"],
-    ["run", "x86_64", "policy.json", "a", "a"],
-    ["run", "x86_64"],
-    ["list", "x86_64", "policy.json", "a"],
+    [], [""], ["probe"], probe("72", "1"), probe("72", "1", "0", "0"), probe("72", "1", "0", ""), ["Probe", "x86_64", "72", "1", "0"],
+    ["probe ", "x86_64", "72", "1", "0"], ["list", "x86_64", "72", "1", "0"], ["x86_64", "72", "1", "0"], ["list"],
+    ["list", "x86_64", "x86_64"], ["List", "x86_64"], ["probe", "x86_64"], ["run", "x86_64", "policy.json"],
+    ["run", "x86_64", "policy.json", "a", "a"], ["run", "x86_64"], ["list", "x86_64", "policy.json", "a"],
     # What is no number, or one that its place doesn't hold.
     *(probe(it, "0", "0") for it in (
         "+1", "", "-", "--1", "-+1", "1-", " 1", "1 ", "0x1", "1_000", "१", "9223372036854775808",

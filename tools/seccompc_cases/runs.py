@@ -20,17 +20,10 @@ FILES = {"run-complex.json": COMPLEX, "run-logs.json": LOGS, "run-three.json": T
 # number, 2 past a chain of another number and 5 past that of ioctl; 2 into the call's chain and its first rule, those of the
 # conditions that are asked, a jump into each further rule, and the return.
 CALLS = [
-    (16, (0, 0, 12), "7fff0000 16\n"),
-    (16, (1, 0, 15), "7fff0000 26\n"),
-    (16, (0, 0, 39), "7fff0000 21\n"),
-    (16, (0, 0, 4294967336), "7fff0000 27\n"),
-    (28, (0, 0, 0), "7fff0000 21\n"),
-    (39, (0, 0, 0), "7fff0000 19\n"),
-    (16, (0, 0, 13), "000503e8 25\n"),
-    (16, (0, 0, 20), "000503e8 27\n"),
-    (16, (0, 0, 4294967337), "000503e8 27\n"),
-    (28, (0, 1, 0), "000503e8 19\n"),
-    (102, (0, 0, 0), "000503e8 25\n"),
+    (16, (0, 0, 12), "7fff0000 16\n"), (16, (1, 0, 15), "7fff0000 26\n"), (16, (0, 0, 39), "7fff0000 21\n"),
+    (16, (0, 0, 4294967336), "7fff0000 27\n"), (28, (0, 0, 0), "7fff0000 21\n"), (39, (0, 0, 0), "7fff0000 19\n"),
+    (16, (0, 0, 13), "000503e8 25\n"), (16, (0, 0, 20), "000503e8 27\n"), (16, (0, 0, 4294967337), "000503e8 27\n"),
+    (28, (0, 1, 0), "000503e8 19\n"), (102, (0, 0, 0), "000503e8 25\n"),
 ]
 RECORDS = b"".join(record_of(number, X86_64, *arguments) for number, arguments, _ in CALLS)
 LINES = "".join(line for _, _, line in CALLS)

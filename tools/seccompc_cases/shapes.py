@@ -15,11 +15,7 @@ NO_OBJECTS = ["null", "1", '"a"', "true", "[]"]
 
 # Texts with filters of wrong shape, and the least name of these.
 LEAST = [
-    ('{"a":{}}', "a"),
-    ('{"":{}}', ""),
-    ('{"b":{},"a":{}}', "a"),
-    ('{"a":{},"B":{}}', "B"),
-    ('{"ab":{},"b":{}}', "ab"),
+    ('{"a":{}}', "a"), ('{"":{}}', ""), ('{"b":{},"a":{}}', "a"), ('{"a":{},"B":{}}', "B"), ('{"ab":{},"b":{}}', "ab"),
     ('{"b":{},"a":' + EMPTY + "}", "b"),
 ]
 
@@ -51,12 +47,8 @@ NO_FILTERS = [
 
 # Values that are actions, and their words.
 ACTIONS = [
-    ('"allow"', ALLOW),
-    ('"kill_thread"', KILL_THREAD),
-    ('"kill_process"', KILL_PROCESS),
-    ('"trap"', TRAP),
-    ('{"errno":4294967295}', ERRNO + 0xFFFF),
-    ('{"trace":0}', TRACE),
+    ('"allow"', ALLOW), ('"kill_thread"', KILL_THREAD), ('"kill_process"', KILL_PROCESS), ('"trap"', TRAP),
+    ('{"errno":4294967295}', ERRNO + 0xFFFF), ('{"trace":0}', TRACE),
 ]
 
 # Pairs of actions of one word, which are not equal.
@@ -98,22 +90,13 @@ OF_ACTIONS = [
 
 # Entries without conditions.
 ENTRIES_WITHOUT = [
-    READS,
-    '{"syscall":"read","args":null}',
-    '{"syscall":"read","comment":null}',
-    '{"comment":"c","args":null,"syscall":"read"}',
+    READS, '{"syscall":"read","args":null}', '{"syscall":"read","comment":null}', '{"comment":"c","args":null,"syscall":"read"}',
 ]
 
 # Values that are no entries.
 NO_ENTRIES = [
-    '"read"',
-    "{}",
-    '{"syscall":1}',
-    '{"args":null}',
-    '{"syscall":"read","args":{}}',
-    '{"syscall":"read","args":[null]}',
-    '{"syscall":"read","comment":15}',
-    '{"syscall":"read","Args":[]}',
+    '"read"', "{}", '{"syscall":1}', '{"args":null}', '{"syscall":"read","args":{}}', '{"syscall":"read","args":[null]}',
+    '{"syscall":"read","comment":15}', '{"syscall":"read","Args":[]}',
 ]
 
 # Conditions whose index no call has, though it is one of a condition.
@@ -132,32 +115,20 @@ OF_5 = [
 
 # Values that are operators, and their code after the load of the argument, with the number 2.
 OPERATORS = [
-    ('"eq"', [jump_equal(2, 0, 1)]),
-    ('"ge"', [jump_at_least(2, 0, 1)]),
-    ('"gt"', [jump_greater(2, 0, 1)]),
-    ('"le"', [jump_greater(2, 1, 0)]),
-    ('"lt"', [jump_at_least(2, 1, 0)]),
-    ('"ne"', [jump_equal(2, 1, 0)]),
+    ('"eq"', [jump_equal(2, 0, 1)]), ('"ge"', [jump_at_least(2, 0, 1)]), ('"gt"', [jump_greater(2, 0, 1)]),
+    ('"le"', [jump_greater(2, 1, 0)]), ('"lt"', [jump_at_least(2, 1, 0)]), ('"ne"', [jump_equal(2, 1, 0)]),
     ('{"masked_eq":18446744073709551615}', [mask(4294967295), jump_equal(2, 0, 1)]),
 ]
 
 # Values that are no conditions; the other numbers that are none stand in numbers.py.
 NO_CONDITION = [
-    '{"index":0,"type":"dword","op":"eq","val":-1846}',
-    '{"index":0,"type":"dword","op":"eq","val":1846.4}',
-    '{"index":0,"type":"dword","op":"eq","val":5,"comment":15}',
-    '{"index":0,"type":"word","op":"eq","val":5}',
-    '{"index":0,"type":"dword","op":"EQ","val":5}',
-    '{"index":0,"type":"dword","op":"masked_eq","val":5}',
-    '{"index":0,"type":"dword","op":{"eq":null},"val":5}',
-    '{"index":0,"type":"dword","op":{},"val":5}',
+    '{"index":0,"type":"dword","op":"eq","val":-1846}', '{"index":0,"type":"dword","op":"eq","val":1846.4}',
+    '{"index":0,"type":"dword","op":"eq","val":5,"comment":15}', '{"index":0,"type":"word","op":"eq","val":5}',
+    '{"index":0,"type":"dword","op":"EQ","val":5}', '{"index":0,"type":"dword","op":"masked_eq","val":5}',
+    '{"index":0,"type":"dword","op":{"eq":null},"val":5}', '{"index":0,"type":"dword","op":{},"val":5}',
     '{"index":0,"type":"dword","op":{"masked_eq":1,"eq":null},"val":5}',
-    '{"index":0,"type":"dword","op":"eq"}',
-    '{"index":0,"type":"dword","val":5}',
-    '{"index":0,"op":"eq","val":5}',
-    '{"type":"dword","op":"eq","val":5}',
-    '{"index":0,"type":"dword","op":"eq","val":5,"mask":1}',
-    '[0,"dword","eq",5]',
+    '{"index":0,"type":"dword","op":"eq"}', '{"index":0,"type":"dword","val":5}', '{"index":0,"op":"eq","val":5}',
+    '{"type":"dword","op":"eq","val":5}', '{"index":0,"type":"dword","op":"eq","val":5,"mask":1}', '[0,"dword","eq",5]',
 ]
 
 
@@ -167,10 +138,8 @@ def compares(operator):
 
 
 CASES = [
-    *(told(it, NO_OBJECT) for it in NO_OBJECTS),
-    *(told(text, shape(name)) for text, name in LEAST),
-    *(told(under_a(it), shape()) for it in NO_FILTERS),
-    *OF_ACTIONS,
+    *(told(it, NO_OBJECT) for it in NO_OBJECTS), *(told(text, shape(name)) for text, name in LEAST),
+    *(told(under_a(it), shape()) for it in NO_FILTERS), *OF_ACTIONS,
     *(listed(policy_of(it), READ_ALWAYS) for it in ENTRIES_WITHOUT),
     told(policy_of(reads("")), NO_CONDITIONS),
     *(told(policy_of(it), shape()) for it in NO_ENTRIES),

@@ -11,28 +11,14 @@ from .policy_texts import (
 # The fronts of a text, and other texts that are no JSON, beside those of tools/program_cases.py.
 FRONTS = [POLICY[:length] for length in range(1, len(POLICY))]
 NO_JSON = [
-    "hjkln",
-    "{a}",
-    POLICY + " x",
-    "{}{}",
-    b'{"\xff":' + EMPTY.encode() + b"}",
-    "[" * 128 + "]" * 128,
-    "[" * 10_000 + "]" * 10_000,
+    "hjkln", "{a}", POLICY + " x", "{}{}", b'{"\xff":' + EMPTY.encode() + b"}", "[" * 128 + "]" * 128, "[" * 10_000 + "]" * 10_000,
     under_a("[" * 127 + "]" * 127),
 ]
 
 # The ten names of `POLICY`, each with its value.
 PARTS = [
-    '"a":' + filter_of(COMPARES),
-    '"mismatch_action":"trap"',
-    '"match_action":"allow"',
-    '"filter":[' + COMPARES + "]",
-    '"syscall":"read"',
-    '"args":[' + EQUALS_5 + "]",
-    '"index":0',
-    '"type":"dword"',
-    '"op":"eq"',
-    '"val":5',
+    '"a":' + filter_of(COMPARES), '"mismatch_action":"trap"', '"match_action":"allow"', '"filter":[' + COMPARES + "]", '"syscall":"read"',
+    '"args":[' + EQUALS_5 + "]", '"index":0', '"type":"dword"', '"op":"eq"', '"val":5',
 ]
 
 REPEATS = [
@@ -52,19 +38,9 @@ REPEATS = [
 
 # Names as texts write them, and as `list` does.
 NAMES = [
-    ("", ""),
-    (" ", " "),
-    (r"\u0000", r"\x00"),
-    (r"\n", r"\x0a"),
-    (r"\\", r"\x5c"),
-    (r"\"\\\/\b\f\n\r\t", r'"\x5c/\x08\x0c\x0a\x0d\x09'),
-    (r"\u0041", "A"),
-    ("\u00e9\u20ac", "\u00e9\u20ac"),
-    ("\U0001f512", "\U0001f512"),
-    (r"\ud83d\udd12", "\U0001f512"),
-    (r"\uffff", "\uffff"),
-    ("\u007f", r"\x7f"),
-    ("a" * 100_000, "a" * 100_000),
+    ("", ""), (" ", " "), (r"\u0000", r"\x00"), (r"\n", r"\x0a"), (r"\\", r"\x5c"), (r"\"\\\/\b\f\n\r\t", r'"\x5c/\x08\x0c\x0a\x0d\x09'),
+    (r"\u0041", "A"), ("\u00e9\u20ac", "\u00e9\u20ac"), ("\U0001f512", "\U0001f512"), (r"\ud83d\udd12", "\U0001f512"),
+    (r"\uffff", "\uffff"), ("\u007f", r"\x7f"), ("a" * 100_000, "a" * 100_000),
 ]
 
 # Names that are no JSON strings.
@@ -72,12 +48,7 @@ NO_NAMES = ["\n", "\0", r"\x41", r"\u004", r"\ud83d", r"\udd12\ud83d", r"\ud83d\
 
 # Names as texts write them, and as they are, of which none is a call's.
 NO_CALLS = [
-    ("", ""),
-    ("Read", "Read"),
-    ("read ", "read "),
-    (r"read\u0000", "read\0"),
-    (r"\nread", "\nread"),
-    (r"re\\ad", "re\\ad"),
+    ("", ""), ("Read", "Read"), ("read ", "read "), (r"read\u0000", "read\0"), (r"\nread", "\nread"), (r"re\\ad", "re\\ad"),
     ("\U0001f512", "\U0001f512"),
 ]
 

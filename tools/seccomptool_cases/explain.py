@@ -39,19 +39,13 @@ CONDITIONS = ",".join(['{"index":0,"type":"qword","op":"eq","val":1}'] * 1025)
 MANY_CONDITIONS = '{"a":{"mismatch_action":"log","match_action":"allow","filter":[{"syscall":"read","args":[' + CONDITIONS + "]}]}}"
 
 FILES = {
-    "explained.json": POLICY,
-    "explained-logs.json": LOGS,
-    "near.json": NEAR,
-    "opens.json": OPENS,
-    "many-conditions.json": MANY_CONDITIONS,
+    "explained.json": POLICY, "explained-logs.json": LOGS, "near.json": NEAR, "opens.json": OPENS, "many-conditions.json": MANY_CONDITIONS,
 }
 
 # Calls of x86_64 by their numbers and first three arguments, and the lines of the policy on them.
 LINES = [
-    (288, (0, 0, 0), "allow: a.filter[0] of accept4 (288)\n"),
-    (72, (9, 2, 1), "allow: a.filter[1] of fcntl (72)\n"),
-    (72, (9, 1, 1), "allow: a.filter[2] of fcntl (72)\n"),
-    (72, (9, 2, 0), "allow: a.filter[5] of fcntl (72)\n"),
+    (288, (0, 0, 0), "allow: a.filter[0] of accept4 (288)\n"), (72, (9, 2, 1), "allow: a.filter[1] of fcntl (72)\n"),
+    (72, (9, 1, 1), "allow: a.filter[2] of fcntl (72)\n"), (72, (9, 2, 0), "allow: a.filter[5] of fcntl (72)\n"),
     (72, (9, 3, 1), "errno 1 (EPERM): no match: a.filter[1].args[0] of fcntl (72) does not hold, the nearest of 3 entries\n"),
     (3, (3, 0, 0), "allow: a.filter[3] of close (3)\n"),
     (3, (2, 0, 0), "allow: a.filter[4] of close (3)\n"),

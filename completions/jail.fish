@@ -1,68 +1,123 @@
 # Completions of jail for fish: install it in a folder of $fish_complete_path.
-# SPDX-License-Identifier: Apache-2.0 OR BSD-3-Clause
+# Made by tools/make-man. SPDX-License-Identifier: Apache-2.0 OR BSD-3-Clause
 
-# Prints what the word is that is completed: an option, `own` for one of a profile, a file, a value or filters; or `command` and the
-# number of words before the command.
-function __jail_word
-    set -l words (commandline -opc)[2..]
-    set -l all (count $words)
-    while contains -- "$words[1]" --tree --log --close-fds
-        set -e words[1]
+set -g __jail_rows '|--tree||compile the policy\'s filters in the tree layout' \
+    '|--log||log calls that aren\'t allowed, including those with an errno' \
+    '|--close-fds||close the descriptors above 2; else the command inherits them' \
+    '|--help||print this' \
+    '|--version||print the version' \
+    '|--|#3|' \
+    '|#1|<files>|' \
+    '|#2|<filters>|' \
+    '|#3|<command>|' \
+    '|--program|=--program|' \
+    '--program|--|#2|' \
+    '--program|#1|<files>|' \
+    '--program|#2|<command>|' \
+    '|--oci|=--oci|' \
+    '--oci|--|#2|' \
+    '--oci|--cap|<>|' \
+    '--oci|--kernel|<>|' \
+    '--oci|--runtime|<>|' \
+    '--oci|#1|<files>|' \
+    '--oci|#2|<command>|'
+
+# Prints what is completed for a command's option or argument; fails if it has none of this name.
+function __jail_row
+    for row in $__jail_rows
+        string split -m 3 '|' -- $row | read -L of name takes text
+        test "x$of" = "x$argv[1]"; and test "x$name" = "x$argv[2]"; and echo -- $takes; and return
     end
-    set -l own 2
-    set -l option option
-    if contains -- "$words[1]" --program --oci
-        set own 1
-        set option file
-        test $words[1] = --oci; and set option own
-        set -e words[1]
-        while test $option = own; and contains -- "$words[1]" --cap --kernel --runtime
-            test (count $words) -eq 1; and echo value; and return
-            set -e words[1..2]
+    return 1
+end
+
+# Prints what is completed, by the words before it: first what the command has, then what stands at this place.
+function __jail_complete
+    set -l current (commandline -ct)
+    set -l words
+    for word in (commandline -opc)[2..]
+        string match -rq -- '^(?<front>--[^=]+)=(?<rest>.*)' $word; and set -a words $front = $rest; or set -a words $word
+    end
+    set -l front
+    if string match -rq -- '^(?<front>--[^=]+=)(?<rest>.*)' $current
+        set -a words (string trim -rc = -- $front)
+        set current $rest
+    end
+    set -l count 0
+    set -l place 1
+    set -l command ''
+    set -l argument
+    set -l options yes
+    set -l takes ''
+    set -l offset 0
+    set -l row
+    for word in $words
+        set count (math $count + 1)
+        if test "x$word" = x=
+            continue
+        else if test -n "$takes"
+            set takes ''
+        else if test "x$word" = x--; and set row (__jail_row $command --)
+            test $place -eq 1; or set place (string sub -s 2 -- $row)
+            set options
+        else if test -n "$options"; and set row (__jail_row $command $word)
+            string match -q '=*' -- $row; and set command (string sub -s 2 -- $row); or set takes $row
+        else if test -z "$options"; or not string match -q -- '-?*' $word
+            test "$(__jail_row $command "#$place")" = '<command>'; and set offset $count; and break
+            set argument $word
+            set place (math $place + 1)
+            __jail_row $command -- >/dev/null; and set options
         end
-    else if test "$words[1]" = --
-        set -e words[1]
-        set option file
     end
-    switch (count $words)
-        case 0
-            string match -q -- '-*' (commandline -ct); and echo $option; or echo file
-        case 1
-            test $own -eq 2; and echo filters; and return
-            echo command (math 1 + $all)
-        case '*'
-            set -l front $words[(math $own + 1)]
-            echo command (math 1 + $all - (count $words) + $own + (test "$front" = --; and echo 1; or echo 0))
+    if test -n "$takes"
+        set options
+    else
+        set takes (__jail_row $command "#$place"; or __jail_row $command '#+')
+    end
+    test "$takes" = '<command>' -a $offset -eq 0; and set offset (math $count + 1)
+    for row in $__jail_rows
+        string split -m 3 '|' -- $row | read -L of name it text
+        test -n "$options" -a "x$of" = "x$command"; and not string match -q '*#*' -- $name$it
+        and begin
+            string match -q -- '-*' $current; or not string match -q -- '-*' $name
+        end
+        and printf '%s\t%s\n' $name $text
+    end
+    for it in (string split -n ' ' -- $takes)
+        switch $it
+            case '<files>'
+                __fish_complete_path $current | string replace -r -- '^' "$front"
+            case '<command>'
+                set -l all (commandline -opc)[(math $offset + 1)..]
+                test (count $all) -eq 0; and __fish_complete_command
+                or complete -C"$(string join ' ' -- (string escape -- $all) (commandline -ct))"
+            case '<>'
+                return
+            case '<*>'
+                __jail_list $it $argument | string replace -r -- '^' "$front"
+            case '*'
+                echo -- "$front$it"
+        end
     end
 end
 
-function __jail_is
-    test "$(__jail_word | string split -f 1 ' ')" = $argv[1]
+# Prints the program of a name, if it is no script. The script at the top of the repository would prove and build it first.
+function __jail_program
+    set -l program (command -s -- $argv[1])
+    set -l built (path dirname -- $program)/crates/jail/out/jail
+    test -n "$program" -a -x "$built"; and set program $built
+    test -n "$program"; and test (head -c 2 -- $program | string collect) != '#!'; and echo -- $program
 end
 
-# Prints the filters of the policy, after those that are named already. The seccomptool beside the program lists them, or that of the
-# path. Names with a comma can't be named, and those with a backslash stand for other bytes.
-function __jail_filters
-    set -l words (commandline -opc)
-    set -l program (command -s -- $words[1])
+# Prints the filters of the policy, after those that are named already. The seccomptool beside the program lists them, or that of the path.
+# Names with a comma can't be named, and those with a backslash stand for other bytes.
+function __jail_list
+    set -l program (command -s -- (commandline -opc)[1])
     set -l tool (path dirname -- $program)/seccomptool
     test -n "$program" -a -x "$tool"; or set tool (command -s seccomptool)
-    test -n "$tool" -a -f "$words[-1]"; and test (head -c 2 -- $tool | string collect) != '#!'; or return
+    test -n "$tool" -a -f "$argv[2]"; and test (head -c 2 -- $tool | string collect) != '#!'; or return
     set -l front (string match -r -- '.*,' (commandline -ct))
-    $tool show --stats -- $words[-1] 2>/dev/null | sed -n '/[\\\\,]/d; s/^filter //p' | string replace -r -- '^' "$front"
+    $tool show --stats -- $argv[2] 2>/dev/null | sed -n '/[\\\\,]/d; s/^filter //p' | string replace -r -- '^' "$front"
 end
 
-# Prints what is completed for the command, by its own completions.
-function __jail_command
-    set -l words (commandline -opc)
-    set -l first (math (__jail_word | string split -f 2 ' ') + 1)
-    test $first -gt (count $words); and __fish_complete_command; and return
-    complete -C"$(string join ' ' -- (string escape -- $words[$first..]) (commandline -ct))"
-end
-
-complete -c jail -f
-complete -c jail -n '__jail_is option' -a '--tree --log --close-fds --program --oci --help --version'
-complete -c jail -n '__jail_is own' -a '--cap --kernel --runtime'
-complete -c jail -n '__jail_is file' -F
-complete -c jail -n '__jail_is filters' -a '(__jail_filters)'
-complete -c jail -n '__jail_is command' -a '(__jail_command)'
+complete -c jail -f -a '(__jail_complete)'

@@ -95,13 +95,9 @@ def on_errno(codes, number, answered):
 BY_OTHERS = ["condition-evaded"] * 4
 
 WARNED = {
-    "errno 0": on_errno(["fake-success"], 0, 0),
-    "errno 65536": on_errno(["fake-success", "errno-too-large"], 65536, 0),
-    "errno 1000": on_errno([], 1000, 1000),
-    "errno 4095": on_errno([], 4095, 4095),
-    "errno 4096": on_errno(["errno-too-large"], 4096, 4095),
-    "errno 70000": on_errno(["errno-too-large"], 70000, 4095),
-    "errno 4": on_errno(["endless-retry"], 4, 4),
+    "errno 0": on_errno(["fake-success"], 0, 0), "errno 65536": on_errno(["fake-success", "errno-too-large"], 65536, 0),
+    "errno 1000": on_errno([], 1000, 1000), "errno 4095": on_errno([], 4095, 4095), "errno 4096": on_errno(["errno-too-large"], 4096, 4095),
+    "errno 70000": on_errno(["errno-too-large"], 70000, 4095), "errno 4": on_errno(["endless-retry"], 4, 4),
     "errno 65537": on_errno(["errno-too-large"], 65537, 1),
     "trace": Shown(["trace-without-tracer"], filter_of({"trace": 1}, "allow", "sched_yield"), [("sched_yield", answer_of(38))]),
     "errno 38": Shown([], filter_of({"errno": 38}, "allow", "sched_yield"), [("sched_yield", answer_of(38))]),

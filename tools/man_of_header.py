@@ -116,10 +116,8 @@ def page(version, seconds, licence):
         f".SH NAME\n{', '.join(names)} \\- {escaped(about)}\n",
         ".SH SYNOPSIS\n", verbatim(["#include <seccompiler.h>"]), *(f".PP\n{hanging(it)}" for it in declarations),
         ".PP\n", escaped("cc program.c $(pkg-config --cflags --libs seccompiler)"), "\n",
-        ".SH DESCRIPTION\n", running(first[1:]).removeprefix(".PP\n"), text,
-        ".SH STRUCTURES\n", structures(found).removeprefix(".PP\n"),
-        ".SH CONSTANTS\n", defined(found, False),
-        ".SH ERRORS\n", defined(found, True),
+        ".SH DESCRIPTION\n", running(first[1:]).removeprefix(".PP\n"), text, ".SH STRUCTURES\n", structures(found).removeprefix(".PP\n"),
+        ".SH CONSTANTS\n", defined(found, False), ".SH ERRORS\n", defined(found, True),
         *(f".SH {heading}\n" + (verbatim(textwrap.dedent("\n".join(lines)).splitlines()) if heading == "EXAMPLE" else running(lines).removeprefix(".PP\n"))
           for heading, lines in sections.items()),
         ".SH SEE ALSO\n.BR seccomptool (1),\n.BR seccompc (1),\n.BR seccomp (2)\n",

@@ -19,10 +19,8 @@ def check_hardening(results, path, tools=""):
     flags = re.search(r"\(FLAGS_1\)(.*)$", text, re.M)
     marks = {
         "loaded at any address": re.search(r"^ *Type: +DYN ", text, re.M) and flags and "PIE" in flags[1],
-        "bound before it starts": flags and "NOW" in flags[1],
-        "relocations read-only": "GNU_RELRO" in text,
-        "a guarded stack": "__stack_chk_fail" in symbols,
-        "checked functions": any(it.endswith("_chk") for it in symbols),
+        "bound before it starts": flags and "NOW" in flags[1], "relocations read-only": "GNU_RELRO" in text,
+        "a guarded stack": "__stack_chk_fail" in symbols, "checked functions": any(it.endswith("_chk") for it in symbols),
         "a shadow stack": tools or "SHSTK" in "\n".join(told(["readelf", "-nW", path])),
     }
     results.compare(f"{path.name} isn't hardened by", [], [what for what, holds in marks.items() if not holds])

@@ -16,11 +16,8 @@ FILES = {
     "logs.json": {"a": LOGS}, "names.json": {"b": LOGS, "a\n\\": LOGS, "\u00b5": LOGS}, "no-filters.json": {}, "empty": "",
     "no-json.json": "{a}", "large-number.json": "1e999", "comma.json": "[1,]", "list.json": [], "repeated.json": '{"a":{"x":1,"x":1}}',
     "no-filter.json": {"a": {}}, "unknown-call.json": reads({"syscall": "nosyscall"}), "no-conditions.json": reads({"args": []}),
-    "index.json": reads({"args": [{**READ, "index": 6}]}),
-    "equal-actions.json": {"a": {**LOGS, "match_action": "log"}},
-    "too-large.json": reads({"args": [READ] * 5000}),
-    "63-bytes": bytes(63),
-    "65-bytes": bytes(65),
+    "index.json": reads({"args": [{**READ, "index": 6}]}), "equal-actions.json": {"a": {**LOGS, "match_action": "log"}},
+    "too-large.json": reads({"args": [READ] * 5000}), "63-bytes": bytes(63), "65-bytes": bytes(65),
 }
 
 # What `list` writes for the filter that logs each call, under a name; and what `run` writes for it on
@@ -61,14 +58,10 @@ CASES = [
     ("run x86_64 too-large.json b < 63-bytes", 1, "", LARGE),
     ("run x86_64 no-filters.json '' < examples/records.bin", 1, "", "No filter has this name: .\n"),
     # Files and inputs that can't be opened or read.
-    ("run x86_64 missing.json a < empty", 1, "", UNOPENED),
-    ("run x8664 missing.json a < empty", 1, "", UNOPENED),
-    ("run x86_64 examples a < empty", 1, "", UNREAD),
-    ("run x86_64 logs.json a < examples", 1, "", "Error reading input.\n"),
-    ("probe x86_64 1 1 1 < examples", 1, "", "Error reading input.\n"),
-    ("list x86_64 < examples", 1, "", UNREAD),
-    ("list x86_64 <&-", 1, "", UNREAD),
-    ("probe x86_64 1 1 1 <&-", 1, "", "Error reading input.\n"),
+    ("run x86_64 missing.json a < empty", 1, "", UNOPENED), ("run x8664 missing.json a < empty", 1, "", UNOPENED),
+    ("run x86_64 examples a < empty", 1, "", UNREAD), ("run x86_64 logs.json a < examples", 1, "", "Error reading input.\n"),
+    ("probe x86_64 1 1 1 < examples", 1, "", "Error reading input.\n"), ("list x86_64 < examples", 1, "", UNREAD),
+    ("list x86_64 <&-", 1, "", UNREAD), ("probe x86_64 1 1 1 <&-", 1, "", "Error reading input.\n"),
     ("run x86_64 logs.json a <&-", 1, "", "Error reading input.\n"),
     # Outputs that take nothing. If nothing is to be written, nothing fails.
     ("list x86_64 < logs.json > /dev/full", 1, "", UNWRITTEN),

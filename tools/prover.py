@@ -63,12 +63,7 @@ def words(name):
 def run(command, name, more, folder):
     """Runs a command of the prover in a crate's folder, and returns how it ended and what it said."""
     ran = subprocess.run(
-        [kit() / "bin/rattle", command, *words(name), *more],
-        cwd=folder,
-        check=False,
-        stdin=subprocess.DEVNULL,
-        stdout=subprocess.PIPE,
-        stderr=subprocess.STDOUT,
-        errors="replace",
+        [kit() / "bin/rattle", command, *words(name), *more], cwd=folder, check=False, stdin=subprocess.DEVNULL, stdout=subprocess.PIPE,
+        stderr=subprocess.STDOUT, errors="replace",
     )
     return ran.returncode, ran.stdout

@@ -15,8 +15,7 @@ from .policy_texts import (
 
 OF_IOCTL = [
     [load(32), jump_equal(13, 3, 0), load(32), jump_greater(14, 1, 0)],
-    [load(32), jump_at_least(40, 3, 0), load(32), jump_greater(20, 0, 1)],
-    [load(32), jump_equal(15, 0, 3), load(16), jump_equal(1, 0, 1)],
+    [load(32), jump_at_least(40, 3, 0), load(32), jump_greater(20, 0, 1)], [load(32), jump_equal(15, 0, 3), load(16), jump_equal(1, 0, 1)],
     [load(36), jump_equal(1, 0, 3), load(32), jump_equal(40, 0, 1)],
 ]
 OF_MADVISE = [load(24), jump_equal(0, 0, 3), load(16), jump_equal(0, 0, 1)]

@@ -19,12 +19,9 @@ AS_POLICY = (
 
 # An architecture, a call number and an index, and the first fault of these.
 FAULTS = [
-    ("x86_64", 72, 6, "Backend error: " + INDEX),
-    ("x86_64", 72, 255, "Backend error: " + INDEX),
-    ("x86_64", -1, 6, "Backend error: " + INDEX),
-    ("x8664", 72, 1, NO_ARCHITECTURE),
-    ("X8664", -1, 6, "Backend error: Invalid target arch: X8664.\n"),
-    ("x86_64", -1, 0, "Backend error: Invalid syscall number: -1.\n"),
+    ("x86_64", 72, 6, "Backend error: " + INDEX), ("x86_64", 72, 255, "Backend error: " + INDEX),
+    ("x86_64", -1, 6, "Backend error: " + INDEX), ("x8664", 72, 1, NO_ARCHITECTURE),
+    ("X8664", -1, 6, "Backend error: Invalid target arch: X8664.\n"), ("x86_64", -1, 0, "Backend error: Invalid syscall number: -1.\n"),
     ("AARCH64", 4294967296, 0, "Backend error: Invalid syscall number: 4294967296.\n"),
 ]
 

@@ -21,13 +21,9 @@ LEAST = [
 
 # Values that are no filters.
 NO_FILTERS = [
-    "[]",
-    '{"match_action":"allow","mismatch_action":"log"}',
-    '{"match_action":"allow","mismatch_action":"log","filters":[]}',
-    '{"match_action":"allow","mismatch_action":"logs","filter":[]}',
-    '{"match_action":"allow","mismatch_action":"errno","filter":[]}',
-    '{"match_action":"allow","mismatch_action":"Log","filter":[]}',
-    '{"match_action":{"allow":null},"mismatch_action":"log","filter":[]}',
+    "[]", '{"match_action":"allow","mismatch_action":"log"}', '{"match_action":"allow","mismatch_action":"log","filters":[]}',
+    '{"match_action":"allow","mismatch_action":"logs","filter":[]}', '{"match_action":"allow","mismatch_action":"errno","filter":[]}',
+    '{"match_action":"allow","mismatch_action":"Log","filter":[]}', '{"match_action":{"allow":null},"mismatch_action":"log","filter":[]}',
     '{"match_action":{"errno":4294967296},"mismatch_action":"log","filter":[]}',
     '{"match_action":{"errno":1,"trace":1},"mismatch_action":"log","filter":[]}',
     '{"match_action":{},"mismatch_action":"log","filter":[]}',
@@ -35,10 +31,8 @@ NO_FILTERS = [
     '{"match_action":"allow","mismatch_action":"log","default_action":"log","filter":[]}',
     '{"match_action":"allow","filter":[]}',
     '{"match_action":"allow","mismatch_action":"log","filter":[],"comment":"c"}',
-    '{"default_action":"allow","filter_action":"logs","filter":[]}',
-    '{"default_action":"logs","filter_action":"allow","filter":[]}',
-    '{"match_action":"allow","mismatch_action":"log","filter":{}}',
-    '{"match_action":"allow","mismatch_action":"log","filter":null}',
+    '{"default_action":"allow","filter_action":"logs","filter":[]}', '{"default_action":"logs","filter_action":"allow","filter":[]}',
+    '{"match_action":"allow","mismatch_action":"log","filter":{}}', '{"match_action":"allow","mismatch_action":"log","filter":null}',
     # The same with spaces.
     ' {"match_action": "allow", "mismatch_action":"log"}',
     ' {"match_action": "allow", "mismatch_action":"log", "filters": []}',
@@ -139,12 +133,9 @@ def compares(operator):
 
 CASES = [
     *(told(it, NO_OBJECT) for it in NO_OBJECTS), *(told(text, shape(name)) for text, name in LEAST),
-    *(told(under_a(it), shape()) for it in NO_FILTERS), *OF_ACTIONS,
-    *(listed(policy_of(it), READ_ALWAYS) for it in ENTRIES_WITHOUT),
-    told(policy_of(reads("")), NO_CONDITIONS),
-    *(told(policy_of(it), shape()) for it in NO_ENTRIES),
-    *(told(policy_of(reads(it)), INDEX) for it in ABOVE_5),
-    *(listed(policy_of(reads(it)), program((0, code))) for it, code in OF_5),
+    *(told(under_a(it), shape()) for it in NO_FILTERS), *OF_ACTIONS, *(listed(policy_of(it), READ_ALWAYS) for it in ENTRIES_WITHOUT),
+    told(policy_of(reads("")), NO_CONDITIONS), *(told(policy_of(it), shape()) for it in NO_ENTRIES),
+    *(told(policy_of(reads(it)), INDEX) for it in ABOVE_5), *(listed(policy_of(reads(it)), program((0, code))) for it, code in OF_5),
     *(listed(compares(it), program((0, [load(24), *code]))) for it, code in OPERATORS),
     *(told(policy_of(reads(it)), shape()) for it in NO_CONDITION),
 ]

@@ -22,10 +22,8 @@ PARTS = [
 ]
 
 REPEATS = [
-    *(replaced(part, f"{part},{part}") for part in PARTS),
-    replaced('"trap"', '{"errno":1,"errno":1}'),
-    replaced('"eq"', '{"masked_eq":1,"masked_eq":1}'),
-    policy_of(reads('{"index":0,"index":0,"type":"dword","op":"eq","val":1}')),
+    *(replaced(part, f"{part},{part}") for part in PARTS), replaced('"trap"', '{"errno":1,"errno":1}'),
+    replaced('"eq"', '{"masked_eq":1,"masked_eq":1}'), policy_of(reads('{"index":0,"index":0,"type":"dword","op":"eq","val":1}')),
     '{"thread_1":' + EMPTY + ',"thread_1":' + EMPTY + "}",
     # A name that is spelled in two ways is the same name.
     '{"a":' + EMPTY + r',"\u0061":' + EMPTY + "}",
@@ -77,8 +75,6 @@ CASES = [
     *(told(text, REPEATED) for text in REPEATS),
     listed(replaced('"index":0', r'"index":0,"comment":"a:\"b:"'), READ_5),
     # Names of filters and of calls.
-    *(listed(named(name), TRAPS, written) for name, written in NAMES),
-    *(told(named(name), UNPARSED) for name in NO_NAMES),
-    *(told(calling(name), unknown(read)) for name, read in NO_CALLS),
-    listed(calling(r"re\u0061d"), READ_ALWAYS),
+    *(listed(named(name), TRAPS, written) for name, written in NAMES), *(told(named(name), UNPARSED) for name in NO_NAMES),
+    *(told(calling(name), unknown(read)) for name, read in NO_CALLS), listed(calling(r"re\u0061d"), READ_ALWAYS),
 ]

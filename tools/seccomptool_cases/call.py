@@ -32,8 +32,7 @@ CASES = [
     *[writes(f"call --record {call} 3 4294967298 0 0 0 0x0123456789abcdef", "", FCNTL) for call in ("fcntl", "72", "0x48")],
     # It takes the call of its architecture.
     writes("call --record -a aarch64 close", "", record_of(57, AARCH64)),
-    writes("call --record close --arch riscv64", "", record_of(57, RISCV64)),
-    writes("call --record close", "", record_of(3, X86_64)),
+    writes("call --record close --arch riscv64", "", record_of(57, RISCV64)), writes("call --record close", "", record_of(3, X86_64)),
     writes("call --record 4294967295", "", record_of(4294967295, X86_64)),
     writes("call --record 0xffffffff 1 0x2", "", record_of(0xFFFF_FFFF, X86_64, 1, 2)),
     # What is no call.

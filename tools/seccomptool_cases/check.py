@@ -107,10 +107,8 @@ FRACTIONS = [
 
 # Values that are longer than a line: their front, and how many bytes they have as JSON, the quotes among them.
 LONG = [
-    ("x" * 78, '"' + "x" * 78 + '"'),
-    ("x" * 79, '"' + "x" * 56 + " .. (81 bytes)"),
-    ("\u00e9" * 40, '"' + "\u00e9" * 28 + " .. (82 bytes)"),
-    ("\u20ac" * 2000, '"' + "\u20ac" * 19 + " .. (6002 bytes)"),
+    ("x" * 78, '"' + "x" * 78 + '"'), ("x" * 79, '"' + "x" * 56 + " .. (81 bytes)"),
+    ("\u00e9" * 40, '"' + "\u00e9" * 28 + " .. (82 bytes)"), ("\u20ac" * 2000, '"' + "\u20ac" * 19 + " .. (6002 bytes)"),
     ("x" * 4194304, '"' + "x" * 56 + " .. (4194306 bytes)"),
 ]
 
@@ -194,23 +192,9 @@ IN_A_CONDITION = [
 SUGGESTIONS = [
     unknown(entries('{"syscall":"%s"}' % name), "a.filter[0].syscall", f'"{name}"', near)
     for name, near in [
-        ("fnctl", "fcntl"),
-        ("fstatat", "newfstatat"),
-        ("send", "sendto"),
-        ("READ", None),
-        ("re", None),
-        ("red", "read"),
-        ("dup4", "dup"),
-        ("getpidd", "getpid"),
-        ("rt_sigretrun", "rt_sigreturn"),
-        ("clock_nano_sleeep", "clock_nanosleep"),
-        ("exit-group", "exit_group"),
-        ("open64", "open"),
-        ("socketts2", "socket"),
-        ("brk12", None),
-        ("oepn64", None),
-        ("", None),
-        ("x" * 65, None),
+        ("fnctl", "fcntl"), ("fstatat", "newfstatat"), ("send", "sendto"), ("READ", None), ("re", None), ("red", "read"), ("dup4", "dup"),
+        ("getpidd", "getpid"), ("rt_sigretrun", "rt_sigreturn"), ("clock_nano_sleeep", "clock_nanosleep"), ("exit-group", "exit_group"),
+        ("open64", "open"), ("socketts2", "socket"), ("brk12", None), ("oepn64", None), ("", None), ("x" * 65, None),
     ]
 ]
 
@@ -247,42 +231,28 @@ NO_FILTER = "".join(f"{TOOL}no-filter.json: {where}: {what}\n" for where, what i
 NO_JSON = [
     rejects("check", text, f"line {line}, column {column}: invalid JSON: {what}\n")
     for text, line, column, what in [
-        ("", 1, 1, "expected a value, found the end of the text"),
-        (" \n ", 2, 2, "expected a value, found the end of the text"),
+        ("", 1, 1, "expected a value, found the end of the text"), (" \n ", 2, 2, "expected a value, found the end of the text"),
         ("{", 1, 2, 'expected a name in quotes or "}", found the end of the text'),
-        ('{"a"', 1, 5, 'expected ":", found the end of the text'),
-        ('{"a":', 1, 6, "expected a value, found the end of the text"),
-        ('{"a":1', 1, 7, 'expected "," or "}", found the end of the text'),
-        ('{"a":1,\n}', 2, 1, 'expected a name in quotes, found "}"'),
-        ('{"a":1,,}', 1, 8, 'expected a name in quotes, found ","'),
-        ('{"a":1;}', 1, 6, 'expected a number in decimal digits, found "1;"'),
-        ('{"a" 1}', 1, 6, 'expected ":", found "1"'),
-        ('{"a" "b"}', 1, 6, 'expected ":", found a string'),
+        ('{"a"', 1, 5, 'expected ":", found the end of the text'), ('{"a":', 1, 6, "expected a value, found the end of the text"),
+        ('{"a":1', 1, 7, 'expected "," or "}", found the end of the text'), ('{"a":1,\n}', 2, 1, 'expected a name in quotes, found "}"'),
+        ('{"a":1,,}', 1, 8, 'expected a name in quotes, found ","'), ('{"a":1;}', 1, 6, 'expected a number in decimal digits, found "1;"'),
+        ('{"a" 1}', 1, 6, 'expected ":", found "1"'), ('{"a" "b"}', 1, 6, 'expected ":", found a string'),
         ('{"a":1 "b":2}', 1, 8, 'expected "," or "}", found a string'),
-        ("{'a':1}", 1, 2, "expected a name in quotes or \"}\", found \"'a'\""),
-        ("[1 2]", 1, 4, 'expected "," or "]", found "2"'),
-        ("[1,]", 1, 4, 'expected a value, found "]"'),
-        ("[,]", 1, 2, 'expected a value or "]", found ","'),
-        ("[}", 1, 2, 'expected a value or "]", found "}"'),
-        ('{"a":[1}', 1, 8, 'expected "," or "]", found "}"'),
-        ('{"a":{"b":1]', 1, 12, 'expected "," or "}", found "]"'),
-        ("{} {}", 1, 4, 'expected the end of the text, found "{"'),
+        ("{'a':1}", 1, 2, "expected a name in quotes or \"}\", found \"'a'\""), ("[1 2]", 1, 4, 'expected "," or "]", found "2"'),
+        ("[1,]", 1, 4, 'expected a value, found "]"'), ("[,]", 1, 2, 'expected a value or "]", found ","'),
+        ("[}", 1, 2, 'expected a value or "]", found "}"'), ('{"a":[1}', 1, 8, 'expected "," or "]", found "}"'),
+        ('{"a":{"b":1]', 1, 12, 'expected "," or "}", found "]"'), ("{} {}", 1, 4, 'expected the end of the text, found "{"'),
         ("// no comments\n{}", 1, 1, 'expected a value, found "//"'),
         ('{"a":0x1}', 1, 6, 'expected a number in decimal digits, found "0x1"'),
         ('{"a":01}', 1, 6, 'expected a number in decimal digits, found "01"'),
         ('{"a":-}', 1, 6, 'expected a number in decimal digits, found "-"'),
-        ('{"a":1e999}', 1, 6, 'expected a number below 1.8e308, found "1e999"'),
-        ('{"a":True}', 1, 6, 'expected a value, found "True"'),
+        ('{"a":1e999}', 1, 6, 'expected a number below 1.8e308, found "1e999"'), ('{"a":True}', 1, 6, 'expected a value, found "True"'),
         ('{"a":' + "z" * 30 + "}", 1, 6, 'expected a value, found "' + "z" * 20 + '"'),
-        ('{"a":"b}', 1, 6, "the text ends inside a string"),
-        ('{"a":"b\\"', 1, 6, "the text ends inside a string"),
-        ('{"a":"b,\n"c":1}', 1, 6, "a line ends inside a string"),
-        ('{"a":"\t"}', 1, 6, "a control character inside a string"),
-        ('{"a":"\\x"}', 1, 6, "an unknown escape inside a string"),
-        ('{"a":"\\ud800"}', 1, 6, "an unknown escape inside a string"),
+        ('{"a":"b}', 1, 6, "the text ends inside a string"), ('{"a":"b\\"', 1, 6, "the text ends inside a string"),
+        ('{"a":"b,\n"c":1}', 1, 6, "a line ends inside a string"), ('{"a":"\t"}', 1, 6, "a control character inside a string"),
+        ('{"a":"\\x"}', 1, 6, "an unknown escape inside a string"), ('{"a":"\\ud800"}', 1, 6, "an unknown escape inside a string"),
         ("[" * 128 + "]" * 128, 1, 128, "nested more than 127 deep"),
-        ('{"a":' * 128 + "1" + "}" * 128, 1, 636, "nested more than 127 deep"),
-        (b'{"a":"\xff"}', 1, 7, "the text isn't UTF-8"),
+        ('{"a":' * 128 + "1" + "}" * 128, 1, 636, "nested more than 127 deep"), (b'{"a":"\xff"}', 1, 7, "the text isn't UTF-8"),
     ]
 ]
 
@@ -310,8 +280,7 @@ OF_FILES = [
 
 # Several policies: each is checked, in their order, and the exit status is the greatest of theirs.
 OF_SEVERAL = [
-    writes("check logs.json no-filters.json", "", LOGS_LINE),
-    writes("check no-filters.json logs.json logs.json", "", LOGS_LINE * 2),
+    writes("check logs.json no-filters.json", "", LOGS_LINE), writes("check no-filters.json logs.json logs.json", "", LOGS_LINE * 2),
     Case("check logs.json --deny-warnings no-filters.json", 1, LOGS_LINE, ""),
     Case("check no-filters.json logs.json --deny-warnings", 1, LOGS_LINE, ""),
     writes("check --deny-warnings no-filters.json no-filters.json", "", ""),
@@ -369,12 +338,7 @@ CASES = [
     rejects("check", '{"a":{"filter":1,"filter":2}}', REPEATED),
     rejects("check", "{a}", UNPARSED),
     # `check` tells the place in the filters, in an entry and in a condition, and the first fault.
-    *IN_FILTERS,
-    *IN_AN_ENTRY,
-    *IN_A_CONDITION,
-    *SUGGESTIONS,
-    *FAULTS_TOGETHER,
-    *NO_JSON,
+    *IN_FILTERS, *IN_AN_ENTRY, *IN_A_CONDITION, *SUGGESTIONS, *FAULTS_TOGETHER, *NO_JSON,
     # `check` tells the filter that is too long, and its warnings, of which `compile` notes how many there are.
     too_long(entries(TOO_LONG), ("a", "needs 10130 instructions in the linear layout; 4096 fit")),
     Case("compile --format listing", 0, "filter 9 a\n..", INPUT + "823 warnings; seccomptool check prints them\n", EQUAL),
@@ -388,9 +352,5 @@ CASES = [
     too_long("{" + of_rules("a", 816) + "}", ("a", "needs 4101 instructions in the linear layout; 4096 fit; 13 in the tree layout")),
     too_long("{" + of_masks("a", 1400) + "}", ("a", "needs 8407 instructions in the linear layout; 4096 fit")),
     # `check` answers faults of its reader.
-    rejects("check", Failing(FINE), RESET),
-    *OF_FILES,
-    *OF_SEVERAL,
-    *OF_ALLOWED,
-    *OF_LIST,
+    rejects("check", Failing(FINE), RESET), *OF_FILES, *OF_SEVERAL, *OF_ALLOWED, *OF_LIST,
 ]

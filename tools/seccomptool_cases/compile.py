@@ -84,13 +84,9 @@ def included(layout, compiler, flags):
 
 CASES = [
     # `compile` writes the bytes of both layouts, that of a tree if none is asked for.
-    writes("compile -f a", LOGS, TREE),
-    writes("compile --filter a --layout tree", LOGS, TREE),
-    writes("compile --filter=a --layout=linear", LOGS, LINEAR),
-    writes("compile -", LOGS, TREE),
-    writes("compile ./-", "[]", TREE),
-    writes("compile logs.json", "", TREE),
-    writes("compile logs.json -fa --layout linear", "", LINEAR),
+    writes("compile -f a", LOGS, TREE), writes("compile --filter a --layout tree", LOGS, TREE),
+    writes("compile --filter=a --layout=linear", LOGS, LINEAR), writes("compile -", LOGS, TREE), writes("compile ./-", "[]", TREE),
+    writes("compile logs.json", "", TREE), writes("compile logs.json -fa --layout linear", "", LINEAR),
     writes("compile -f \"$(printf 'a\\n\\\\')\" names.json", "", TREE),
     # `compile` writes the forms that are asked for, bytes if none is.
     writes("compile --format raw logs.json", "", TREE),
@@ -141,9 +137,7 @@ CASES = [
     rejects("compile missing.json", "", MISSING, TOOL + "missing.json: "),
     rejects("compile \"$(printf 'missing\\nfile')\"", "", MISSING, TOOL + "missing\\x0afile: "),
     *[case for it in LAYOUTS for case in fails_to_read_and_write("compile" + it)],
-    rejects("compile examples", "", FOLDER, TOOL + "examples: "),
-    ("compile < examples", 2, "", INPUT + FOLDER),
-    ("compile <&-", 2, "", INPUT + CLOSED),
-    ("compile < logs.json > /dev/full", 2, "", OUTPUT + FULL),
+    rejects("compile examples", "", FOLDER, TOOL + "examples: "), ("compile < examples", 2, "", INPUT + FOLDER),
+    ("compile <&-", 2, "", INPUT + CLOSED), ("compile < logs.json > /dev/full", 2, "", OUTPUT + FULL),
     *[rejects(f"compile --format {it} > /dev/full", LOGS, FULL, OUTPUT) for it in ("listing", "c")],
 ]

@@ -147,10 +147,8 @@ READ, OTHER = ("read", "allow"), ("write", "errno 1")
 
 CASES = [
     # The parts of a profile.
-    *compiles("", WHOLE, *OF_WHOLE, told=OF_FLAGS),
-    *compiles("-", WHOLE, *OF_WHOLE, told=OF_FLAGS),
-    *compiles("--oci", WHOLE, *OF_WHOLE, told=OF_FLAGS),
-    *compiles("-q", WHOLE, *OF_WHOLE),
+    *compiles("", WHOLE, *OF_WHOLE, told=OF_FLAGS), *compiles("-", WHOLE, *OF_WHOLE, told=OF_FLAGS),
+    *compiles("--oci", WHOLE, *OF_WHOLE, told=OF_FLAGS), *compiles("-q", WHOLE, *OF_WHOLE),
     # In the configuration of a container, with or without --oci; a default action beside it counts.
     *compiles("", configured(json.loads(WHOLE)), *OF_WHOLE, told=OF_FLAGS),
     *compiles("--oci", configured(json.loads(WHOLE)), *OF_WHOLE, told=OF_FLAGS),
@@ -272,8 +270,7 @@ CASES = [
             "not system calls of x86_64 (1): waitpid\n"),
     # Files, and an output that takes nothing.
     rejects("compile --oci missing.json", "", MISSING, TOOL + "missing.json: "),
-    rejects("compile --oci examples", "", FOLDER, TOOL + "examples: "),
-    rejects("compile --oci -", Failing(WHOLE), RESET),
+    rejects("compile --oci examples", "", FOLDER, TOOL + "examples: "), rejects("compile --oci -", Failing(WHOLE), RESET),
     rejects("compile -q reads-profile.json >&-", "", CLOSED, OUTPUT),
     rejects("compile -q reads-profile.json > /dev/full", "", FULL, OUTPUT),
     rejects("compile --oci unknown-profile.json > /dev/full", "", FULL, OUTPUT),

@@ -30,14 +30,9 @@ FILES = {
     "allows-read.json": policy(READ),
     "allows-read-of-5.json": policy(READ_OF_5),
     "allows-read-of-5-twice.json": policy(READ_OF_5.replace("[{", '[{"index":0,"type":"dword","op":"ge","val":5},{')),
-    "masks.json": policy(",".join(map(masked, range(11)))),
-    "errno-1.json": policy(READ, match='{"errno":1}'),
-    "errno-2.json": policy(READ, match='{"errno":2}'),
-    "traps.json": policy("", default='"trap"'),
-    "none.json": "{}",
-    "filters-b-a.json": filters("b", "a"),
-    "filters-c-a.json": filters("c", "a"),
-    "opens.json": policy('{"syscall":"open"}'),
+    "masks.json": policy(",".join(map(masked, range(11)))), "errno-1.json": policy(READ, match='{"errno":1}'),
+    "errno-2.json": policy(READ, match='{"errno":2}'), "traps.json": policy("", default='"trap"'), "none.json": "{}",
+    "filters-b-a.json": filters("b", "a"), "filters-c-a.json": filters("c", "a"), "opens.json": policy('{"syscall":"open"}'),
     "reads-writes.json": policy('{"syscall":"read"},{"syscall":"write"}'),
     "reads-writes-of-5.json": policy(READ + "," + READ_OF_5.replace("read", "write")),
     "reads-parted.json": policy(READ_OF_5 + "," + READ_OF_5.replace("eq", "ne") + ',{"syscall":"write"}'),
@@ -59,12 +54,8 @@ same, differ, fails, misused = DIFF.same, DIFF.differ, DIFF.fails, DIFF.misused
 
 CASES = [
     # The same policy, and another of the same decisions.
-    same("logs.json logs.json", SAME),
-    same("- logs.json", SAME, LOGS),
-    same("logs.json -", SAME, LOGS),
-    same("logs.json:a logs.json", SAME),
-    same("logs.json:a logs.json:a", SAME),
-    same("none.json none.json", ""),
+    same("logs.json logs.json", SAME), same("- logs.json", SAME, LOGS), same("logs.json -", SAME, LOGS),
+    same("logs.json:a logs.json", SAME), same("logs.json:a logs.json:a", SAME), same("none.json none.json", ""),
     # Programs that are the same need no search, however many sets one would take.
     same("masks.json masks.json", SAME),
     same("--most 0 masks.json masks.json", SAME),
@@ -93,10 +84,8 @@ CASES = [
     same("logs.json traps.json --only-more", "filter a: nowhere more permissive\n"),
     same("--only-more errno-1.json errno-2.json", "filter a: nowhere more permissive\n"),
     # Filters that one policy lacks, those of the old policy first; and one filter alone.
-    differ("filters-b-a.json filters-c-a.json", NAMES),
-    differ("--only-more logs.json none.json", "filter a: only in OLD\n"),
-    same("filters-b-a.json:a filters-c-a.json:a", SAME),
-    same("filters-b-a.json:b filters-c-a.json:c", "filter b -> c: same\n"),
+    differ("filters-b-a.json filters-c-a.json", NAMES), differ("--only-more logs.json none.json", "filter a: only in OLD\n"),
+    same("filters-b-a.json:a filters-c-a.json:a", SAME), same("filters-b-a.json:b filters-c-a.json:c", "filter b -> c: same\n"),
     same("logs.json filters-c-a.json:c", "filter a -> c: same\n"),
     fails("filters-b-a.json:b filters-c-a.json:b", "No filter has this name: b.\n", TOOL + "filters-c-a.json: "),
     fails("filters-b-a.json:c filters-c-a.json:c", "No filter has this name: c.\n", TOOL + "filters-b-a.json: "),
@@ -117,10 +106,8 @@ CASES = [
     # A filter that neither has.
     fails("logs.json:b logs.json:b", "No filter has this name: b.\n", TOOL + "logs.json: "),
     # The faults of the old policy, and then those of the new one.
-    fails("missing.json logs.json", MISSING, TOOL + "missing.json: "),
-    fails("logs.json missing.json", MISSING, TOOL + "missing.json: "),
-    fails("examples logs.json", FOLDER, TOOL + "examples: "),
-    fails("logs.json examples", FOLDER, TOOL + "examples: "),
+    fails("missing.json logs.json", MISSING, TOOL + "missing.json: "), fails("logs.json missing.json", MISSING, TOOL + "missing.json: "),
+    fails("examples logs.json", FOLDER, TOOL + "examples: "), fails("logs.json examples", FOLDER, TOOL + "examples: "),
     fails("- unknown-call.json", NO_OBJECT, INPUT, "[]"),
     fails("logs.json unknown-call.json", UNKNOWN_CALL, TOOL + "unknown-call.json: "),
     fails("unknown-call.json logs.json", UNKNOWN_CALL, TOOL + "unknown-call.json: "),
@@ -138,8 +125,6 @@ CASES = [
     misused("--most 1a logs.json logs.json", 
             "error: the value of --most isn't a number from 0 to 18446744073709551615, "
             "decimal or hexadecimal after 0x\n.."),
-    misused("--most=-1 logs.json logs.json"),
-    misused("--only-more=true logs.json logs.json"),
-    misused("--only-more --only-more logs.json logs.json"),
-    misused("logs.json logs.json logs.json"),
+    misused("--most=-1 logs.json logs.json"), misused("--only-more=true logs.json logs.json"),
+    misused("--only-more --only-more logs.json logs.json"), misused("logs.json logs.json logs.json"),
 ]

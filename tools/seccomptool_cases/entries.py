@@ -74,15 +74,10 @@ def qword(operator, value, index=0):
 
 
 UNREACHABLE = [
-    ([entry(dword("eq", 1), dword("eq", 2))], unreachable(0)),
-    ([entry(dword("eq", 1), dword("eq", 2, 1))], []),
-    ([entry(qword("gt", 9, 2), qword("lt", 10, 2))], unreachable(0)),
-    ([entry(qword("gt", 9, 2), qword("lt", 11, 2))], []),
-    ([entry(qword("lt", 0))], unreachable(0)),
-    ([entry(qword("gt", WHOLE))], unreachable(0)),
-    ([entry(qword("gt", WHOLE - 1))], []),
-    ([entry(dword("eq", 1), dword(masked(1), 0))], unreachable(0)),
-    ([entry(dword("eq", 1), dword(masked(2), 0))], []),
+    ([entry(dword("eq", 1), dword("eq", 2))], unreachable(0)), ([entry(dword("eq", 1), dword("eq", 2, 1))], []),
+    ([entry(qword("gt", 9, 2), qword("lt", 10, 2))], unreachable(0)), ([entry(qword("gt", 9, 2), qword("lt", 11, 2))], []),
+    ([entry(qword("lt", 0))], unreachable(0)), ([entry(qword("gt", WHOLE))], unreachable(0)), ([entry(qword("gt", WHOLE - 1))], []),
+    ([entry(dword("eq", 1), dword(masked(1), 0))], unreachable(0)), ([entry(dword("eq", 1), dword(masked(2), 0))], []),
     # The low half and the whole argument: 2 to the 32 and 5 has the low half 5.
     ([entry(dword("eq", 5), qword("eq", 2**32 + 5))], []),
     ([entry(dword("eq", 5), qword("eq", 2**32 + 6))], unreachable(0)),
@@ -104,11 +99,8 @@ WIDE = [entry(qword("eq", it, 1), *FIVE) for it in range(70)]
 SIX = [*FIVE, qword("eq", 5, 5)]
 
 REDUNDANT = [
-    ([entry(), entry()], redundant(0, 1)),
-    ([entry(), entry(name="write")], []),
-    ([entry(), entry(dword("eq", 1))], redundant(1)),
-    ([entry(dword("eq", 1)), entry(name="write"), entry()], redundant(0)),
-    ([entry(dword("eq", 1)), entry(dword("eq", 2))], []),
+    ([entry(), entry()], redundant(0, 1)), ([entry(), entry(name="write")], []), ([entry(), entry(dword("eq", 1))], redundant(1)),
+    ([entry(dword("eq", 1)), entry(name="write"), entry()], redundant(0)), ([entry(dword("eq", 1)), entry(dword("eq", 2))], []),
     ([entry(dword("eq", 1)), entry(dword("eq", 1))], redundant(0, 1)),
     # A low half is met by more than the whole argument is.
     ([entry(dword("eq", 1)), entry(qword("eq", 1))], redundant(1)),

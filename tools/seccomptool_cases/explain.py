@@ -47,10 +47,8 @@ LINES = [
     (288, (0, 0, 0), "allow: a.filter[0] of accept4 (288)\n"), (72, (9, 2, 1), "allow: a.filter[1] of fcntl (72)\n"),
     (72, (9, 1, 1), "allow: a.filter[2] of fcntl (72)\n"), (72, (9, 2, 0), "allow: a.filter[5] of fcntl (72)\n"),
     (72, (9, 3, 1), "errno 1 (EPERM): no match: a.filter[1].args[0] of fcntl (72) does not hold, the nearest of 3 entries\n"),
-    (3, (3, 0, 0), "allow: a.filter[3] of close (3)\n"),
-    (3, (2, 0, 0), "allow: a.filter[4] of close (3)\n"),
-    (0, (0, 0, 0), "errno 1 (EPERM): no entry of read (0)\n"),
-    (4294967295, (0, 0, 0), "errno 1 (EPERM): no entry of call 4294967295\n"),
+    (3, (3, 0, 0), "allow: a.filter[3] of close (3)\n"), (3, (2, 0, 0), "allow: a.filter[4] of close (3)\n"),
+    (0, (0, 0, 0), "errno 1 (EPERM): no entry of read (0)\n"), (4294967295, (0, 0, 0), "errno 1 (EPERM): no entry of call 4294967295\n"),
 ]
 
 # The same of the other policy: the nearest miss is that of the condition with the greatest index, and the first of these.

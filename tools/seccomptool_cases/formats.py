@@ -197,14 +197,10 @@ WARNED = '''{
 }
 '''
 OF_WARNED = [
-    (6, warned("kills-exit", "a.mismatch_action", call="exit_group")),
-    (6, warned("kills-exit", "a.mismatch_action", call="rt_sigreturn")),
-    (5, warned("allows-by-default", "b.mismatch_action")),
-    (4, warned("fake-success", "b.match_action.errno")),
-    (0, warned("value-outside-mask", "b.filter[0].args[0].val")),
-    (1, warned("always-holds", "b.filter[0].args[1]")),
-    (2, warned("redundant-entry", "b.filter[1]")),
-    (3, warned("redundant-entry", "b.filter[2]")),
+    (6, warned("kills-exit", "a.mismatch_action", call="exit_group")), (6, warned("kills-exit", "a.mismatch_action", call="rt_sigreturn")),
+    (5, warned("allows-by-default", "b.mismatch_action")), (4, warned("fake-success", "b.match_action.errno")),
+    (0, warned("value-outside-mask", "b.filter[0].args[0].val")), (1, warned("always-holds", "b.filter[0].args[1]")),
+    (2, warned("redundant-entry", "b.filter[1]")), (3, warned("redundant-entry", "b.filter[2]")),
 ]
 
 OF_WARNINGS = [
@@ -228,9 +224,7 @@ PROFILE = '''{ "defaultAction": "SCMP_ACT_ERRNO", \u2020"sysCalls": [],
 
 OF_PROFILES = [
     *cases_of(
-        PROFILE,
-        (1, warned("runtimes-differ", "flags", HAS_FLAGS)),
-        (0, warned("unknown-key", "sysCalls", SAID_OF_PROFILE["unknown-key"])),
+        PROFILE, (1, warned("runtimes-differ", "flags", HAS_FLAGS)), (0, warned("unknown-key", "sysCalls", SAID_OF_PROFILE["unknown-key"])),
         (2, warned("no-effect", "syscalls[1].action", IS_DEFAULT)),
     ),
     *cases_of('{"defaultAction":"SCMP_ACT_ALLOW","syscalls":[{"names":["read"],"action":"SCMP_ACT_ERRNO","args":[\n'

@@ -35,11 +35,7 @@ FIRST = "a\x1b[2Jb\u202e\u200b"
 WORD = shlex.quote(FIRST)
 
 FILES = {
-    f"{FIRST}.json": LOGS,
-    f"{FIRST}.bpf": b"\6\0",
-    "hostile-filter.json": named(FIRST),
-    "hostile-bad.json": '{"a":1}',
-    "hostile.bpf": TREE,
+    f"{FIRST}.json": LOGS, f"{FIRST}.bpf": b"\6\0", "hostile-filter.json": named(FIRST), "hostile-bad.json": '{"a":1}', "hostile.bpf": TREE,
 }
 
 

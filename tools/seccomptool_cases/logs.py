@@ -67,10 +67,8 @@ EXPLAIN = Command("explain ")
 explains, misused = EXPLAIN.same, EXPLAIN.misused
 
 CASES = [
-    explains("logged.json --log denied.log", ON_DENIED),
-    explains("logged.json -f a --log=-", ON_DENIED, DENIED),
-    explains("--log denied.log -", ON_DENIED, POLICY),
-    explains("logged.json --log audited.log", ON_AUDITED),
+    explains("logged.json --log denied.log", ON_DENIED), explains("logged.json -f a --log=-", ON_DENIED, DENIED),
+    explains("--log denied.log -", ON_DENIED, POLICY), explains("logged.json --log audited.log", ON_AUDITED),
     explains("logged.json --log traced.trace", ON_TRACED),
     explains("logged.json --log fronts.trace", "".join(f"{it and it + ': '}trap: no entry of {call}\n" for it, call in OF_FRONTS)),
     explains("logged.json --log -", ""),

@@ -25,13 +25,9 @@ OTHERS = {
     ACTION: ["SCMP_ACT_USER_NOTIF", "SCMP_ACT_DENY", "allow", "scmp_act_allow", "SCMP_ACT_ALLOW ", "", None, True, 5, [], {}],
     OPERATOR: ["SCMP_CMP_EQUAL", "EQ", "scmp_cmp_eq", "", None, False, 5, ["SCMP_CMP_EQ"], {}],
     FLAG: ["SECCOMP_FILTER_FLAG_NEW_LISTENER", "SECCOMP_FILTER_FLAG_TSYNC_ESRCH", "", None, 1, [], {}],
-    OBJECT: [None, "read", 5, True, [], [{}]],
-    LIST: ["read", "", 5, True, {}, {"0": "read"}],
-    TEXT: [None, False, 5, ["read"], {}],
-    TEXT_OR_NULL: [False, 5, ["text"], {}],
-    INDEX: [6, -1, 0.0, -0.0, 1.5, "0", None, [], {}],
-    ACTION_NUMBER: [65536, -1, 1.0, "1", "", True, [1], {}],
-    NUMBER: [-1, 1.0, "5", "0x5", None, [], {}],
+    OBJECT: [None, "read", 5, True, [], [{}]], LIST: ["read", "", 5, True, {}, {"0": "read"}], TEXT: [None, False, 5, ["read"], {}],
+    TEXT_OR_NULL: [False, 5, ["text"], {}], INDEX: [6, -1, 0.0, -0.0, 1.5, "0", None, [], {}],
+    ACTION_NUMBER: [65536, -1, 1.0, "1", "", True, [1], {}], NUMBER: [-1, 1.0, "5", "0x5", None, [], {}],
     NUMBER_OR_NULL: [-1, 1.0, "5", True, [], {}],
     ERROR_NAME: [False, 5, ["EPERM"], {}, "eperm", " ", "EFOO", "E", "EIO\u009b", "65536", "-1", "+1", "0x1", "1.0", "4294967297"],
     VERSION: ["4", "4.8.0", "4.", ".8", "v4.8", "+4.8", "4.-8", " 4.8", "4294967296.0", 4.8, ["4.8"], {}],
@@ -136,10 +132,8 @@ WRONG_ITEMS = [
 
 # Keys that aren't there.
 MISSING_KEYS = [
-    ("the profile", missing("defaultAction"), {}),
-    ("the profile", missing("defaultAction"), {"syscalls": []}),
-    (ENTRY, missing("action"), second({})),
-    (ENTRY, missing("action"), second({"names": ["read"]})),
+    ("the profile", missing("defaultAction"), {}), ("the profile", missing("defaultAction"), {"syscalls": []}),
+    (ENTRY, missing("action"), second({})), (ENTRY, missing("action"), second({"names": ["read"]})),
     *[(CONDITION, missing(left), in_condition(without(ARGUMENT, left))) for left in ("index", "value", "op")],
 ]
 

@@ -86,10 +86,8 @@ KNOWN = [
     writes("show --stats --oci -", json.dumps(profile()), NOTHING),
     writes("show --stats --oci -", json.dumps(profile(entry("read"), default="SCMP_ACT_ALLOW")), ALL),
     # Of the architecture that is named; names that it doesn't have are left out, and not listed, nor are flags.
-    writes("show --stats --oci --arch=amd64 -", OPENS, READS),
-    writes("show --stats --oci -a arm64 -", OPENS, NOTHING_ELSEWHERE),
-    writes("show --stats --oci -a riscv64 -", OPENS, NOTHING_ELSEWHERE),
-    writes("show --stats --oci unknown-profile.json", "", READS),
+    writes("show --stats --oci --arch=amd64 -", OPENS, READS), writes("show --stats --oci -a arm64 -", OPENS, NOTHING_ELSEWHERE),
+    writes("show --stats --oci -a riscv64 -", OPENS, NOTHING_ELSEWHERE), writes("show --stats --oci unknown-profile.json", "", READS),
     writes("show --stats --oci flags-profile.json", "", READS),
     # A program that just fits, and one that is too large.
     writes("show --stats --oci fitting-profile.json", "", "profile: 4095 instructions, at most .."),

@@ -42,12 +42,9 @@ ARCHES = profile(entry("open", includes={"arches": ["amd64"]}), entry("openat", 
 
 # What a profile shows, the words of its container, the profile, and calls with their arguments and its decisions.
 PROFILES = [
-    of("NE", [(5, False), (6, True), (LOW + 6, True)], 5),
-    of("LT", [(4, True), (5, False), (6, False), (LOW + 1, False)], 5),
-    of("LE", [(4, True), (5, True), (6, False), (LOW + 1, False)], 5),
-    of("EQ", [(5, True), (4, False), (LOW + 6, False)], 5),
-    of("GE", [(4, False), (5, True), (6, True), (LOW + 1, True)], 5),
-    of("GT", [(5, False), (6, True), (WHOLE, True)], 5),
+    of("NE", [(5, False), (6, True), (LOW + 6, True)], 5), of("LT", [(4, True), (5, False), (6, False), (LOW + 1, False)], 5),
+    of("LE", [(4, True), (5, True), (6, False), (LOW + 1, False)], 5), of("EQ", [(5, True), (4, False), (LOW + 6, False)], 5),
+    of("GE", [(4, False), (5, True), (6, True), (LOW + 1, True)], 5), of("GT", [(5, False), (6, True), (WHOLE, True)], 5),
     of("MASKED_EQ", [(0x50, True), (0x5F, True), (LOW + 0x51, True), (0x65, False), (0, False)], 240, 80),
     of("MASKED_EQ", [(0x50, True), (0x5F, True), (0x65, False)], 240, 95),
     of("MASKED_EQ", [(0, True), (3, True), (0x100, True), (0xF0, False), (0x10, False)], 240),

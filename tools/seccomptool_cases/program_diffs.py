@@ -93,8 +93,7 @@ CASES = [
       for file in ("logs.json", "allows-read.json", "allows-read-of-5.json")],
     Case("compile -q allows-read.json | ./seccomptool diff -q --all allows-read.json -", 0, SAME + OTHERS_SAME, ""),
     # So do programs of other compilers.
-    same("allows-read.json reads.bpf", SAME + OTHERS_SAME),
-    same("allows-read.json reads-by-order.bpf --all", SAME + OTHERS_SAME),
+    same("allows-read.json reads.bpf", SAME + OTHERS_SAME), same("allows-read.json reads-by-order.bpf --all", SAME + OTHERS_SAME),
     same("- reads.bpf", SAME + OTHERS_SAME, policy('{"syscall":"read"}')),
     same("allows-read.json -", SAME + OTHERS_SAME, PROGRAMS["reads.bpf"]),
     same("two-filters.json:a -", SAME + OTHERS_SAME, guarded(returns(LOG))),
@@ -163,8 +162,7 @@ CASES = [
     same("--most 5 allows-read-of-5.json reads-5.bpf", SAME + OTHERS_SAME),
     Case("diff -q --most 4 allows-read-of-5.json reads-5.bpf", 3, UNDECIDED + "  read: undecided at instruction ..", ""),
     # The faults of the policy, of the choice of its filter, and then of the program.
-    fails("missing.json reads.bpf", MISSING, TOOL + "missing.json: "),
-    fails("examples reads.bpf", FOLDER, TOOL + "examples: "),
+    fails("missing.json reads.bpf", MISSING, TOOL + "missing.json: "), fails("examples reads.bpf", FOLDER, TOOL + "examples: "),
     fails("- reads.bpf", NO_OBJECT, TOOL + "standard input: ", "[]"),
     fails("- longest.bpf", RESET, TOOL + "standard input: ", Failing(LOGS)),
     fails("unknown-call.json reads.bpf", 'a.filter[0].syscall: unknown system call "nosyscall" on x86_64\n',

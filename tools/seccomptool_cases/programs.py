@@ -47,12 +47,7 @@ RECORDS = record_of(0, X86_64) + record_of(1, X86_64) + record_of(0, RISCV64)
 EXPLAINED = "allow: read (0)\nerrno 1 (EPERM): write (1)\nallow: another architecture\n"
 
 FILES = {
-    "read.bpf": OF_READ,
-    "bit.bpf": OF_BIT,
-    "set.bpf": OF_SET,
-    "longest.bpf": LONGEST,
-    "calls.bin": RECORDS,
-    "cut.bin": RECORDS[:-1],
+    "read.bpf": OF_READ, "bit.bpf": OF_BIT, "set.bpf": OF_SET, "longest.bpf": LONGEST, "calls.bin": RECORDS, "cut.bin": RECORDS[:-1],
     **{f"returns-{word:x}.bpf": program(returns(word)) for word in ACTIONS},
 }
 
@@ -67,8 +62,7 @@ UNFIT = [
     (program((0x16, 0, 0, 0)), "instruction 0: unknown operation 0x16"),
     (program((LOAD, 0, 0, 0), (0, 0, 0, 0), returns(0)), "instruction 1: unknown operation 0x0"),
     (program((LOAD, 0, 0, 64), returns(0)), f"instruction 0: {NO_WORD}"),
-    (program((LOAD, 0, 0, 2), returns(0)), f"instruction 0: {NO_WORD}"),
-    (program((JUMP, 0, 0, 1), returns(0)), f"instruction 0: {BEHIND}"),
+    (program((LOAD, 0, 0, 2), returns(0)), f"instruction 0: {NO_WORD}"), (program((JUMP, 0, 0, 1), returns(0)), f"instruction 0: {BEHIND}"),
     (program((JUMP, 0, 0, 2**32 - 1), returns(0)), f"instruction 0: {BEHIND}"),
     (program(returns(0), (JUMP_EQUAL, 1, 0, 0), returns(0)), f"instruction 1: {BEHIND}"),
     (program((JUMP_AT_LEAST, 0, 255, 0), returns(0)), f"instruction 0: {BEHIND}"),
@@ -95,12 +89,9 @@ CASES = [
     writes("explain set.bpf read", "", "allow: read (0)\n"),
     writes("explain set.bpf 0x40000000", "", "errno 1 (EPERM): call 1073741824\n"),
     writes("explain set.bpf 3221225472", "", "errno 1 (EPERM): call 3221225472\n"),
-    writes("explain longest.bpf 0", "", "allow: read (0)\n"),
-    writes("explain - read", OF_READ, "allow: read (0)\n"),
-    writes("explain read.bpf --records calls.bin", "", EXPLAINED),
-    writes("explain --records=- read.bpf", RECORDS, EXPLAINED),
-    writes("explain read.bpf", RECORDS, EXPLAINED),
-    writes("explain read.bpf", "", ""),
+    writes("explain longest.bpf 0", "", "allow: read (0)\n"), writes("explain - read", OF_READ, "allow: read (0)\n"),
+    writes("explain read.bpf --records calls.bin", "", EXPLAINED), writes("explain --records=- read.bpf", RECORDS, EXPLAINED),
+    writes("explain read.bpf", RECORDS, EXPLAINED), writes("explain read.bpf", "", ""),
     writes("explain - --records calls.bin", OF_READ, EXPLAINED),
     *[writes(f"explain returns-{word:x}.bpf read", "", f"{action}: read (0)\n") for word, action in ACTIONS.items()],
     writes("explain read.bpf write 1 2 3 4 5 6", "", "errno 1 (EPERM): write (1)\n"),

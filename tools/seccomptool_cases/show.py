@@ -152,9 +152,7 @@ CASES = [
     *[case for it in LAYOUTS for case in fails_to_read_and_write("show" + it, LOGS, LOGS)],
     ("show < logs.json > /dev/full", 2, "", OUTPUT + FULL),
     # `show` writes programs in bytes, of whichever compiler.
-    writes("show read.bpf", "", READ_SHOWN),
-    writes("show - < bit.bpf", "", BIT_SHOWN),
-    writes("show -", OF_LOADS, LOADS_SHOWN),
+    writes("show read.bpf", "", READ_SHOWN), writes("show - < bit.bpf", "", BIT_SHOWN), writes("show -", OF_LOADS, LOADS_SHOWN),
     writes("show -", OF_ARCHITECTURES, ARCHITECTURES_SHOWN),
     writes("show -a aarch64 read.bpf", "", READ_SHOWN.replace("; read", "; io_setup")),
     writes("show -a riscv64 -", OF_ARCHITECTURES, ARCHITECTURES_SHOWN.replace("openat", "call 257", 1)),
@@ -162,10 +160,7 @@ CASES = [
     writes("compile -q logs.json -o shown.bpf --layout linear && ./seccomptool show shown.bpf; rm shown.bpf", "",
            LOGS_SHOWN.replace("filter 4 a\n", "")),
     # Those that aren't taken, and faults of files, of the reader and the writer.
-    *[rejects("show -", given, told + "\n") for given, told in UNFIT],
-    rejects("show missing.bpf", "", MISSING, TOOL + "missing.bpf: "),
-    rejects("show examples", "", FOLDER, TOOL + "examples: "),
-    rejects("show -", Failing(OF_READ), RESET),
-    rejects("show read.bpf > /dev/full", "", FULL, OUTPUT),
-    rejects("show read.bpf >&-", "", CLOSED, OUTPUT),
+    *[rejects("show -", given, told + "\n") for given, told in UNFIT], rejects("show missing.bpf", "", MISSING, TOOL + "missing.bpf: "),
+    rejects("show examples", "", FOLDER, TOOL + "examples: "), rejects("show -", Failing(OF_READ), RESET),
+    rejects("show read.bpf > /dev/full", "", FULL, OUTPUT), rejects("show read.bpf >&-", "", CLOSED, OUTPUT),
 ]

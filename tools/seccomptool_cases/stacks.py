@@ -34,9 +34,7 @@ def by_number(first, second, other):
 
 # What three programs answer to calls 0, 1 and 2.
 ANSWERS = {
-    "one.bpf": (ALLOW, ERRNO_1, LOG),
-    "two.bpf": (TRAP, ERRNO_1 + 1, ALLOW),
-    "three.bpf": (ALLOW, KILL_THREAD, TRACE),
+    "one.bpf": (ALLOW, ERRNO_1, LOG), "two.bpf": (TRAP, ERRNO_1 + 1, ALLOW), "three.bpf": (ALLOW, KILL_THREAD, TRACE),
     "four.bpf": (KILL_PROCESS, ALLOW, TRACE + 1),
 }
 
@@ -104,10 +102,8 @@ CASES = [
     # Of two to four programs in each order.
     *[case for count in (2, 3, 4) for names in itertools.permutations(ANSWERS, count) for case in explained(names)],
     # One program is itself.
-    writes("stack read.bpf", "", OF_READ),
-    writes("stack read.bpf bit.bpf", "", READ_AND_BIT),
-    writes("stack - bit.bpf", OF_READ, READ_AND_BIT),
-    writes("stack read.bpf -", OF_BIT, READ_AND_BIT),
+    writes("stack read.bpf", "", OF_READ), writes("stack read.bpf bit.bpf", "", READ_AND_BIT),
+    writes("stack - bit.bpf", OF_READ, READ_AND_BIT), writes("stack read.bpf -", OF_BIT, READ_AND_BIT),
     # A subject of any kind, and the filter behind a colon.
     writes("stack logs.json", "", TREE),
     writes("stack logs.json:a", "", TREE),

@@ -115,31 +115,18 @@ def masked(mask):
 
 # Actions, and their codes. One that kills, and one that lets calls through, has codes that depend on its place.
 ACTIONS = [
-    ({"errno": 0}, ["fake-success"]),
-    ({"errno": 1}, []),
-    ({"errno": 4}, ["endless-retry"]),
-    ({"errno": 65540}, ["errno-too-large", "endless-retry"]),
-    ({"errno": 11}, []),
-    ({"errno": 4095}, []),
-    ({"errno": 4096}, ["errno-too-large"]),
-    ({"errno": 65535}, ["errno-too-large"]),
-    ({"errno": 65536}, ["fake-success", "errno-too-large"]),
-    ({"errno": 65537}, ["errno-too-large"]),
-    ({"errno": 4294901760}, ["fake-success", "errno-too-large"]),
-    ({"errno": 4294967295}, ["errno-too-large"]),
-    ({"trace": 0}, ["trace-without-tracer"]),
-    ({"trace": 4294967295}, ["trace-without-tracer"]),
-    ("trap", []),
+    ({"errno": 0}, ["fake-success"]), ({"errno": 1}, []), ({"errno": 4}, ["endless-retry"]),
+    ({"errno": 65540}, ["errno-too-large", "endless-retry"]), ({"errno": 11}, []), ({"errno": 4095}, []),
+    ({"errno": 4096}, ["errno-too-large"]), ({"errno": 65535}, ["errno-too-large"]),
+    ({"errno": 65536}, ["fake-success", "errno-too-large"]), ({"errno": 65537}, ["errno-too-large"]),
+    ({"errno": 4294901760}, ["fake-success", "errno-too-large"]), ({"errno": 4294967295}, ["errno-too-large"]),
+    ({"trace": 0}, ["trace-without-tracer"]), ({"trace": 4294967295}, ["trace-without-tracer"]), ("trap", []),
 ]
 
 # Two actions, and what is so of them together.
 DENYING = [
-    ("trap", "kill_process", ["denies-everything"]),
-    ({"errno": 1}, "trap", ["denies-everything"]),
-    ("kill_thread", {"errno": 38}, ["denies-everything"]),
-    ("trap", "allow", []),
-    ("log", "trap", []),
-    ("allow", "log", []),
+    ("trap", "kill_process", ["denies-everything"]), ({"errno": 1}, "trap", ["denies-everything"]),
+    ("kill_thread", {"errno": 38}, ["denies-everything"]), ("trap", "allow", []), ("log", "trap", []), ("allow", "log", []),
     # A tracer may let a call through.
     ({"trace": 1}, "trap", []),
     ("kill_process", {"trace": 1}, []),
@@ -209,20 +196,15 @@ DETOURED = [
     ("socket", (0, "le", 2), ["io_uring_setup"], [(18, "io_uring_setup", 0, 0)]),
     ("openat", (2, "lt", 2), ["open"], [(3, "open", 1, 3)]),
     # The other call is denied too: all of it, or by the same condition; another condition lets the same through, or doesn't.
-    ("openat", (2, *READS), [], []),
-    ("openat", (2, *READS), [("open", 1, *READS)], []),
-    ("openat", (2, *READS), [("open", 1, "eq", 2)], [(2, "open", 1, 2)]),
-    ("openat", (2, *READS), [("open", 1, "eq", 1)], []),
+    ("openat", (2, *READS), [], []), ("openat", (2, *READS), [("open", 1, *READS)], []),
+    ("openat", (2, *READS), [("open", 1, "eq", 2)], [(2, "open", 1, 2)]), ("openat", (2, *READS), [("open", 1, "eq", 1)], []),
     ("mprotect", (2, *NO_EXEC), [("pkey_mprotect", 2, *NO_EXEC), ("mmap", 2, *NO_EXEC)], []),
     ("clone", (0, masked(NEW_USER), 0), [("unshare", 0, masked(NEW_USER), 0)], []),
     # What is asked is let through, by the condition or by another entry; the condition is on another argument; or the other call isn't
     # one of these.
-    ("openat", (2, "eq", 2), ["open"], []),
-    ("openat", (2, masked(1), 0), ["open"], []),
-    ("openat", (2, *READS), ["open", ("openat", 2, "eq", 2)], []),
-    ("openat", (3, *READS), ["open"], []),
-    ("openat", (2, *READS), ["mmap"], []),
-    ("socketpair", (0, "eq", 1), ["io_uring_setup"], []),
+    ("openat", (2, "eq", 2), ["open"], []), ("openat", (2, masked(1), 0), ["open"], []),
+    ("openat", (2, *READS), ["open", ("openat", 2, "eq", 2)], []), ("openat", (3, *READS), ["open"], []),
+    ("openat", (2, *READS), ["mmap"], []), ("socketpair", (0, "eq", 1), ["io_uring_setup"], []),
 ]
 # The same of filters that deny a call by a condition, and let through what no entry matches: what the entry denies is asked of the other
 # call, if that takes some of it.
@@ -234,10 +216,8 @@ DENIED = [
     ("openat", (2, "gt", 4), ["openat2"], [(5, "open", 1, 5), (5, "creat", 0, 0), (5, "io_uring_setup", 0, 0)]),
     ("mmap", (2, *EXEC), [], [(4, "mprotect", 2, 4), (4, "pkey_mprotect", 2, 4)]),
     ("mmap", (2, "eq", 5), [("pkey_mprotect", 3, "eq", 1)], [(5, "mprotect", 2, 5), (5, "pkey_mprotect", 2, 5)]),
-    ("mmap", (2, *EXEC), ["mprotect", "pkey_mprotect"], []),
-    ("mprotect", (2, *EXEC), [], [(4, "pkey_mprotect", 2, 4)]),
-    ("mprotect", (2, *EXEC), ["pkey_mprotect"], []),
-    ("pkey_mprotect", (2, *EXEC), [], [(4, "mprotect", 2, 4)]),
+    ("mmap", (2, *EXEC), ["mprotect", "pkey_mprotect"], []), ("mprotect", (2, *EXEC), [], [(4, "pkey_mprotect", 2, 4)]),
+    ("mprotect", (2, *EXEC), ["pkey_mprotect"], []), ("pkey_mprotect", (2, *EXEC), [], [(4, "mprotect", 2, 4)]),
     ("clone", (0, masked(NEW_USER), NEW_USER), [], [(NEW_USER, "unshare", 0, NEW_USER)]),
     ("unshare", (0, masked(NEW_USER), NEW_USER), [], [(NEW_USER, "clone", 0, NEW_USER), (NEW_USER, "clone3", 0, 0)]),
     ("socket", (0, "eq", 16), [], [(16, "io_uring_setup", 0, 0)]),
@@ -287,16 +267,11 @@ SEVERAL = {
 }
 
 IN_ORDER = [
-    line("a\\xc2\\x9b.mismatch_action", "allows-by-default"),
-    line("a\\xc2\\x9b.filter[0].args[0]", "high-half-evades"),
-    line("b\\x0a.mismatch_action", "fake-success"),
-    line("b\\x0a.match_action", "fake-success"),
-    line("b\\x0a.match_action", "errno-too-large"),
-    line("b\\x0a.filter[0]", "crate-differs"),
-    line("b\\x0a.filter[1].args[0]", "never-holds"),
-    line("b\\x0a.filter[1].args[1]", "high-half-ignored"),
-    line("b\\x0a.filter[1].args[1]", "always-holds"),
-    line("b\\x0a.filter[1].args[1]", "pointer-compared"),
+    line("a\\xc2\\x9b.mismatch_action", "allows-by-default"), line("a\\xc2\\x9b.filter[0].args[0]", "high-half-evades"),
+    line("b\\x0a.mismatch_action", "fake-success"), line("b\\x0a.match_action", "fake-success"),
+    line("b\\x0a.match_action", "errno-too-large"), line("b\\x0a.filter[0]", "crate-differs"),
+    line("b\\x0a.filter[1].args[0]", "never-holds"), line("b\\x0a.filter[1].args[1]", "high-half-ignored"),
+    line("b\\x0a.filter[1].args[1]", "always-holds"), line("b\\x0a.filter[1].args[1]", "pointer-compared"),
     line("b\\x0a.filter[2].args[0]", "always-holds"),
 ]
 
@@ -330,10 +305,8 @@ def codes_of(name, it, evaded):
     holding = outcomes(it["type"], it["op"] if mask is None else mask, it["val"])
     found = {
         "high-half-ignored": it["type"] == "dword" and it["val"] != it["val"] & LOW,
-        "value-outside-mask": mask is not None and it["val"] & ~(mask & cut) != 0,
-        "always-holds": holding == {True},
-        "never-holds": holding == {False},
-        **{code: code in evaded for code in EVASIONS},
+        "value-outside-mask": mask is not None and it["val"] & ~(mask & cut) != 0, "always-holds": holding == {True},
+        "never-holds": holding == {False}, **{code: code in evaded for code in EVASIONS},
         "pointer-compared": it["val"] != 0 and name in ADDRESSES.get(it["index"], ()),
         "signed-compared": it["op"] in ("ge", "gt", "le", "lt") and name in SIGNED.get(it["index"], ()),
     }
@@ -349,10 +322,8 @@ def codes_of_action(action):
     """Returns the codes that an action has wherever it stands, in their order."""
     numbered = action if isinstance(action, dict) else {}
     found = {
-        "fake-success": numbered.get("errno", 1) & 65535 == 0,
-        "errno-too-large": numbered.get("errno", 1) >= 4096,
-        "endless-retry": numbered.get("errno", 1) & 65535 == 4,
-        "trace-without-tracer": "trace" in numbered,
+        "fake-success": numbered.get("errno", 1) & 65535 == 0, "errno-too-large": numbered.get("errno", 1) >= 4096,
+        "endless-retry": numbered.get("errno", 1) & 65535 == 4, "trace-without-tracer": "trace" in numbered,
     }
     return [code for code, so in found.items() if so]
 
@@ -473,12 +444,9 @@ def of_each_call():
 FAULTY = json.dumps({"a": filter_of([condition("dword", "lt", 0)], {"errno": 0}, {"errno": 0})})
 
 CASES = [
-    *(it for action, codes in ACTIONS for it in of_action(action, codes)),
-    *(it for row in DENYING for it in of_both(*row)),
-    *(writes(f"check {ALLOWED}", it, lines_of(it)) for it in of_each_call()),
-    *DEFAULTS,
-    *(it for row in BESIDE_OTHERS for it in of_entries(*row)),
-    *(it for row in DETOURED for it in of_detours(*row)),
+    *(it for action, codes in ACTIONS for it in of_action(action, codes)), *(it for row in DENYING for it in of_both(*row)),
+    *(writes(f"check {ALLOWED}", it, lines_of(it)) for it in of_each_call()), *DEFAULTS,
+    *(it for row in BESIDE_OTHERS for it in of_entries(*row)), *(it for row in DETOURED for it in of_detours(*row)),
     # Whatever lets calls through; and nothing that is listed is let through, or all is.
     *of_detours("openat", (2, *READS), ["open"], [(2, "open", 1, 2)], {"errno": 1}, "log"),
     *of_detours("openat", (2, "eq", 1), ["openat2"], [(1, "open", 1, 1), (1, "creat", 0, 0), (1, "io_uring_setup", 0, 0)], "allow", "trap"),

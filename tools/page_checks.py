@@ -35,7 +35,7 @@ from warning_tables import ADDRESSES, CODES, DETOURS, FLAGS, PART_CODES, SIBLING
 TOP = pathlib.Path(__file__).resolve().parent.parent
 LINE = 140
 README_WORDS = 800
-PAGES_WORDS = 36000
+PAGES_WORDS = 30000
 CHANGES_WORDS = 1500
 
 LINK = re.compile(r"\[[^\]]*\]\(<?([^()\s>]+)>?\)|(?:src|srcset)=\"([^\"]+)\"")

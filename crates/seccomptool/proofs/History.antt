@@ -8,7 +8,8 @@ use Rattle.seccomp_answers.specs.declared.error.AnswerError.{AnswerError}
 use Rattle.seccomp_answers.specs.declared.layers.Layer.{Layer}
 use Rattle.seccomptool.specs.Commands.{Answers}
 use Rattle.seccomptool.specs.Ends.{AreRead, Ends, EndsOn, EndsOnEach, EndsWith, IsCarriedOut, IsKept, IsOfOutside, IsRefused}
-use Rattle.seccomptool.specs.Ends.{TraceReading, apart_of}
+use Rattle.seccomptool.specs.Ends.{apart_of}
+use Rattle.seccomptool.specs.Learn.{TraceReading}
 use Rattle.seccomptool.specs.Ends.{on_more, overwrites, refused, unanswered}
 use Rattle.seccomptool.specs.Failures.{Fails}
 use Rattle.seccomptool.specs.Files.{files_of, guarded, lists, output_of, subjects_of, whole, writes_bytes}

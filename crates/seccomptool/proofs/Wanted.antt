@@ -2,12 +2,7 @@
 use Rattle.std.proofs.Common.{◌≡◌, ◌<◌, ◌≤◌, ◌+◌, ℕ, zero, suc, List, [], ◌∷◌, ◌++◌, arith, get_or, length, refl, subst, sym, take}
 use Rattle.std.specs.Prelude.{Any}
 use Rattle.std.proofs.lemmas.List.{get_or_default, take_all, take_more}
-use Rattle.seccomptool.specs.Learn.{InTurn, IsUnknown, indices}
-use Rattle.seccomp_answers.specs.Calls.{IsUncalled}
-use Rattle.seccomp_answers.specs.declared.error.AnswerError.{AnswerError}
-use Rattle.seccomp_answers.specs.declared.error.AnswerError.TheVariants.{OutOfMemory}
-use Rattle.seccomptool.specs.declared.learn.AskedArguments.{AskedArguments}
-use Rattle.seccomptool.specs.declared.command.Learn.{Learn}
+use Rattle.seccomptool.specs.Learn.{InTurn, indices}
 
 -- What an element has, one has.
 pub some_has : {X : Type 0} (P : X → Type 0) (xs : List X) (i : ℕ) (d : X) → i < length xs → P (get_or xs i d) → Any P xs
@@ -40,9 +35,3 @@ index_at (suc (suc (suc zero))) within = refl
 index_at (suc (suc (suc (suc zero)))) within = refl
 index_at (suc (suc (suc (suc (suc zero))))) within = refl
 index_at (suc (suc (suc (suc (suc (suc i)))))) within = absurd (omega arith)
-
--- One of the calls that are asked for is unknown.
-pub unknown_of : (asked : Learn) (e : AnswerError)
-    → Any (λ (call : AskedArguments). IsUncalled asked.arch call.call.now e) asked.arguments.items → IsUnknown asked e
-unknown_of asked OutOfMemory is = tt
-unknown_of asked e is = is

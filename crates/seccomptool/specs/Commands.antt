@@ -16,7 +16,6 @@ use Rattle.seccomp_oci.specs.declared.compiled.CompiledProfile.{CompiledProfile}
 use Rattle.seccomp_oci.specs.CompiledProfile.{IsCompiledProfile}
 use Rattle.seccomp_oci.specs.Types.{Container}
 use Rattle.seccomp_stack.specs.Stack.{IsStack}
-use Rattle.seccomp_learn.specs.declared.trace.Trace.{Trace}
 use Rattle.seccomp_answers.specs.declared.check.CheckedPolicy.{CheckedPolicy}
 use Rattle.seccomp_answers.specs.declared.check.CheckedProfile.{CheckedProfile}
 use Rattle.seccomp_answers.specs.declared.programs.NamedProgram.{NamedProgram}
@@ -52,7 +51,7 @@ use Rattle.seccomp_answers.specs.Diff.{IsDiff, verdict_in}
 use Rattle.seccomp_answers.specs.Kinds.{IsTakenAs}
 use Rattle.seccomptool.specs.declared.command.Learn.{Learn}
 use Rattle.seccomptool.specs.Files.{calls_file, start_file}
-use Rattle.seccomptool.specs.Learn.{IsLessonOf}
+use Rattle.seccomptool.specs.Learn.{IsLesson, TraceReading}
 use Rattle.seccomp_answers.specs.Calls.{AreKnownCalls, IsRecordOf}
 use Rattle.seccomp_answers.specs.Programs.{IsProgramOf, IsRefusedProgram}
 use Rattle.seccomp_answers.specs.Explain.{Explains}
@@ -212,15 +211,15 @@ pub record IsExplained (asked : Explain) (inputs : List Layer) (made : Made) : T
   pub cut : IsTrue made.is_cut ↔ EndsInside asked.calls bytes
 
 -- What `learn` makes of the traces, and of the policy behind them, if calls are added to one.
-pub record IsTaught (reads : TargetArch → List ℕ → Trace → Type 0) (asked : Learn) (inputs : List Layer) (made : Made) : Type 0 where
+pub record IsTaught (reads : TraceReading) (asked : Learn) (inputs : List Layer) (made : Made) : Type 0 where
   pub traced : List Layer
   pub bytes : List ℕ
   pub parted : IsParted (start_file asked.start) inputs traced bytes
-  pub lesson : IsLessonOf reads asked traced bytes made.text.items
+  pub lesson : IsLesson reads asked traced bytes made.text.items
   pub plain : IsPlain made
 
 -- This is made of what is read for a command: a value is found in it that is so, with this verdict and what is written.
-abbrev pub Answers : (reads : TargetArch → List ℕ → Trace → Type 0) → Command → List Layer → Made → Type 0
+abbrev pub Answers : (reads : TraceReading) → Command → List Layer → Made → Type 0
 Answers reads (command.Check asked) (one ∷ []) made = IsCheck asked one.text.items made.verdict × (made.is_cut ≡ false)
 Answers reads (command.Codes json) inputs made = IsPlain made
 Answers reads (command.Compile asked) (one ∷ []) made = IsCompiled asked one.text.items made.text.items × IsPlain made

@@ -1,8 +1,6 @@
 -- With which status a command ends, and what is done outside until then.
-use Rattle.std.specs.Prelude.{◌≡◌, ◌⊎◌, ℕ, ◌++◌, Bool, true, false, List, [], ◌∷◌, Contains, map, max, Option, None, Some}
+use Rattle.std.specs.Prelude.{◌≡◌, ◌⊎◌, ◌<◌, ℕ, ◌++◌, Bool, true, false, List, [], ◌∷◌, Contains, map, max, Option, None, Some}
 use Rattle.std.specs.Borrow.{Bor}
-use Rattle.seccompiler.specs.declared.backend.TargetArch.{TargetArch}
-use Rattle.seccomp_learn.specs.declared.trace.Trace.{Trace}
 use Rattle.seccomp_answers.specs.Chosen.{text_of}
 use Rattle.seccomp_answers.specs.declared.error.AnswerError.{AnswerError}
 use Rattle.seccomp_answers.specs.declared.findings.Verdict.{Verdict}
@@ -16,6 +14,7 @@ use Rattle.seccomptool.specs.declared.outside.Failure.{Failure}
 use Rattle.seccomptool.specs.Commands.{Answers}
 use Rattle.seccomptool.specs.Failures.{Fails}
 use Rattle.seccomptool.specs.Files.{IsAsked, Paths, files_of, guarded, lists, output_of, subjects_of, whole, writes_bytes}
+use Rattle.seccomptool.specs.Learn.{TraceReading}
 use Rattle.seccomptool.specs.Outside.{Event, compared, failed, got_of, named_of, on_terminal, out_of_memory, told, writes, wrote}
 
 -- The files that are read at once: one of a check; or all of another command, in their order.
@@ -31,10 +30,6 @@ abbrev pub apart_of : Option (List ℕ) → (of_bytes : Bool) → List Named →
 apart_of (Some output) of_bytes files = map (λ (file : Named). compared file.path.now output false) files
 apart_of None true files = on_terminal false ∷ []
 apart_of None false files = []
-
--- What a trace is.
-abbrev pub TraceReading : Type 1
-TraceReading = TargetArch → List ℕ → Trace → Type 0
 
 -- All that is done before something is made: none of the files is the one that is written, and each is read.
 pub record AreRead (command : Command) (files : List Named) (inputs : List Layer) (events : List Event) : Type 0 where
@@ -93,18 +88,15 @@ pub data EndsOnEach (reads : TraceReading) (command : Command) : List (Bor (List
       → EndsOnEach reads command (front ++ one ∷ []) (before ++ own) (max status less)
 
 -- A text is written to standard output, of which no more is said; or it isn't, and why is told.
-pub data IsSaid (events : List Event) (is_written : Bool) : Type 0 where
-  said : (text : List ℕ) → events ≡ wrote None text ∷ [] → is_written ≡ true → IsSaid events is_written
-  unsaid : (f : Failure) (before : List Event) → IsOfOutside before f → events ≡ before ++ told f ∷ [] → is_written ≡ false
-      → IsSaid events is_written
+pub data IsSaid (events : List Event) (status : ℕ) : Type 0 where
+  said : (text : List ℕ) → events ≡ wrote None text ∷ [] → status ≡ 0 → IsSaid events status
+  unsaid : (f : Failure) (before : List Event) → IsOfOutside before f → events ≡ before ++ told f ∷ [] → status ≡ 2 → IsSaid events status
 
 -- As a list: its head is written, what is found in each file, and the end of the list.
 pub data EndsInList (reads : TraceReading) (command : Command) (subjects : List (Bor (List ℕ))) : List Event → ℕ → Type 0 where
-  listed : {head each end : List Event} {status : ℕ} → IsSaid head true → EndsOnEach reads command subjects each status
-      → IsSaid end true → EndsInList reads command subjects (head ++ each ++ end) status
-  unended : {head each end : List Event} {status : ℕ} → IsSaid head true → EndsOnEach reads command subjects each status
-      → IsSaid end false → EndsInList reads command subjects (head ++ each ++ end) 2
-  unlisted : {head : List Event} → IsSaid head false → EndsInList reads command subjects head 2
+  listed : {head each end : List Event} {status ended : ℕ} → IsSaid head 0 → EndsOnEach reads command subjects each status
+      → IsSaid end ended → EndsInList reads command subjects (head ++ each ++ end) (max status ended)
+  unlisted : {head : List Event} {status : ℕ} → IsSaid head status → 0 < status → EndsInList reads command subjects head status
 
 -- A command ends: a check on one file after the other, another on all of its files.
 abbrev pub EndsOn : TraceReading → (in_list : Bool) → (subjects : Option (List (Bor (List ℕ)))) → Command → List Event → (status : ℕ)

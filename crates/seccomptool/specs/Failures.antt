@@ -1,7 +1,6 @@
 -- Why a command isn't carried out on what is read for it.
 use Rattle.std.specs.Prelude.{◌≡◌, Bool, true, false, List, [], ◌∷◌, ℕ}
 use Rattle.seccompiler.specs.declared.backend.TargetArch.{TargetArch}
-use Rattle.seccomp_learn.specs.declared.trace.Trace.{Trace}
 use Rattle.seccomp_answers.specs.declared.error.AnswerError.{AnswerError}
 use Rattle.seccomp_answers.specs.declared.error.AnswerError.TheVariants.{OutOfMemory}
 use Rattle.seccomp_answers.specs.declared.layers.Layer.{Layer}
@@ -12,7 +11,7 @@ use Rattle.seccomptool.specs.Causes.{IsUncompared, IsUncompiled, IsUnexplained, 
 use Rattle.seccomptool.specs.Commands.{IsAskedAbout, IsParted}
 use Rattle.seccomptool.specs.Files.{calls_file, start_file}
 use Rattle.seccomp_answers.specs.Calls.{IsUncalled, IsUnknownCall}
-use Rattle.seccomptool.specs.Unlearned.{IsUnlearnedOf}
+use Rattle.seccomptool.specs.Learn.{IsUnlearned, TraceReading}
 
 -- The text is no call of the architecture; or no call that has a name, of those that are asked about.
 abbrev pub IsUncalledOn : (recorded : Bool) → (each : Bool) → TargetArch → Call → AnswerError → Type 0
@@ -21,7 +20,7 @@ IsUncalledOn false each arch call e = IsUnknownCall (IsAskedAbout each arch) cal
 
 -- A command fails on what is read for it for this. `check` and the list of codes fail only if memory runs out, since a fault of what is
 -- given is what `check` finds.
-abbrev pub Fails : (reads : TargetArch → List ℕ → Trace → Type 0) → Command → List Layer → AnswerError → Type 0
+abbrev pub Fails : (reads : TraceReading) → Command → List Layer → AnswerError → Type 0
 Fails reads (command.Check asked) inputs e = e ≡ OutOfMemory
 Fails reads (command.Codes json) inputs e = e ≡ OutOfMemory
 Fails reads (command.Compile asked) (one ∷ []) e = IsUncompiled asked one.text.items e
@@ -32,6 +31,6 @@ Fails reads (command.Diff asked) (old ∷ new ∷ []) e = IsUncompared asked old
 Fails reads (command.Stack asked) layers e = IsUnstacked asked layers e
 Fails reads (command.Learn asked) inputs e =
     (traced : List Layer) × (bytes : List ℕ) × IsParted (start_file asked.start) inputs traced bytes
-    × IsUnlearnedOf reads asked traced bytes e
+    × IsUnlearned reads asked traced bytes e
 Fails reads (command.Call asked) inputs e = IsUncalledOn asked.recorded asked.each_arch asked.arch asked.call e
 Fails reads other inputs e = ⊥

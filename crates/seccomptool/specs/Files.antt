@@ -18,14 +18,6 @@ use Rattle.seccomptool.specs.declared.command.Calls.{Calls}
 use Rattle.seccomptool.specs.declared.command.Calls.TheVariants.{One, Records, Log}
 use Rattle.seccomptool.specs.declared.command.Command.{Command}
 use Rattle.seccomptool.specs.declared.command.Command.TheVariants.{Call, Check, Codes, Compile, Diff, Explain, Learn, Show, Stack}
-use Rattle.seccomptool.specs.declared.command.Check.{Check as AskedCheck}
-use Rattle.seccomptool.specs.declared.command.Compile.{Compile as AskedCompile}
-use Rattle.seccomptool.specs.declared.command.Diff.{Diff as AskedDiff}
-use Rattle.seccomptool.specs.declared.command.Explain.{Explain as AskedExplain}
-use Rattle.seccomptool.specs.declared.command.Learn.{Learn as AskedLearn}
-use Rattle.seccomptool.specs.declared.command.Show.{Show as AskedShow}
-use Rattle.seccomptool.specs.declared.command.Stack.{Stack as AskedStack}
-use Rattle.seccomptool.specs.declared.command.Lookup.{Lookup}
 use Rattle.seccomptool.specs.declared.command.Named.{Named}
 use Rattle.seccomptool.specs.declared.learn.Start.{Start}
 use Rattle.seccomptool.specs.declared.learn.Start.TheVariants.{Into, Otherwise}
@@ -177,65 +169,48 @@ AreCalls None (Some path) records (Log given) = given.now ≡ path
 AreCalls None None records (Records given) = given.now ≡ records
 AreCalls call log records calls = ⊥
 
+-- A command has this name. `--list` is an option of `check`.
+abbrev pub IsNamed : Found → (name : List ℕ) → Command → Type 0
+IsNamed found name (Codes json) = (name ≡ codes "check") × IsFlag found (codes "list") true
+IsNamed found name (Check asked) = (name ≡ codes "check") × IsFlag found (codes "list") false
+IsNamed found name (Compile asked) = name ≡ codes "compile"
+IsNamed found name (Show asked) = name ≡ codes "show"
+IsNamed found name (Explain asked) = name ≡ codes "explain"
+IsNamed found name (Diff asked) = name ≡ codes "diff"
+IsNamed found name (Stack asked) = name ≡ codes "stack"
+IsNamed found name (Learn asked) = name ≡ codes "learn"
+IsNamed found name (Call asked) = name ≡ codes "call"
+
 -- What each command is asked for: the files that are named for it, as what they are named for. What else is asked for is tested.
-pub record IsCheckFor (found : Found) (asked : AskedCheck) : Type 0 where
-  pub arch : asked.arch ≡ arch_in found
-  pub subjects : map (λ (path : Bor (List ℕ)). path.now) asked.subjects.items ≡ all_values found (codes "SUBJECT")
-
-pub record IsCompileFor (paths : Paths) (found : Found) (asked : AskedCompile) : Type 0 where
-  pub arch : asked.arch ≡ arch_in found
-  pub subject : IsSubject paths found asked.subject
-  pub output : text_of asked.output ≡ output_in found
-
-pub record IsShowFor (paths : Paths) (found : Found) (asked : AskedShow) : Type 0 where
-  pub arch : asked.arch ≡ arch_in found
-  pub subject : IsSubject paths found asked.subject
-
-pub record IsExplainFor (paths : Paths) (found : Found) (asked : AskedExplain) : Type 0 where
-  pub arch : asked.arch ≡ arch_in found
-  pub before : AllZip (IsNamedBy paths) (all_values found (codes "after")) asked.before.items
-  pub subject : IsSubject paths found asked.subject
-  pub calls : AreCalls (first_value found (codes "CALL")) (first_value found (codes "log")) (path_given found (codes "records")) asked.calls
-
-pub record IsDiffFor (paths : Paths) (found : Found) (asked : AskedDiff) : Type 0 where
-  pub arch : asked.terms.target ≡ arch_in found
-  pub old : IsNamedBy paths (path_given found (codes "OLD")) asked.old
-  pub new : IsNamedBy paths (path_given found (codes "NEW")) asked.new
-
-pub record IsStackFor (paths : Paths) (found : Found) (asked : AskedStack) : Type 0 where
-  pub arch : asked.arch ≡ arch_in found
-  pub layers : AllZip (IsNamedBy paths) (all_values found (codes "SUBJECT")) asked.layers.items
-  pub output : text_of asked.output ≡ output_in found
-
-pub record IsLearnFor (found : Found) (asked : AskedLearn) : Type 0 where
-  pub arch : asked.arch ≡ arch_in found
-  pub traces : map (λ (path : Bor (List ℕ)). path.now) asked.traces.items ≡ all_values found (codes "TRACE")
-  pub into : text_of (start_file asked.start) ≡ first_value found (codes "into")
-  pub name : text_of asked.name ≡ first_value found (codes "name")
-  pub output : text_of asked.output ≡ output_in found
-
-pub record IsLookupFor (found : Found) (asked : Lookup) : Type 0 where
-  pub arch : asked.arch ≡ arch_in found
-  pub each : asked.each_arch ≡ is_none (first_value found (codes "arch"))
-  pub call : asked.call.name.now ≡ path_given found (codes "CALL")
-  pub output : text_of asked.output ≡ output_in found
-
--- The command is the one of this name. `--list` is an option of `check`.
-abbrev pub IsCommandFor : Paths → Found → (name : List ℕ) → Command → Type 0
-IsCommandFor paths found name (Codes json) = (name ≡ codes "check") × IsFlag found (codes "list") true
-IsCommandFor paths found name (Check asked) = (name ≡ codes "check") × IsFlag found (codes "list") false × IsCheckFor found asked
-IsCommandFor paths found name (Compile asked) = (name ≡ codes "compile") × IsCompileFor paths found asked
-IsCommandFor paths found name (Show asked) = (name ≡ codes "show") × IsShowFor paths found asked
-IsCommandFor paths found name (Explain asked) = (name ≡ codes "explain") × IsExplainFor paths found asked
-IsCommandFor paths found name (Diff asked) = (name ≡ codes "diff") × IsDiffFor paths found asked
-IsCommandFor paths found name (Stack asked) = (name ≡ codes "stack") × IsStackFor paths found asked
-IsCommandFor paths found name (Learn asked) = (name ≡ codes "learn") × IsLearnFor found asked
-IsCommandFor paths found name (Call asked) = (name ≡ codes "call") × IsLookupFor found asked
+abbrev pub IsAskedBy : Paths → Found → Command → Type 0
+IsAskedBy paths found (Codes json) = ⊤
+IsAskedBy paths found (Check asked) =
+    (asked.arch ≡ arch_in found) × (map (λ (path : Bor (List ℕ)). path.now) asked.subjects.items ≡ all_values found (codes "SUBJECT"))
+IsAskedBy paths found (Compile asked) =
+    (asked.arch ≡ arch_in found) × IsSubject paths found asked.subject × (text_of asked.output ≡ output_in found)
+IsAskedBy paths found (Show asked) = (asked.arch ≡ arch_in found) × IsSubject paths found asked.subject
+IsAskedBy paths found (Explain asked) =
+    (asked.arch ≡ arch_in found) × AllZip (IsNamedBy paths) (all_values found (codes "after")) asked.before.items
+    × IsSubject paths found asked.subject
+    × AreCalls (first_value found (codes "CALL")) (first_value found (codes "log")) (path_given found (codes "records")) asked.calls
+IsAskedBy paths found (Diff asked) =
+    (asked.terms.target ≡ arch_in found) × IsNamedBy paths (path_given found (codes "OLD")) asked.old
+    × IsNamedBy paths (path_given found (codes "NEW")) asked.new
+IsAskedBy paths found (Stack asked) =
+    (asked.arch ≡ arch_in found) × AllZip (IsNamedBy paths) (all_values found (codes "SUBJECT")) asked.layers.items
+    × (text_of asked.output ≡ output_in found)
+IsAskedBy paths found (Learn asked) =
+    (asked.arch ≡ arch_in found) × (map (λ (path : Bor (List ℕ)). path.now) asked.traces.items ≡ all_values found (codes "TRACE"))
+    × (text_of (start_file asked.start) ≡ first_value found (codes "into")) × (text_of asked.name ≡ first_value found (codes "name"))
+    × (text_of asked.output ≡ output_in found)
+IsAskedBy paths found (Call asked) =
+    (asked.arch ≡ arch_in found) × (asked.each_arch ≡ is_none (first_value found (codes "arch")))
+    × (asked.call.name.now ≡ path_given found (codes "CALL")) × (text_of asked.output ≡ output_in found)
 
 abbrev pub IsFor : Paths → Found → (name : List ℕ) → Option Command → Type 0
 IsFor paths found name None = ⊤
-IsFor paths found name (Some command) = IsCommandFor paths found name command
+IsFor paths found name (Some command) = IsNamed found name command × IsAskedBy paths found command
 
 -- The words ask for this command, as clap finds them.
 abbrev pub IsAsked : Paths → Command → Type 0
-IsAsked paths command = (found : Found) × (name : List ℕ) × IsCommandFor paths found name command
+IsAsked paths command = (found : Found) × (name : List ℕ) × IsFor paths found name (Some command)

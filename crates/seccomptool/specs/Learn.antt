@@ -1,10 +1,14 @@
 -- What `learn` gives: a policy of the calls that were observed, which are added to a filter.
-use Rattle.std.specs.Prelude.{◌≡◌, ◌≤◌, ℕ, List, [], ◌∷◌, ◌++◌, All, Any, Bool, true, false, Option, Some, None, codes, slice_index_or, ⊤}
-use Rattle.std.specs.Prelude.{unwrap_or}
+use Rattle.std.specs.Prelude.{◌≡◌, ◌≢◌, ◌⊎◌, ◌≤◌, ℕ, List, [], ◌∷◌, ◌++◌, Any, Bool, true, false, Option, Some, None, codes, flat_map}
+use Rattle.std.specs.Prelude.{slice_index_or, unwrap_or, ⊤}
+use Rattle.std.specs.Borrow.{Bor}
 use Rattle.std.specs.List.{AllZip}
 use Rattle.seccompiler.specs.declared.backend.TargetArch.{TargetArch}
 use Rattle.seccompiler.specs.declared.backend.SeccompAction.{SeccompAction}
 use Rattle.seccompiler.specs.declared.backend.SeccompAction.TheVariants.{Allow, Errno}
+use Rattle.seccompiler.specs.declared.json.error.JsonFrontendError.{JsonFrontendError}
+use Rattle.seccompiler.specs.Errors.{from_frontend}
+use Rattle.seccompiler.specs.JsonSteps.{IsBeforePolicies, IsPolicyRefusal}
 use Rattle.seccompiler.specs.JsonTypes.{JsonFilter}
 use Rattle.seccomp_learn.specs.declared.observation.Kept.{Kept}
 use Rattle.seccomp_learn.specs.declared.observation.Observation.{Observation}
@@ -12,16 +16,23 @@ use Rattle.seccomp_learn.specs.declared.policy.Lesson.{Lesson}
 use Rattle.seccomp_learn.specs.declared.trace.Trace.{Trace}
 use Rattle.seccomp_learn.specs.Learned.{IsLearnedWithin}
 use Rattle.seccomp_learn.specs.Usual.{AreCloning, AreRunnable, AreUsual, IsAskedArgument}
-use Rattle.seccomp_learn.specs.Written.{HasFilters, beside}
+use Rattle.seccomp_learn.specs.Written.{HasFilter, HasFilters, beside}
 use Rattle.seccomp_answers.specs.declared.error.AnswerError.{AnswerError}
-use Rattle.seccomp_answers.specs.declared.error.AnswerError.TheVariants.{OutOfMemory, Told}
+use Rattle.seccomp_answers.specs.declared.error.AnswerError.TheVariants.{Fault, OutOfMemory, Told}
+use Rattle.seccomp_answers.specs.declared.layers.Layer.{Layer}
+use Rattle.seccomp_answers.specs.Calls.{IsCall, IsUncalled}
+use Rattle.seccomp_answers.specs.Causes.{IsUnnamed}
+use Rattle.seccomp_answers.specs.Chosen.{IsChosen, text_of}
+use Rattle.seccomp_answers.specs.Errors.{from_library}
+use Rattle.seccomptool.specs.Causes.{IsFaultText}
+use Rattle.seccomptool.specs.declared.command.Learn.{Learn}
 use Rattle.seccomptool.specs.declared.learn.AskedArguments.{AskedArguments}
 use Rattle.seccomptool.specs.declared.learn.Start.{Start}
 use Rattle.seccomptool.specs.declared.learn.Start.TheVariants.{Otherwise, Into}
-use Rattle.seccomp_answers.specs.declared.layers.Layer.{Layer}
-use Rattle.seccomptool.specs.declared.command.Learn.{Learn}
-use Rattle.seccomp_answers.specs.Chosen.{IsChosen, text_of}
-use Rattle.seccomp_answers.specs.Calls.{IsCall, IsUncalled}
+
+-- What a trace is.
+abbrev pub TraceReading : Type 1
+TraceReading = TargetArch → List ℕ → Trace → Type 0
 
 -- Calls are added to this filter of this name, beside others: one that allows nothing, and answers with this action; or that of a
 -- policy's text that is asked for, or the only one, if it allows what it lists.
@@ -52,7 +63,7 @@ IsTaken as_unit action = ⊤
 
 -- The error tells that this isn't so, or is lack of memory.
 abbrev pub IsUntaken : (as_unit : Bool) → SeccompAction → AnswerError → Type 0
-IsUntaken as_unit action (Told text) = IsTaken as_unit action → ⊥
+IsUntaken as_unit action (Fault text) = IsTaken as_unit action → ⊥
 IsUntaken as_unit action OutOfMemory = ⊤
 IsUntaken as_unit action e = ⊥
 
@@ -76,34 +87,19 @@ abbrev pub IsWrittenPolicy : Learn → (others : List ℕ → Option JsonFilter)
 IsWrittenPolicy asked others name filter text =
     Unless asked.as_profile (Unless asked.as_unit (HasFilters text (beside others name filter)))
 
--- The calls that were read of traces.
-abbrev pub read_in : List Trace → List Observation
-read_in [] = []
-read_in (trace ∷ traces) = trace.observed.items ++ read_in traces
+-- They are so, if they are asked for, or else there are none.
+abbrev pub AreIf : (asked : Bool) → (List Observation → Type 0) → List Observation → Type 0
+AreIf true Are calls = Are calls
+AreIf false Are calls = calls ≡ []
 
--- These are the calls that the C library makes by itself, if they are asked for, or else none.
-abbrev pub AreRunnableIf : TargetArch → (asked : Bool) → List Observation → Type 0
-AreRunnableIf arch true calls = AreRunnable arch calls
-AreRunnableIf arch false calls = calls ≡ []
-
--- These are `clone` and `clone3`, if a second filter answers the latter, or else none.
-abbrev pub AreCloningIf : TargetArch → (asked : Bool) → List Observation → Type 0
-AreCloningIf arch true calls = AreCloning arch calls
-AreCloningIf arch false calls = calls ≡ []
-
--- These are allowed too, and no others.
-pub record AreAdded (asked : Learn) (added : List Observation) : Type 0 where
-  pub runnable : List Observation
-  pub are_runnable : AreRunnableIf asked.arch asked.runnable runnable
-  pub cloning : List Observation
-  pub are_cloning : AreCloningIf asked.arch asked.old_clone cloning
-  pub are : added ≡ runnable ++ cloning
-
--- The observed calls are those that were read, and those that are added.
+-- The observed calls are those that were read of traces; and those that the C library makes by itself, and `clone` and `clone3`, if they
+-- are asked for.
 pub record AreObserved (asked : Learn) (traces : List Trace) (observed : List Observation) : Type 0 where
-  pub added : List Observation
-  pub are : observed ≡ read_in traces ++ added
-  pub are_added : AreAdded asked added
+  pub runnable : List Observation
+  pub are_runnable : AreIf asked.runnable (AreRunnable asked.arch) runnable
+  pub cloning : List Observation
+  pub are_cloning : AreIf asked.old_clone (AreCloning asked.arch) cloning
+  pub are : observed ≡ (flat_map (λ (trace : Trace). trace.observed.items) traces ++ runnable) ++ cloning
 
 -- ---- the arguments whose values are wanted
 
@@ -139,11 +135,6 @@ pub record AreWanted (asked : Learn) (observed : List Observation) (wanted : Lis
   pub are_usual : AreUsual asked.arch usual
   pub are : InTurn (AreWithCall asked.arch observed) asked.arguments.items usual wanted
 
--- The error tells of one of the calls that are asked for that it is none of the architecture; or memory ran out.
-abbrev pub IsUnknown : Learn → AnswerError → Type 0
-IsUnknown asked OutOfMemory = ⊤
-IsUnknown asked e = Any (λ (call : AskedArguments). IsUncalled asked.arch call.call.now e) asked.arguments.items
-
 -- ---- traces that aren't understood
 
 -- It is a trace; and no line and no byte of it isn't understood, if that is asked for.
@@ -158,11 +149,17 @@ IsStrange strict trace (Told text) = IsUnderstood strict trace → ⊥
 IsStrange strict trace OutOfMemory = ⊤
 IsStrange strict trace e = ⊥
 
+-- The trace is what is read of this, and it is understood.
+pub record IsTraceOf (reads : TraceReading) (asked : Learn) (input : Layer) (trace : Trace) : Type 0 where
+  pub read : reads asked.arch input.text.items trace
+  pub understood : IsUnderstood asked.strict trace
+
 -- ---- a lesson
 
--- A lesson is learned of what was read of these traces, and of no other call. The traces are understood. It is written.
-pub record IsLesson (asked : Learn) (traces : List Trace) (text written : List ℕ) : Type 0 where
-  pub understood : All (IsUnderstood asked.strict) traces
+-- A lesson is learned of exactly what was read of these, in their order, and of no other call. It is written.
+pub record IsLesson (reads : TraceReading) (asked : Learn) (traced : List Layer) (text written : List ℕ) : Type 0 where
+  pub traces : List Trace
+  pub are_traces : AllZip (IsTraceOf reads asked) traced traces
   pub observed : List Observation
   pub are_observed : AreObserved asked traces observed
   pub wanted : List Kept
@@ -173,14 +170,47 @@ pub record IsLesson (asked : Learn) (traces : List Trace) (text written : List �
   pub is : IsLearned asked wanted observed text name lesson others
   pub policy : Unless asked.json (IsWrittenPolicy asked others name lesson.learned.json written)
 
--- The trace is what is read of these bytes.
-abbrev pub IsTraceOf : (reads : TargetArch → List ℕ → Trace → Type 0) → TargetArch → Layer → Trace → Type 0
-IsTraceOf reads arch input trace = reads arch input.text.items trace
+-- ---- why there is none
 
--- The same of what was read of exactly these, in their order.
-abbrev pub IsLessonOf : (reads : TargetArch → List ℕ → Trace → Type 0) → Learn → List Layer → (text written : List ℕ) → Type 0
-IsLessonOf reads asked traced text written =
-    (traces : List Trace) × AllZip (IsTraceOf reads asked.arch) traced traces × IsLesson asked traces text written
+-- What is read of this isn't understood.
+abbrev pub IsStrangeOf : TraceReading → Learn → AnswerError → Layer → Type 0
+IsStrangeOf reads asked e input = (trace : Trace) × reads asked.arch input.text.items trace × IsStrange asked.strict trace e
+
+-- One of the calls of `--args` is none of the architecture.
+abbrev pub IsUnknown : Learn → AnswerError → Type 0
+IsUnknown asked e = Any (λ (call : AskedArguments). IsUncalled asked.arch call.call.now e) asked.arguments.items
+
+-- Why nothing is learned: a policy that calls are added to is rejected, on whichever architecture, or by the filter's name; or its filter
+-- doesn't allow what it lists; or the filter is no policy of the architecture; or systemd doesn't take its errno. Or memory ran out.
+pub data IsUntaught (asked : Learn) (text : List ℕ) (e : AnswerError) : Type 0 where
+  no_memory : e ≡ OutOfMemory → IsUntaught asked text e
+  unnamed : (path : Bor (List ℕ)) → asked.start ≡ Into path → IsUnnamed (text_of asked.name) text e → IsUntaught asked text e
+  denying : (path : Bor (List ℕ)) → asked.start ≡ Into path → (name : List ℕ) (filter : JsonFilter)
+      → IsChosen text (text_of asked.name) name → HasFilter text name filter → filter.match_action ≢ Allow → IsFaultText e
+      → IsUntaught asked text e
+  no_policy : (name : List ℕ) (base : JsonFilter) (others : List ℕ → Option JsonFilter)
+      → IsBase asked.start (text_of asked.name) text name base others
+      → (cause : JsonFrontendError) → IsPolicyRefusal asked.arch base cause → e ≡ from_library (from_frontend cause)
+      → IsUntaught asked text e
+  untaken : (name : List ℕ) (base : JsonFilter) (others : List ℕ → Option JsonFilter)
+      → IsBase asked.start (text_of asked.name) text name base others → IsUntaken asked.as_unit base.mismatch_action e
+      → IsUntaught asked text e
+
+-- A policy's text that is made is rejected when it is read back.
+abbrev pub IsUnwritten : Learn → AnswerError → Type 0
+IsUnwritten asked e = (asked.as_profile ≡ false) × (asked.as_unit ≡ false) × (cause : JsonFrontendError) × IsBeforePolicies cause
+    × (e ≡ from_library (from_frontend cause))
+
+-- Memory ran out, or that is so.
+abbrev pub OrMemory : (AnswerError → Type 0) → AnswerError → Type 0
+OrMemory Is e = (e ≡ OutOfMemory) ⊎ Is e
+
+-- Why `learn` gives nothing: a trace isn't understood; a call of `--args` is unknown; nothing is learned; or it isn't written.
+pub data IsUnlearned (reads : TraceReading) (asked : Learn) (traced : List Layer) (text : List ℕ) (e : AnswerError) : Type 0 where
+  of_trace : OrMemory (λ error. Any (IsStrangeOf reads asked error) traced) e → IsUnlearned reads asked traced text e
+  of_call : OrMemory (IsUnknown asked) e → IsUnlearned reads asked traced text e
+  of_base : IsUntaught asked text e → IsUnlearned reads asked traced text e
+  of_text : OrMemory (IsUnwritten asked) e → IsUnlearned reads asked traced text e
 
 -- The error is a text, or lack of memory.
 abbrev pub IsTold : AnswerError → Type 0

@@ -3,10 +3,9 @@
 -- What is promised, in reading order: which words are which command, what each command does, and why it fails; what is done outside,
 -- and with which status a command ends.
 pub mod Files
+pub mod Causes
 pub mod Learn
 pub mod Commands
-pub mod Causes
-pub mod Unlearned
 pub mod Failures
 pub mod Outside
 pub mod Ends

@@ -3,14 +3,14 @@
 mod arguments;
 pub(crate) mod notes;
 
-ghost use Rattle.std.specs.Prelude.{◌≡◌, ◌++◌, All, Any, IfErr, IfOk, OnOk, codes, string_bytes};
+ghost use Rattle.std.specs.Prelude.{◌≡◌, Any, IfErr, IfOk, OnOk, string_bytes};
 ghost use Rattle.std.specs.List.{AllZip};
 ghost use Rattle.seccomp_learn.specs.Written.{found_in};
 ghost use Rattle.seccomp_answers.specs.Chosen.{text_of};
 ghost use Rattle.seccomptool.specs.Commands.{IsPlain};
 ghost use Rattle.seccomptool.specs.Files.{start_file};
-ghost use Rattle.seccomptool.specs.Learn.{AreAdded, AreCloningIf, AreObserved, AreRunnableIf, IsBase, IsLearned, IsLesson, IsLessonOf, IsStrange, IsTaken, IsTraceOf, IsUnderstood, IsUntaken, IsWrittenPolicy, Unless, clone3_filter, with_second};
-ghost use Rattle.seccomptool.specs.Unlearned.{IsNoBase, IsOfStart, IsUnlearned, IsUnlearnedOf, IsUntaught, IsUnwritten};
+ghost use Rattle.seccomp_learn.specs.Usual.{AreCloning, AreRunnable};
+ghost use Rattle.seccomptool.specs.Learn.{AreIf, AreObserved, IsBase, IsLearned, IsLesson, IsStrangeOf, IsTaken, IsTraceOf, IsUnlearned, IsUntaken, IsUntaught, IsUnwritten, IsWrittenPolicy, OrMemory, Unless, clone3_filter, with_second};
 
 use crate::command::Learn;
 use crate::learn::arguments::{push_asked_notes, wanted_in};
@@ -74,61 +74,36 @@ pub(crate) fn learn_made<O: Outside>(
     traced: &[Layer<'_>],
     policy: &[u8],
 ) -> Result<Made, AnswerError>
-    ensures lesson { IfOk result (λ made. IsLessonOf O.reads asked.now traced.now policy.now made.text.items × IsPlain made) }
-    ensures cause { IfErr result (IsUnlearnedOf O.reads asked.now traced.now policy.now) }
+    ensures lesson { IfOk result (λ made. IsLesson O.reads asked.now traced.now policy.now made.text.items × IsPlain made) }
+    ensures cause { IfErr result (IsUnlearned O.reads asked.now traced.now policy.now) }
 {
-    let traces = traces_of(alloc, out, asked.arch, traced)?;
-    lesson_made(alloc, asked, &traces, policy)
-}
-
-// What was read of these.
-fn traces_of<O: Outside>(
-    alloc: Global,
-    out: &O,
-    arch: TargetArch,
-    traced: &[Layer<'_>],
-) -> Result<Vec<Trace>, AllocError>
-    ensures { IfOk result (λ traces. AllZip (IsTraceOf O.reads arch) traced.now traces.items) }
-{
-    let mut traces = Vec::new(alloc);
-    for input in traced {
-        traces.push(out.trace(alloc, arch, &input.text)?)?;
-    }
-    Ok(traces)
-}
-
-// What is learned of these traces, and what it is added to.
-fn lesson_made(
-    alloc: Global,
-    asked: &Learn<'_>,
-    traces: &[Trace],
-    policy: &[u8],
-) -> Result<Made, AnswerError>
-    ensures lesson { IfOk result (λ made. IsLesson asked.now traces.now policy.now made.text.items × IsPlain made) }
-    ensures cause { IfErr result (IsUnlearned asked.now traces.now policy.now) }
-{
-    refuse_traces(alloc, asked, traces)?;
-    let observed = observed_in(alloc, asked, traces)?;
+    let traces = traces_of(alloc, out, asked, traced)?;
+    let observed = observed_in(alloc, asked, &traces)?;
     let wanted = wanted_in(alloc, asked, &observed)?;
-    let learned = match learned_of(alloc, asked, &observed, &wanted, policy) {
-        Ok(learned) => learned,
-        Err(error) => return Err(of_start(alloc, asked.start, error)),
-    };
-    let made = views_of(alloc, asked, traces, &observed, &wanted, &learned);
+    let learned = learned_of(alloc, asked, &observed, &wanted, policy)?;
+    let made = views_of(alloc, asked, &traces, &observed, &wanted, &learned);
     // Here, so that no branch has to.
-    drop((observed, wanted, learned));
+    drop((traces, observed, wanted, learned));
     made
 }
 
-// Rejects what is no trace; and, if it is asked for, a trace of which something isn't understood.
-fn refuse_traces(alloc: Global, asked: &Learn<'_>, traces: &[Trace]) -> Result<(), AnswerError>
-    ensures understood { OnOk result (All (IsUnderstood asked.now.strict) traces.now) }
-    ensures cause { IfErr result (λ error. Any (λ trace. IsStrange asked.now.strict trace error) traces.now) }
+// What was read of these. What is no trace is rejected; and, if it is asked for, a trace of which something isn't understood.
+fn traces_of<O: Outside>(
+    alloc: Global,
+    out: &O,
+    asked: &Learn<'_>,
+    traced: &[Layer<'_>],
+) -> Result<Vec<Trace>, AnswerError>
+    ensures read { IfOk result (λ traces. AllZip (IsTraceOf O.reads asked.now) traced.now traces.items) }
+    ensures cause { IfErr result (OrMemory (λ error. Any (IsStrangeOf O.reads asked.now error) traced.now)) }
 {
-    for (index, trace) in traces.iter().enumerate() {
-        refuse_trace(alloc, asked, index, trace)?;
+    let mut traces = Vec::new(alloc);
+    for input in traced {
+        let trace = out.trace(alloc, asked.arch, &input.text)?;
+        refuse_trace(alloc, asked.strict, input.path, &trace)?;
+        traces.push(trace)?;
     }
-    Ok(())
+    Ok(traces)
 }
 
 // The calls that all traces have, and those that are allowed too.
@@ -139,28 +114,20 @@ fn observed_in(
 ) -> Result<Vec<Observation>, AllocError>
     ensures { IfOk result (λ observed. AreObserved asked.now traces.now observed.items) }
 {
-    let added = added_in(alloc, asked)?;
+    let runnable = runnable_in(alloc, asked)?;
+    let cloning = cloning_in(alloc, asked)?;
     let mut observed = Vec::new(alloc);
     for trace in traces {
         observed.extend_from_slice(&trace.observed)?;
     }
-    observed.extend_from_slice(&added)?;
+    observed.extend_from_slice(&runnable)?;
+    observed.extend_from_slice(&cloning)?;
     Ok(observed)
-}
-
-// The calls that are allowed too.
-fn added_in(alloc: Global, asked: &Learn<'_>) -> Result<Vec<Observation>, AllocError>
-    ensures { IfOk result (λ added. AreAdded asked.now added.items) }
-{
-    let cloning = cloning_in(alloc, asked)?;
-    let mut added = runnable_in(alloc, asked)?;
-    added.extend_from_slice(&cloning)?;
-    Ok(added)
 }
 
 // The calls that the C library makes by itself, if they are asked for.
 fn runnable_in(alloc: Global, asked: &Learn<'_>) -> Result<Vec<Observation>, AllocError>
-    ensures { IfOk result (λ calls. AreRunnableIf asked.now.arch asked.now.runnable calls.items) }
+    ensures { IfOk result (λ calls. AreIf asked.now.runnable (AreRunnable asked.now.arch) calls.items) }
 {
     if asked.runnable {
         return runnable_calls(alloc, asked.arch);
@@ -170,7 +137,7 @@ fn runnable_in(alloc: Global, asked: &Learn<'_>) -> Result<Vec<Observation>, All
 
 // The calls by which threads and processes are made, if a second filter answers one of them.
 fn cloning_in(alloc: Global, asked: &Learn<'_>) -> Result<Vec<Observation>, AllocError>
-    ensures { IfOk result (λ calls. AreCloningIf asked.now.arch asked.now.old_clone calls.items) }
+    ensures { IfOk result (λ calls. AreIf asked.now.old_clone (AreCloning asked.now.arch) calls.items) }
 {
     if asked.old_clone {
         return cloning_calls(alloc, asked.arch);
@@ -188,7 +155,7 @@ fn views_of(
     learned: &Named<Lesson>,
 ) -> Result<Made, AnswerError>
     ensures made { IfOk result (λ made. IsPlain made × Unless asked.now.json (IsWrittenPolicy asked.now (found_in learned.now.2) (string_bytes learned.now.0) learned.now.1.learned.json made.text.items)) }
-    ensures cause { IfErr result (IsUnwritten asked.now) }
+    ensures cause { IfErr result (OrMemory (IsUnwritten asked.now)) }
 {
     let text = lesson_text(alloc, asked, learned)?;
     let notes = notes_in(alloc, asked, traces, wanted, &learned.1)?;
@@ -208,7 +175,7 @@ fn lesson_text(
     learned: &Named<Lesson>,
 ) -> Result<Vec<u8>, AnswerError>
     ensures policy { IfOk result (λ text. IsWrittenPolicy asked.now (found_in learned.now.2) (string_bytes learned.now.0) learned.now.1.learned.json text.items) }
-    ensures cause { IfErr result (IsUnwritten asked.now) }
+    ensures cause { IfErr result (OrMemory (IsUnwritten asked.now)) }
 {
     let (name, lesson, others) = learned;
     let filter = &lesson.learned.json;
@@ -249,22 +216,12 @@ fn learned_of(
     ensures learned { IfOk result (λ own. IsLearned asked.now wanted.now observed.now policy.now (string_bytes own.0) own.1 (found_in own.2)) }
     ensures cause { IfErr result (IsUntaught asked.now policy.now) }
 {
-    let (name, filter, mut others) = base_of(alloc, asked.start, asked.name, policy)?;
+    let (name, filter, mut others) = base_of(alloc, asked, policy)?;
     refuse_errno(alloc, asked.as_unit, &filter)?;
     let (arch, most) = (asked.arch, asked.most);
     push_second(alloc, asked.old_clone, name.as_str(), &mut others)?;
     let lesson = learn_within(alloc, arch, observed, wanted, most, filter)?;
     Ok((name, lesson, others))
-}
-
-// The error as one of the policy that calls are added to, if there is one.
-fn of_start(alloc: Global, start: Start<'_>, error: AnswerError) -> AnswerError
-    ensures { IsOfStart start.entry error result }
-{
-    match start {
-        Start::Otherwise(_) => error,
-        Start::Into(_) => AnswerError::in_second(alloc, error),
-    }
 }
 
 // Rejects an errno that systemd doesn't take for other calls, if a drop-in is asked for.
@@ -281,7 +238,7 @@ fn refuse_errno(alloc: Global, as_unit: bool, filter: &JsonFilter) -> Result<(),
     let told = format!(in alloc;
         "systemd takes errno 1 to {UNIT_ERRNO_MAX} for other calls, found {number}"
     )?;
-    Err(AnswerError::Told(told))
+    Err(AnswerError::Fault(told))
 }
 
 // Adds the filter that answers `clone3` with ENOSYS, if it is asked for, in place of an older one of its name.
@@ -321,16 +278,15 @@ fn second_filter(alloc: Global) -> Result<JsonFilter, AllocError>
 // What calls are added to: nothing yet, or the filter that is asked for, or a policy's only one, if it allows what it lists.
 fn base_of(
     alloc: Global,
-    start: Start<'_>,
-    asked: Option<&str>,
+    asked: &Learn<'_>,
     policy: &[u8],
 ) -> Result<Named<JsonFilter>, AnswerError>
-    ensures base { IfOk result (λ base. IsBase start.entry (text_of asked.entry) policy.now (string_bytes base.0) base.1 (found_in base.2)) }
-    ensures cause { IfErr result (IsNoBase start.entry (text_of asked.entry) policy.now) }
+    ensures base { IfOk result (λ base. IsBase asked.now.start (text_of asked.now.name) policy.now (string_bytes base.0) base.1 (found_in base.2)) }
+    ensures cause { IfErr result (IsUntaught asked.now policy.now) }
 {
-    match start {
+    match asked.start {
         Start::Otherwise(action) => {
-            let name = String::from_str(alloc, asked.unwrap_or("main"))?;
+            let name = String::from_str(alloc, asked.name.unwrap_or("main"))?;
             let filter = JsonFilter {
                 mismatch_action: action,
                 match_action: SeccompAction::Allow,
@@ -340,7 +296,7 @@ fn base_of(
         }
         Start::Into(_) => {}
     }
-    let (mut others, name) = named_filters(alloc, asked, policy)?;
+    let (mut others, name) = named_filters(alloc, asked.name, policy)?;
     let Some(filter) = take_filter(&mut others, name.as_str()) else {
         return Err(AnswerError::NoFilter(name));
     };

@@ -22,24 +22,23 @@ use std::io;
 // Tells a failure, and the file that it is in. Fails if there is no memory for the line.
 pub(crate) fn tell(rt: &HostRuntime, failure: &Failure<'_>) -> Result<(), AllocError> {
     let alloc = rt.alloc();
-    let path = failure.input.unwrap_or("standard output");
-    let line = match &failure.cause {
-        Cause::Answer(error) => failure_line(alloc, failure.input, error),
-        Cause::Io(error) => {
-            let told = error.to_string(alloc)?;
-            failure_line(alloc, None, &of_path(alloc, path, told.as_str()))
+    let told = match &failure.cause {
+        Cause::Answer(error) => {
+            let line = failure_line(alloc, failure.input, error)?;
+            let _ = eprint!(rt; "{line}");
+            return Ok(());
         }
-        Cause::Closed => failure_line(alloc, None, &of_path(alloc, path, "nobody reads it")),
+        Cause::Io(error) => error.to_string(alloc),
+        Cause::Closed => String::from_str(alloc, "nobody reads it"),
         Cause::Terminal => {
             let told = "bytes aren't written to a terminal; use a file or a pipe";
-            failure_line(alloc, None, &of_path(alloc, path, told))
+            String::from_str(alloc, told)
         }
-        Cause::Overwrites => {
-            let told = "the output would overwrite the input";
-            failure_line(alloc, None, &of_path(alloc, path, told))
-        }
+        Cause::Overwrites => String::from_str(alloc, "the output would overwrite the input"),
     };
-    let line = line?;
+    let mut line = Text::new(alloc);
+    note(&mut line, failure.input.unwrap_or("standard output"), told);
+    let line = line.finish_string()?;
     let _ = eprint!(rt; "{line}");
     Ok(())
 }

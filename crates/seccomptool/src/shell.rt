@@ -80,27 +80,25 @@ fn carry_out_list<O: Outside>(
     requires { IsSome (subjects_of command.now) }
     ensures { Does (O.did out.old out.new) (λ events. EndsInList O.reads command.now subjects.now events result) }
 {
-    if !say(out, b"{\"diagnostics\":[") {
-        return TROUBLE;
+    let begun = say(out, b"{\"diagnostics\":[");
+    if begun > 0 {
+        return begun;
     }
     let status = carry_out_each(alloc, out, command, subjects, progress);
-    let end: &[u8] = if progress.is_listed {
-        b"\n]}\n"
-    } else {
-        b"]}\n"
-    };
-    if say(out, end) { status } else { TROUBLE }
+    let end = if progress.is_listed { "\n]}\n" } else { "]}\n" };
+    let ended = say(out, end.as_bytes());
+    status.max(ended)
 }
 
-// Writes a text to standard output, or reports why it can't.
-fn say<O: Outside>(out: &mut O, text: &[u8]) -> bool
+// Writes a text to standard output, or reports why it can't: then the status is that of trouble.
+fn say<O: Outside>(out: &mut O, text: &[u8]) -> u8
     ensures { Does (O.did out.old out.new) (λ events. IsSaid events result) }
 {
     let Err(cause) = out.write(None, text) else {
-        return true;
+        return 0;
     };
     out.tell(&Failure { input: None, cause });
-    false
+    TROUBLE
 }
 
 // Carries out a check on one file after the other: one that fails doesn't keep those behind it from being checked. The status is the
@@ -173,7 +171,7 @@ fn carried_out<'a, O: Outside>(
     drop(inputs);
     let made = match made {
         Ok(made) => made,
-        Err(error) => return Err(failure_of(files, error)),
+        Err(error) => return Err(failure_of(command, files, error)),
     };
     let notes = readable(alloc, &made.notes, TextKind::Lines)?;
     match out.write(output, &made.text) {
@@ -257,21 +255,21 @@ fn read_all<'a, O: Outside>(
     Ok(inputs)
 }
 
-// The failure of an error of what is read, and the file that it is in.
-fn failure_of<'a>(files: &[Named<'a>], error: AnswerError) -> Failure<'a>
+// The failure of an error of what is read, and the file that it is in: of `learn` the policy that calls are added to, if there is one.
+fn failure_of<'a>(command: &Command<'a>, files: &[Named<'a>], error: AnswerError) -> Failure<'a>
     ensures { result.cause ≡ Answer error }
 {
-    let file = match &error {
-        AnswerError::OutOfMemory
-        | AnswerError::UnknownCall(_, _)
-        | AnswerError::StackTooLong(_)
-        | AnswerError::Told(_) => None,
-        AnswerError::Second(_) => files.last(),
-        _ => files.first(),
-    };
-    let input = match file {
-        Some(file) => Some(file.path),
-        None => None,
+    let input = match (&error, command) {
+        (
+            AnswerError::OutOfMemory
+            | AnswerError::UnknownCall(_, _)
+            | AnswerError::StackTooLong(_)
+            | AnswerError::Told(_),
+            _,
+        ) => None,
+        (_, Command::Learn(asked)) => asked.start.file(),
+        (AnswerError::Second(_), _) => files.last().map(|file| file.path),
+        _ => files.first().map(|file| file.path),
     };
     Failure {
         input,

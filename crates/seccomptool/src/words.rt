@@ -4,14 +4,15 @@ mod files;
 mod program;
 mod values;
 
-ghost use Rattle.std.specs.Prelude.{IfOk};
+ghost use Rattle.std.specs.Prelude.{IfOk, None};
 ghost use Rattle.clap.specs.Words.{found_of};
-ghost use Rattle.seccomptool.specs.Files.{IsAsked, IsCheckFor, IsCompileFor, IsDiffFor, IsExplainFor, IsFor, IsLearnFor, IsLookupFor, IsShowFor, IsStackFor};
+ghost use Rattle.seccomptool.specs.Files.{IsAsked, IsAskedBy, IsFor};
+ghost use Rattle.seccomptool.specs.declared.command.Command.TheVariants as command;
 
 use crate::command::{Check, Command, Compile, Diff, Explain, Learn, Lookup, Show, Stack};
 use crate::outside::Outside;
 use crate::words::files::{
-    all_named_in, calls_in, named_in, output_in, path_in, paths_in, refuse_both, subject_in,
+    all_named_in, calls_in, named_in, output_in, path_in, paths_in, subject_in,
 };
 use crate::words::program::program;
 use crate::words::values::{
@@ -183,6 +184,7 @@ fn asked_of<'a, O: Outside>(
     let Some(command) = asked? else {
         return Err(program.error(ErrorKind::InvalidSubcommand, "no command is named")?);
     };
+    wrong.push_str(twice_read(&command));
     // `--list` prints the codes, whatever else is asked for.
     let is_list = matches!(command, Command::Codes(_));
     match wrong.finish_string() {
@@ -193,6 +195,25 @@ fn asked_of<'a, O: Outside>(
             let first = lines.as_str().lines().next().unwrap_or("");
             Err(program.error(ErrorKind::ValueValidation, first)?)
         }
+    }
+}
+
+// What is wrong with a command that would read standard input twice.
+fn twice_read(command: &Command<'_>) -> &'static str {
+    match command {
+        Command::Explain(asked)
+            if asked.calls.file() == Some("-")
+                && (asked.subject.path == "-"
+                    || asked.before.iter().any(|named| named.path == "-")) => {
+            "SUBJECT and records can't both be read from standard input: give CALL, --records or --log\n"
+        }
+        Command::Diff(asked) if asked.old.path == "-" && asked.new.path == "-" => {
+            "OLD and NEW can't both be read from standard input\n"
+        }
+        Command::Learn(asked) if asked.start.file() == Some("-") && asked.traces.contains(&"-") => {
+            "TRACE and POLICY can't both be read from standard input\n"
+        }
+        _ => "",
     }
 }
 
@@ -220,21 +241,20 @@ fn command_for<'a, O: Outside>(
 }
 
 fn check_for<'a>(found: &ArgMatches<'a>, wrong: &mut Text) -> Result<Check<'a>, AllocError>
-    ensures { IfOk result (IsCheckFor (found_of found.now)) }
+    ensures { IfOk result (λ asked. IsAskedBy None (found_of found.now) (command.Check asked)) }
 {
-    let subjects = paths_in(wrong.alloc(), found, "SUBJECT")?;
     Ok(Check {
         arch: arch_in(found),
         denied: found.get_flag("deny-warnings"),
         format: check_format_in(found),
         reading: reading_in(found, wrong),
         allowed: allowed_in(found, wrong),
-        subjects,
+        subjects: paths_in(wrong.alloc(), found, "SUBJECT")?,
     })
 }
 
 fn compile_for<'a, O: Outside>(out: &O, found: &ArgMatches<'a>, wrong: &mut Text) -> Compile<'a>
-    ensures { IsCompileFor (O.there out.now) (found_of found.now) result }
+    ensures { IsAskedBy (O.there out.now) (found_of found.now) (command.Compile result) }
 {
     Compile {
         arch: arch_in(found),
@@ -249,7 +269,7 @@ fn compile_for<'a, O: Outside>(out: &O, found: &ArgMatches<'a>, wrong: &mut Text
 }
 
 fn show_for<'a, O: Outside>(out: &O, found: &ArgMatches<'a>, wrong: &mut Text) -> Show<'a>
-    ensures { IsShowFor (O.there out.now) (found_of found.now) result }
+    ensures { IsAskedBy (O.there out.now) (found_of found.now) (command.Show result) }
 {
     Show {
         arch: arch_in(found),
@@ -266,14 +286,12 @@ fn explain_for<'a, O: Outside>(
     found: &ArgMatches<'a>,
     wrong: &mut Text,
 ) -> Result<Explain<'a>, AllocError>
-    ensures { IfOk result (IsExplainFor (O.there out.now) (found_of found.now)) }
+    ensures { IfOk result (λ asked. IsAskedBy (O.there out.now) (found_of found.now) (command.Explain asked)) }
 {
-    let before = all_named_in(wrong.alloc(), out, found, "after")?;
-    refuse_both(out, found, wrong, &before);
     Ok(Explain {
         arch: arch_in(found),
         json: is_json(found),
-        before,
+        before: all_named_in(wrong.alloc(), out, found, "after")?,
         subject: subject_in(out, found, wrong),
         calls: calls_in(found, wrong),
         reading: reading_in(found, wrong),
@@ -281,21 +299,16 @@ fn explain_for<'a, O: Outside>(
 }
 
 fn diff_for<'a, O: Outside>(out: &O, found: &ArgMatches<'a>, wrong: &mut Text) -> Diff<'a>
-    ensures { IsDiffFor (O.there out.now) (found_of found.now) result }
+    ensures { IsAskedBy (O.there out.now) (found_of found.now) (command.Diff result) }
 {
-    let old = named_in(out, path_in(found, "OLD"));
-    let new = named_in(out, path_in(found, "NEW"));
-    if old.path == "-" && new.path == "-" {
-        wrong.push_str("OLD and NEW can't both be read from standard input\n");
-    }
     Diff {
         terms: terms_in(found, wrong),
         scope: scope_in(found),
         each: found.get_flag("each"),
         json: is_json(found),
         quiet: found.get_flag("quiet"),
-        old,
-        new,
+        old: named_in(out, path_in(found, "OLD")),
+        new: named_in(out, path_in(found, "NEW")),
         reading: reading_in(found, wrong),
     }
 }
@@ -305,25 +318,20 @@ fn stack_for<'a, O: Outside>(
     found: &ArgMatches<'a>,
     wrong: &mut Text,
 ) -> Result<Stack<'a>, AllocError>
-    ensures { IfOk result (IsStackFor (O.there out.now) (found_of found.now)) }
+    ensures { IfOk result (λ asked. IsAskedBy (O.there out.now) (found_of found.now) (command.Stack asked)) }
 {
-    let layers = all_named_in(wrong.alloc(), out, found, "SUBJECT")?;
     Ok(Stack {
         arch: arch_in(found),
         format: program_format_in(found),
-        layers,
+        layers: all_named_in(wrong.alloc(), out, found, "SUBJECT")?,
         output: output_in(found),
         reading: reading_in(found, wrong),
     })
 }
 
 fn learn_for<'a>(found: &ArgMatches<'a>, wrong: &mut Text) -> Result<Learn<'a>, AllocError>
-    ensures { IfOk result (IsLearnFor (found_of found.now)) }
+    ensures { IfOk result (λ asked. IsAskedBy None (found_of found.now) (command.Learn asked)) }
 {
-    let traces = paths_in(wrong.alloc(), found, "TRACE")?;
-    if found.get_str("into") == Some("-") && traces.contains(&"-") {
-        wrong.push_str("TRACE and POLICY can't both be read from standard input\n");
-    }
     Ok(Learn {
         arch: arch_in(found),
         start: start_in(found, wrong),
@@ -336,13 +344,13 @@ fn learn_for<'a>(found: &ArgMatches<'a>, wrong: &mut Text) -> Result<Learn<'a>, 
         strict: found.get_flag("strict"),
         json: is_json(found),
         arguments: kept_in(found, wrong),
-        traces,
+        traces: paths_in(wrong.alloc(), found, "TRACE")?,
         output: output_in(found),
     })
 }
 
 fn lookup_for<'a>(found: &ArgMatches<'a>, wrong: &mut Text) -> Lookup<'a>
-    ensures { IsLookupFor (found_of found.now) result }
+    ensures { IsAskedBy None (found_of found.now) (command.Call result) }
 {
     Lookup {
         arch: arch_in(found),

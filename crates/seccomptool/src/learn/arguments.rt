@@ -1,16 +1,17 @@
 // The arguments whose values are kept, and what is noted of `--args` that keeps no values.
 
 ghost use Rattle.std.specs.Prelude.{◌≡◌, Any, IfErr, IfOk, OnOk, false, slice_index_or};
-ghost use Rattle.seccomptool.specs.Learn.{AreWanted, AreWithCall, InTurn, IsUnknown, IsWithArgument};
+ghost use Rattle.seccomptool.specs.Learn.{AreWanted, AreWithCall, InTurn, IsUnknown, IsWithArgument, OrMemory};
 ghost use Rattle.seccomp_answers.specs.Calls.{IsUncalled};
 
 use super::AskedArguments;
-use super::notes::{has, note_at};
+use super::notes::{has, path_at};
 use crate::command::Learn;
 use seccomp_answers::calls::call_number;
 use seccomp_answers::error::AnswerError;
 use seccomp_learn::{Kept, Observation, Symbolic, Trace, asked_kept, usual_kept};
 use seccomp_text::readable::TextKind;
+use seccomp_views::notes::note;
 use seccomp_views::text::Text;
 use seccompiler::TargetArch;
 use std::alloc::{AllocError, Global};
@@ -22,7 +23,7 @@ pub(super) fn wanted_in(
     observed: &[Observation],
 ) -> Result<Vec<Kept>, AnswerError>
     ensures wanted { IfOk result (λ wanted. AreWanted asked.now observed.now wanted.items) }
-    ensures cause { IfErr result (IsUnknown asked.now) }
+    ensures cause { IfErr result (OrMemory (IsUnknown asked.now)) }
 {
     let mut wanted = usual_kept(alloc, asked.arch)?;
     push_calls(alloc, asked.arch, observed, &asked.arguments, &mut wanted)?;
@@ -104,7 +105,11 @@ pub(super) fn push_asked_notes(
             for symbolic in trace.symbolic.as_slice() {
                 if symbolic.number == number && is_asked(each, symbolic.arg_index) {
                     has_effect = true;
-                    note_at(notes, asked, index, uncompared(alloc, each, symbolic));
+                    note(
+                        notes,
+                        path_at(asked, index),
+                        uncompared(alloc, each, symbolic),
+                    );
                 }
             }
             has_effect |= has_value(trace, number, each);
@@ -114,7 +119,7 @@ pub(super) fn push_asked_notes(
             let told = format!(in alloc;
                 "--args {call} keeps nothing: no such argument of {call} was read"
             );
-            note_at(notes, asked, 0, told);
+            note(notes, path_at(asked, 0), told);
         }
     }
 }

@@ -25,7 +25,7 @@ pub(super) fn push_notes(
 ) {
     let alloc = notes.alloc();
     for (index, trace) in traces.iter().enumerate() {
-        note_trace(notes, asked, index, trace);
+        note_trace(notes, asked.arch, path_at(asked, index), trace);
     }
     // The calls that are allowed with any arguments, since more values of them were seen than are kept.
     let most = asked.most;
@@ -43,61 +43,55 @@ pub(super) fn push_notes(
     }
 }
 
-// Adds a note on the trace of this index.
-pub(super) fn note_at(
-    notes: &mut Text,
-    asked: &Learn<'_>,
-    index: usize,
-    told: Result<String, AllocError>,
-) {
-    note(notes, path_at(asked, index), told);
-}
-
 // The path of the trace of this index.
 pub(super) fn path_at<'a>(asked: &Learn<'a>, index: usize) -> &'a str {
     asked.traces.get(index).copied().unwrap_or("-")
 }
 
+// What is said of one, and behind the number of several.
+type Counted = (&'static str, &'static str);
+
+const LINES: Counted = (
+    "1 more line isn't understood",
+    "more lines aren't understood",
+);
+
+const BYTES: Counted = (
+    "1 byte follows the last record",
+    "bytes follow the last record",
+);
+
+const CALLS: Counted = (
+    "1 call is of another architecture",
+    "calls are of other architectures",
+);
+
+// How many there are.
+fn counted(alloc: Global, count: usize, (one, some): Counted) -> Result<String, AllocError> {
+    if count == 1 {
+        return String::from_str(alloc, one);
+    }
+    format!(in alloc; "{count} {some}")
+}
+
 // Adds the notes on a trace.
-fn note_trace(notes: &mut Text, asked: &Learn<'_>, index: usize, trace: &Trace) {
+fn note_trace(notes: &mut Text, arch: TargetArch, path: &str, trace: &Trace) {
     let alloc = notes.alloc();
     let mut more = trace.strange_count;
     for line in trace.strange.as_slice() {
-        note_at(notes, asked, index, strange_line(alloc, line));
+        note(notes, path, strange_line(alloc, line));
         more = more.saturating_sub(1);
     }
-    for (count, one, some) in [
-        (
-            more,
-            "1 more line isn't understood",
-            "more lines aren't understood",
-        ),
-        (
-            trace.rest,
-            "1 byte follows the last record",
-            "bytes follow the last record",
-        ),
-        (
-            trace.foreign,
-            "1 call is of another architecture",
-            "calls are of other architectures",
-        ),
-    ] {
-        let told = match count {
-            0 => continue,
-            1 => String::from_str(alloc, one),
-            _ => format!(in alloc; "{count} {some}"),
-        };
-        note_at(notes, asked, index, told);
+    for (count, told) in [(more, LINES), (trace.rest, BYTES), (trace.foreign, CALLS)] {
+        if count > 0 {
+            note(notes, path, counted(alloc, count, told));
+        }
     }
     if !trace.unnamed.is_empty() {
-        let told = unnamed_line(alloc, asked.arch, trace);
-        note_at(notes, asked, index, told);
+        note(notes, path, unnamed_line(alloc, arch, trace));
     }
     if trace.observed.is_empty() {
-        let arch = asked.arch;
-        let told = format!(in alloc; "it has no call of {arch}");
-        note_at(notes, asked, index, told);
+        note(notes, path, format!(in alloc; "it has no call of {arch}"));
     }
 }
 
@@ -129,38 +123,31 @@ fn strange_line(alloc: Global, line: &StrangeLine) -> Result<String, AllocError>
 /// What isn't understood, with the path, or `OutOfMemory`.
 pub(super) fn refuse_trace(
     alloc: Global,
-    asked: &Learn<'_>,
-    index: usize,
+    strict: bool,
+    path: &str,
     trace: &Trace,
 ) -> Result<(), AnswerError>
-    ensures understood { OnOk result (IsUnderstood asked.now.strict trace.now) }
-    ensures cause { IfErr result (IsStrange asked.now.strict trace.now) }
+    ensures understood { OnOk result (IsUnderstood strict trace.now) }
+    ensures cause { IfErr result (IsStrange strict trace.now) }
 {
-    if trace.is_trace && (!asked.strict || (trace.strange.is_empty() && trace.rest == 0)) {
+    if trace.is_trace && (!strict || (trace.strange.is_empty() && trace.rest == 0)) {
         return Ok(());
     }
-    let mut told = Text::new(alloc);
-    if trace.is_trace {
-        push_strange(&mut told, trace);
-    } else {
-        told.push_str(
+    let told = strange_text(alloc, trace)?;
+    Err(of_path(alloc, path, told.as_str()))
+}
+
+// What of a trace isn't understood: all of it, the first line, or the bytes behind the last record.
+fn strange_text(alloc: Global, trace: &Trace) -> Result<String, AllocError> {
+    if !trace.is_trace {
+        return String::from_str(
+            alloc,
             "it has neither lines of strace, of the kernel's log or of the audit system, nor call records",
         );
     }
-    let told = told.finish_string()?;
-    Err(of_path(alloc, path_at(asked, index), told.as_str()))
-}
-
-// Adds what of a trace isn't understood: the first line, or the bytes behind the last record.
-fn push_strange(told: &mut Text, trace: &Trace) {
-    let alloc = told.alloc();
-    if let Some(line) = trace.strange.as_slice().first() {
-        return told.push_format(strange_line(alloc, line));
-    }
-    match trace.rest {
-        0 => {}
-        1 => told.push_str("1 byte follows the last record"),
-        rest => told.push_format(format!(in alloc; "{rest} bytes follow the last record")),
+    match trace.strange.as_slice().first() {
+        Some(line) => strange_line(alloc, line),
+        None => counted(alloc, trace.rest, BYTES),
     }
 }
 
@@ -185,19 +172,12 @@ fn is_argument(kept: &Kept, number: u32, index: Option<u8>) -> bool
 pub(crate) fn note_strange(notes: &mut Text, path: &str, strange: usize, first: Option<usize>) {
     let alloc = notes.alloc();
     let first = first.unwrap_or(0);
-    match strange {
-        0 => {}
-        1 => {
-            let told = format!(in alloc; "1 line isn't understood: line {first}");
-            note(notes, path, told);
-        }
-        _ => {
-            let told = format!(in alloc;
-                "{strange} lines aren't understood, the first is line {first}"
-            );
-            note(notes, path, told);
-        }
-    }
+    let told = match strange {
+        0 => return,
+        1 => format!(in alloc; "1 line isn't understood: line {first}"),
+        _ => format!(in alloc; "{strange} lines aren't understood, the first is line {first}"),
+    };
+    note(notes, path, told);
 }
 
 /// The object of what is learned: the arguments of observed calls whose values are kept, the lines of notes, and the policy or the

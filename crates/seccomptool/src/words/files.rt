@@ -97,19 +97,8 @@ pub(super) fn all_named_in<'a, O: Outside>(
     ensures { IfOk result (λ all. AllZip (IsNamedBy (O.there out.now)) (all_values (found_of found.now) id.now) all.items) }
 {
     let texts = paths_in(alloc, found, id)?;
-    all_named(alloc, out, &texts)
-}
-
-// Each of these, with the name of a filter.
-fn all_named<'a, O: Outside>(
-    alloc: Global,
-    out: &O,
-    texts: &[&'a str],
-) -> Result<Vec<Named<'a>>, AllocError>
-    ensures { IfOk result (λ all. AllZip (IsNamedBy (O.there out.now)) (map (λ text. text.now) texts.now) all.items) }
-{
     let mut all = Vec::new(alloc);
-    for text in texts {
+    for text in &texts {
         all.push(named_in(out, text))?;
     }
     Ok(all)
@@ -123,24 +112,5 @@ pub(super) fn calls_in<'a>(found: &ArgMatches<'a>, wrong: &mut Text) -> Calls<'a
         (Some(_), _) => Calls::One(call_in(found, wrong)),
         (None, Some(path)) => Calls::Log(path),
         (None, None) => Calls::Records(path_in(found, "records")),
-    }
-}
-
-// That the calls and one of what is explained would both be read from standard input.
-pub(super) fn refuse_both<O: Outside>(
-    out: &O,
-    found: &ArgMatches<'_>,
-    wrong: &mut Text,
-    before: &[Named<'_>],
-) {
-    let calls = found.get_str("log").unwrap_or(path_in(found, "records"));
-    if found.get_str("CALL").is_some() || calls != "-" {
-        return;
-    }
-    let subject = named_in(out, path_in(found, "SUBJECT"));
-    if subject.path == "-" || before.iter().any(|named| named.path == "-") {
-        wrong.push_str(
-            "SUBJECT and records can't both be read from standard input: give CALL, --records or --log\n",
-        );
     }
 }

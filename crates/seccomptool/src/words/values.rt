@@ -26,37 +26,14 @@ use seccomp_warnings::Code;
 use seccompiler::{SeccompAction, TargetArch};
 
 // The capabilities of a container of Docker that is given no others (`DefaultCapabilities` of moby).
-const DOCKER: [&str; 14] = [
-    "CAP_CHOWN",
-    "CAP_DAC_OVERRIDE",
-    "CAP_FSETID",
-    "CAP_FOWNER",
-    "CAP_MKNOD",
-    "CAP_NET_RAW",
-    "CAP_SETGID",
-    "CAP_SETUID",
-    "CAP_SETFCAP",
-    "CAP_SETPCAP",
-    "CAP_NET_BIND_SERVICE",
-    "CAP_SYS_CHROOT",
-    "CAP_KILL",
-    "CAP_AUDIT_WRITE",
-];
+const DOCKER: &str =
+    "CAP_CHOWN,CAP_DAC_OVERRIDE,CAP_FSETID,CAP_FOWNER,CAP_MKNOD,CAP_NET_RAW,CAP_SETGID,CAP_SETUID,CAP_SETFCAP,\
+CAP_SETPCAP,CAP_NET_BIND_SERVICE,CAP_SYS_CHROOT,CAP_KILL,CAP_AUDIT_WRITE";
 
 // The same of Podman (`default_capabilities` of containers.conf(5)).
-const PODMAN: [&str; 11] = [
-    "CAP_CHOWN",
-    "CAP_DAC_OVERRIDE",
-    "CAP_FOWNER",
-    "CAP_FSETID",
-    "CAP_KILL",
-    "CAP_NET_BIND_SERVICE",
-    "CAP_SETFCAP",
-    "CAP_SETGID",
-    "CAP_SETPCAP",
-    "CAP_SETUID",
-    "CAP_SYS_CHROOT",
-];
+const PODMAN: &str =
+    "CAP_CHOWN,CAP_DAC_OVERRIDE,CAP_FOWNER,CAP_FSETID,CAP_KILL,CAP_NET_BIND_SERVICE,CAP_SETFCAP,CAP_SETGID,\
+CAP_SETPCAP,CAP_SETUID,CAP_SYS_CHROOT";
 
 // Adds an item to a list.
 fn push<T: Drop>(wrong: &mut Text, list: &mut Vec<T>, item: T) {
@@ -210,40 +187,36 @@ pub(super) fn reading_in(found: &ArgMatches<'_>, wrong: &mut Text) -> Reading {
     }
 }
 
-// The capabilities that are given, as profiles name them.
+// The capabilities that are given, as profiles name them. All, or those that an engine gives each container, have one name.
 fn caps_in(found: &ArgMatches<'_>, wrong: &mut Text) -> Vec<String> {
-    let alloc = wrong.alloc();
-    let mut caps = Vec::new(alloc);
+    let mut caps = Vec::new(wrong.alloc());
     for list in found.get_strs("cap").unwrap_or(&[]) {
         for name in list.split(',') {
-            match (capability(name), set_called(name)) {
-                (Some(cap), _) => push_caps(wrong, &mut caps, &[cap]),
-                (None, Some(set)) => push_caps(wrong, &mut caps, set),
-                (None, None) => wrong.push_format(format!(in alloc;
-                    "no capability is called '{name}'\n"
-                )),
+            match name {
+                "all" | "ALL" => {
+                    for cap in capabilities() {
+                        push_caps(wrong, &mut caps, cap);
+                    }
+                }
+                "docker-default" => push_caps(wrong, &mut caps, DOCKER),
+                "podman-default" => push_caps(wrong, &mut caps, PODMAN),
+                _ => push_caps(wrong, &mut caps, name),
             }
         }
     }
     caps
 }
 
-// Several capabilities by one name: all, or those that an engine gives each container.
-fn set_called(name: &str) -> Option<&'static [&'static str]> {
-    match name {
-        "all" | "ALL" => Some(capabilities()),
-        "docker-default" => Some(&DOCKER),
-        "podman-default" => Some(&PODMAN),
-        _ => None,
-    }
-}
-
-// Adds these.
-fn push_caps(wrong: &mut Text, caps: &mut Vec<String>, added: &[&str]) {
-    for cap in added {
-        match String::from_str(wrong.alloc(), cap) {
-            Ok(cap) => push(wrong, caps, cap),
-            Err(_) => wrong.fail(),
+// Adds those of these names.
+fn push_caps(wrong: &mut Text, caps: &mut Vec<String>, names: &str) {
+    let alloc = wrong.alloc();
+    for name in names.split(',') {
+        match capability(name) {
+            Some(cap) => match String::from_str(alloc, cap) {
+                Ok(cap) => push(wrong, caps, cap),
+                Err(_) => wrong.fail(),
+            },
+            None => wrong.push_format(format!(in alloc; "no capability is called '{name}'\n")),
         }
     }
 }

@@ -1,16 +1,12 @@
-use Rattle.std.proofs.Common.{◌≡◌, ◌≢◌, ◌∙◌, ℕ, Bor, List, None, Option, Some, ap, inl, inr, rules, string_bytes, subst, sym}
+use Rattle.std.proofs.Common.{◌≡◌, ◌≢◌, ◌∙◌, ℕ, List, None, Some, ap, rules, string_bytes, subst, sym}
 use Rattle.std.proofs.lemmas.Result.{err_from_is_err_and}
 use Rattle.std.specs.BTreeMap.{get_by_text}
 use Rattle.seccompiler.specs.JsonFilters.{AreFound}
 use Rattle.seccompiler.specs.JsonShape.{IsFilter}
 use Rattle.seccompiler.specs.JsonTypes.{JsonFilter}
 use Rattle.seccompiler.specs.declared.backend.SeccompAction.TheVariants.{Allow}
-use Rattle.seccomp_answers.specs.Causes.{IsUnnamed}
-use Rattle.seccomp_answers.specs.declared.error.AnswerError.{AnswerError}
 use Rattle.seccomp_learn.specs.Written.{beside, found_in}
-use Rattle.seccomptool.specs.Unlearned.{IsNoBase, denying, unchosen, unread}
-use Rattle.seccomptool.specs.declared.learn.Start.{Start}
-use Rattle.seccomptool.specs.declared.learn.Start.TheVariants.{Into}
+use Rattle.seccomptool.specs.Learn.{denying, unnamed}
 use Rattle.seccomptool.proofs.learn.base_of.Goals as goal
 
 pub returns-in-Allow-clause-base : goal.returns-in-Allow-clause-base
@@ -25,17 +21,10 @@ returns-in-Allow-clause-base c =
       search rules,
     )
 
--- what isn't named is no base
-unnamed : (start : Start) (asked : Option (List ℕ)) (text : List ℕ) (e : AnswerError) (path : Bor (List ℕ)) → start ≡ Into path
-    → IsUnnamed asked text e
-    → IsNoBase start asked text e
-unnamed start asked text e path into (inl is) = unread path into is
-unnamed start asked text e path into (inr is) = unchosen path into is
-
 pub returns-in_err-others-clause-cause : goal.returns-in_err-others-clause-cause
 returns-in_err-others-clause-cause c =
     let error = err_from_is_err_and c.from_residual-in_err-others.result c.from_residual-in_err-others.ensures.1 in
-    rw (error.1, error.2) (unnamed _ _ _ _ _ c.in-Into.is c.in_err-others.ensures.cause)
+    rw (error.1, error.2) (unnamed _ c.in-Into.is c.in_err-others.ensures.cause)
 
 pub returns-in_default-clause-cause : goal.returns-in_default-clause-cause
 returns-in_default-clause-cause c =

@@ -1,13 +1,8 @@
 use Rattle.std.proofs.Common.{refl, string_bytes}
 use Rattle.std.proofs.lemmas.Result.{err_from_is_err_and}
 use Rattle.seccomp_learn.specs.Written.{found_in}
-use Rattle.seccomptool.specs.Unlearned.{no_base, no_policy, untaken}
+use Rattle.seccomptool.specs.Learn.{no_policy, untaken}
 use Rattle.seccomptool.proofs.learn.learned_of.Goals as goal
-
-pub returns-in_err-name-clause-cause : goal.returns-in_err-name-clause-cause
-returns-in_err-name-clause-cause c =
-    let error = err_from_is_err_and c.from_residual.result c.from_residual.ensures.1 in
-    rw (error.1, error.2) (no_base c.in_err-name.ensures.cause)
 
 pub returns-in_err-lesson-clause-cause : goal.returns-in_err-lesson-clause-cause
 returns-in_err-lesson-clause-cause c =

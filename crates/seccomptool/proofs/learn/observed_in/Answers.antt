@@ -1,13 +1,17 @@
-use Rattle.std.proofs.Common.{◌++◌, ◌∙◌, List, ap}
+use Rattle.std.proofs.Common.{[], ◌∙◌, ◌++◌, List, ap, flat_map, get_or, sym, take}
+use Rattle.std.proofs.lemmas.List.{flat_map_more, take_more}
 use Rattle.seccomp_learn.specs.declared.observation.Observation.{Observation}
 use Rattle.seccomp_learn.specs.declared.trace.Trace.{Trace}
-use Rattle.seccomptool.proofs.Traces.{read_more}
 use Rattle.seccomptool.proofs.learn.observed_in.Goals as goal
 
 pub loop-trace-preserved : goal.loop-trace-preserved
 loop-trace-preserved c =
+    let own = λ (trace : Trace). trace.observed.items in
+    let traces = c.args.traces.now in
+    let at = c.loop-trace.trace-index in
     let item = c.trace-item.result in
-    let before = c.loop-trace.observed.items in
-    read_more c.args.traces.now c.loop-trace.trace-index item before _ c.loop-trace-test.true c.loop-trace.invariant
-    (c.in_ok-extend_from_slice.ensures.items ∙ ap (λ (more : List Observation). before ++ more)
-    (c.deref.ensures.value ∙ ap (λ (trace : Trace). trace.observed.items) c.trace-item.is))
+    c.in_ok-extend_from_slice.ensures.items
+    ∙ ap (λ (more : List Observation). c.loop-trace.observed.items ++ more) (c.deref.ensures.value ∙ ap own c.trace-item.is)
+    ∙ ap (λ (front : List Observation). front ++ own (get_or traces at item)) c.loop-trace.invariant
+    ∙ flat_map_more own [] (take at traces) (get_or traces at item)
+    ∙ ap (flat_map own) (sym (take_more traces at item c.loop-trace-test.true))

@@ -1,6 +1,6 @@
-use Rattle.std.proofs.Common.{◌≡◌, take}
-use Rattle.seccomptool.specs.Learn.{read_in}
+use Rattle.std.proofs.Common.{◌≡◌, flat_map, take}
+use Rattle.seccomp_learn.specs.declared.trace.Trace.{Trace}
 use Rattle.seccomptool.proofs.learn.observed_in.Given as goal
 
 abbrev pub invariant-loop-trace : goal.invariant-loop-trace
-invariant-loop-trace l = l.observed.items ≡ read_in (take l.trace-index l.traces)
+invariant-loop-trace l = l.observed.items ≡ flat_map (λ (trace : Trace). trace.observed.items) (take l.trace-index l.traces)

@@ -1,10 +1,9 @@
-use Rattle.std.proofs.Common.{List, subst}
+use Rattle.std.proofs.Common.{List, inr, subst}
 use Rattle.std.specs.Prelude.{Any}
 use Rattle.std.proofs.lemmas.Result.{err_from_is_err_and}
 use Rattle.seccomptool.specs.Learn.{AreWithCall, InTurn}
 use Rattle.seccomp_answers.specs.Calls.{IsUncalled}
 use Rattle.seccomptool.specs.declared.learn.AskedArguments.{AskedArguments}
-use Rattle.seccomptool.proofs.Wanted.{unknown_of}
 use Rattle.seccomptool.proofs.learn.arguments.wanted_in.Goals as goal
 
 pub returns-clause-wanted : goal.returns-clause-wanted
@@ -21,6 +20,5 @@ pub returns-in_err-push_calls-clause-cause : goal.returns-in_err-push_calls-clau
 returns-in_err-push_calls-clause-cause c =
     let error = err_from_is_err_and c.from_residual-in_err-push_calls.result c.from_residual-in_err-push_calls.ensures.1 in
     let own = c.in_err-push_calls.field-0.0 in
-    rw (error.1, error.2) (unknown_of c.args.asked.now own (subst
-    (Any (λ (call : AskedArguments). IsUncalled c.args.asked.now.arch call.call.now own)) c.deref.ensures.value
-    c.in_err-push_calls.ensures.cause))
+    rw (error.1, error.2) (inr (subst (Any (λ (call : AskedArguments). IsUncalled c.args.asked.now.arch call.call.now own))
+    c.deref.ensures.value c.in_err-push_calls.ensures.cause))

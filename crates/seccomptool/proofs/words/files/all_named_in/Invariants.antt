@@ -1,9 +1,9 @@
 use Rattle.std.proofs.Common.{map, take}
 use Rattle.std.specs.List.{AllZip}
 use Rattle.seccomptool.specs.Files.{IsNamedBy}
-use Rattle.seccomptool.proofs.words.files.all_named.Given as goal
+use Rattle.seccomptool.proofs.words.files.all_named_in.Given as goal
 
 -- each of those so far is named by its text
 abbrev pub invariant-loop-text : goal.invariant-loop-text
 invariant-loop-text g l =
-    AllZip (IsNamedBy (g.O.Outside.there l.out)) (map (λ text. text.now) (take l.text-index l.texts)) l.all.items
+    AllZip (IsNamedBy (g.O.Outside.there l.out)) (map (λ text. text.now) (take l.text-index l.text-items)) l.all.items

@@ -1,26 +1,14 @@
 -- For the causes of errors: what a layer below refuses, as an error of the tool.
-use Rattle.std.proofs.Common.{ℤ, ◌≡◌, ℕ, List, Bool, map, Option}
-use Rattle.std.proofs.Common.{string_bytes, refl, sym, subst, ◌∙◌}
-use Rattle.seccompiler.specs.Compiled.{IsLeastUnfit, numbers_of}
-use Rattle.seccompiler.specs.Policy.{Filter}
-use Rattle.seccompiler.specs.declared.backend.TargetArch.{TargetArch}
-use Rattle.seccomp_oci.specs.Types.{Container}
-use Rattle.seccomp_tree.specs.Layouts.{IsRefusalIn}
-use Rattle.seccomp_tree.specs.declared.error.FilterError.{FilterError}
+use Rattle.seccomptool.proofs.Common.{◌∙◌, ◌≡◌, AnswerError, Bool, Container, Filter, FilterError, IsFilterOf, IsLeastUnfit, IsRefusalIn}
+use Rattle.seccomptool.proofs.Common.{IsRefusedAs, IsRefusedProfile, IsUnread, Layout, Linear, List, Option, OutOfMemory, Subject}
+use Rattle.seccomptool.proofs.Common.{TargetArch, Tree, from_filter, map, named, numbers_of, refl, string_bytes, subst, sym, too_large}
+use Rattle.seccomptool.proofs.Common.{unread, ℕ, ℤ}
 use Rattle.seccomp_tree.specs.declared.error.FilterError.TheVariants as filter
-use Rattle.seccomp_tree.specs.declared.layout.Layout.{Layout}
-use Rattle.seccomp_tree.specs.declared.layout.Layout.TheVariants.{Linear, Tree}
 use Rattle.seccomptool.specs.Causes.{AreNamesTold, IsLargeIn}
 use Rattle.seccomptool.specs.Causes.{IsSize, IsSizeTold, IsUncompiledIn}
 use Rattle.seccomptool.specs.Causes.{IsUncompiledProfile}
 use Rattle.seccomptool.specs.Causes.{names_text, no_names, no_size, size_text, uncompiled, unknown_names}
-use Rattle.seccomp_answers.specs.Errors.{from_filter}
-use Rattle.seccomp_answers.specs.Sides.{IsFilterOf}
-use Rattle.seccomp_answers.specs.declared.error.AnswerError.{AnswerError}
-use Rattle.seccomp_answers.specs.declared.error.AnswerError.TheVariants.{OutOfMemory}
-use Rattle.seccomp_answers.specs.declared.kind.Subject.{Subject}
 use Rattle.seccomp_answers.specs.declared.kind.Subject.TheVariants as subject
-use Rattle.seccomp_answers.specs.Causes.{IsRefusedAs, IsUnread, named, too_large, unread, IsRefusedProfile}
 
 -- ---- filters
 

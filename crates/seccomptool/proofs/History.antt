@@ -1,11 +1,7 @@
 -- What is done, one after the other, and what it comes to.
-use Rattle.std.proofs.Common.{◌≡◌, ◌++◌, ◌∷◌, ◌+◌, ◌<◌, ℕ, Bool, true, false, List, [], Option, Some, None}
-use Rattle.std.proofs.Common.{get_or, inl, inr, length, map, max, refl, subst, sym, take}
-use Rattle.std.specs.Borrow.{Bor}
-use Rattle.std.proofs.lemmas.List.{take_more}
-use Rattle.std.proofs.lemmas.List.Elements.{Contains-append_right, Contains-get_or, Contains-push}
-use Rattle.seccomp_answers.specs.declared.error.AnswerError.{AnswerError}
-use Rattle.seccomp_answers.specs.declared.layers.Layer.{Layer}
+use Rattle.seccomptool.proofs.Common.{[], ◌++◌, ◌+◌, ◌<◌, ◌∷◌, ◌≡◌, Answer, AnswerError, Bool, Bor, Command, Contains-append_right}
+use Rattle.seccomptool.proofs.Common.{Contains-get_or, Contains-push, Failure, Layer, List, Made, Named, None, Option, Overwrites, Some}
+use Rattle.seccomptool.proofs.Common.{false, get_or, inl, inr, length, map, max, refl, subst, sym, take, take_more, true, ℕ}
 use Rattle.seccomptool.specs.Commands.{Answers}
 use Rattle.seccomptool.specs.Ends.{AreRead, Ends, EndsOn, EndsOnEach, EndsWith, IsCarriedOut, IsKept, IsOfOutside, IsRefused}
 use Rattle.seccomptool.specs.Ends.{apart_of}
@@ -14,11 +10,6 @@ use Rattle.seccomptool.specs.Ends.{on_more, overwrites, refused, unanswered}
 use Rattle.seccomptool.specs.Failures.{Fails}
 use Rattle.seccomptool.specs.Files.{files_of, guarded, lists, output_of, subjects_of, whole, writes_bytes}
 use Rattle.seccomptool.specs.Outside.{Event, compared, failed, got, got_of, named_of, on_terminal, told, writes, wrote}
-use Rattle.seccomptool.specs.declared.command.Command.{Command}
-use Rattle.seccomptool.specs.declared.command.Named.{Named}
-use Rattle.seccomptool.specs.declared.made.Made.{Made}
-use Rattle.seccomptool.specs.declared.outside.Cause.TheVariants.{Answer, Overwrites}
-use Rattle.seccomptool.specs.declared.outside.Failure.{Failure}
 
 -- What comes from outside came from there if more was done before.
 pub outside_behind : (front events : List Event) (f : Failure) → IsOfOutside events f → IsOfOutside (front ++ events) f

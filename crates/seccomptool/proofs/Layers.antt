@@ -1,7 +1,6 @@
 -- Lists of what is read: one, and several with a last one.
-use Rattle.std.proofs.Common.{◌≡◌, ◌<◌, ◌≤◌, ◌+◌, ◌-◌, ◌∙◌, List, [], ◌∷◌, ◌++◌, ap, arith, get_or, length, sym, take}
-use Rattle.std.proofs.lemmas.List.{take_all, take_more}
-use Rattle.seccomp_answers.specs.declared.layers.Layer.{Layer}
+use Rattle.seccomptool.proofs.Common.{[], ◌++◌, ◌+◌, ◌-◌, ◌<◌, ◌∙◌, ◌∷◌, ◌≡◌, ◌≤◌, Layer, List, ap, arith, get_or, length, sym, take}
+use Rattle.seccomptool.proofs.Common.{take_all, take_more}
 
 pub one_layer : (layers : List Layer) (x : Layer) → 1 ≤ length layers → length layers < 2 → x ≡ get_or layers 0 x → layers ≡ x ∷ []
 one_layer [] x some few is = absurd (omega (arith, some))

@@ -1,7 +1,6 @@
 -- For what is wanted of calls: steps that are made in turn, and one more of them.
-use Rattle.std.proofs.Common.{◌≡◌, ◌<◌, ◌≤◌, ◌+◌, ℕ, zero, suc, List, [], ◌∷◌, ◌++◌, arith, get_or, length, refl, subst, sym, take}
-use Rattle.std.specs.Prelude.{Any}
-use Rattle.std.proofs.lemmas.List.{get_or_default, take_all, take_more}
+use Rattle.seccomptool.proofs.Common.{[], ◌++◌, ◌+◌, ◌<◌, ◌∷◌, ◌≡◌, ◌≤◌, Any, List, arith, get_or, get_or_default, length, refl, subst, suc}
+use Rattle.seccomptool.proofs.Common.{sym, take, take_all, take_more, zero, ℕ}
 use Rattle.seccomptool.specs.Learn.{InTurn, indices}
 
 -- What an element has, one has.

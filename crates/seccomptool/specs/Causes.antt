@@ -1,44 +1,14 @@
 -- Why an engine gives no answer: each error has its cause in what is given. Lack of memory may come in place of all.
-use Rattle.std.specs.Prelude.{◌≡◌, ℕ, Bool, true, false, List, [], ◌∷◌, Option, String, Vec}
-use Rattle.std.specs.Prelude.{⊤}
-use Rattle.std.specs.List.{AllZip}
-use Rattle.std.specs.declared.alloc.Global.{Global}
-use Rattle.seccompiler.specs.Compiled.{IsTooLarge}
-use Rattle.seccompiler.specs.Policy.{Filter}
-use Rattle.seccompiler.specs.declared.backend.TargetArch.{TargetArch}
-use Rattle.seccompiler.specs.declared.bpf.sock_filter.{sock_filter}
-use Rattle.seccomp_tree.specs.Layouts.{IsTreeTooLarge}
-use Rattle.seccomp_tree.specs.declared.error.FilterError.{FilterError}
+use Rattle.seccomptool.specs.Words.{[], ⊤, ◌∷◌, ◌≡◌, AllZip, AnswerError, AreUncompiledIn, AreUncompiledInSome, Bool, Call, Compile}
+use Rattle.seccomptool.specs.Words.{Container, Diff, Explain, Fault, Filter, FilterError, Global, HasUnknown, IsFilterOf, IsLayer, IsOfKind}
+use Rattle.seccomptool.specs.Words.{IsOfLayers, IsRefusal, IsRefusedAs, IsRefusedBeside, IsRefusedPolicy, IsRefusedProfile}
+use Rattle.seccomptool.specs.Words.{IsRefusedProgram, IsSideOf, IsTooLarge, IsTreeTooLarge, IsUncalled, IsUnchosen, IsUndecided, IsUndiffed}
+use Rattle.seccomptool.specs.Words.{Layer, Layout, Linear, List, One, Option, OutOfMemory, Profile, Show, Side, Stack, String, Subject}
+use Rattle.seccomptool.specs.Words.{TargetArch, Tree, Vec, false, from_filter, from_stack, sock_filter, text_of, true, ℕ}
 use Rattle.seccomp_tree.specs.declared.error.FilterError.TheVariants as filter
-use Rattle.seccomp_tree.specs.declared.layout.Layout.{Layout}
-use Rattle.seccomp_tree.specs.declared.layout.Layout.TheVariants.{Linear, Tree}
-use Rattle.seccomp_oci.specs.CompiledProfile.{HasUnknown}
-use Rattle.seccomp_oci.specs.Types.{Container}
 use Rattle.seccomp_oci.specs.declared.compiled.CompileError.TheVariants as profile
-use Rattle.seccomp_stack.specs.Joined.{IsRefusal}
 use Rattle.seccomp_stack.specs.declared.StackError.{StackError}
-use Rattle.seccomp_answers.specs.Causes.{AreUncompiledIn, AreUncompiledInSome, IsOfKind, IsOfLayers, IsRefusedAs, IsRefusedBeside}
-use Rattle.seccomp_answers.specs.Causes.{IsRefusedPolicy, IsUnchosen, IsUndecided, IsUndiffed}
-use Rattle.seccomp_answers.specs.Chosen.{text_of}
-use Rattle.seccomp_answers.specs.Errors.{from_filter, from_stack}
-use Rattle.seccomp_answers.specs.Calls.{IsUncalled}
-use Rattle.seccomp_answers.specs.Programs.{IsRefusedProgram}
-use Rattle.seccomp_answers.specs.Sides.{IsFilterOf, IsSideOf}
-use Rattle.seccomp_answers.specs.declared.error.AnswerError.{AnswerError}
-use Rattle.seccomp_answers.specs.declared.error.AnswerError.TheVariants.{Fault, OutOfMemory, Profile}
-use Rattle.seccomp_answers.specs.declared.kind.Subject.{Subject}
 use Rattle.seccomp_answers.specs.declared.kind.Subject.TheVariants as subject
-use Rattle.seccomp_answers.specs.declared.sides.Side.{Side}
-use Rattle.seccomp_answers.specs.declared.layers.Layer.{Layer}
-use Rattle.seccomptool.specs.declared.command.Call.{Call}
-use Rattle.seccomptool.specs.declared.command.Calls.TheVariants.{One}
-use Rattle.seccomptool.specs.declared.command.Compile.{Compile}
-use Rattle.seccomptool.specs.declared.command.Diff.{Diff}
-use Rattle.seccomptool.specs.declared.command.Explain.{Explain}
-use Rattle.seccomptool.specs.declared.command.Show.{Show}
-use Rattle.seccomptool.specs.declared.command.Stack.{Stack}
-use Rattle.seccomp_answers.specs.Causes.{IsRefusedProfile}
-use Rattle.seccomp_answers.specs.Layers.{IsLayer}
 
 -- ---- policies
 

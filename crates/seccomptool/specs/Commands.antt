@@ -1,64 +1,30 @@
 -- What it means that a command is carried out on the texts that it is given.
-use Rattle.std.specs.Prelude.{◌≡◌, ◌≢◌, ◌<◌, ◌↔◌, ℕ, ◌/◌, ◌%◌, Bool, true, false, IsTrue, List, [], ◌∷◌, ◌++◌, Option, None, Some, Vec, ⊤}
-use Rattle.std.specs.Prelude.{length}
-use Rattle.std.specs.Borrow.{Bor}
-use Rattle.std.specs.List.{AllZip}
+use Rattle.seccomptool.specs.Words.{[], ⊤, ◌%◌, ◌++◌, ◌/◌, ◌<◌, ◌↔◌, ◌∷◌, ◌≡◌, ◌≢◌, AllZip, AnswerError, AreKnownCalls, ArePrograms, Bool}
+use Rattle.seccomptool.specs.Words.{Bor, Call, Calls, Command, Compile, Container, Different, Explain, Explains, Filter, Global, IsCheckOf}
+use Rattle.seccomptool.specs.Words.{IsCompiledIn, IsCompiledProfile, IsDiff, IsFilterOf, IsLayer, IsProfileCheckOf, IsProgramOf, IsRecordOf}
+use Rattle.seccomptool.specs.Words.{IsRefusedProfile, IsRefusedProgram, IsSideOf, IsStackExplained, IsTakenAs, IsTrue, IsWrittenAs, Layer}
+use Rattle.seccomptool.specs.Words.{Layout, Learn, List, Log, Made, None, One, Option, OutOfMemory, Records, Same, Show, Side, Some, Stack}
+use Rattle.seccomptool.specs.Words.{Subject, TargetArch, Vec, Verdict, false, length, sock_filter, text_of, true, verdict_in, verdict_where}
+use Rattle.seccomptool.specs.Words.{ℕ}
 use Rattle.std.specs.Simd.{first_chunks}
-use Rattle.std.specs.declared.alloc.Global.{Global}
-use Rattle.seccompiler.specs.declared.backend.TargetArch.{TargetArch}
-use Rattle.seccompiler.specs.declared.bpf.sock_filter.{sock_filter}
-use Rattle.seccomp_tree.specs.declared.layout.Layout.{Layout}
-use Rattle.seccomp_tree.specs.Layouts.{IsCompiledIn}
 use Rattle.seccompiler.specs.JsonAnswers.{OfValue}
-use Rattle.seccompiler.specs.Policy.{Filter}
 use Rattle.seccomp_compare.specs.Machine.{IsChecked}
 use Rattle.seccomp_oci.specs.declared.compiled.CompiledProfile.{CompiledProfile}
-use Rattle.seccomp_oci.specs.CompiledProfile.{IsCompiledProfile}
-use Rattle.seccomp_oci.specs.Types.{Container}
 use Rattle.seccomp_stack.specs.Stack.{IsStack}
 use Rattle.seccomp_answers.specs.declared.check.CheckedPolicy.{CheckedPolicy}
 use Rattle.seccomp_answers.specs.declared.check.CheckedProfile.{CheckedProfile}
 use Rattle.seccomp_answers.specs.declared.programs.NamedProgram.{NamedProgram}
 use Rattle.seccomp_answers.specs.declared.diff.Diff.{Diff}
-use Rattle.seccomp_answers.specs.declared.error.AnswerError.{AnswerError}
-use Rattle.seccomp_answers.specs.declared.error.AnswerError.TheVariants.{OutOfMemory}
 use Rattle.seccomp_answers.specs.declared.explain.Explanation.{Explanation}
-use Rattle.seccomp_answers.specs.declared.findings.Verdict.{Verdict}
-use Rattle.seccomp_answers.specs.declared.findings.Verdict.TheVariants.{Same, Different}
-use Rattle.seccomp_answers.specs.declared.kind.Subject.{Subject}
 use Rattle.seccomp_answers.specs.declared.kind.Subject.TheVariants as subject
-use Rattle.seccomptool.specs.declared.made.Made.{Made}
 use Rattle.seccomp_answers.specs.declared.calls.KnownCall.{KnownCall}
-use Rattle.seccomp_answers.specs.declared.sides.Side.{Side}
-use Rattle.seccomp_answers.specs.declared.layers.Layer.{Layer}
-use Rattle.seccomptool.specs.declared.command.Call.{Call}
-use Rattle.seccomptool.specs.declared.command.Calls.{Calls}
-use Rattle.seccomptool.specs.declared.command.Calls.TheVariants.{One, Records, Log}
 use Rattle.seccomptool.specs.declared.command.Check.{Check}
-use Rattle.seccomptool.specs.declared.command.Command.{Command}
 use Rattle.seccomptool.specs.declared.command.Command.TheVariants as command
-use Rattle.seccomptool.specs.declared.command.Compile.{Compile}
 use Rattle.seccomptool.specs.declared.command.Diff.{Diff as AskedDiff}
-use Rattle.seccomptool.specs.declared.command.Explain.{Explain}
 use Rattle.seccomptool.specs.declared.command.Lookup.{Lookup}
-use Rattle.seccomptool.specs.declared.command.Show.{Show}
-use Rattle.seccomptool.specs.declared.command.Stack.{Stack}
-use Rattle.seccomp_answers.specs.Check.{IsCheckOf, IsRefusal, verdict_where}
-use Rattle.seccomp_answers.specs.CheckProfile.{IsProfileCheckOf}
-use Rattle.seccomp_answers.specs.Chosen.{text_of}
-use Rattle.seccomp_views.specs.Written.{IsWrittenAs}
-use Rattle.seccomp_answers.specs.Diff.{IsDiff, verdict_in}
-use Rattle.seccomp_answers.specs.Kinds.{IsTakenAs}
-use Rattle.seccomptool.specs.declared.command.Learn.{Learn}
+use Rattle.seccomp_answers.specs.Check.{IsRefusal}
 use Rattle.seccomptool.specs.Files.{calls_file, start_file}
 use Rattle.seccomptool.specs.Learn.{IsLesson, TraceReading}
-use Rattle.seccomp_answers.specs.Calls.{AreKnownCalls, IsRecordOf}
-use Rattle.seccomp_answers.specs.Programs.{IsProgramOf, IsRefusedProgram}
-use Rattle.seccomp_answers.specs.Explain.{Explains}
-use Rattle.seccomp_answers.specs.Layers.{IsLayer, IsStackExplained}
-use Rattle.seccomp_answers.specs.Sides.{IsFilterOf, IsSideOf}
-use Rattle.seccomp_answers.specs.Causes.{IsRefusedProfile}
-use Rattle.seccomp_answers.specs.Compiled.{ArePrograms}
 
 -- ---- what each command answers
 

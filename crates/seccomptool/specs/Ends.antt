@@ -1,16 +1,7 @@
 -- With which status a command ends, and what is done outside until then.
-use Rattle.std.specs.Prelude.{◌≡◌, ◌⊎◌, ◌<◌, ℕ, ◌++◌, Bool, true, false, List, [], ◌∷◌, Contains, map, max, Option, None, Some}
-use Rattle.std.specs.Borrow.{Bor}
-use Rattle.seccomp_answers.specs.Chosen.{text_of}
-use Rattle.seccomp_answers.specs.declared.error.AnswerError.{AnswerError}
-use Rattle.seccomp_answers.specs.declared.findings.Verdict.{Verdict}
-use Rattle.seccomp_answers.specs.declared.findings.Verdict.TheVariants.{Same, Different, Undecided}
-use Rattle.seccomp_answers.specs.declared.layers.Layer.{Layer}
-use Rattle.seccomptool.specs.declared.command.Command.{Command}
-use Rattle.seccomptool.specs.declared.command.Named.{Named}
-use Rattle.seccomptool.specs.declared.made.Made.{Made}
-use Rattle.seccomptool.specs.declared.outside.Cause.TheVariants.{Answer, Overwrites, Terminal}
-use Rattle.seccomptool.specs.declared.outside.Failure.{Failure}
+use Rattle.seccomptool.specs.Words.{[], ◌++◌, ◌<◌, ◌∷◌, ◌≡◌, ◌⊎◌, Answer, AnswerError, Bool, Bor, Command, Contains, Different, Failure}
+use Rattle.seccomptool.specs.Words.{Layer, List, Made, Named, None, Option, Overwrites, Same, Some, Terminal, Undecided, Verdict, false}
+use Rattle.seccomptool.specs.Words.{map, max, text_of, true, ℕ}
 use Rattle.seccomptool.specs.Commands.{Answers}
 use Rattle.seccomptool.specs.Failures.{Fails}
 use Rattle.seccomptool.specs.Files.{IsAsked, Paths, files_of, guarded, lists, output_of, subjects_of, whole, writes_bytes}

@@ -1,16 +1,10 @@
 -- Why a command isn't carried out on what is read for it.
-use Rattle.std.specs.Prelude.{◌≡◌, Bool, true, false, List, [], ◌∷◌, ℕ}
-use Rattle.seccompiler.specs.declared.backend.TargetArch.{TargetArch}
-use Rattle.seccomp_answers.specs.declared.error.AnswerError.{AnswerError}
-use Rattle.seccomp_answers.specs.declared.error.AnswerError.TheVariants.{OutOfMemory}
-use Rattle.seccomp_answers.specs.declared.layers.Layer.{Layer}
-use Rattle.seccomptool.specs.declared.command.Call.{Call}
-use Rattle.seccomptool.specs.declared.command.Command.{Command}
+use Rattle.seccomptool.specs.Words.{[], ◌∷◌, ◌≡◌, AnswerError, Bool, Call, Command, IsUncalled, IsUnknownCall, Layer, List, OutOfMemory}
+use Rattle.seccomptool.specs.Words.{TargetArch, false, true, ℕ}
 use Rattle.seccomptool.specs.declared.command.Command.TheVariants as command
 use Rattle.seccomptool.specs.Causes.{IsUncompared, IsUncompiled, IsUnexplained, IsUnshown, IsUnstacked}
 use Rattle.seccomptool.specs.Commands.{IsAskedAbout, IsParted}
 use Rattle.seccomptool.specs.Files.{calls_file, start_file}
-use Rattle.seccomp_answers.specs.Calls.{IsUncalled, IsUnknownCall}
 use Rattle.seccomptool.specs.Learn.{IsUnlearned, TraceReading}
 
 -- The text is no call of the architecture; or no call that has a name, of those that are asked about.

@@ -1,26 +1,15 @@
 -- Which files a command reads, in which order, and which one it writes; and which arguments name them.
-use Rattle.std.specs.Prelude.{◌≡◌, ◌≢◌, ◌==◌, ◌||◌, ℕ, Bool, true, false, if◌then◌else◌, List, [], ◌∷◌, ◌++◌, All, Option, Some, None}
-use Rattle.std.specs.Prelude.{IfSome}
-use Rattle.std.specs.Prelude.{⊤, codes, is_none, length, map, option_map, take, unwrap_or}
-use Rattle.std.specs.Borrow.{Bor}
-use Rattle.std.specs.List.{AllZip}
-use Rattle.std.specs.Str.{bytes_eq}
-use Rattle.clap.specs.Words.{first_value, matched_of, one_text, raw_values}
+use Rattle.seccomptool.specs.Words.{[], ⊤, ◌++◌, ◌==◌, ◌||◌, ◌∷◌, ◌≡◌, ◌≢◌, All, AllZip, Bool, Bor, Calls, Command, IfSome, Into, List, Log}
+use Rattle.seccomptool.specs.Words.{Named, None, One, Option, Otherwise, Records, Some, Start, TargetArch, bytes_eq, codes, false}
+use Rattle.seccomptool.specs.Words.{first_value, if◌then◌else◌, is_none, length, map, matched_of, one_text, option_map, raw_values, take}
+use Rattle.seccomptool.specs.Words.{text_of, true, unwrap_or, ℕ}
 use Rattle.clap.specs.declared.parser.matches.Found.{Found}
-use Rattle.seccompiler.specs.declared.backend.TargetArch.{TargetArch}
 use Rattle.seccompiler.specs.declared.backend.TargetArch.TheVariants.{x86_64, aarch64, riscv64}
 use Rattle.seccomp_views.specs.declared.check.format.CheckFormat.{CheckFormat}
 use Rattle.seccomp_views.specs.declared.check.format.CheckFormat.TheVariants.{Json}
 use Rattle.seccomp_views.specs.declared.program.ProgramFormat.{ProgramFormat}
 use Rattle.seccomp_views.specs.declared.program.ProgramFormat.TheVariants.{Raw}
-use Rattle.seccomp_answers.specs.Chosen.{text_of}
-use Rattle.seccomptool.specs.declared.command.Calls.{Calls}
-use Rattle.seccomptool.specs.declared.command.Calls.TheVariants.{One, Records, Log}
-use Rattle.seccomptool.specs.declared.command.Command.{Command}
 use Rattle.seccomptool.specs.declared.command.Command.TheVariants.{Call, Check, Codes, Compile, Diff, Explain, Learn, Show, Stack}
-use Rattle.seccomptool.specs.declared.command.Named.{Named}
-use Rattle.seccomptool.specs.declared.learn.Start.{Start}
-use Rattle.seccomptool.specs.declared.learn.Start.TheVariants.{Into, Otherwise}
 
 -- ---- what is read and written
 

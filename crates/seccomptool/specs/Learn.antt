@@ -1,34 +1,16 @@
 -- What `learn` gives: a policy of the calls that were observed, which are added to a filter.
-use Rattle.std.specs.Prelude.{◌≡◌, ◌≢◌, ◌⊎◌, ◌≤◌, ℕ, List, [], ◌∷◌, ◌++◌, Any, Bool, true, false, Option, Some, None, codes, flat_map}
-use Rattle.std.specs.Prelude.{slice_index_or, unwrap_or, ⊤}
-use Rattle.std.specs.Borrow.{Bor}
-use Rattle.std.specs.List.{AllZip}
-use Rattle.seccompiler.specs.declared.backend.TargetArch.{TargetArch}
+use Rattle.seccomptool.specs.Words.{[], ⊤, ◌++◌, ◌∷◌, ◌≡◌, ◌≢◌, ◌≤◌, ◌⊎◌, AllZip, Allow, AnswerError, Any, AreCloning, AreRunnable}
+use Rattle.seccomptool.specs.Words.{AreUsual, AskedArguments, Bool, Bor, Errno, Fault, HasFilter, HasFilters, Into, IsAskedArgument, IsCall}
+use Rattle.seccomptool.specs.Words.{IsChosen, IsUncalled, IsUnnamed, JsonFilter, Kept, Layer, Learn, List, None, Observation, Option}
+use Rattle.seccomptool.specs.Words.{Otherwise, OutOfMemory, Some, Start, TargetArch, Told, Trace, beside, codes, false, flat_map}
+use Rattle.seccomptool.specs.Words.{from_library, slice_index_or, text_of, true, unwrap_or, ℕ}
 use Rattle.seccompiler.specs.declared.backend.SeccompAction.{SeccompAction}
-use Rattle.seccompiler.specs.declared.backend.SeccompAction.TheVariants.{Allow, Errno}
 use Rattle.seccompiler.specs.declared.json.error.JsonFrontendError.{JsonFrontendError}
 use Rattle.seccompiler.specs.Errors.{from_frontend}
 use Rattle.seccompiler.specs.JsonSteps.{IsBeforePolicies, IsPolicyRefusal}
-use Rattle.seccompiler.specs.JsonTypes.{JsonFilter}
-use Rattle.seccomp_learn.specs.declared.observation.Kept.{Kept}
-use Rattle.seccomp_learn.specs.declared.observation.Observation.{Observation}
 use Rattle.seccomp_learn.specs.declared.policy.Lesson.{Lesson}
-use Rattle.seccomp_learn.specs.declared.trace.Trace.{Trace}
 use Rattle.seccomp_learn.specs.Learned.{IsLearnedWithin}
-use Rattle.seccomp_learn.specs.Usual.{AreCloning, AreRunnable, AreUsual, IsAskedArgument}
-use Rattle.seccomp_learn.specs.Written.{HasFilter, HasFilters, beside}
-use Rattle.seccomp_answers.specs.declared.error.AnswerError.{AnswerError}
-use Rattle.seccomp_answers.specs.declared.error.AnswerError.TheVariants.{Fault, OutOfMemory, Told}
-use Rattle.seccomp_answers.specs.declared.layers.Layer.{Layer}
-use Rattle.seccomp_answers.specs.Calls.{IsCall, IsUncalled}
-use Rattle.seccomp_answers.specs.Causes.{IsUnnamed}
-use Rattle.seccomp_answers.specs.Chosen.{IsChosen, text_of}
-use Rattle.seccomp_answers.specs.Errors.{from_library}
 use Rattle.seccomptool.specs.Causes.{IsFaultText}
-use Rattle.seccomptool.specs.declared.command.Learn.{Learn}
-use Rattle.seccomptool.specs.declared.learn.AskedArguments.{AskedArguments}
-use Rattle.seccomptool.specs.declared.learn.Start.{Start}
-use Rattle.seccomptool.specs.declared.learn.Start.TheVariants.{Otherwise, Into}
 
 -- What a trace is.
 abbrev pub TraceReading : Type 1

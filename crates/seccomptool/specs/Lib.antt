@@ -9,3 +9,5 @@ pub mod Commands
 pub mod Failures
 pub mod Outside
 pub mod Ends
+-- Between layers: the names that these cite of the crates below, passed on.
+pub mod Words

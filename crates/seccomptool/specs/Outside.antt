@@ -1,11 +1,6 @@
 -- What is done outside, and what is answered there.
-use Rattle.std.specs.Prelude.{ℕ, Bool, true, false, List, [], ◌∷◌, Option}
-use Rattle.seccomp_answers.specs.declared.error.AnswerError.TheVariants.{OutOfMemory}
-use Rattle.seccomp_answers.specs.declared.layers.Layer.{Layer}
-use Rattle.seccomptool.specs.declared.command.Named.{Named}
+use Rattle.seccomptool.specs.Words.{[], ◌∷◌, Answer, Bool, Failure, Layer, List, Named, Option, OutOfMemory, false, true, ℕ}
 use Rattle.seccomptool.specs.declared.outside.Cause.{Cause}
-use Rattle.seccomptool.specs.declared.outside.Cause.TheVariants.{Answer}
-use Rattle.seccomptool.specs.declared.outside.Failure.{Failure}
 
 pub data Event : Type 0 where
   -- These bytes are read at the path.

@@ -1,7 +1,6 @@
 // What `check` makes of what it is given, and what the codes of its warnings mean.
 
-ghost use Rattle.std.specs.Prelude.{◌≡◌, IfErr, IfOk, false};
-ghost use Rattle.seccomp_answers.specs.declared.error.AnswerError.TheVariants.{OutOfMemory};
+ghost use Rattle.seccomptool.specs.Words.{◌≡◌, IfErr, IfOk, OutOfMemory, false};
 ghost use Rattle.seccomptool.specs.Commands.{IsAccepted, IsCheck, IsPlain, IsRejectedFor};
 
 use crate::command::Check;

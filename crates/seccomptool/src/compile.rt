@@ -1,11 +1,9 @@
 // The program of a filter, of a profile or one that is given, in the form that is asked for.
 
-ghost use Rattle.std.specs.Prelude.{◌≡◌, IfErr, IfOk};
-ghost use Rattle.seccomp_answers.specs.Compiled.{instruction_bytes, program_bytes};
-ghost use Rattle.seccomp_answers.specs.declared.kind.Subject.TheVariants.{Policy, Profile};
+ghost use Rattle.seccomptool.specs.Words.{◌≡◌, IfErr, IfOk, IsWrittenAs, Policy, instruction_bytes, program_bytes};
+ghost use Rattle.seccomp_answers.specs.declared.kind.Subject.TheVariants.{Profile};
 ghost use Rattle.seccomptool.specs.Causes.{AreNamesTold, IsSizeTold, IsUncompiled, IsUncompiledAs, IsUncompiledProfile};
 ghost use Rattle.seccomptool.specs.Commands.{IsCompiled, IsPlain, IsWrittenOf};
-ghost use Rattle.seccomp_views.specs.Written.{IsWrittenAs};
 
 use crate::command::Compile;
 use crate::made::{Made, shown};

@@ -1,8 +1,7 @@
 // What a command makes of what it is given: a text, and what it finds.
 
-ghost use Rattle.std.specs.Prelude.{◌≡◌, IfErr, IfOk, Ok, false};
+ghost use Rattle.seccomptool.specs.Words.{◌≡◌, IfErr, IfOk, Ok, OutOfMemory, false};
 ghost use Rattle.seccomptool.specs.Commands.{IsPlain};
-ghost use Rattle.seccomp_answers.specs.declared.error.AnswerError.TheVariants.{OutOfMemory};
 
 use seccomp_answers::error::AnswerError;
 use seccomp_answers::findings::Verdict;

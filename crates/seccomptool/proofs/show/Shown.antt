@@ -1,10 +1,5 @@
 -- For `push_shown`: the program of what is no policy.
-use Rattle.std.proofs.Common.{◌≡◌, ℕ, List, Option, refl}
-use Rattle.seccompiler.specs.declared.backend.TargetArch.{TargetArch}
-use Rattle.seccompiler.specs.declared.bpf.sock_filter.{sock_filter}
-use Rattle.seccomp_tree.specs.declared.layout.Layout.{Layout}
-use Rattle.seccomp_answers.specs.Sides.{IsProgramFor}
-use Rattle.seccomp_answers.specs.declared.kind.Subject.{Subject}
+use Rattle.seccomptool.proofs.Common.{◌≡◌, IsProgramFor, Layout, List, Option, Subject, TargetArch, refl, sock_filter, ℕ}
 use Rattle.seccomp_answers.specs.declared.kind.Subject.TheVariants as subject
 use Rattle.seccomptool.specs.Commands.{IsShownAs}
 

@@ -1,15 +1,11 @@
 -- A path and the name of a filter in one text.
-use Rattle.std.proofs.Common.{◌≡◌, ◌≢◌, ◌==◌, ◌∙◌, ◌+◌, ◌<◌, ℕ, Bool, Bor, List, [], ◌∷◌, ◌++◌, None, Some, IfSome, ap, arith}
-use Rattle.std.proofs.Common.{drop, false, get_or, length, map, refl, subst, sym, take}
-use Rattle.std.specs.List.{AllZip}
-use Rattle.std.specs.Str.{NoCharPasses}
+use Rattle.seccomptool.proofs.Common.{[], ◌++◌, ◌+◌, ◌<◌, ◌==◌, ◌∙◌, ◌∷◌, ◌≡◌, ◌≢◌, All-from_get_or, AllZip, Bool, IfSome, List, Named}
+use Rattle.seccomptool.proofs.Common.{NoCharPasses, None, Some, all_zipped_more, ap, arith, drop, false, get_or, length, map, map-append}
+use Rattle.seccomptool.proofs.Common.{refl, subst, sym, take, take-append-drop, take_more, ℕ}
+use Rattle.std.proofs.Common.{Bor}
 use Rattle.std.specs.Str.Pattern.{RFindsChar, SplitsAroundMatch}
-use Rattle.std.proofs.lemmas.List.{map-append, take-append-drop, take_more}
-use Rattle.std.proofs.lemmas.List.Elements.{All-from_get_or}
-use Rattle.std.proofs.lemmas.Slice.Zip.{all_zipped_more}
 use Rattle.std.proofs.lemmas.Str.Pattern.{NoCharPasses-char, drop_at_char}
 use Rattle.seccomptool.specs.Files.{HasNoColon, IsNamedBy, IsPathAndName, Paths, both, name_given}
-use Rattle.seccomptool.specs.declared.command.Named.{Named}
 
 -- What the search for a colon doesn't find isn't there.
 pub no_colon : (text : List ℕ) → NoCharPasses (λ c. c == 0x3a) text → HasNoColon text

@@ -1,7 +1,5 @@
-use Rattle.std.proofs.Common.{subst, sym}
-use Rattle.std.proofs.lemmas.Result.{IfOk-weaker}
+use Rattle.seccomptool.proofs.Common.{IfOk-weaker, Made, subst, sym}
 use Rattle.seccomptool.specs.Commands.{IsCalledOn}
-use Rattle.seccomptool.specs.declared.made.Made.{Made}
 use Rattle.seccomptool.proofs.call.call_made.Goals as goal
 
 pub returns-clause-made : goal.returns-clause-made

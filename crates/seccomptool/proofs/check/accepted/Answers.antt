@@ -1,6 +1,4 @@
-use Rattle.std.proofs.Common.{ap, ◌∙◌, subst, sym}
-use Rattle.seccomp_answers.specs.Check.{IsCheckOf, verdict_where}
-use Rattle.seccomp_answers.specs.CheckProfile.{IsProfileCheckOf}
+use Rattle.seccomptool.proofs.Common.{◌∙◌, IsCheckOf, IsProfileCheckOf, ap, subst, sym, verdict_where}
 use Rattle.seccomptool.specs.Commands.{IsAccepted}
 use Rattle.seccomptool.proofs.check.accepted.Goals as goal
 

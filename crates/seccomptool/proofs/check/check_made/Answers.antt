@@ -1,4 +1,4 @@
-use Rattle.std.proofs.Common.{rules, subst, sym}
+use Rattle.seccomptool.proofs.Common.{rules, subst, sym}
 use Rattle.seccomptool.specs.Commands.{IsJudged, accepted, rejected}
 use Rattle.seccomptool.proofs.check.check_made.Goals as goal
 use Rattle.seccomptool.proofs.check.check_made.Goals.{in-Ok, in-Err}

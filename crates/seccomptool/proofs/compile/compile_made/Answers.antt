@@ -1,10 +1,8 @@
-use Rattle.std.proofs.Common.{subst, refl}
-use Rattle.std.proofs.lemmas.Result.{IfErr-weaker, err_from_is_err_and}
+use Rattle.seccomptool.proofs.Common.{IfErr-weaker, IsTakenAs, Policy, Program, err_from_is_err_and, named, of_kind, refl, refused, subst}
+use Rattle.seccomptool.proofs.Common.{unknown}
 use Rattle.seccomptool.specs.Causes.{IsUncompiled}
-use Rattle.seccomp_answers.specs.Kinds.{IsTakenAs}
-use Rattle.seccomp_answers.specs.declared.kind.Subject.TheVariants.{Policy, Profile, Program}
+use Rattle.seccomp_answers.specs.declared.kind.Subject.TheVariants.{Profile}
 use Rattle.seccomptool.proofs.compile.compile_made.Goals as goal
-use Rattle.seccomp_answers.specs.Causes.{named, of_kind, refused, unknown}
 
 pub returns-in_err-subject_of-clause-cause : goal.returns-in_err-subject_of-clause-cause
 returns-in_err-subject_of-clause-cause c =

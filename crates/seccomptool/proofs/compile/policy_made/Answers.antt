@@ -1,14 +1,7 @@
-use Rattle.std.proofs.Common.{IfOk, List, Option, inl, inr, subst, sym, ℕ}
-use Rattle.std.proofs.lemmas.Result.{IfErr-weaker, IfOk-at_ok, IfOk-weaker, err_from_is_err_and}
-use Rattle.seccompiler.specs.declared.backend.TargetArch.{TargetArch}
-use Rattle.seccomp_tree.specs.declared.layout.Layout.{Layout}
-use Rattle.seccomp_answers.specs.Causes.{IsUnpicked, IsUnread, of_name, unread}
-use Rattle.seccomp_answers.specs.Chosen.{text_of}
-use Rattle.seccomp_answers.specs.declared.error.AnswerError.{AnswerError}
-use Rattle.seccomp_answers.specs.declared.kind.Subject.TheVariants.{Policy}
+use Rattle.seccomptool.proofs.Common.{AnswerError, IfErr-weaker, IfOk, IfOk-at_ok, IfOk-weaker, IsUnpicked, IsUnread, IsWrittenAs, Layout}
+use Rattle.seccomptool.proofs.Common.{List, Made, Option, Policy, TargetArch, err_from_is_err_and, inl, inr, of_name, subst, sym, text_of}
+use Rattle.seccomptool.proofs.Common.{unread, ℕ}
 use Rattle.seccomptool.specs.Causes.{IsUncompiledAs, IsUncompiledIn}
-use Rattle.seccomp_views.specs.Written.{IsWrittenAs}
-use Rattle.seccomptool.specs.declared.made.Made.{Made}
 use Rattle.seccomptool.proofs.Causes.{size_told}
 use Rattle.seccomptool.proofs.compile.policy_made.Goals as goal
 

@@ -1,11 +1,8 @@
-use Rattle.std.proofs.Common.{◌≡◌, IfOk, refl, rules, subst, sym}
-use Rattle.std.proofs.lemmas.Result.{IfErr-weaker, IfOk-at_ok, IfOk-weaker}
-use Rattle.seccomp_views.specs.Written.{IsWrittenAs}
-use Rattle.seccomptool.specs.declared.made.Made.{Made}
+use Rattle.seccomptool.proofs.Common.{◌≡◌, IfErr-weaker, IfOk, IfOk-at_ok, IfOk-weaker, IsRefusedProfile, IsWrittenAs, Made, refl, rules}
+use Rattle.seccomptool.proofs.Common.{subst, sym}
 use Rattle.seccomptool.specs.Causes.{IsUncompiledProfile, uncompiled}
 use Rattle.seccomptool.proofs.Causes.{names_told}
 use Rattle.seccomptool.proofs.compile.profile_made.Goals as goal
-use Rattle.seccomp_answers.specs.Causes.{IsRefusedProfile}
 
 pub returns-clause-made : goal.returns-clause-made
 returns-clause-made c =

@@ -1,6 +1,5 @@
-use Rattle.std.proofs.Common.{◌∙◌, ap, subst, sym}
+use Rattle.seccomptool.proofs.Common.{◌∙◌, Profile, ap, subst, sym}
 use Rattle.seccomptool.specs.Causes.{IsFaultText, names_text}
-use Rattle.seccomp_answers.specs.declared.error.AnswerError.TheVariants.{Profile}
 use Rattle.seccomptool.proofs.compile.uncompiled.Goals as goal
 
 pub returns-in-Ok-told : goal.returns-in-Ok-told

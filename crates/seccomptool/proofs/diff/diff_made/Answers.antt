@@ -1,9 +1,5 @@
-use Rattle.std.proofs.Common.{◌∙◌, ℕ, List, subst}
-use Rattle.std.proofs.lemmas.Result.{IfErr-at_err, IfOk-at_ok, IfOk-weaker, err_from_is_err_and}
-use Rattle.seccomp_answers.specs.Causes.{IsUndiffed}
-use Rattle.seccomp_answers.specs.Diff.{IsDiff}
-use Rattle.seccomp_answers.specs.Sides.{IsSideOf}
-use Rattle.seccomptool.specs.declared.made.Made.{Made}
+use Rattle.seccomptool.proofs.Common.{◌∙◌, IfErr-at_err, IfOk-at_ok, IfOk-weaker, IsDiff, IsSideOf, IsUndiffed, List, Made}
+use Rattle.seccomptool.proofs.Common.{err_from_is_err_and, subst, ℕ}
 use Rattle.seccomptool.specs.Causes.{of_sides}
 use Rattle.seccomptool.proofs.diff.diff_made.Goals as goal
 

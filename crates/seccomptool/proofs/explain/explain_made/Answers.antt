@@ -1,11 +1,9 @@
-use Rattle.std.proofs.Common.{◌≡◌, ◌%◌, ◌∙◌, ℕ, length, nat_lt, IsTrue, Bor, List, Option, Vec, Global, ap, refl, subst, sym}
+use Rattle.seccomptool.proofs.Common.{◌%◌, ◌∙◌, ◌≡◌, Calls, IsRecordOf, IsTrue, List, Log, One, Option, Records, Vec, ap}
+use Rattle.seccomptool.proofs.Common.{err_from_is_err_and, length, nat_lt, refl, subst, sym, ℕ}
+use Rattle.std.proofs.Common.{Bor, Global}
 use Rattle.std.proofs.lemmas.Bool.{false≢true, lt-ltb, ltb-true}
 use Rattle.seccomptool.specs.Commands.{EndsInside, ExplainsIn, IsExplainedIn, OnRecordsOf, records_in}
-use Rattle.seccomp_answers.specs.Calls.{IsRecordOf}
-use Rattle.seccomptool.specs.declared.command.Calls.{Calls}
-use Rattle.seccomptool.specs.declared.command.Calls.TheVariants.{Log, One, Records}
 use Rattle.seccomptool.specs.Causes.{uncalled}
-use Rattle.std.proofs.lemmas.Result.{err_from_is_err_and}
 use Rattle.seccomptool.proofs.explain.explain_made.Goals as goal
 use Rattle.seccomptool.proofs.explain.explain_made.Goals.{in-One+in_ok-record-in-One, in-Records+in_ok-records-in-Records}
 use Rattle.seccomptool.proofs.explain.explain_made.Goals.{in-Log+in_ok-records-in-Log}

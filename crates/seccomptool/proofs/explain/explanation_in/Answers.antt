@@ -1,9 +1,4 @@
-use Rattle.std.proofs.Common.{List, ℕ, subst, sym}
-use Rattle.std.proofs.lemmas.Result.{IfErr-weaker, IfOk-weaker}
-use Rattle.seccomp_answers.specs.Causes.{IsUndecided}
-use Rattle.seccomp_answers.specs.Chosen.{text_of}
-use Rattle.seccomp_answers.specs.Explain.{Explains}
-use Rattle.seccomp_answers.specs.declared.layers.Layer.{Layer}
+use Rattle.seccomptool.proofs.Common.{Explains, IfErr-weaker, IfOk-weaker, IsUndecided, Layer, List, subst, sym, text_of, ℕ}
 use Rattle.seccomptool.specs.Causes.{IsUnexplained, of_layers, undecided}
 use Rattle.seccomptool.specs.Commands.{ExplainsIn}
 use Rattle.seccomptool.proofs.Layers.{one_layer}

@@ -1,11 +1,7 @@
-use Rattle.std.proofs.Common.{◌≡◌, ◌≢◌, ◌∙◌, ℕ, List, None, Some, ap, rules, string_bytes, subst, sym}
-use Rattle.std.proofs.lemmas.Result.{err_from_is_err_and}
-use Rattle.std.specs.BTreeMap.{get_by_text}
+use Rattle.seccomptool.proofs.Common.{◌∙◌, ◌≡◌, ◌≢◌, Allow, JsonFilter, List, None, Some, ap, beside, err_from_is_err_and, found_in}
+use Rattle.seccomptool.proofs.Common.{get_by_text, rules, string_bytes, subst, sym, ℕ}
 use Rattle.seccompiler.specs.JsonFilters.{AreFound}
 use Rattle.seccompiler.specs.JsonShape.{IsFilter}
-use Rattle.seccompiler.specs.JsonTypes.{JsonFilter}
-use Rattle.seccompiler.specs.declared.backend.SeccompAction.TheVariants.{Allow}
-use Rattle.seccomp_learn.specs.Written.{beside, found_in}
 use Rattle.seccomptool.specs.Learn.{denying, unnamed}
 use Rattle.seccomptool.proofs.learn.base_of.Goals as goal
 

@@ -1,9 +1,5 @@
-use Rattle.std.proofs.Common.{◌∙◌, List, inl, refl, string_bytes, subst, sym}
-use Rattle.std.proofs.lemmas.Result.{IfErr-weaker, IfOk-weaker, err_from_is_err_and}
-use Rattle.seccomp_learn.specs.Written.{found_in}
-use Rattle.seccomp_learn.specs.declared.observation.Kept.{Kept}
-use Rattle.seccomp_learn.specs.declared.observation.Observation.{Observation}
-use Rattle.seccomp_learn.specs.declared.trace.Trace.{Trace}
+use Rattle.seccomptool.proofs.Common.{◌∙◌, IfErr-weaker, IfOk-weaker, Kept, List, Observation, Trace, err_from_is_err_and, found_in, inl}
+use Rattle.seccomptool.proofs.Common.{refl, string_bytes, subst, sym}
 use Rattle.seccomptool.specs.Learn.{AreObserved, AreWanted, of_base, of_call, of_text, of_trace}
 use Rattle.seccomptool.proofs.learn.learn_made.Goals as goal
 

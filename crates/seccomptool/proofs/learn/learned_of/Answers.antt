@@ -1,6 +1,4 @@
-use Rattle.std.proofs.Common.{refl, string_bytes}
-use Rattle.std.proofs.lemmas.Result.{err_from_is_err_and}
-use Rattle.seccomp_learn.specs.Written.{found_in}
+use Rattle.seccomptool.proofs.Common.{err_from_is_err_and, found_in, refl, string_bytes}
 use Rattle.seccomptool.specs.Learn.{no_policy, untaken}
 use Rattle.seccomptool.proofs.learn.learned_of.Goals as goal
 

@@ -1,5 +1,4 @@
-use Rattle.std.proofs.Common.{inr, refl}
-use Rattle.std.proofs.lemmas.Result.{err_from_is_err_and}
+use Rattle.seccomptool.proofs.Common.{err_from_is_err_and, inr, refl}
 use Rattle.seccomptool.proofs.learn.lesson_text.Goals as goal
 
 pub returns-in_err-written_policy-clause-cause : goal.returns-in_err-written_policy-clause-cause

@@ -1,7 +1,4 @@
-use Rattle.std.proofs.Common.{[], ◌∙◌, ◌++◌, List, ap, flat_map, get_or, sym, take}
-use Rattle.std.proofs.lemmas.List.{flat_map_more, take_more}
-use Rattle.seccomp_learn.specs.declared.observation.Observation.{Observation}
-use Rattle.seccomp_learn.specs.declared.trace.Trace.{Trace}
+use Rattle.seccomptool.proofs.Common.{[], ◌++◌, ◌∙◌, List, Observation, Trace, ap, flat_map, flat_map_more, get_or, sym, take, take_more}
 use Rattle.seccomptool.proofs.learn.observed_in.Goals as goal
 
 pub loop-trace-preserved : goal.loop-trace-preserved

@@ -1,5 +1,4 @@
-use Rattle.std.proofs.Common.{◌≡◌, flat_map, take}
-use Rattle.seccomp_learn.specs.declared.trace.Trace.{Trace}
+use Rattle.seccomptool.proofs.Common.{◌≡◌, Trace, flat_map, take}
 use Rattle.seccomptool.proofs.learn.observed_in.Given as goal
 
 abbrev pub invariant-loop-trace : goal.invariant-loop-trace

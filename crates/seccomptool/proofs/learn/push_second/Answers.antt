@@ -1,10 +1,8 @@
-use Rattle.std.proofs.Common.{◌≡◌, ◌++◌, ◌∙◌, Bool, List, Some, ap, bytes_eq, rules, string_bytes, sym, true, ℕ}
-use Rattle.std.specs.BTreeMap.{get_by_text}
+use Rattle.seccomptool.proofs.Common.{◌++◌, ◌∙◌, ◌≡◌, Bool, JsonFilter, List, Some, ap, beside, codes, found_in, get_by_text, rules}
+use Rattle.seccomptool.proofs.Common.{string_bytes, sym, true, ℕ}
+use Rattle.std.proofs.Common.{bytes_eq}
 use Rattle.std.specs.Map.{update}
-use Rattle.std.specs.Prelude.{codes}
 use Rattle.std.proofs.lemmas.Map.Text.{btree_map_updates_text}
-use Rattle.seccompiler.specs.JsonTypes.{JsonFilter}
-use Rattle.seccomp_learn.specs.Written.{beside, found_in}
 use Rattle.seccomptool.specs.Learn.{with_second}
 use Rattle.seccomptool.proofs.learn.push_second.Goals as goal
 

@@ -1,6 +1,4 @@
-use Rattle.std.proofs.Common.{◌∙◌, List, ap, inr, subst, ℕ}
-use Rattle.std.proofs.lemmas.Result.{err_from_is_err_and}
-use Rattle.seccomp_answers.specs.declared.layers.Layer.{Layer}
+use Rattle.seccomptool.proofs.Common.{◌∙◌, Layer, List, ap, err_from_is_err_and, inr, subst, ℕ}
 use Rattle.seccomptool.specs.Learn.{IsStrangeOf}
 use Rattle.seccomptool.proofs.Wanted.{some_has}
 use Rattle.seccomptool.proofs.Traces.{trace_more}

@@ -1,5 +1,4 @@
-use Rattle.std.proofs.Common.{take}
-use Rattle.std.specs.List.{AllZip}
+use Rattle.seccomptool.proofs.Common.{AllZip, take}
 use Rattle.seccomptool.specs.Learn.{IsTraceOf}
 use Rattle.seccomptool.proofs.learn.traces_of.Given as goal
 

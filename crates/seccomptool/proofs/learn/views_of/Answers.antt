@@ -1,5 +1,4 @@
-use Rattle.std.proofs.Common.{◌≡◌, List, false, rules, string_bytes, subst, sym, ℕ, Bool}
-use Rattle.seccomp_learn.specs.Written.{found_in}
+use Rattle.seccomptool.proofs.Common.{◌≡◌, Bool, List, false, found_in, rules, string_bytes, subst, sym, ℕ}
 use Rattle.seccomptool.specs.Learn.{IsWrittenPolicy, Unless}
 use Rattle.seccomptool.proofs.learn.views_of.Goals as goal
 

@@ -1,7 +1,6 @@
-use Rattle.std.proofs.Common.{◌≡◌, ℕ, Bor, IfOk, List, Option, false, subst}
-use Rattle.std.proofs.lemmas.Result.{IfErr-weaker}
+use Rattle.seccomptool.proofs.Common.{◌≡◌, IfErr-weaker, IfOk, List, Made, Option, false, subst, ℕ}
+use Rattle.std.proofs.Common.{Bor}
 use Rattle.seccomptool.specs.Commands.{IsCheck, IsCompiled, IsParted, IsPlain, IsShown}
-use Rattle.seccomptool.specs.declared.made.Made.{Made}
 use Rattle.seccomptool.proofs.Layers.{one_layer}
 use Rattle.seccomptool.proofs.perform.perform.Goals as goal
 

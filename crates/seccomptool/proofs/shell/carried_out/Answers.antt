@@ -1,6 +1,4 @@
-use Rattle.std.proofs.Common.{inl, inr, refl}
-use Rattle.std.proofs.lemmas.List.Elements.{Contains-push}
-use Rattle.std.proofs.lemmas.Result.{err_from_is_err_and}
+use Rattle.seccomptool.proofs.Common.{Contains-push, err_from_is_err_and, inl, inr, refl}
 use Rattle.seccomptool.specs.Ends.{of_outside}
 use Rattle.seccomptool.proofs.History.{all_read, apart_unwritten, made_of, outside_behind, read_unwritten, refusal_of, unmade}
 use Rattle.seccomptool.proofs.History.{unwritten_both}

@@ -1,4 +1,4 @@
-use Rattle.std.proofs.Common.{refl}
+use Rattle.seccomptool.proofs.Common.{refl}
 use Rattle.seccomptool.specs.Ends.{carried_out, kept}
 use Rattle.seccomptool.proofs.shell.carry_out.Goals as goal
 

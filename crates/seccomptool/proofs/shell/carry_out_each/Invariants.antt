@@ -1,4 +1,4 @@
-use Rattle.std.proofs.Common.{take}
+use Rattle.seccomptool.proofs.Common.{take}
 use Rattle.seccomptool.specs.Ends.{EndsOnEach}
 use Rattle.seccomptool.specs.Outside.{Does}
 use Rattle.seccomptool.proofs.shell.carry_out_each.Given as goal

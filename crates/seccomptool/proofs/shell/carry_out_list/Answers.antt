@@ -1,4 +1,4 @@
-use Rattle.std.proofs.Common.{arith, subst}
+use Rattle.seccomptool.proofs.Common.{arith, subst}
 use Rattle.seccomptool.specs.Ends.{IsSaid, listed, unlisted}
 use Rattle.seccomptool.proofs.shell.carry_out_list.Goals as goal
 

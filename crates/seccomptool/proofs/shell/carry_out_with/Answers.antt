@@ -1,4 +1,4 @@
-use Rattle.std.proofs.Common.{◌∙◌, [], inl, refl, sym}
+use Rattle.seccomptool.proofs.Common.{[], ◌∙◌, inl, refl, sym}
 use Rattle.seccomptool.specs.Ends.{kept, of_outside}
 use Rattle.seccomptool.proofs.History.{ends_whole}
 use Rattle.seccomptool.proofs.shell.carry_out_with.Goals as goal

@@ -1,6 +1,4 @@
-use Rattle.std.proofs.Common.{inl, inr, refl}
-use Rattle.std.proofs.lemmas.List.Elements.{Contains-push}
-use Rattle.std.proofs.lemmas.Result.{err_from_is_err_and}
+use Rattle.seccomptool.proofs.Common.{Contains-push, err_from_is_err_and, inl, inr, refl}
 use Rattle.seccomptool.proofs.History.{got_unwritten, unwritten_both}
 use Rattle.seccomptool.proofs.shell.read_all.Goals as goal
 

@@ -1,4 +1,4 @@
-use Rattle.std.proofs.Common.{◌≡◌, map, take}
+use Rattle.seccomptool.proofs.Common.{◌≡◌, map, take}
 use Rattle.seccomptool.specs.Outside.{got_of, named_of}
 use Rattle.seccomptool.proofs.shell.read_all.Given as goal
 

@@ -1,5 +1,4 @@
-use Rattle.std.proofs.Common.{ap, refl}
-use Rattle.seccomp_answers.specs.Chosen.{text_of}
+use Rattle.seccomptool.proofs.Common.{ap, refl, text_of}
 use Rattle.seccomptool.proofs.History.{compared_unwritten, overwritten, unwritten_both}
 use Rattle.seccomptool.proofs.shell.refuse_output.Goals as goal
 

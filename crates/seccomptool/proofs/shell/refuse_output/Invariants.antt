@@ -1,6 +1,5 @@
-use Rattle.std.proofs.Common.{false, map, take}
+use Rattle.seccomptool.proofs.Common.{Named, false, map, take}
 use Rattle.seccomptool.specs.Outside.{compared}
-use Rattle.seccomptool.specs.declared.command.Named.{Named}
 use Rattle.seccomptool.proofs.shell.refuse_output.Given as goal
 
 abbrev pub invariant-loop-file : goal.invariant-loop-file

@@ -1,5 +1,4 @@
-use Rattle.std.proofs.Common.{[], ◌∷◌, None, inr, refl}
-use Rattle.std.proofs.lemmas.List.Elements.{Contains-push}
+use Rattle.seccomptool.proofs.Common.{[], ◌∷◌, Contains-push, None, inr, refl}
 use Rattle.seccomptool.specs.Ends.{said, unsaid}
 use Rattle.seccomptool.specs.Outside.{failed}
 use Rattle.seccomptool.proofs.shell.say.Goals as goal

@@ -1,14 +1,9 @@
-use Rattle.std.proofs.Common.{subst, sym}
-use Rattle.std.proofs.lemmas.Result.{err_from_is_err_and}
-use Rattle.seccomp_tree.specs.declared.layout.Layout.TheVariants.{Linear}
+use Rattle.seccomptool.proofs.Common.{IsUnfitting, Linear, OutOfMemory, err_from_is_err_and, subst, sym, text_of, unread}
 use Rattle.seccomptool.specs.Causes.{AreUnshown, IsUnshownAs}
-use Rattle.seccomp_answers.specs.Chosen.{text_of}
 use Rattle.seccomptool.specs.Commands.{IsShownUnless}
-use Rattle.seccomp_answers.specs.declared.error.AnswerError.TheVariants.{OutOfMemory}
 use Rattle.seccomptool.proofs.Causes.{beside, lacking}
 use Rattle.seccomptool.proofs.show.Shown.{is_shown}
 use Rattle.seccomptool.proofs.show.push_shown.Goals as goal
-use Rattle.seccomp_answers.specs.Causes.{IsUnfitting, unread}
 
 pub returns-then-asked-2-clause-shown : goal.returns-then-asked-2-clause-shown
 returns-then-asked-2-clause-shown c =

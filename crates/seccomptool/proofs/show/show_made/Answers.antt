@@ -1,8 +1,6 @@
-use Rattle.std.proofs.Common.{refl}
-use Rattle.std.proofs.lemmas.Result.{IfErr-weaker, err_from_is_err_and}
+use Rattle.seccomptool.proofs.Common.{IfErr-weaker, err_from_is_err_and, of_kind, refl, unknown}
 use Rattle.seccomptool.specs.Causes.{IsUnshown}
 use Rattle.seccomptool.proofs.show.show_made.Goals as goal
-use Rattle.seccomp_answers.specs.Causes.{of_kind, unknown}
 
 pub returns-in_err-subject-clause-cause : goal.returns-in_err-subject-clause-cause
 returns-in_err-subject-clause-cause c =

@@ -1,7 +1,5 @@
-use Rattle.std.proofs.Common.{List, Vec, Global, refl, subst}
-use Rattle.std.proofs.lemmas.Result.{err_from_is_err_and}
-use Rattle.seccompiler.specs.declared.bpf.sock_filter.{sock_filter}
-use Rattle.seccomp_stack.specs.Joined.{IsRefusal}
+use Rattle.seccomptool.proofs.Common.{IsRefusal, List, Vec, err_from_is_err_and, refl, sock_filter, subst}
+use Rattle.std.proofs.Common.{Global}
 use Rattle.seccomptool.specs.Causes.{too_long, unstacked}
 use Rattle.seccomptool.proofs.stack.stack_made.Goals as goal
 

@@ -1,5 +1,4 @@
-use Rattle.std.proofs.Common.{subst}
-use Rattle.clap.specs.Words.{found_of}
+use Rattle.seccomptool.proofs.Common.{found_of, subst}
 use Rattle.seccomptool.specs.Files.{IsFor}
 use Rattle.seccomptool.proofs.words.asked_of.Goals as goal
 

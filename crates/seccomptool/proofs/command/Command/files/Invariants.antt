@@ -1,4 +1,4 @@
-use Rattle.std.proofs.Common.{◌≡◌, map, take}
+use Rattle.seccomptool.proofs.Common.{◌≡◌, map, take}
 use Rattle.seccomptool.specs.Files.{whole}
 use Rattle.seccomptool.proofs.command.Command.files.Given as goal
 

@@ -1,5 +1,4 @@
-use Rattle.std.proofs.Common.{◌≡◌, ◌∙◌, Some, rules, subst, sym, true, true≢false}
-use Rattle.std.specs.Prelude.{Any}
+use Rattle.seccomptool.proofs.Common.{◌∙◌, ◌≡◌, Any, Some, rules, subst, sym, true, true≢false}
 use Rattle.seccomptool.specs.Learn.{IsArgument, added}
 use Rattle.seccomptool.proofs.learn.arguments.push_argument.Goals as goal
 

@@ -1,4 +1,4 @@
-use Rattle.std.proofs.Common.{◌<◌, subst, sym}
+use Rattle.seccomptool.proofs.Common.{◌<◌, subst, sym}
 use Rattle.seccomptool.specs.Learn.{IsWithArgument, indices}
 use Rattle.seccomptool.proofs.Wanted.{index_at, turn_more}
 use Rattle.seccomptool.proofs.learn.arguments.push_call.Goals as goal

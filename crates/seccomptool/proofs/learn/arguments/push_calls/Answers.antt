@@ -1,7 +1,5 @@
-use Rattle.std.proofs.lemmas.Result.{err_from_is_err_and}
+use Rattle.seccomptool.proofs.Common.{AskedArguments, IsUncalled, err_from_is_err_and}
 use Rattle.seccomptool.specs.Learn.{AreWithCall}
-use Rattle.seccomp_answers.specs.Calls.{IsUncalled}
-use Rattle.seccomptool.specs.declared.learn.AskedArguments.{AskedArguments}
 use Rattle.seccomptool.proofs.Wanted.{some_has, turn_all, turn_more}
 use Rattle.seccomptool.proofs.learn.arguments.push_calls.Goals as goal
 

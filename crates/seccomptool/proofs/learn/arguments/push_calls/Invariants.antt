@@ -1,4 +1,4 @@
-use Rattle.std.proofs.Common.{take}
+use Rattle.seccomptool.proofs.Common.{take}
 use Rattle.seccomptool.specs.Learn.{AreWithCall, InTurn}
 use Rattle.seccomptool.proofs.learn.arguments.push_calls.Given as goal
 

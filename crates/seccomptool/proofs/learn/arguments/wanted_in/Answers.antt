@@ -1,9 +1,5 @@
-use Rattle.std.proofs.Common.{List, inr, subst}
-use Rattle.std.specs.Prelude.{Any}
-use Rattle.std.proofs.lemmas.Result.{err_from_is_err_and}
+use Rattle.seccomptool.proofs.Common.{Any, AskedArguments, IsUncalled, List, err_from_is_err_and, inr, subst}
 use Rattle.seccomptool.specs.Learn.{AreWithCall, InTurn}
-use Rattle.seccomp_answers.specs.Calls.{IsUncalled}
-use Rattle.seccomptool.specs.declared.learn.AskedArguments.{AskedArguments}
 use Rattle.seccomptool.proofs.learn.arguments.wanted_in.Goals as goal
 
 pub returns-clause-wanted : goal.returns-clause-wanted

@@ -1,5 +1,4 @@
-use Rattle.std.proofs.Common.{map, take}
-use Rattle.std.specs.List.{AllZip}
+use Rattle.seccomptool.proofs.Common.{AllZip, map, take}
 use Rattle.seccomptool.specs.Files.{IsNamedBy}
 use Rattle.seccomptool.proofs.words.files.all_named_in.Given as goal
 

@@ -1,4 +1,4 @@
-use Rattle.std.proofs.Common.{◌≡◌, List, None, Option, Some, false, refl, rules, subst, true, ℕ}
+use Rattle.seccomptool.proofs.Common.{◌≡◌, List, None, Option, Some, false, refl, rules, subst, true, ℕ}
 use Rattle.seccomptool.specs.Files.{IsPathAndName, alone, name_given, whole_path}
 use Rattle.seccomptool.proofs.words.Parts.{found_there, no_colon, parted}
 use Rattle.seccomptool.proofs.words.files.named_in.Goals as goal

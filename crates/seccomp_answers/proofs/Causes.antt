@@ -37,9 +37,9 @@ use Rattle.seccomp_answers.specs.Errors.{IsToldAs, from_filter, from_library}
 use Rattle.seccomp_answers.specs.declared.error.AnswerError.{AnswerError}
 use Rattle.seccomp_answers.specs.declared.error.AnswerError.TheVariants.{Library, NoFilter, OutOfMemory, Placed, Unchosen}
 use Rattle.seccomp_answers.specs.declared.kind.Subject.TheVariants as subject
-use Rattle.seccomp_answers.proofs.diff.Names.{Entries, next_found}
+use Rattle.seccomp_answers.specs.Sides.{Policies}
 use Rattle.seccomp_answers.specs.Causes.{IsRefusedPolicy, IsUnpicked, of_name, AreUncompiledIn, IsFilterIn, IsMissing, IsMissingIn}
-use Rattle.seccomp_answers.specs.Causes.{IsUnchosen, IsUnchosenIn, IsUnfitIn, IsUnread, TellsLarge, TellsUnfitting}
+use Rattle.seccomp_answers.specs.Causes.{IsUnchosen, IsUnchosenIn, IsUnfitAmong, IsUnread, TellsLarge, TellsUnfitting}
 use Rattle.seccomp_answers.specs.Causes.{too_large, unread}
 
 -- ---- texts
@@ -148,7 +148,7 @@ unpicked target asked text Large e (inl is) = unread is
 unpicked target asked text Large e (inr is) = of_name is
 
 -- A table's number is a call number.
-pub never_unfit : (numbers : List ℤ) (n : ℤ) → All IsTableNumber numbers → IsLeastUnfit numbers n → ⊥
+never_unfit : (numbers : List ℤ) (n : ℤ) → All IsTableNumber numbers → IsLeastUnfit numbers n → ⊥
 never_unfit numbers n all is = by n (All-contains IsTableNumber numbers n all is.among) is.unfit
   where
     by : (n : ℤ) → IsTableNumber n → (((k : ℕ) × (n ≡ pos k) × (k < 2 ^ 32)) → ⊥) → ⊥
@@ -156,8 +156,8 @@ never_unfit numbers n all is = by n (All-contains IsTableNumber numbers n all is
     by (negsuc k) fits unfit = absurd (grind (arith, ints, fits.0))
 
 -- A filter whose numbers are a table's is refused for its size alone, or for want of memory.
-pub told_large : (layout : Layout) (f : Filter) → ((n : ℤ) → IsLeastUnfit (numbers_of f.chains) n → ⊥) → (cause : FilterError)
-    → IsUnfitIn layout f cause → TellsLarge layout f (from_filter cause)
+told_large : (layout : Layout) (f : Filter) → ((n : ℤ) → IsLeastUnfit (numbers_of f.chains) n → ⊥) → (cause : FilterError)
+    → IsRefusalIn layout f cause → TellsLarge layout f (from_filter cause)
 told_large Linear f fits (filter.InvalidSyscallNumber n) is = absurd (fits n is)
 told_large Tree f fits (filter.InvalidSyscallNumber n) is = absurd (fits n is)
 told_large Linear f fits (filter.FilterTooLarge n) is = is
@@ -174,42 +174,28 @@ told_unfitting f fits (backend.InvalidSyscallNumber n) is = absurd (fits n is)
 told_unfitting f fits backend.OutOfMemory is = tt
 told_unfitting f fits _ is = absurd is
 
--- The same of the library's refusal of a program in the linear layout.
-pub told_linear : (f : Filter) → ((n : ℤ) → IsLeastUnfit (numbers_of f.chains) n → ⊥) → (cause : BackendError) → IsRefusal f cause
-    → TellsLarge Linear f (from_library (from_backend cause))
-told_linear f fits (backend.FilterTooLarge n) is = is
-told_linear f fits (backend.InvalidSyscallNumber n) is = absurd (fits n is)
-told_linear f fits backend.OutOfMemory is = tt
-told_linear f fits _ is = absurd is
+-- What a filter is refused for that is found.
+pub unfit_among : (layout : Layout) (find : Policies) (name : List ℕ) (f : Filter) → find name ≡ Some f → (cause : FilterError)
+    → IsRefusalIn layout f cause → IsUnfitAmong layout find cause
+unfit_among layout find name f there filter.OutOfMemory is = tt
+unfit_among layout find name f there cause is = (name, f, there, is)
 
--- What a layout's call refuses a filter for.
-pub unfit_for : (layout : Layout) (f : Filter) (cause : FilterError) → IsRefusalIn layout f cause → IsUnfitIn layout f cause
-unfit_for layout f filter.OutOfMemory is = tt
-unfit_for layout f cause is = is
+-- ---- the filters of a text
 
--- ---- the filters of a text, one after the other
+module _ (target : TargetArch) (text : List ℕ) (find : Policies) (of_text : OfValue text (ArePoliciesOf target find))
+    (numbers : (name : List ℕ) → IfSome (find name) (λ f. All IsTableNumber (numbers_of f.chains))) where
+  -- The numbers of one that is found are a table's, and so fit.
+  pub found_fits : (name : List ℕ) (f : Filter) → find name ≡ Some f → (n : ℤ) → IsLeastUnfit (numbers_of f.chains) n → ⊥
+  found_fits name f there n unfit = never_unfit (numbers_of f.chains) n (subst (λ (o : Option Filter). IfSome o (λ g. All IsTableNumber
+      (numbers_of g.chains))) there (numbers name)) unfit
 
-module _ (target : TargetArch) (text : List ℕ) (entries : Entries) (order : IsStrictlySortedBy string_cmp (keys_of entries))
-    (of_text : OfValue text (ArePoliciesOf target (λ name. lookup (is_at (text_cmp name)) entries)))
-    (numbers : (name : List ℕ) → IfSome (lookup (is_at (text_cmp name)) entries) (λ f. All IsTableNumber (numbers_of f.chains)))
-    (done left rest : Entries) (e : String Global × Filter) (whole : entries ≡ done ++ left) (step : left ≡ e ∷ rest) where
-  -- The next one is found under its name.
-  pub next_in : IsFilterIn target text e.1
-  next_in = record {
-    filters = λ name. lookup (is_at (text_cmp name)) entries;
-    of_text = of_text;
-    name = string_bytes e.0;
-    there = next_found entries done left rest e order whole step;
-  }
-
-  -- Its numbers are a table's, and so fit.
-  pub next_fits : (n : ℤ) → IsLeastUnfit (numbers_of e.1.chains) n → ⊥
-  next_fits n unfit =
-      let all = subst (λ (o : Option Filter). IfSome o (λ f. All IsTableNumber (numbers_of f.chains)))
-      (next_found entries done left rest e order whole step) (numbers (string_bytes e.0)) in
-      never_unfit (numbers_of e.1.chains) n all unfit
-
-  -- It is refused in a layout.
-  pub next_refused : (layout : Layout) (asked : Option (List ℕ)) (cause : FilterError) → IsUnfitIn layout e.1 cause
+  -- One is refused in a layout.
+  pub told_among : (layout : Layout) (asked : Option (List ℕ)) (cause : FilterError) → IsUnfitAmong layout find cause
       → AreUncompiledIn target layout asked text (from_filter cause)
-  next_refused layout asked cause is = too_large (e.1, next_in, told_large layout e.1 next_fits cause is)
+  told_among layout asked filter.OutOfMemory is = unread tt
+  told_among layout asked cause (name, f, there, is) = too_large (f, record {
+    filters = find;
+    of_text = of_text;
+    name = name;
+    there = there;
+  }, told_large layout f (found_fits name f there) cause is)

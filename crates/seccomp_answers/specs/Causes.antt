@@ -223,10 +223,10 @@ pub data IsOfLayers (target : TargetArch) (reading : Reading) (layers : List Lay
 
 -- ---- the steps
 
--- Between layers: why a filter isn't compiled in a layout, nor measured then.
-abbrev pub IsUnfitIn : Layout → Filter → FilterError → Type 0
-IsUnfitIn layout f filter.OutOfMemory = ⊤
-IsUnfitIn layout f e = IsRefusalIn layout f e
+-- Between layers: why not all of these filters have programs in a layout.
+abbrev pub IsUnfitAmong : Layout → Policies → FilterError → Type 0
+IsUnfitAmong layout filters filter.OutOfMemory = ⊤
+IsUnfitAmong layout filters e = (name : List ℕ) × (f : Filter) × (filters name ≡ Some f) × IsRefusalIn layout f e
 
 -- Between layers: the error is the refusal of a filter that fits in no layout; of one that is found; or of one that is there.
 abbrev pub IsUnfittingFilter : Filter → AnswerError → Type 0

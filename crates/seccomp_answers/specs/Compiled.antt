@@ -1,5 +1,6 @@
 -- The programs of a policy's filters, and the bytes of a program.
-use Rattle.std.specs.Prelude.{ℕ, List, [], ◌∷◌, ◌++◌, string_bytes}
+use Rattle.std.specs.Prelude.{◌≡◌, ℕ, List, [], ◌∷◌, ◌++◌, String, string_bytes}
+use Rattle.std.specs.declared.alloc.Global.{Global}
 use Rattle.std.specs.Int.{w16, w32, to_le_bytes}
 use Rattle.std.specs.List.{flat_map}
 use Rattle.serde_json.specs.Data.{Data}
@@ -33,3 +34,8 @@ name_of made = string_bytes made.name
 -- Each program is compiled for the filter under its name, and each filter of the policy's value has one.
 abbrev pub ArePrograms : Layout → TargetArch → Data → List NamedProgram → Type 0
 ArePrograms layout target = AreNamed name_of (λ made value. HasProgram layout target value made.program.items)
+
+-- Between layers: the program has the filter's name, and is compiled for it in the layout.
+pub record IsCompiledAs (layout : Layout) (named : String Global × Filter) (made : NamedProgram) : Type 0 where
+  pub name : name_of made ≡ string_bytes named.0
+  pub compiled : IsCompiledIn layout named.1 made.program.items

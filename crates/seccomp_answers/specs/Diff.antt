@@ -5,8 +5,7 @@ use Rattle.seccompiler.specs.declared.backend.TargetArch.{TargetArch}
 use Rattle.seccomp_compare.specs.declared.Relation.{Relation}
 use Rattle.seccompiler.specs.Architecture.{audit_word}
 use Rattle.seccomp_compare.specs.Compare.{Related}
-use Rattle.seccompiler.specs.JsonAnswers.{HasPolicy, OfValue}
-use Rattle.seccompiler.specs.JsonShape.{Lacks, Under}
+use Rattle.seccompiler.specs.JsonAnswers.{ArePoliciesOf, OfValue}
 use Rattle.seccompiler.specs.Machine.{IsRecord, word_at}
 use Rattle.seccompiler.specs.Policy.{Filter}
 use Rattle.seccomp_answers.specs.declared.diff.Diff.{Diff}
@@ -27,16 +26,11 @@ use Rattle.seccomp_answers.specs.declared.kind.Subject.TheVariants as subject
 use Rattle.seccomp_answers.specs.declared.sides.Side.{Side}
 use Rattle.seccomp_answers.specs.Findings.{AreFoundOn, verdict_of, worse}
 use Rattle.seccomp_answers.specs.Rulings.{AreDecided, AreFindingsOf, Ruling, of_filter}
-use Rattle.seccomp_answers.specs.Sides.{IsRuling}
+use Rattle.seccomp_answers.specs.Sides.{IsRuling, Policies}
 
 -- ---- two policies, name by name
 
--- Under the name the policy's text has this filter; or it has no such name.
-abbrev pub HasFilter : TargetArch → List ℕ → List ℕ → Option Filter → Type 0
-HasFilter target text name (Some f) = OfValue text (λ d. Under d name (λ value. HasPolicy target value f))
-HasFilter target text name None = OfValue text (λ d. Lacks d name)
-
--- This is found of the filters that the old and the new text have under a name.
+-- This is found of the filters that the old and the new policy have under a name.
 abbrev pub IsFoundOf : TargetArch → Relation → (old new : Option Filter) → Found → Type 0
 IsFoundOf target relation (Some old) None OnlyOld = ⊤
 IsFoundOf target relation None (Some new) OnlyNew = ⊤
@@ -48,20 +42,22 @@ IsFoundOf target relation old new found = ⊥
 abbrev pub name_bytes : NamedFound → List ℕ
 name_bytes named = string_bytes named.name
 
--- It is found of what both texts have under its name.
-pub record IsFoundIn (target : TargetArch) (relation : Relation) (old_text new_text : List ℕ) (named : NamedFound) : Type 0 where
-  pub old : Option Filter
-  pub new : Option Filter
-  pub of_old : HasFilter target old_text (name_bytes named) old
-  pub of_new : HasFilter target new_text (name_bytes named) new
-  pub found : IsFoundOf target relation old new named.found
+-- It is found of the filters that two policies have under its name.
+abbrev pub IsFoundUnder : TargetArch → Relation → (old new : Policies) → NamedFound → Type 0
+IsFoundUnder target relation old new named = IsFoundOf target relation (old (name_bytes named)) (new (name_bytes named)) named.found
 
--- Each finding is so, and no name is left out under which one of the texts has a filter.
+-- Each of these is, and no name is left out under which a policy has a filter.
+pub record AreFoundUnder (target : TargetArch) (relation : Relation) (old new : Policies) (all : List NamedFound) : Type 0 where
+  pub each : All (IsFoundUnder target relation old new) all
+  pub complete : (name : List ℕ) (f : Filter) → (old name ≡ Some f) ⊎ (new name ≡ Some f) → Contains (map name_bytes all) name
+
+-- They are found of the policies of two texts.
 pub record AreByName (target : TargetArch) (relation : Relation) (old_text new_text : List ℕ) (all : List NamedFound) : Type 0 where
-  pub each : All (IsFoundIn target relation old_text new_text) all
-  pub complete : (name : List ℕ) (f : Filter)
-      → HasFilter target old_text name (Some f) ⊎ HasFilter target new_text name (Some f)
-      → Contains (map name_bytes all) name
+  pub old : Policies
+  pub new : Policies
+  pub of_old : OfValue old_text (ArePoliciesOf target old)
+  pub of_new : OfValue new_text (ArePoliciesOf target new)
+  pub are : AreFoundUnder target relation old new all
 
 -- ---- a pair of sides
 

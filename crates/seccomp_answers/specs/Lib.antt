@@ -20,5 +20,4 @@ pub mod Layers
 pub mod Diff
 pub mod Causes
 -- Between layers: what private steps promise each other.
-pub mod DiffParts
 pub mod ProgramParts

@@ -3,8 +3,7 @@
 ghost use Rattle.std.specs.Prelude.{◌≡◌, IfErr, IfOk, IfSome, Some, option_map};
 ghost use Rattle.std.specs.BTreeMap.{get_by_text};
 ghost use Rattle.seccomp_answers.specs.Diff as spec;
-ghost use Rattle.seccomp_answers.specs.Diff.{IsByName, IsDiff, IsFoundOf, IsOfPair};
-ghost use Rattle.seccomp_answers.specs.DiffParts.{IsFoundByName};
+ghost use Rattle.seccomp_answers.specs.Diff.{AreFoundUnder, IsByName, IsDiff, IsFoundOf, IsOfPair};
 ghost use Rattle.seccomp_answers.specs.Causes.{AreUnfitting, IsOfEither, IsUndiffed, IsUnfittingFilter, IsUnfittingIn, IsUnfittingUnder, IsUnruled};
 
 use crate::error::AnswerError;
@@ -209,7 +208,8 @@ fn diff_policies(
         Ok(new) => new,
         Err(error) => return Err(AnswerError::in_second(alloc, error)),
     };
-    found_by_name(alloc, terms, &old, &new, progress)
+    let found = found_by_name(alloc, terms, &old, &new, progress)?;
+    Ok(Diff::ByName(found))
 }
 
 // What is found under all names of both policies.
@@ -219,8 +219,8 @@ fn found_by_name(
     old: &BTreeMap<String, SeccompFilter>,
     new: &BTreeMap<String, SeccompFilter>,
     progress: &mut impl Progress,
-) -> Result<Diff, AnswerError>
-    ensures found { IfOk result (IsFoundByName terms.target terms.relation (get_by_text old.now) (get_by_text new.now)) }
+) -> Result<Vec<NamedFound>, AnswerError>
+    ensures found { IfOk result (λ all. AreFoundUnder terms.target terms.relation (get_by_text old.now) (get_by_text new.now) all.items) }
     ensures cause { IfErr result (IsOfEither (IsUnfittingIn (get_by_text old.now)) (IsUnfittingIn (get_by_text new.now))) }
 {
     let mut all = Vec::new(alloc);
@@ -238,7 +238,7 @@ fn found_by_name(
             })?,
         }
     }
-    Ok(Diff::ByName(all))
+    Ok(all)
 }
 
 // What is found of a filter of the old policy and of the one that the new policy has under its name, each compiled once.

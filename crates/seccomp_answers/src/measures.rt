@@ -3,15 +3,16 @@
 ghost use Rattle.std.specs.Prelude.{IfErr};
 ghost use Rattle.seccomp_compare.specs.Machine.{IsChecked};
 ghost use Rattle.seccomp_answers.specs.Chosen.{text_of};
-ghost use Rattle.seccomp_answers.specs.Causes.{AreUncompiledInSome, IsUnfitIn};
+ghost use Rattle.seccomp_answers.specs.Causes.{AreUncompiledInSome};
 
 use crate::chosen::refuse_missing;
 use crate::error::AnswerError;
 use crate::policy::policies_in;
+use crate::programs::compiled_in;
 use seccomp_compare::machine::run;
-use seccomp_tree::{FilterError, Layout, to_bpf_in};
+use seccomp_tree::Layout;
 use seccompiler::bpf::{JUMP, LOAD, MASK, RETURN};
-use seccompiler::{BpfProgramRef, SeccompFilter, TargetArch, sock_filter};
+use seccompiler::{BpfProgramRef, TargetArch, sock_filter};
 use std::alloc::{AllocError, Global};
 
 /// How long a program is, and how many steps it takes.
@@ -51,29 +52,17 @@ pub fn stats_of(
 {
     let filters = policies_in(alloc, target, text)?;
     refuse_missing(alloc, asked, &filters)?;
-    for (_, filter) in &filters {
-        filter.compiled_len()?;
-    }
+    let linear = compiled_in(alloc, target, Layout::Linear, &filters)?;
+    let trees = compiled_in(alloc, target, Layout::Tree, &filters)?;
     let mut all = Vec::new(alloc);
-    for (name, filter) in filters {
-        let linear = measure_in(alloc, target, &filter, Layout::Linear)?;
-        let tree = measure_in(alloc, target, &filter, Layout::Tree)?;
-        all.push(FilterStats { name, linear, tree })?;
+    for (made, tree) in linear.iter().zip(&trees) {
+        all.push(FilterStats {
+            name: made.name.clone()?,
+            linear: made.measure,
+            tree: tree.measure,
+        })?;
     }
     Ok(all)
-}
-
-// The numbers of a filter's program in a layout.
-fn measure_in(
-    alloc: Global,
-    target: TargetArch,
-    filter: &SeccompFilter,
-    layout: Layout,
-) -> Result<Measure, FilterError>
-    ensures { IfErr result (IsUnfitIn layout filter.now) }
-{
-    let program = to_bpf_in(alloc, filter, layout)?;
-    Ok(measure_of(alloc, target, &program)?)
 }
 
 /// The measure of a program for this architecture.

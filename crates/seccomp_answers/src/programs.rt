@@ -1,23 +1,31 @@
 // The programs of a policy.
 
 ghost use Rattle.std.specs.Prelude.{IfErr, IfOk};
+ghost use Rattle.std.specs.BTreeMap.{get_by_text};
+ghost use Rattle.std.specs.List.{AllZip};
 ghost use Rattle.seccompiler.specs.JsonAnswers.{OfValue};
-ghost use Rattle.seccomp_answers.specs.Causes.{AreUncompiledIn};
+ghost use Rattle.seccomp_answers.specs.Causes.{AreUncompiledIn, IsUnfitAmong};
 ghost use Rattle.seccomp_answers.specs.Chosen.{text_of};
-ghost use Rattle.seccomp_answers.specs.Compiled.{ArePrograms};
+ghost use Rattle.seccomp_answers.specs.Compiled.{ArePrograms, IsCompiledAs};
 
 use crate::chosen::refuse_missing;
 use crate::error::AnswerError;
+use crate::measures::{Measure, measure_of};
 use crate::policy::policies_in;
-use seccomp_tree::{Layout, to_bpf_in};
-use seccompiler::{BpfProgram, TargetArch};
+use seccomp_tree::{FilterError, Layout, to_bpf_in};
+use seccompiler::{BpfProgram, SeccompFilter, TargetArch};
 use std::alloc::Global;
+use std::collections::BTreeMap;
 
-/// The program of a filter, under its name; or that of a profile, or one that is given.
+/// The program of a filter.
 #[derive(Drop)]
 pub struct NamedProgram {
+    /// The filter's name.
     pub name: String,
+    /// The program.
     pub program: BpfProgram,
+    /// How long it is, and how many steps it takes.
+    pub measure: Measure,
 }
 
 /// The programs of all filters of a policy's text, in byte order of the filters' names.
@@ -38,10 +46,30 @@ pub fn programs_in(
 {
     let filters = policies_in(alloc, target, text)?;
     refuse_missing(alloc, asked, &filters)?;
+    let programs = compiled_in(alloc, target, layout, &filters)?;
+    Ok(programs)
+}
+
+/// The programs of filters, in byte order of their names.
+pub(crate) fn compiled_in(
+    alloc: Global,
+    target: TargetArch,
+    layout: Layout,
+    filters: &BTreeMap<String, SeccompFilter>,
+) -> Result<Vec<NamedProgram>, FilterError>
+    ensures programs { IfOk result (λ programs. AllZip (IsCompiledAs layout) filters.now.entries programs.items) }
+    ensures refused { IfErr result (IsUnfitAmong layout (get_by_text filters.now)) }
+{
     let mut programs = Vec::new(alloc);
     for (name, filter) in filters {
-        let program = to_bpf_in(alloc, &filter, layout)?;
-        programs.push(NamedProgram { name, program })?;
+        let program = to_bpf_in(alloc, filter, layout)?;
+        let measure = measure_of(alloc, target, &program)?;
+        let name = name.clone()?;
+        programs.push(NamedProgram {
+            name,
+            program,
+            measure,
+        })?;
     }
     Ok(programs)
 }

@@ -114,7 +114,7 @@ pub fn push_programs(
     asked: Option<&str>,
     programs: &[NamedProgram],
 ) {
-    for NamedProgram { name, program } in programs {
+    for NamedProgram { name, program, .. } in programs {
         let name = name.as_str();
         if asked.unwrap_or(name) == name {
             if !json {

@@ -7,7 +7,7 @@ use Rattle.seccompiler.specs.SyscallTable.{IsTableNumber}
 use Rattle.seccompiler.specs.declared.backend.TargetArch.{TargetArch}
 use Rattle.seccomp_answers.specs.Sides.{Policies}
 use Rattle.seccomp_answers.specs.declared.error.AnswerError.{AnswerError}
-use Rattle.seccomp_answers.proofs.Causes.{never_unfit, told_unfitting}
+use Rattle.seccomp_answers.proofs.Causes.{found_fits, told_unfitting}
 use Rattle.seccomp_answers.specs.Causes.{AreUnfitting, IsOfEither, IsUnfittingFilter, IsUnfittingIn, IsUnfittingUnder, TellsUnfitting}
 use Rattle.seccomp_answers.specs.Causes.{of_neither, of_new, of_old, too_large}
 
@@ -22,13 +22,11 @@ either_more Old New Old2 New2 old new e (of_new own is second) = of_new own (new
 pub of_text : (target : TargetArch) (text : List ℕ) (find : Policies) → OfValue text (ArePoliciesOf target find)
     → ((name : List ℕ) → IfSome (find name) (λ f. All IsTableNumber (numbers_of f.chains))) → (e : AnswerError) → IsUnfittingIn find e
     → AreUnfitting target text e
-of_text target text find read numbers e (name, f, there, (cause, is, same)) =
-    let all = subst (λ (o : Option Filter). IfSome o (λ g. All IsTableNumber (numbers_of g.chains))) there (numbers name) in
-    too_large (
-      f,
-      record { filters = find; of_text = read; name = name; there = there },
-      subst (TellsUnfitting f) (sym same) (told_unfitting f (λ n unfit. never_unfit (numbers_of f.chains) n all unfit) cause is),
-    )
+of_text target text find read numbers e (name, f, there, (cause, is, same)) = too_large (
+  f,
+  record { filters = find; of_text = read; name = name; there = there },
+  subst (TellsUnfitting f) (sym same) (told_unfitting f (found_fits target text find read numbers name f there) cause is),
+)
 
 -- The error of the filter under a name is that of one that is found.
 pub of_filter : (find : Policies) (name : List ℕ) (f : Filter) → find name ≡ Some f → (e : AnswerError) → IsUnfittingFilter f e

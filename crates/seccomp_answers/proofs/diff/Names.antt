@@ -12,9 +12,8 @@ use Rattle.seccompiler.specs.Policy.{Filter}
 use Rattle.seccomp_answers.proofs.ByName.{by_text, found_name, found_there}
 use Rattle.seccompiler.specs.declared.backend.TargetArch.{TargetArch}
 use Rattle.seccomp_compare.specs.declared.Relation.{Relation}
-use Rattle.seccomp_answers.specs.Diff.{IsFoundOf, name_bytes}
+use Rattle.seccomp_answers.specs.Diff.{IsFoundOf, IsFoundUnder, name_bytes}
 use Rattle.seccomp_answers.specs.Sides.{Policies}
-use Rattle.seccomp_answers.specs.DiffParts.{IsFoundUnder}
 use Rattle.seccomp_answers.specs.declared.diff.NamedFound.{NamedFound}
 
 abbrev pub Entries : Type 0

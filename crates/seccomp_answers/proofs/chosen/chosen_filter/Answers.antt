@@ -1,13 +1,10 @@
-use Rattle.std.proofs.Common.{◌≡◌, ◌∙◌, All, IfSome, None, Option, Some, ap, inl, inr, string_bytes, subst, sym}
+use Rattle.std.proofs.Common.{◌≡◌, ◌∙◌, None, Some, ap, inl, inr, string_bytes, sym}
 use Rattle.std.specs.BTreeMap.{get_by_text}
 use Rattle.std.proofs.lemmas.Result.{err_from_is_err_and}
-use Rattle.seccompiler.specs.Compiled.{numbers_of}
 use Rattle.seccompiler.specs.JsonAnswers.{HasPolicy}
-use Rattle.seccompiler.specs.Policy.{Filter}
-use Rattle.seccompiler.specs.SyscallTable.{IsTableNumber}
 use Rattle.seccomp_answers.specs.Chosen.{text_of}
 use Rattle.seccomp_answers.specs.declared.error.AnswerError.TheVariants.{NoFilter}
-use Rattle.seccomp_answers.proofs.Causes.{never_unfit, unchosen_in}
+use Rattle.seccomp_answers.proofs.Causes.{found_fits, unchosen_in}
 use Rattle.seccomp_answers.proofs.chosen.Names.{asked_for}
 use Rattle.seccomp_answers.proofs.chosen.chosen_filter.Goals as goal
 
@@ -25,12 +22,10 @@ returns-in-Some-clause-chosen c =
 pub returns-in-Some-clause-fits : goal.returns-in-Some-clause-fits
 returns-in-Some-clause-fits c =
     let find = get_by_text c.in_ok-filters.filters in
-    let f = c.in-Some.filter in
+    let of = c.in_ok-filters.ensures in
     let name = string_bytes c.in_ok-name.name in
-    let there : find name ≡ Some f = ap find (sym c.as_str.ensures.value) ∙ sym c.in-Some.ensures.value in
-    let all = subst (λ (o : Option Filter). IfSome o (λ g. All IsTableNumber (numbers_of g.chains))) there
-    (c.in_ok-filters.ensures.numbers name) in
-    λ n unfit. never_unfit (numbers_of f.chains) n all unfit
+    let there : find name ≡ Some c.in-Some.filter = ap find (sym c.as_str.ensures.value) ∙ sym c.in-Some.ensures.value in
+    found_fits c.args.target c.args.text.now find of.policies of.numbers name c.in-Some.filter there
 
 pub returns-in_err-filters-clause-cause : goal.returns-in_err-filters-clause-cause
 returns-in_err-filters-clause-cause c =

@@ -6,8 +6,7 @@ use Rattle.std.specs.BTreeMap.{get_by_text}
 use Rattle.std.specs.Prelude.{option_map}
 use Rattle.std.proofs.lemmas.List.Elements.{All-nil}
 use Rattle.seccompiler.specs.Policy.{Filter}
-use Rattle.seccomp_answers.specs.Diff.{name_bytes}
-use Rattle.seccomp_answers.specs.DiffParts.{IsFoundUnder}
+use Rattle.seccomp_answers.specs.Diff.{IsFoundUnder, name_bytes}
 use Rattle.seccomp_answers.specs.declared.diff.Found.TheVariants.{OnlyNew}
 use Rattle.seccomp_answers.specs.declared.diff.NamedFound.{NamedFound}
 use Rattle.seccomp_answers.proofs.diff.Names.{IsAmong, all_among, among_more, found_among, found_more, next_found, passed, under_name}

@@ -1,2 +1,0 @@
--- Lemmas for the functions of `stats`.
-pub mod CheckedPrograms

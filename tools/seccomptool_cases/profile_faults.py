@@ -212,6 +212,7 @@ WRITTEN = [
 # A profile that is wrong in an entry, by itself and in a container's configuration; and a configuration without one.
 IN_ENTRY = f'{CONDITION}.index: expected 0 to 5, found 6\n'
 NO_PROFILE = f'the profile: {missing("defaultAction")}\n'
+BARE = 'a container\'s configuration without a profile: missing "linux.seccomp"\n'
 WRONG = in_condition({**ARGUMENT, "index": 6})
 
 FILES = {"config.json": configured(WRONG), "wrong-profile.json": WRONG, "no-linux.json": {"ociVersion": "1.2.0", "process": {"args": ["sh"]}},
@@ -237,13 +238,16 @@ CASES = [
             f'defaultAction: expected {ACTION}, found "\\xc2\\x9b2J\\x7f\u00b5"\n'),
     # Each command reports the same, after the file that is no profile.
     *[Case(words.format(file), status, "", f"{TOOL}{file}: {told}") for words, status in COMMANDS
-      for file, told in (("wrong-profile.json", IN_ENTRY), ("config.json", IN_ENTRY), ("logs.json", NO_PROFILE), ("no-linux.json", NO_PROFILE))],
-    rejects("compile --oci", json.dumps(FILES["no-seccomp.json"]), NO_PROFILE),
+      for file, told in (("wrong-profile.json", IN_ENTRY), ("config.json", IN_ENTRY), ("logs.json", NO_PROFILE), ("no-linux.json", BARE))],
+    # So is a configuration that isn't called a profile.
+    *[Case(words.replace("--oci ", "").format("no-seccomp.json"), status, "", f"{TOOL}no-seccomp.json: {BARE}")
+      for words, status in COMMANDS if not {"--cap", "--strict", "reads-profile.json"} & {*words.split()}],
+    rejects("compile --oci", json.dumps(FILES["no-seccomp.json"]), BARE),
     rejects("compile --oci", json.dumps(configured(None)), f"the profile: {stands(OBJECT, None)}\n"),
     rejects("compile --oci", json.dumps(configured({})), NO_PROFILE),
     *[Case(words.format("-"), status, "", INPUT + IN_ENTRY, json.dumps(WRONG)) for words, status in COMMANDS if "<" not in words],
     rejects("compile --oci --strict", LOGS, NO_PROFILE),
     # Of two that are none the first one.
-    Case("diff --oci no-linux.json wrong-profile.json", 2, "", f"{TOOL}no-linux.json: {NO_PROFILE}"),
+    Case("diff --oci no-linux.json wrong-profile.json", 2, "", f"{TOOL}no-linux.json: {BARE}"),
     Case("diff --oci wrong-profile.json no-linux.json", 2, "", f"{TOOL}wrong-profile.json: {IN_ENTRY}"),
 ]

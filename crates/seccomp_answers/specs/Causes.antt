@@ -30,11 +30,11 @@ use Rattle.seccomp_answers.specs.Check.{AreTold, IsRefusal}
 use Rattle.seccomp_answers.specs.Chosen.{HasOnlyName, IsOnly, text_of}
 use Rattle.seccomp_answers.specs.Diff.{is_whole}
 use Rattle.seccomp_answers.specs.Errors.{IsAtPath, IsOfSecond, from_library}
-use Rattle.seccomp_answers.specs.Kinds.{IsTakenAs}
+use Rattle.seccomp_answers.specs.Kinds.{IsTakenAs, LacksProfile}
 use Rattle.seccomp_answers.specs.Programs.{IsRefusedProgram}
 use Rattle.seccomp_answers.specs.Sides.{IsFilterOf, IsSideOf, Policies}
 use Rattle.seccomp_answers.specs.declared.error.AnswerError.{AnswerError}
-use Rattle.seccomp_answers.specs.declared.error.AnswerError.TheVariants.{Library, NoFilter, OutOfMemory, Placed, Profile}
+use Rattle.seccomp_answers.specs.declared.error.AnswerError.TheVariants.{Library, NoFilter, NoProfile, OutOfMemory, Placed, Profile}
 use Rattle.seccomp_answers.specs.declared.error.AnswerError.TheVariants.{TreeTooLarge, Unchosen}
 use Rattle.seccomp_answers.specs.declared.kind.Reading.{Reading}
 use Rattle.seccomp_answers.specs.declared.kind.Subject.{Subject}
@@ -145,10 +145,11 @@ IsUnfitting target asked text e = IsRefusedPolicy target text (IsUnchosen asked 
 
 -- ---- profiles and programs
 
--- Why a profile is rejected: its faults, with their places; or what its compiler finds, in which is no lack of memory; or lack of
--- memory.
+-- Why a profile is rejected: a container's configuration has none; or its faults, with their places; or what its compiler finds, in which
+-- is no lack of memory; or lack of memory.
 abbrev pub IsRefusedProfile : TargetArch → Container → (strict : Bool) → (text : List ℕ) → AnswerError → Type 0
 IsRefusedProfile target container strict text (Profile e) = (e ≢ fault.OutOfMemory) × IsCompileFault target container strict text e
+IsRefusedProfile target container strict text NoProfile = LacksProfile text
 IsRefusedProfile target container strict text (Placed first faults) = AreOfProfile text first faults.items
 IsRefusedProfile target container strict text OutOfMemory = ⊤
 IsRefusedProfile target container strict text e = ⊥

@@ -1,14 +1,15 @@
 -- What is given: which bytes are a program's, and which texts are those of profiles of container runtimes.
-use Rattle.std.specs.Prelude.{◌≡◌, ℕ, ◌≤◌, ◌⊎◌, Bool, true, false, List, Option, Some, codes, drop, slice_get, ⊤}
+use Rattle.std.specs.Prelude.{◌≡◌, ℕ, ◌≤◌, ◌⊎◌, Bool, true, false, List, Option, None, Some, codes, drop, slice_get, ⊤}
 use Rattle.std.specs.Char.{is_ascii_whitespace}
 use Rattle.std.specs.List.{prefix_len}
 use Rattle.memchr.specs.Find.{OccursAt}
 use Rattle.serde_json.specs.Data.{Data, string}
+use Rattle.serde_json.specs.Find.{get}
 use Rattle.seccompiler.specs.declared.backend.TargetArch.{TargetArch}
 use Rattle.seccompiler.specs.JsonAnswers.{ArePoliciesOf, IsReadAs, OfValue}
 use Rattle.seccompiler.specs.JsonShape.{Under}
 use Rattle.seccompiler.specs.Policy.{Filter}
-use Rattle.seccomp_oci.specs.ProfileText.{profile_in}
+use Rattle.seccomp_oci.specs.ProfileText.{profile_in, seccomp_in}
 use Rattle.seccomp_answers.specs.declared.kind.Reading.{Reading}
 use Rattle.seccomp_answers.specs.declared.kind.Subject.{Subject}
 use Rattle.seccomp_answers.specs.declared.kind.Subject.TheVariants as subject
@@ -21,18 +22,35 @@ StandsIn part text = (place : ℕ) × OccursAt text part place
 abbrev pub IsText : Data → Type 0
 IsText d = (text : List ℕ) × (d ≡ string text)
 
--- The value is an object that names its default action, by a text. No policy does: what stands under its names are filters, which
--- are objects.
-abbrev pub NamesDefault : Data → Type 0
-NamesDefault d = Under d (codes "defaultAction") IsText
+-- The value is an object with a text under this name. No policy is: what stands under its names are filters, which are objects.
+abbrev pub HasText : List ℕ → Data → Type 0
+HasText name d = Under d name IsText
 
--- The text is taken for a profile's: it has the key as it is mostly written, and is read as an object that names its default action, or as
--- the configuration of a container that has one.
+-- The part that is read as a profile names its default action; or the value is the configuration of a container, which names its version
+-- (OCI runtime specification), with a profile or without one.
+abbrev pub NamesProfile : Data → Type 0
+NamesProfile d = HasText (codes "defaultAction") (profile_in d) ⊎ HasText (codes "ociVersion") d
+
+-- One of the keys stands in the text, as they are mostly written.
+abbrev pub HasKey : List ℕ → Type 0
+HasKey text = StandsIn (codes "\"defaultAction\"") text ⊎ StandsIn (codes "\"ociVersion\"") text
+
+-- The text is taken for a profile's, or for a configuration's.
 pub record IsOfProfile (text : List ℕ) : Type 0 where
-  pub key : StandsIn (codes "\"defaultAction\"") text
+  pub key : HasKey text
   pub value : Data
   pub is_read : IsReadAs text value
-  pub names : NamesDefault (profile_in value)
+  pub names : NamesProfile value
+
+-- The value is the configuration of a container without a profile.
+pub record IsBare (d : Data) : Type 0 where
+  pub version : HasText (codes "ociVersion") d
+  pub no_action : get (codes "defaultAction") d ≡ None
+  pub no_profile : seccomp_in d ≡ None
+
+-- So is the value of the text.
+abbrev pub LacksProfile : List ℕ → Type 0
+LacksProfile text = (d : Data) × IsReadAs text d × IsBare d
 
 -- The text is of a policy on this architecture.
 abbrev pub IsPolicyText : TargetArch → List ℕ → Type 0

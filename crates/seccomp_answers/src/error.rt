@@ -38,6 +38,8 @@ pub enum AnswerError {
     StackTooLong(usize),
     /// The program can't be read, or may not be run.
     Program(ProgramFault),
+    /// The configuration of a container has no profile.
+    NoProfile,
     /// A profile isn't compiled.
     Profile(CompileError),
     /// Memory ran out.
@@ -58,8 +60,10 @@ impl Drop for AnswerError {
             | AnswerError::Fault(told)
             | AnswerError::Second(told)
             | AnswerError::Told(told) => drop(told),
-            AnswerError::TreeTooLarge | AnswerError::StackTooLong(_) | AnswerError::OutOfMemory =>
-                {}
+            AnswerError::NoProfile
+            | AnswerError::TreeTooLarge
+            | AnswerError::StackTooLong(_)
+            | AnswerError::OutOfMemory => {}
         }
     }
 }
@@ -119,6 +123,10 @@ impl AnswerError {
                 Some(fault) => told_of(alloc, fault, faults.len().saturating_sub(1)),
                 None => String::from_str(alloc, "The text has faults."),
             },
+            AnswerError::NoProfile => String::from_str(
+                alloc,
+                "a container's configuration without a profile: missing \"linux.seccomp\"",
+            ),
             AnswerError::TreeTooLarge => String::from_str(
                 alloc,
                 "A filter needs more than 4096 instructions in the tree layout.",

@@ -9,6 +9,7 @@ ghost use Rattle.seccompiler.specs.declared.backend.TargetArch.{TargetArch};
 ghost use Rattle.seccomp_answers.specs.Causes.{IsRefusedProfile};
 
 use crate::error::AnswerError;
+use crate::kind::lacks_profile;
 use seccomp_faults::profile_faults;
 use seccomp_oci::{CompileError, CompiledProfile, Container, ProfileError, compile_profile};
 use seccompiler::TargetArch;
@@ -51,11 +52,16 @@ pub(crate) fn unread(alloc: Global, text: &[u8], error: ProfileError) -> AnswerE
     }
 }
 
-// The faults of a text whose value is no profile; or that it is none, if no fault is found.
+// The faults of a text whose value is no profile; or that a configuration has none, or that it is none, if no fault is found.
 fn faulty(alloc: Global, text: &[u8]) -> AnswerError
     ensures { (target : TargetArch) (container : Container) (strict : Bool) → IsProfileFault text.now NotAProfile
         → IsRefusedProfile target container strict text.now result }
 {
+    match lacks_profile(alloc, text) {
+        Ok(true) => return AnswerError::NoProfile,
+        Ok(false) => {}
+        Err(_) => return AnswerError::OutOfMemory,
+    }
     let Ok(faults) = profile_faults(alloc, text) else {
         return AnswerError::OutOfMemory;
     };

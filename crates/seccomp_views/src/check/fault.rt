@@ -120,7 +120,8 @@ fn push_unplaced(lines: &mut Lines<'_>, error: &AnswerError, told: &str) {
             }
             "repeated-key"
         }
-        AnswerError::Profile(CompileError::Profile(ProfileError::NotAProfile)) => {
+        AnswerError::NoProfile
+        | AnswerError::Profile(CompileError::Profile(ProfileError::NotAProfile)) => {
             lines.place = Place::Value;
             "not-a-profile"
         }

@@ -193,9 +193,13 @@ module _ (target : TargetArch) (text : List ℕ) (find : Policies) (of_text : Of
   pub told_among : (layout : Layout) (asked : Option (List ℕ)) (cause : FilterError) → IsUnfitAmong layout find cause
       → AreUncompiledIn target layout asked text (from_filter cause)
   told_among layout asked filter.OutOfMemory is = unread tt
-  told_among layout asked cause (name, f, there, is) = too_large (f, record {
-    filters = find;
-    of_text = of_text;
-    name = name;
-    there = there;
-  }, told_large layout f (found_fits name f there) cause is)
+  told_among layout asked cause (name, f, there, is) = too_large (
+    f,
+    record {
+      filters = find;
+      of_text = of_text;
+      name = name;
+      there = there;
+    },
+    told_large layout f (found_fits name f there) cause is,
+  )

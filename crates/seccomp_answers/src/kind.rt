@@ -94,11 +94,7 @@ fn value_in(alloc: Global, text: &[u8]) -> Result<Option<Value>, AllocError>
         Err(error) => {
             let is_memory = error.is_memory();
             drop(error);
-            if is_memory {
-                Err(AllocError)
-            } else {
-                Ok(None)
-            }
+            if is_memory { Err(AllocError) } else { Ok(None) }
         }
     }
 }

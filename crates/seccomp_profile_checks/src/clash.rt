@@ -43,8 +43,8 @@ pub(crate) fn clashes_of(
     // Only entries of one call are rejected behind each other.
     for number in 0..NUMBERS {
         let own = entries_of_number(alloc, number, entries)?;
-        push_rejected(&mut clashes, target, container, profile, &own)?;
+        push_rejected(alloc, &mut clashes, target, container, profile, &own)?;
     }
-    push_miscompiled(&mut clashes, effective)?;
+    push_miscompiled(alloc, &mut clashes, effective)?;
     Ok(clashes)
 }

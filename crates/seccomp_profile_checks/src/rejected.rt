@@ -1,19 +1,20 @@
 // Entries that libseccomp rejects behind others, so that no container starts (found by trying; docs/CHECKS.md). Nothing is promised of these.
 
 use crate::clash::{Clash, Effect};
-use seccomp_entries::Entry;
+use seccomp_entries::{Action, Entry};
 use seccomp_oci::{Container, Profile, applies, has_text};
 use seccompiler::{SeccompCmpOp, SeccompCondition, SyscallTable, TargetArch};
-use std::alloc::AllocError;
+use std::alloc::{AllocError, Global};
+use std::collections::BTreeMap;
 
 // How libseccomp reads conditions: the bits of numbers that count, and the first argument that does.
 #[derive(Clone, Copy)]
-struct Reading {
+pub(crate) struct Reading {
     bits: u64,
     first: u8,
 }
 
-const WHOLE: Reading = Reading {
+pub(crate) const WHOLE: Reading = Reading {
     bits: 0xffff_ffff_ffff_ffff,
     first: 0,
 };
@@ -28,16 +29,24 @@ const MULTIPLEXED: Reading = Reading {
     first: 1,
 };
 
-// Whether libseccomp makes a program for x86 too, and from which entry on nothing changes there of the calls of a number.
+// What an argument is compared with: its index, the operator, the mask, and the value.
+pub(crate) type Test = (u8, u8, u64, u64);
+
+// An entry: its index among some, and its place in the profile.
+pub(crate) type At = (usize, usize);
+
+// Of entries with the same tests the first, and its action, and the first with another action.
 #[derive(Clone, Copy)]
-struct Programs {
-    has_x86: bool,
-    settled_from: Option<usize>,
+struct Seen {
+    action: Action,
+    first: At,
+    other: Option<At>,
 }
 
 /// Adds those of these entries, which are for the calls of one number, that libseccomp rejects in the program of the architecture or, if the
 /// profile lists x86, in that of x86.
 pub(crate) fn push_rejected(
+    alloc: Global,
     clashes: &mut Vec<Clash>,
     target: TargetArch,
     container: &Container,
@@ -47,102 +56,183 @@ pub(crate) fn push_rejected(
     let [first, _, ..] = entries else {
         return Ok(());
     };
-    let programs = Programs {
-        has_x86: profile.lists_x86 && matches!(target, TargetArch::x86_64),
-        settled_from: settled_from(container, profile, first.number),
-    };
-    for entry in entries {
-        if let Some(beside) = place_beside(programs, entries, entry) {
+    let number = first.number;
+    let mut all = BTreeMap::new(alloc);
+    reject(alloc, &mut all, WHOLE, usize::MAX, entries)?;
+    if profile.lists_x86 && matches!(target, TargetArch::x86_64) {
+        // The calls of x86_64 that x86 hasn't: tuxcall, security, epoll_ctl_old, epoll_wait_old, newfstatat and kexec_file_load.
+        if !matches!(number, 184 | 185 | 214 | 215 | 262 | 320) {
+            reject(alloc, &mut all, LOW, usize::MAX, entries)?;
+        }
+        if multiplexer_of(number).is_some() {
+            let until = settled_from(container, profile, number).unwrap_or(usize::MAX);
+            reject(alloc, &mut all, MULTIPLEXED, until, entries)?;
+        }
+    }
+    for (index, (_, beside)) in &all {
+        if let Some(entry) = entries.get(*index) {
             clashes.push(Clash {
                 effect: Effect::Rejected,
                 place: entry.place,
-                beside,
-                number: entry.number,
+                beside: *beside,
+                number,
             })?;
         }
     }
     Ok(())
 }
 
-// The place of the first of these entries behind which one is rejected.
-fn place_beside(programs: Programs, entries: &[Entry], entry: &Entry) -> Option<usize> {
-    for other in entries {
-        let is_behind = is_in_front(other, entry) && other.action != entry.action;
-        if is_behind
-            && (rejects(WHOLE, entries, entry, other)
-                || programs.has_x86 && rejects_on_x86(programs, entries, entry, other))
-        {
-            return Some(other.place);
+// Adds the first entry behind which each is rejected that is, of those in front of a place of the profile.
+fn reject(
+    alloc: Global,
+    all: &mut BTreeMap<usize, At>,
+    reading: Reading,
+    until: usize,
+    entries: &[Entry],
+) -> Result<(), AllocError> {
+    let mut seen: BTreeMap<Vec<Test>, Seen> = BTreeMap::new(alloc);
+    for index in added_in(alloc, entries)? {
+        let Some(entry) = entries.get(index) else {
+            continue;
+        };
+        let tests = tests_of(alloc, reading, entry)?;
+        if entry.place < until && (reading.first > 0 || !tests.is_empty()) {
+            let known = all.get(&index).copied();
+            let beside = beside_of(alloc, &seen, &tests, entry.action)?;
+            if let Some(least) = lesser(known, beside) {
+                drop(all.insert(index, least)?);
+            }
+        }
+        let own = Seen {
+            action: entry.action,
+            first: (index, entry.place),
+            other: None,
+        };
+        let now = match seen.get(&tests) {
+            Some(before) => before.and(own),
+            None => own,
+        };
+        drop(seen.insert(tests, now)?);
+    }
+    Ok(())
+}
+
+// The indices of entries in the order in which runtimes add them.
+fn added_in(alloc: Global, entries: &[Entry]) -> Result<Vec<usize>, AllocError> {
+    let mut places = Vec::new(alloc);
+    for (index, entry) in entries.iter().enumerate() {
+        places.push((entry.place, entry.alternative.unwrap_or(0), index))?;
+    }
+    places.sort()?;
+    let mut added = Vec::new(alloc);
+    for (_, _, index) in places.as_slice() {
+        added.push(*index)?;
+    }
+    Ok(added)
+}
+
+// The first of the entries that were added behind which one with these tests and this action is rejected: its tests begin with these, and no
+// entry has some of them, or some between.
+fn beside_of(
+    alloc: Global,
+    seen: &BTreeMap<Vec<Test>, Seen>,
+    tests: &[Test],
+    action: Action,
+) -> Result<Option<At>, AllocError> {
+    for length in 0..tests.len() {
+        if seen.contains_key(&tests[..length]) {
+            return Ok(None);
         }
     }
-    None
-}
-
-// Whether runtimes add the first before the second.
-fn is_in_front(one: &Entry, other: &Entry) -> bool {
-    one.place < other.place
-        || one.place == other.place && one.alternative.unwrap_or(0) < other.alternative.unwrap_or(0)
-}
-
-// Whether it is rejected in the program of x86: as a call of its own, or as one of socketcall(2) or ipc(2), unless these are settled from an
-// entry in front on.
-fn rejects_on_x86(programs: Programs, entries: &[Entry], entry: &Entry, other: &Entry) -> bool {
-    // The calls of x86_64 that x86 hasn't: tuxcall, security, epoll_ctl_old, epoll_wait_old, newfstatat and kexec_file_load.
-    let is_own = !matches!(entry.number, 184 | 185 | 214 | 215 | 262 | 320);
-    let is_multiplexed = multiplexer_of(entry.number).is_some()
-        && !matches!(programs.settled_from, Some(place) if place <= entry.place);
-    is_own && rejects(LOW, entries, entry, other)
-        || is_multiplexed && rejects(MULTIPLEXED, entries, entry, other)
-}
-
-// Whether the tests of the second begin with those of the first, which has some, and libseccomp doesn't pass over the second. Of a call
-// that is multiplexed the test of its number is one.
-fn rejects(reading: Reading, entries: &[Entry], entry: &Entry, other: &Entry) -> bool {
-    let has_tests = reading.first > 0
-        || entry
-            .conditions
-            .iter()
-            .any(|condition| counts(reading, condition));
-    has_tests
-        && begins(reading, entry, other)
-        && !entries.iter().any(|third| is_in_front(third, entry)
-            && begins(reading, third, other)
-            && !begins(reading, other, third))
-}
-
-// Whether the tests of the other begin with those of the first: each of the first is one of the other, whose other tests are behind all
-// of the first.
-fn begins(reading: Reading, one: &Entry, other: &Entry) -> bool {
-    one.conditions
-        .iter()
-        .all(|condition| is_own(reading, other, condition))
-        && other.conditions.iter().all(|condition| is_own(reading, one, condition)
-            || one.conditions.iter().all(|own| !counts(reading, own)
-                || own.arg_index() < condition.arg_index()))
-}
-
-// Whether the condition is no test, or one of the entry.
-fn is_own(reading: Reading, entry: &Entry, condition: &SeccompCondition) -> bool {
-    !counts(reading, condition)
-        || entry.conditions.iter().any(|own| own.arg_index() == condition.arg_index()
-            && seen(reading, own) == seen(reading, condition))
-}
-
-// Whether a condition is tested: its argument counts, and it has no mask of 0.
-fn counts(reading: Reading, condition: &SeccompCondition) -> bool {
-    reading.first <= condition.arg_index()
-        && seen(reading, condition).0 != SeccompCmpOp::MaskedEq(0)
-}
-
-// The operator and the value, of the bits that count.
-fn seen(reading: Reading, condition: &SeccompCondition) -> (SeccompCmpOp, u64) {
-    match condition.operator() {
-        SeccompCmpOp::MaskedEq(mask) => {
-            let mask = mask & reading.bits;
-            (SeccompCmpOp::MaskedEq(mask), condition.value() & mask)
-        }
-        operator => (operator, condition.value() & reading.bits),
+    if let Some(same) = seen.get(tests) {
+        return Ok(same.beside(action));
     }
+    let mut least = None;
+    let mut front: &[Test] = &[];
+    for (longer, own) in seen.range(tests.to_vec(alloc)?..) {
+        if !begins(longer, tests) {
+            break;
+        }
+        if front.is_empty() || !begins(longer, front) {
+            front = longer.as_slice();
+            least = lesser(least, own.beside(action));
+        }
+    }
+    Ok(least)
+}
+
+// Whether the first begin with the second.
+fn begins(longer: &[Test], tests: &[Test]) -> bool {
+    match longer.get(..tests.len()) {
+        Some(front) => front == tests,
+        None => false,
+    }
+}
+
+// The one of two entries with the lesser index.
+pub(crate) fn lesser(one: Option<At>, other: Option<At>) -> Option<At> {
+    match (one, other) {
+        (Some(first), Some(second)) if second.0 < first.0 => other,
+        (None, _) => other,
+        _ => one,
+    }
+}
+
+impl Seen {
+    // The first entry with another action.
+    fn beside(self, action: Action) -> Option<At> {
+        if self.action == action {
+            self.other
+        } else {
+            Some(self.first)
+        }
+    }
+
+    // These, and one more.
+    fn and(self, one: Seen) -> Seen {
+        let (first, second) = if one.first.0 < self.first.0 {
+            (one, self)
+        } else {
+            (self, one)
+        };
+        Seen {
+            action: first.action,
+            first: first.first,
+            other: lesser(second.beside(first.action), first.other),
+        }
+    }
+}
+
+// The tests of an entry, in the order of arguments.
+fn tests_of(alloc: Global, reading: Reading, entry: &Entry) -> Result<Vec<Test>, AllocError> {
+    let mut tests = Vec::new(alloc);
+    for condition in &entry.conditions {
+        let test = test_of(reading, condition);
+        if reading.first <= test.0 && test.2 != 0 {
+            tests.push(test)?;
+        }
+    }
+    tests.sort()?;
+    Ok(tests)
+}
+
+/// The test of a condition; its mask is 0 if it holds whatever the argument is.
+pub(crate) fn test_of(reading: Reading, condition: &SeccompCondition) -> Test {
+    let (operator, mask) = match condition.operator() {
+        SeccompCmpOp::Eq => (0, reading.bits),
+        SeccompCmpOp::Ne => (1, reading.bits),
+        SeccompCmpOp::Ge => (2, reading.bits),
+        SeccompCmpOp::Gt => (3, reading.bits),
+        SeccompCmpOp::Le => (4, reading.bits),
+        SeccompCmpOp::Lt => (5, reading.bits),
+        SeccompCmpOp::MaskedEq(mask) => (6, mask & reading.bits),
+    };
+    (
+        condition.arg_index(),
+        operator,
+        mask,
+        condition.value() & mask,
+    )
 }
 
 // The place of the first entry that changes nothing of the calls of this number any more, if there is one, from 0: x86 has them by

@@ -1,7 +1,8 @@
 -- For the functions of `doubts`: what entries of a list say of the profile that they are of.
 use Rattle.std.proofs.Common.{◌≡◌, ◌≢◌, ◌<◌, ℕ, zero, suc, List, [], ◌∷◌, None, get_or, length, refl, sym, subst, ap}
 use Rattle.std.proofs.Common.{◌∙◌, All, Contains, arith}
-use Rattle.std.specs.Prelude.{Any}
+use Rattle.std.specs.Prelude.{Any, IsSomeAnd, Option, Some, slice_get}
+use Rattle.std.proofs.lemmas.Option.{get_or_from_slice_get, slice_get_within}
 use Rattle.std.proofs.lemmas.Bool.{false≢true}
 use Rattle.std.proofs.lemmas.List.Elements.{All-nil}
 use Rattle.seccomp_entries.specs.declared.entry.Action.{Action}
@@ -111,6 +112,12 @@ pub is_open : (p : Profile) (l : Lowered) (first second : ℕ) (r : List ℕ) �
 is_open p l first second r found arch container is decides = open_order arch container p l is decides first second r found
 
 pub is_concerned : (p : Profile) (l : Lowered) (P : Entry → Type 0) (place : ℕ) → AtEntry p.entries place P
-    → Any (λ (e : entries.Entry). e.place ≡ place) l.entries → (arch : TargetArch) (container : Container)
+    → (k : ℕ) → IsSomeAnd (slice_get l.entries k) (λ (e : entries.Entry). e.place ≡ place) → (arch : TargetArch) (container : Container)
     → IsLoweredProfile arch container p l → DecidesAs arch container p l → AtConcerned arch container p place P
-is_concerned p l P place at some arch container is decides = lowered_at arch container p l is decides P place at some
+is_concerned p l P place at k some arch container is decides =
+    lowered_at arch container p l is decides P place at (found (slice_get l.entries k) refl some)
+  where
+    found : (o : Option entries.Entry) → slice_get l.entries k ≡ o → IsSomeAnd o (λ (e : entries.Entry). e.place ≡ place)
+        → Any (λ (e : entries.Entry). e.place ≡ place) l.entries
+    found None got none = absurd none
+    found (Some e) got there = (k, e, slice_get_within l.entries k e got, get_or_from_slice_get l.entries k e e got, there)

@@ -10,7 +10,7 @@ returns-then-has_concerned c = λ yes.
     let l = c.args.lowered.now in
     subst (IsDoubtIn p l) (sym c.in-LargeErrno.is)
     (is_concerned p l (λ e. IsLargeErrno e.action) c.in-LargeErrno.place (c.has_large_errno.ensures.0 yes)
-    (c.has_concerned.ensures.0 c.if-has_concerned.true))
+    c.args.index (c.has_concerned.ensures c.if-has_concerned.true))
 
 pub returns-then-has_concerned-2 : goal.returns-then-has_concerned-2
 returns-then-has_concerned-2 c = λ yes.
@@ -20,7 +20,7 @@ returns-then-has_concerned-2 c = λ yes.
     subst (IsDoubtIn p l) (sym c.in-NoListener.is) (λ arch container is decides. (
       own.0,
       is_concerned p l (λ e. e.action ≡ Notify)
-          c.in-NoListener.place own.1 (c.has_concerned-in-NoListener.ensures.0 c.if-has_concerned-2.true) arch container is decides,
+          c.in-NoListener.place own.1 c.args.index (c.has_concerned-in-NoListener.ensures c.if-has_concerned-2.true) arch container is decides,
     ))
 
 pub returns-then-has_concerned-3 : goal.returns-then-has_concerned-3
@@ -29,7 +29,7 @@ returns-then-has_concerned-3 c = λ yes.
     let l = c.args.lowered.now in
     subst (IsDoubtIn p l) (sym c.in-NotifiesWrite.is)
     (is_concerned p l NotifiesWrite c.in-NotifiesWrite.place (c.notifies_write.ensures.0 yes)
-    (c.has_concerned-in-NotifiesWrite.ensures.0 c.if-has_concerned-3.true))
+    c.args.index (c.has_concerned-in-NotifiesWrite.ensures c.if-has_concerned-3.true))
 
 pub returns-in-OpenOrder : goal.returns-in-OpenOrder
 returns-in-OpenOrder c = λ yes.

@@ -21,9 +21,9 @@ use Rattle.seccomp_tree.specs.declared.error.FilterError.{FilterError}
 use Rattle.seccomp_tree.specs.declared.error.FilterError.TheVariants as filter
 use Rattle.seccomp_tree.specs.declared.layout.Layout.{Layout}
 use Rattle.seccomp_tree.specs.declared.layout.Layout.TheVariants.{Linear, Tree}
-use Rattle.seccomp_oci.specs.CompiledProfile.{IsCompileFault}
-use Rattle.seccomp_oci.specs.Types.{Container}
-use Rattle.seccomp_oci.specs.declared.compiled.CompileError.TheVariants as fault
+use Rattle.seccomp_profiles.specs.CompiledProfile.{IsCompileFault}
+use Rattle.seccomp_profiles.specs.Types.{Container}
+use Rattle.seccomp_profiles.specs.declared.compiled.CompileError.TheVariants as fault
 use Rattle.seccomp_faults.specs.Checks.{AreOfProfile}
 use Rattle.seccomp_faults.specs.declared.fault.Fault.{Fault}
 use Rattle.seccomp_answers.specs.Check.{AreTold, IsRefusal}

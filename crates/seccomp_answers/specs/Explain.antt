@@ -14,10 +14,10 @@ use Rattle.seccomp_entries.specs.Entries.{IsDecided, Lowered, value_of}
 use Rattle.seccomp_entries.specs.Policies.{DecidesAs, IsLoweredPolicy}
 use Rattle.seccomp_entries.specs.Reasons.{IsReason}
 use Rattle.seccomp_entries.specs.declared.reason.Reason.{Reason}
-use Rattle.seccomp_oci.specs.Lowered.{IsLoweredProfile}
-use Rattle.seccomp_oci.specs.Lowered as profiles
-use Rattle.seccomp_oci.specs.ProfileText.{IsProfileText}
-use Rattle.seccomp_oci.specs.Types.{Container, Profile}
+use Rattle.seccomp_profiles.specs.Lowered.{IsLoweredProfile}
+use Rattle.seccomp_profiles.specs.Lowered as profiles
+use Rattle.seccomp_profiles.specs.ProfileText.{IsProfileText}
+use Rattle.seccomp_profiles.specs.Types.{Container, Profile}
 use Rattle.seccomp_stack.specs.Stack.{HaveSteps, IsDecidedAt, IsStackDecision}
 use Rattle.seccomp_answers.specs.declared.explain.Explained.{Explained}
 use Rattle.seccomp_answers.specs.declared.explain.Explanation.{Explanation}

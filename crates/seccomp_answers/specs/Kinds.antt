@@ -9,7 +9,7 @@ use Rattle.seccompiler.specs.declared.backend.TargetArch.{TargetArch}
 use Rattle.seccompiler.specs.JsonAnswers.{ArePoliciesOf, IsReadAs, OfValue}
 use Rattle.seccompiler.specs.JsonShape.{Under}
 use Rattle.seccompiler.specs.Policy.{Filter}
-use Rattle.seccomp_oci.specs.ProfileText.{profile_in, seccomp_in}
+use Rattle.seccomp_profiles.specs.ProfileText.{profile_in, seccomp_in}
 use Rattle.seccomp_answers.specs.declared.kind.Reading.{Reading}
 use Rattle.seccomp_answers.specs.declared.kind.Subject.{Subject}
 use Rattle.seccomp_answers.specs.declared.kind.Subject.TheVariants as subject

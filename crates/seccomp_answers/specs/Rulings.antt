@@ -9,8 +9,8 @@ use Rattle.seccomp_entries.specs.Entries.{value_of}
 use Rattle.seccomp_entries.specs.declared.entry.Action.{Action}
 use Rattle.seccomp_compare.specs.Machine.{Ends, IsChecked}
 use Rattle.seccomp_compare.specs.declared.Relation.{Relation}
-use Rattle.seccomp_oci.specs.Decision.{IsProfileDecision}
-use Rattle.seccomp_oci.specs.Types.{Container, Profile}
+use Rattle.seccomp_profiles.specs.Decision.{IsProfileDecision}
+use Rattle.seccomp_profiles.specs.Types.{Container, Profile}
 use Rattle.seccomp_answers.specs.declared.findings.Filters.{Filters}
 use Rattle.seccomp_answers.specs.declared.findings.Finding.{Finding}
 use Rattle.seccomp_answers.specs.declared.findings.Part.{Part}

@@ -6,9 +6,9 @@ use Rattle.seccompiler.specs.declared.bpf.sock_filter.{sock_filter}
 use Rattle.seccompiler.specs.JsonAnswers.{ArePoliciesOf, OfValue}
 use Rattle.seccompiler.specs.Policy.{Filter}
 use Rattle.seccomp_compare.specs.Machine.{IsChecked}
-use Rattle.seccomp_oci.specs.declared.compiled.CompiledProfile.{CompiledProfile}
-use Rattle.seccomp_oci.specs.CompiledProfile.{IsCompiledProfile}
-use Rattle.seccomp_oci.specs.ProfileText.{IsProfileText}
+use Rattle.seccomp_profiles.specs.declared.compiled.CompiledProfile.{CompiledProfile}
+use Rattle.seccomp_profiles.specs.CompiledProfile.{IsCompiledProfile}
+use Rattle.seccomp_profiles.specs.ProfileText.{IsProfileText}
 use Rattle.seccomp_answers.specs.Chosen.{IsNamed, text_of}
 use Rattle.seccomp_answers.specs.Rulings.{Ruling, StandsFor, of_filter, of_profile, of_program}
 use Rattle.seccomp_answers.specs.Programs.{IsProgramOf}

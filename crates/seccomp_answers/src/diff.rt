@@ -69,7 +69,7 @@ pub enum Diff {
 /// Compares two sides: two policies name by name, if no filter is asked for; else what is asked for, or the only filter of a policy.
 ///
 /// What is compared are programs, each of which is made once: that of a filter as a tree if that fits, else in the linear
-/// layout; that of [`compile_profile`](seccomp_oci::compile_profile), without the names that no call of the architecture
+/// layout; that of [`compile_profile`](seccomp_profiles::compile_profile), without the names that no call of the architecture
 /// has; and those that are given. Of calls of other architectures a profile says nothing.
 ///
 /// `progress` gets how many sets of records were looked at without an answer, part by part. If it shows them, a part is tried

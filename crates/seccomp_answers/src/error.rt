@@ -4,7 +4,7 @@ ghost use Rattle.seccomp_answers.specs.Errors.{IsAtPath, IsOfSecond};
 
 use crate::program::fault::ProgramFault;
 use seccomp_faults::{Fault, is_of_profile};
-use seccomp_oci::CompileError;
+use seccomp_profiles::CompileError;
 use seccomp_stack::StackError;
 use seccomp_text::readable::{TextKind, readable};
 use seccomp_tree::FilterError;

@@ -18,7 +18,7 @@ use crate::program::program_of;
 use seccomp_compare::machine;
 use seccomp_entries::{Lowered, Reason, explain, lowered_policy};
 use seccomp_faults::rejection_of;
-use seccomp_oci::{Container, lowered_profile, profile_of};
+use seccomp_profiles::{Container, lowered_profile, profile_of};
 use seccompiler::bpf::BPF_MAX_LEN;
 use seccompiler::machine::Outcome;
 use seccompiler::{

@@ -9,7 +9,7 @@ ghost use Rattle.seccomp_answers.specs.Kinds.{HasKey, HasText, IsBare, IsOfProfi
 
 use crate::program::initializers::begins_as_initializers;
 use memchr::memmem::find;
-use seccomp_oci::{Container, profile_in};
+use seccomp_profiles::{Container, profile_in};
 use serde_json::Value;
 use std::alloc::{AllocError, Global};
 

@@ -1,9 +1,9 @@
 // The program of a profile of a container runtime.
 
 ghost use Rattle.std.specs.Prelude.{Bool, IfErr, IfOk};
-ghost use Rattle.seccomp_oci.specs.CompiledProfile.{IsCompiledProfile};
-ghost use Rattle.seccomp_oci.specs.Types.{AllOnArguments, Container};
-ghost use Rattle.seccomp_oci.specs.ProfileText.{IsProfileFault};
+ghost use Rattle.seccomp_profiles.specs.CompiledProfile.{IsCompiledProfile};
+ghost use Rattle.seccomp_profiles.specs.Types.{AllOnArguments, Container};
+ghost use Rattle.seccomp_profiles.specs.ProfileText.{IsProfileFault};
 ghost use Rattle.seccomp_profiles.specs.declared.error.ProfileError.TheVariants.{NotAProfile};
 ghost use Rattle.seccompiler.specs.declared.backend.TargetArch.{TargetArch};
 ghost use Rattle.seccomp_answers.specs.Causes.{IsRefusedProfile};
@@ -11,7 +11,7 @@ ghost use Rattle.seccomp_answers.specs.Causes.{IsRefusedProfile};
 use crate::error::AnswerError;
 use crate::kind::lacks_profile;
 use seccomp_faults::profile_faults;
-use seccomp_oci::{CompileError, CompiledProfile, Container, ProfileError, compile_profile};
+use seccomp_profiles::{CompileError, CompiledProfile, Container, ProfileError, compile_profile};
 use seccompiler::TargetArch;
 use std::alloc::Global;
 

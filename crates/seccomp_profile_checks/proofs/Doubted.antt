@@ -11,9 +11,9 @@ use Rattle.seccompiler.specs.Machine.{word_at}
 use Rattle.seccompiler.specs.Policy.{Holds, RuleHolds}
 use Rattle.seccomp_entries.specs.Entries.{Lowered}
 use Rattle.seccomp_entries.specs.Entries as entries
-use Rattle.seccomp_oci.specs.Conditions.{AreConditionsOf, together}
-use Rattle.seccomp_oci.specs.Decision.{Concerns, IsByEntry, tested}
-use Rattle.seccomp_oci.specs.Lowered.{AtEntry, DecidesAs, IsLoweredProfile}
+use Rattle.seccomp_profiles.specs.Conditions.{AreConditionsOf, together}
+use Rattle.seccomp_profiles.specs.Decision.{Concerns, IsByEntry, tested}
+use Rattle.seccomp_profiles.specs.Lowered.{AtEntry, DecidesAs, IsLoweredProfile}
 use Rattle.seccomp_profiles.specs.declared.types.Argument.{Argument}
 use Rattle.seccomp_profiles.specs.Types.{Container, Entry, Profile}
 use Rattle.seccomp_profile_checks.specs.Doubts.{AtConcerned, IsBehind, IsDoubtIn, IsOpen, IsOpenIn, IsOther, IsSettler, MeetsOtherwise}

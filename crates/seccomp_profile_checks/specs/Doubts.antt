@@ -7,8 +7,8 @@ use Rattle.seccompiler.specs.declared.backend.TargetArch.{TargetArch}
 use Rattle.seccompiler.specs.Machine.{word_at}
 use Rattle.seccomp_entries.specs.Entries.{IsDecider, Lowered, Meets}
 use Rattle.seccomp_entries.specs.Entries as entries
-use Rattle.seccomp_oci.specs.Decision.{Concerns, IsByEntry, Matches, NoneOf, tested}
-use Rattle.seccomp_oci.specs.Lowered.{AtEntry, DecidesAs, IsLoweredProfile}
+use Rattle.seccomp_profiles.specs.Decision.{Concerns, IsByEntry, Matches, NoneOf, tested}
+use Rattle.seccomp_profiles.specs.Lowered.{AtEntry, DecidesAs, IsLoweredProfile}
 use Rattle.seccomp_profiles.specs.Types.{Container, Entry, Profile}
 use Rattle.seccomp_profile_checks.specs.declared.doubts.Doubt.{Doubt}
 use Rattle.seccomp_profile_checks.specs.declared.doubts.Doubt.TheVariants as doubt

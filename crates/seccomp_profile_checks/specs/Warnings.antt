@@ -4,7 +4,7 @@ use Rattle.std.specs.Prelude.{nat_eq, slice_get, ⊤}
 use Rattle.std.specs.List.{range_with_len}
 use Rattle.seccomp_entries.specs.Entries.{Entry, Lowered}
 use Rattle.seccompiler.specs.declared.backend.TargetArch.{TargetArch}
-use Rattle.seccomp_oci.specs.Lowered.{DecidesAs, IsLoweredProfile}
+use Rattle.seccomp_profiles.specs.Lowered.{DecidesAs, IsLoweredProfile}
 use Rattle.seccomp_profiles.specs.Types.{Container, Profile}
 use Rattle.seccomp_profile_checks.specs.Doubts.{IsDoubtIn}
 use Rattle.seccomp_profile_checks.specs.Parts.{effective_in, origin_of}

@@ -4,7 +4,7 @@ use crate::miscompiled::push_miscompiled;
 use crate::parts::{NUMBERS, entries_of_number};
 use crate::rejected::push_rejected;
 use seccomp_entries::Entry;
-use seccomp_oci::{Container, Profile};
+use seccomp_profiles::{Container, Profile};
 use seccompiler::TargetArch;
 use std::alloc::{AllocError, Global};
 

@@ -88,7 +88,7 @@ fn is_settled(entries: &[Entry]) -> bool
 }
 
 /// The parts of a profile of this default action and these effective entries, which `check` warns about. They are no program of the
-/// profile: [`decisions_of_profile`](seccomp_oci::decisions_of_profile) gives what it decides.
+/// profile: [`decisions_of_profile`](seccomp_profiles::decisions_of_profile) gives what it decides.
 ///
 /// Each action of an entry but `allow` has a part of the entries with it, beside which all else is allowed. If the default action isn't to
 /// allow, a part of all entries allows what they are for, and has the default action for all else.

@@ -2,7 +2,7 @@
 
 use crate::clash::{Clash, Effect};
 use seccomp_entries::{Action, Entry};
-use seccomp_oci::{Container, Profile, applies, has_text};
+use seccomp_profiles::{Container, Profile, applies, has_text};
 use seccompiler::{SeccompCmpOp, SeccompCondition, SyscallTable, TargetArch};
 use std::alloc::{AllocError, Global};
 use std::collections::BTreeMap;

@@ -7,7 +7,7 @@ ghost use Rattle.seccomp_text.specs.Readable as spec;
 use crate::text::Text;
 use seccomp_answers::error::{AnswerError, front_of};
 use seccomp_entries::Action;
-use seccomp_oci::{CompiledProfile, Flag};
+use seccomp_profiles::{CompiledProfile, Flag};
 use seccomp_text::readable::{TextKind, readable as readable_text};
 use seccompiler::TargetArch;
 use seccompiler::bpf::RETURN;

@@ -6,7 +6,7 @@ use Rattle.seccomptool.specs.Words.{IsRefusedProgram, IsSideOf, IsTooLarge, IsTr
 use Rattle.seccomptool.specs.Words.{Layer, Layout, Linear, List, One, Option, OutOfMemory, Profile, Show, Side, Stack, String, Subject}
 use Rattle.seccomptool.specs.Words.{TargetArch, Tree, Vec, false, from_filter, from_stack, sock_filter, text_of, true, ℕ}
 use Rattle.seccomp_tree.specs.declared.error.FilterError.TheVariants as filter
-use Rattle.seccomp_oci.specs.declared.compiled.CompileError.TheVariants as profile
+use Rattle.seccomp_profiles.specs.declared.compiled.CompileError.TheVariants as profile
 use Rattle.seccomp_stack.specs.declared.StackError.{StackError}
 use Rattle.seccomp_answers.specs.declared.kind.Subject.TheVariants as subject
 

@@ -9,7 +9,7 @@ use Rattle.seccomptool.specs.Words.{ℕ}
 use Rattle.std.specs.Simd.{first_chunks}
 use Rattle.seccompiler.specs.JsonAnswers.{OfValue}
 use Rattle.seccomp_compare.specs.Machine.{IsChecked}
-use Rattle.seccomp_oci.specs.declared.compiled.CompiledProfile.{CompiledProfile}
+use Rattle.seccomp_profiles.specs.declared.compiled.CompiledProfile.{CompiledProfile}
 use Rattle.seccomp_stack.specs.Stack.{IsStack}
 use Rattle.seccomp_answers.specs.declared.check.CheckedPolicy.{CheckedPolicy}
 use Rattle.seccomp_answers.specs.declared.check.CheckedProfile.{CheckedProfile}

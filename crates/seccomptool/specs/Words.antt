@@ -28,8 +28,8 @@ pub use Rattle.seccomp_learn.specs.Written.{HasFilter, HasFilters, beside, found
 pub use Rattle.seccomp_learn.specs.declared.observation.Kept.{Kept}
 pub use Rattle.seccomp_learn.specs.declared.observation.Observation.{Observation}
 pub use Rattle.seccomp_learn.specs.declared.trace.Trace.{Trace}
-pub use Rattle.seccomp_oci.specs.CompiledProfile.{HasUnknown, IsCompiledProfile}
-pub use Rattle.seccomp_oci.specs.Types.{Container}
+pub use Rattle.seccomp_profiles.specs.CompiledProfile.{HasUnknown, IsCompiledProfile}
+pub use Rattle.seccomp_profiles.specs.Types.{Container}
 pub use Rattle.seccomp_stack.specs.Joined.{IsRefusal}
 pub use Rattle.seccomp_tree.specs.Layouts.{IsCompiledIn, IsRefusalIn, IsTreeTooLarge}
 pub use Rattle.seccomp_tree.specs.declared.error.FilterError.{FilterError}

@@ -14,7 +14,7 @@ use seccomp_answers::findings::Verdict;
 use seccomp_answers::kind::{Subject, subject_of};
 use seccomp_answers::profile::compiled_of;
 use seccomp_answers::program::program_of;
-use seccomp_oci::{CompileError, Container};
+use seccomp_profiles::{CompileError, Container};
 use seccomp_text::readable::TextKind;
 use seccomp_tree::{FilterError, Layout, to_bpf_in};
 use seccomp_views::notes::{each_once, push_install_notes, push_left_out};

@@ -10,7 +10,7 @@ use Rattle.seccompiler.specs.declared.backend.TargetArch.{TargetArch}
 use Rattle.seccompiler.specs.JsonAnswers.{ArePoliciesOf}
 use Rattle.seccompiler.specs.JsonShape.{Has, HasOnly, IsObject}
 use Rattle.seccompiler.specs.Policy.{Filter}
-use Rattle.seccomp_oci.specs.ProfileText.{get_in, profile_at, profile_in}
+use Rattle.seccomp_profiles.specs.ProfileText.{get_in, profile_at, profile_in}
 use Rattle.seccomp_answers.specs.Kinds.{HasText, IsOfProfile, IsPolicyText, NamesProfile}
 use Rattle.seccomp_answers.proofs.Readings.{one_value}
 

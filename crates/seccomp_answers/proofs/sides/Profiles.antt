@@ -4,9 +4,9 @@ use Rattle.seccompiler.specs.declared.backend.TargetArch.{TargetArch}
 use Rattle.seccompiler.specs.declared.bpf.sock_filter.{sock_filter}
 use Rattle.seccomp_compare.specs.Machine.{IsChecked}
 use Rattle.seccomp_compare.proofs.OfSeven.{checked_of_seven, ends_of_seven}
-use Rattle.seccomp_oci.specs.CompiledProfile.{IsProfileProgram}
-use Rattle.seccomp_oci.specs.ProfileDecisions.{other, own}
-use Rattle.seccomp_oci.specs.Types.{Container, Profile}
+use Rattle.seccomp_profiles.specs.CompiledProfile.{IsProfileProgram}
+use Rattle.seccomp_profiles.specs.ProfileDecisions.{other, own}
+use Rattle.seccomp_profiles.specs.Types.{Container, Profile}
 use Rattle.seccomp_compare.proofs.Ends.{ends_somehow}
 use Rattle.seccomp_answers.specs.Rulings.{Decides, Ruling, StandsFor, of_filter, of_profile, of_program}
 use Rattle.seccomp_answers.specs.Chosen.{text_of}

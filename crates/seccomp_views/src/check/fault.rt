@@ -5,7 +5,7 @@ use crate::notes::{failure, note, readable};
 use seccomp_answers::error::AnswerError;
 use seccomp_faults::{Fault, Form, Position, Problem, Step, is_of_profile};
 use seccomp_names::error_number;
-use seccomp_oci::{CompileError, ProfileError};
+use seccomp_profiles::{CompileError, ProfileError};
 use seccomp_text::readable::TextKind;
 use seccompiler::{Error, JsonFrontendError};
 use std::alloc::{AllocError, Global};

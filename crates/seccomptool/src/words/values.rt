@@ -15,7 +15,7 @@ use seccomp_answers::findings::Terms;
 use seccomp_answers::kind::Reading;
 use seccomp_compare::Relation;
 use seccomp_names::{capabilities, capability};
-use seccomp_oci::{Container, Runtime, kernel_of};
+use seccomp_profiles::{Container, Runtime, kernel_of};
 use seccomp_tree::Layout;
 use seccomp_views::check::format::CheckFormat;
 use seccomp_views::program::ProgramFormat;

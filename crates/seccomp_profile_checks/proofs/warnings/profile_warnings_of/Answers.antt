@@ -2,7 +2,7 @@ use Rattle.std.proofs.Common.{◌≡◌, ◌∙◌, All, List, ap, map, rules, s
 use Rattle.std.specs.List.{flat_map}
 use Rattle.std.proofs.lemmas.List.Elements.{All-append}
 use Rattle.seccomp_entries.specs.Entries.{Entry, Lowered}
-use Rattle.seccomp_oci.specs.Types.{Profile}
+use Rattle.seccomp_profiles.specs.Types.{Profile}
 use Rattle.seccomp_profile_checks.specs.Parts.{effective_in}
 use Rattle.seccomp_profile_checks.specs.Told.{AreTold}
 use Rattle.seccomp_profile_checks.specs.Warnings.{IsKept, IsWarning, evaded_in}

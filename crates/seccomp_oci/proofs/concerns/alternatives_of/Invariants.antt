@@ -1,6 +1,0 @@
-use Rattle.std.proofs.Common.{◌≡◌, map, take}
-use Rattle.seccomp_oci.specs.Conditions.{condition_of}
-use Rattle.seccomp_oci.proofs.concerns.alternatives_of.Given as goal
-
-abbrev pub invariant-loop-argument : goal.invariant-loop-argument
-invariant-loop-argument l = l.all.items ≡ map condition_of (take l.argument-index l.args)

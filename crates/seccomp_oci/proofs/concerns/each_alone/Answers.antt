@@ -1,6 +1,0 @@
-use Rattle.std.proofs.Common.{arith}
-use Rattle.std.proofs.lemmas.Grind.{common_steps}
-use Rattle.seccomp_oci.proofs.concerns.each_alone.Goals as goal
-
-pub loop-argument-preserved : goal.loop-argument-preserved
-loop-argument-preserved c = grind (arith, common_steps)

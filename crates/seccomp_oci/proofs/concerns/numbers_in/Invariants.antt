@@ -1,6 +1,0 @@
-use Rattle.std.proofs.Common.{map, string_bytes, take}
-use Rattle.seccomp_oci.proofs.concerns.Numbers.{AreNumbersOf}
-use Rattle.seccomp_oci.proofs.concerns.numbers_in.Given as goal
-
-abbrev pub invariant-loop-name : goal.invariant-loop-name
-invariant-loop-name l = AreNumbersOf l.arch (map string_bytes (take l.name-index l.names)) l.numbers.items

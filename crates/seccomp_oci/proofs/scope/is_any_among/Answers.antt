@@ -1,6 +1,0 @@
-use Rattle.std.proofs.Common.{arith}
-use Rattle.std.proofs.lemmas.Grind.{common_steps}
-use Rattle.seccomp_oci.proofs.scope.is_any_among.Goals as goal
-
-pub loop-text-preserved : goal.loop-text-preserved
-loop-text-preserved c = grind (arith, common_steps)

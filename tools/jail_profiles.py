@@ -43,9 +43,10 @@ OF_EXAMPLE = [
     ([], "kexec_load", KILLED), ([], "kexec_file_load", KILLED), (SYS_ADMIN, "kexec_load", KILLED),
 ]
 
-# What seccomptool notes of profiles: names that the architecture doesn't have, and flags.
+# What seccomptool notes of profiles: names that the architecture doesn't have, 32-bit programs, and flags.
 NOTES = re.compile(
     r"\A(seccomptool: .*: \d+ names? that x86_64 has no call for (?:is|are) left out\n)?"
+    r"(seccomptool: .*: calls of 32-bit programs \(.*\) are killed\n)?"
     r"(seccomptool: .*: flags to set when the program is installed \(\d+\): .*\n)?"
 )
 

@@ -55,6 +55,11 @@ def counted(number, arch="x86_64"):
     return f"{number} {'name' if number == 1 else 'names'} that {arch} has no call for {'is' if number == 1 else 'are'} left out"
 
 
+def of_32_bits(listed, others):
+    """Returns the line of what becomes of the calls of 32-bit programs, whose architectures these are."""
+    return f"{INPUT}calls of 32-bit programs ({', '.join(listed)}) are {others}\n"
+
+
 def left_out(words, given, names, *decided, arch="x86_64"):
     """Returns the cases of a profile of which these names are left out: by number, and by name with `-v`."""
     told = INPUT + counted(len(names), arch)
@@ -83,8 +88,8 @@ OF_WHOLE = [
     ("clone 0x11", "log"), ("open", "errno 38"),
 ]
 
-# The line of its flags.
-OF_FLAGS = (INPUT + "flags to set when the program is installed (3): "
+# The lines of the architecture that it lists besides, and of its flags.
+OF_FLAGS = (of_32_bits(["SCMP_ARCH_X86"], "killed") + INPUT + "flags to set when the program is installed (3): "
             "SECCOMP_FILTER_FLAG_TSYNC, SECCOMP_FILTER_FLAG_LOG, SECCOMP_FILTER_FLAG_SPEC_ALLOW\n")
 
 # What is told of a program that asks a supervisor.

@@ -1,4 +1,4 @@
--- What a profile lists as architectures: whether x86 is among them, so that libseccomp makes a program for it too, and the first that no
+-- What a profile lists as architectures: whether one is among them, so that libseccomp makes a program for it too, and the first that no
 -- runtime knows.
 use Rattle.std.specs.Prelude.{◌≡◌, ◌+◌, ◌⊎◌, Bool, false, List, [], ◌∷◌, ℕ, Option, Some, None, codes, if◌then◌else◌}
 use Rattle.std.specs.List.{list_any}
@@ -16,17 +16,18 @@ abbrev pub HasItem : (Data → Type 0) → Items → Type 0
 HasItem P no_items = ⊥
 HasItem P (item d items) = P d ⊎ HasItem P items
 
-abbrev pub IsX86 : Data → Type 0
-IsX86 d = d ≡ string (codes "SCMP_ARCH_X86")
+abbrev pub IsNamed : (name : List ℕ) → Data → Type 0
+IsNamed name d = d ≡ string name
 
--- It is an item of `archMap` that lists x86 for x86_64.
-abbrev pub IsX86Map : Data → Type 0
-IsX86Map d = (get (codes "architecture") d ≡ Some (string (codes "SCMP_ARCH_X86_64")))
-    × HasItem IsX86 (items_there (get (codes "subArchitectures") d))
+-- It is an item of `archMap` that lists this architecture for x86_64.
+abbrev pub MapsTo : (name : List ℕ) → Data → Type 0
+MapsTo name d = (get (codes "architecture") d ≡ Some (string (codes "SCMP_ARCH_X86_64")))
+    × HasItem (IsNamed name) (items_there (get (codes "subArchitectures") d))
 
--- The profile of this value lists it, under `architectures` or `archMap`.
-abbrev pub ListsX86 : Data → Type 0
-ListsX86 d = HasItem IsX86 (items_there (get (codes "architectures") d)) ⊎ HasItem IsX86Map (items_there (get (codes "archMap") d))
+-- The profile of this value lists this architecture, under `architectures` or `archMap`.
+abbrev pub Lists : (name : List ℕ) → Data → Type 0
+Lists name d =
+    HasItem (IsNamed name) (items_there (get (codes "architectures") d)) ⊎ HasItem (MapsTo name) (items_there (get (codes "archMap") d))
 
 -- The architectures of the OCI runtime specification (config-linux.md, seccomp).
 abbrev pub known_architectures : List (List ℕ)

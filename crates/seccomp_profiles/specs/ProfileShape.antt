@@ -7,7 +7,7 @@ use Rattle.serde_json.specs.Data.{Data, null, string, object, Items, no_items, M
 use Rattle.serde_json.specs.Find.{get}
 use Rattle.seccompiler.specs.JsonShape.{HasOnly, IsCommented}
 use Rattle.seccomp_profiles.specs.Actions.{IsActionUnder}
-use Rattle.seccomp_profiles.specs.Listed.{ListsX86, unknown_architecture}
+use Rattle.seccomp_profiles.specs.Listed.{Lists, unknown_architecture}
 use Rattle.seccomp_profiles.specs.Shape.{IsArgument, IsFlag, IsListed, IsText, items_of}
 use Rattle.seccomp_profiles.specs.Types.{Criteria, Entry, Profile}
 use Rattle.seccomp_profiles.specs.Version.{IsKernelOr}
@@ -82,7 +82,8 @@ pub record IsProfile (d : Data) (p : Profile) : Type 0 where
   pub default : IsActionUnder d (codes "defaultAction") (codes "defaultErrnoRet") (codes "defaultErrno") p.default
   pub flags : IsListed IsFlag (get (codes "flags") d) p.flags
   pub entries : IsListed IsEntry (get (codes "syscalls") d) p.entries
-  pub lists_x86 : IsTrue p.lists_x86 ↔ ListsX86 d
+  pub lists_x86 : IsTrue p.lists_x86 ↔ Lists (codes "SCMP_ARCH_X86") d
+  pub lists_x32 : IsTrue p.lists_x32 ↔ Lists (codes "SCMP_ARCH_X32") d
   pub unknown_architecture : p.unknown_architecture ≡ unknown_architecture d
   pub has_listener : p.has_listener ≡ is_filled (get (codes "listenerPath") d)
   pub unknown_keys : AreUnknownKeys d p.unknown_keys

@@ -33,6 +33,7 @@ pub record Profile : Type 0 where
   pub flags : List Flag
   pub entries : List Entry
   pub lists_x86 : Bool
+  pub lists_x32 : Bool
   pub unknown_architecture : Option ℕ
   pub has_listener : Bool
   pub unknown_keys : List (List ℕ)

@@ -1,22 +1,22 @@
-// What a profile lists as architectures: whether x86 is among them, and the first that no runtime knows.
+// What a profile lists as architectures: whether one is among them, and the first that no runtime knows.
 
 ghost use Rattle.std.specs.Prelude.{◌≡◌, ◌↔◌, IsTrue, codes, option_map};
 ghost use Rattle.serde_json.specs.Data.{string};
 ghost use Rattle.serde_json.specs.Find.{get};
 ghost use Rattle.serde_json.specs.View.{items_view, view};
 ghost use Rattle.seccomp_profiles.specs.Listed as spec;
-ghost use Rattle.seccomp_profiles.specs.Listed.{HasItem, IsX86, IsX86Map, ListsX86, first_unknown, items_there};
+ghost use Rattle.seccomp_profiles.specs.Listed.{HasItem, IsNamed, Lists, MapsTo, first_unknown, items_there};
 
 use crate::members::is_among;
 use serde_json::Value;
 
-/// Whether the profile that a value is lists `SCMP_ARCH_X86` beside x86_64, so that libseccomp makes a program for x86 too: among its
+/// Whether the profile that a value is lists an architecture beside x86_64, so that libseccomp makes a program for it too: among its
 /// `architectures`, or in `archMap` for `SCMP_ARCH_X86_64`.
-pub(crate) fn lists_x86(profile: &Value) -> bool
-    ensures { IsTrue result ↔ ListsX86 (view profile.now) }
+pub(crate) fn lists(profile: &Value, name: &str) -> bool
+    ensures { IsTrue result ↔ Lists name.now (view profile.now) }
 {
-    has_x86(items_there(profile.get("architectures")))
-        || has_x86_map(items_there(profile.get("archMap")))
+    has_name(items_there(profile.get("architectures")), name)
+        || has_map_to(items_there(profile.get("archMap")), name)
 }
 
 // The items of an array; none of anything else.
@@ -29,13 +29,13 @@ fn items_there(value: Option<&Value>) -> &[Value]
     }
 }
 
-// Whether one of the items is the name of x86.
-fn has_x86(items: &[Value]) -> bool
-    ensures { IsTrue result ↔ HasItem IsX86 (items_view items.now) }
+// Whether one of the items is this name.
+fn has_name(items: &[Value], name: &str) -> bool
+    ensures { IsTrue result ↔ HasItem (IsNamed name.now) (items_view items.now) }
 {
     let mut rest = items;
     while let [first, others @ ..] = rest {
-        if is_text(first, "SCMP_ARCH_X86") {
+        if is_text(first, name) {
             return true;
         }
         rest = others;
@@ -43,13 +43,13 @@ fn has_x86(items: &[Value]) -> bool
     false
 }
 
-// Whether one of the items of `archMap` lists x86 for x86_64.
-fn has_x86_map(items: &[Value]) -> bool
-    ensures { IsTrue result ↔ HasItem IsX86Map (items_view items.now) }
+// Whether one of the items of `archMap` lists the architecture for x86_64.
+fn has_map_to(items: &[Value], name: &str) -> bool
+    ensures { IsTrue result ↔ HasItem (MapsTo name.now) (items_view items.now) }
 {
     let mut rest = items;
     while let [first, others @ ..] = rest {
-        if is_x86_map(first) {
+        if maps_to(first, name) {
             return true;
         }
         rest = others;
@@ -57,13 +57,14 @@ fn has_x86_map(items: &[Value]) -> bool
     false
 }
 
-fn is_x86_map(value: &Value) -> bool
-    ensures { IsTrue result ↔ IsX86Map (view value.now) }
+fn maps_to(value: &Value, name: &str) -> bool
+    ensures { IsTrue result ↔ MapsTo name.now (view value.now) }
 {
     let Some(architecture) = value.get("architecture") else {
         return false;
     };
-    is_text(architecture, "SCMP_ARCH_X86_64") && has_x86(items_there(value.get("subArchitectures")))
+    is_text(architecture, "SCMP_ARCH_X86_64")
+        && has_name(items_there(value.get("subArchitectures")), name)
 }
 
 fn is_text(value: &Value, text: &str) -> bool

@@ -11,7 +11,7 @@ ghost use Rattle.seccomp_profiles.specs.Types.{Profile};
 
 use crate::actions::action_under;
 use crate::error::ProfileError;
-use crate::listed::{lists_x86, unknown_architecture};
+use crate::listed::{lists, unknown_architecture};
 use crate::lists::parts_under;
 use crate::members::{is_among, items_of};
 use crate::types::Profile;
@@ -90,7 +90,8 @@ fn read_profile(alloc: Global, value: &Value) -> Result<Option<Profile>, AllocEr
         default,
         flags,
         entries,
-        lists_x86: lists_x86(value),
+        lists_x86: lists(value, "SCMP_ARCH_X86"),
+        lists_x32: lists(value, "SCMP_ARCH_X32"),
         unknown_architecture: unknown_architecture(value),
         has_listener: is_filled(value.get("listenerPath")),
         unknown_keys: unknown_keys(alloc, members)?,

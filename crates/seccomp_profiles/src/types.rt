@@ -149,6 +149,8 @@ pub struct Profile {
     pub entries: Vec<Entry>,
     /// Whether it lists x86 beside x86_64, so that libseccomp makes a program for x86 too: `architectures` or `archMap`.
     pub lists_x86: bool,
+    /// Whether it lists x32 so.
+    pub lists_x32: bool,
     /// The place, from 0, of the first of its `architectures` that the OCI runtime specification doesn't have, so that no runtime starts a
     /// container.
     pub unknown_architecture: Option<usize>,
@@ -164,5 +166,5 @@ impl Model for Profile {
 
     ghost Value = { Profile };
 
-    ghost view = { λ p. record { default = p.default; flags = p.flags.items; entries = p.entries.items; lists_x86 = p.lists_x86; unknown_architecture = p.unknown_architecture; has_listener = p.has_listener; unknown_keys = map string_bytes p.unknown_keys.items } };
+    ghost view = { λ p. record { default = p.default; flags = p.flags.items; entries = p.entries.items; lists_x86 = p.lists_x86; lists_x32 = p.lists_x32; unknown_architecture = p.unknown_architecture; has_listener = p.has_listener; unknown_keys = map string_bytes p.unknown_keys.items } };
 }

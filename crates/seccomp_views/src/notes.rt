@@ -53,9 +53,32 @@ pub(crate) fn push_front(text: &mut Text, path: &str) {
     text.push_format(front_of(text.alloc(), path));
 }
 
-/// Adds a note on the profile of a path: how many names are left out, each counted once, and the names in the profile's order if
-/// they are to be listed.
-pub fn push_left_out(
+/// Adds notes on the profile of a path: how many names are left out, each counted once, and the names in the profile's order if
+/// they are to be listed; and what becomes of the calls of 32-bit programs, if it lists their architectures.
+pub fn push_profile_notes(
+    notes: &mut Text,
+    arch: TargetArch,
+    path: &str,
+    listed: bool,
+    compiled: &CompiledProfile,
+    others: &str,
+) {
+    push_left_out(notes, arch, path, listed, &compiled.left_out);
+    let (TargetArch::x86_64, profile) = (arch, &compiled.profile) else {
+        return;
+    };
+    let listed = match (profile.lists_x86, profile.lists_x32) {
+        (true, true) => "SCMP_ARCH_X86, SCMP_ARCH_X32",
+        (true, false) => "SCMP_ARCH_X86",
+        (false, true) => "SCMP_ARCH_X32",
+        (false, false) => return,
+    };
+    let told = format!(in notes.alloc(); "calls of 32-bit programs ({listed}) are {others}");
+    note(notes, path, told);
+}
+
+// Adds a note on the names that are left out.
+fn push_left_out(
     notes: &mut Text,
     arch: TargetArch,
     path: &str,

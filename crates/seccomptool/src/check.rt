@@ -1,6 +1,7 @@
 // What `check` makes of what it is given, and what the codes of its warnings mean.
 
-ghost use Rattle.seccomptool.specs.Words.{◌≡◌, IfErr, IfOk, OutOfMemory, false};
+ghost use Rattle.std.specs.Prelude.{◌≡◌, IfErr, IfOk, false};
+ghost use Rattle.seccomp_answers.specs.declared.error.AnswerError.TheVariants.{OutOfMemory};
 ghost use Rattle.seccomptool.specs.Commands.{IsAccepted, IsCheck, IsPlain, IsRejectedFor};
 
 use crate::command::Check;
@@ -18,7 +19,7 @@ use seccomp_views::check::format::{CheckFormat, Lines};
 use seccomp_views::check::policy::push_warnings;
 use seccomp_views::check::profile::push_profile_warnings;
 use seccomp_views::json::{Object, push_item, written};
-use seccomp_views::notes::push_left_out;
+use seccomp_views::notes::push_profile_notes;
 use seccomp_views::text::Text;
 use seccomp_warnings::Code;
 use std::alloc::{AllocError, Global};
@@ -86,8 +87,9 @@ fn accepted(
         }
         Subject::Profile(container) => {
             let checked = profile_checked(alloc, arch, container, &asked.allowed, given)?;
-            let (listed, left_out) = (asked.reading.listed, &checked.compiled.left_out);
-            push_left_out(&mut lines.notes, arch, lines.file, listed, left_out);
+            let (listed, compiled) = (asked.reading.listed, &checked.compiled);
+            let (notes, others) = (&mut lines.notes, "not looked at");
+            push_profile_notes(notes, arch, lines.file, listed, compiled, others);
             push_profile_warnings(lines, arch, &checked);
             Ok(verdict_where(denied, checked.warnings.len()))
         }

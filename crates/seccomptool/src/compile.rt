@@ -1,6 +1,9 @@
 // The program of a filter, of a profile or one that is given, in the form that is asked for.
 
-ghost use Rattle.seccomptool.specs.Words.{◌≡◌, IfErr, IfOk, IsWrittenAs, Policy, instruction_bytes, program_bytes};
+ghost use Rattle.std.specs.Prelude.{◌≡◌, IfErr, IfOk};
+ghost use Rattle.seccomp_answers.specs.Compiled.{instruction_bytes, program_bytes};
+ghost use Rattle.seccomp_answers.specs.declared.kind.Subject.TheVariants.{Policy};
+ghost use Rattle.seccomp_views.specs.Written.{IsWrittenAs};
 ghost use Rattle.seccomp_answers.specs.declared.kind.Subject.TheVariants.{Profile};
 ghost use Rattle.seccomptool.specs.Causes.{AreNamesTold, IsSizeTold, IsUncompiled, IsUncompiledAs, IsUncompiledProfile};
 ghost use Rattle.seccomptool.specs.Commands.{IsCompiled, IsPlain, IsWrittenOf};
@@ -17,7 +20,7 @@ use seccomp_answers::program::program_of;
 use seccomp_profiles::{CompileError, Container};
 use seccomp_text::readable::TextKind;
 use seccomp_tree::{FilterError, Layout, to_bpf_in};
-use seccomp_views::notes::{each_once, push_install_notes, push_left_out};
+use seccomp_views::notes::{each_once, push_install_notes, push_profile_notes};
 use seccomp_views::program::{ProgramFormat, program_text};
 use seccomp_views::text::Text;
 use seccompiler::{BpfProgramRef, SeccompFilter, TargetArch};
@@ -89,8 +92,8 @@ fn profile_made(
     };
     let mut notes = Text::new(alloc);
     if !asked.quiet {
-        let (listed, left_out) = (asked.reading.listed, &compiled.left_out);
-        push_left_out(&mut notes, arch, path, listed, left_out);
+        let listed = asked.reading.listed;
+        push_profile_notes(&mut notes, arch, path, listed, &compiled, "killed");
         push_install_notes(&mut notes, path, &compiled);
     }
     let text = program_written(alloc, asked.format, "profile", &compiled.program);

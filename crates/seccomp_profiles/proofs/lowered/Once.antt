@@ -4,7 +4,8 @@ use Rattle.seccomp_entries.specs.declared.entry.Action.{Action}
 use Rattle.seccompiler.specs.declared.backend.TargetArch.{TargetArch}
 use Rattle.seccompiler.specs.Machine.{word_at}
 use Rattle.seccomp_entries.specs.Entries.{value_of}
-use Rattle.seccomp_profiles.specs.Decision.{by_default, by_entry, default_of, IsByEntry, IsDefault, IsProfileDecision, Matches, NoneOf, rank}
+use Rattle.seccomp_profiles.specs.Decision.{by_default, by_entry, default_of, IsByEntry, IsDefault}
+use Rattle.seccomp_profiles.specs.Decision.{IsProfileDecision, Matches, NoneOf, rank}
 use Rattle.seccomp_profiles.specs.ProfileDecisions.{IsProfileWord, other, own}
 use Rattle.seccomp_profiles.specs.Types.{Container, Entry, Profile}
 use Rattle.seccomp_profiles.proofs.Least.{least_only}

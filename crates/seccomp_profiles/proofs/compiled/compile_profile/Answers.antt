@@ -2,7 +2,8 @@ use Rattle.std.proofs.Common.{map, string_bytes, sym, ◌∙◌}
 use Rattle.std.proofs.lemmas.Bool.{true≢false}
 use Rattle.seccomp_profiles.proofs.compiled.Programs.{no_names, profile_program}
 use Rattle.seccomp_profiles.proofs.compiled.compile_profile.Goals as goal
-use Rattle.seccomp_profiles.proofs.compiled.compile_profile.Goals.{else-strict-via-then-strict+else-not-is_empty, else-strict-via-else-strict}
+use Rattle.seccomp_profiles.proofs.compiled.compile_profile.Goals.{else-strict-via-then-strict+else-not-is_empty}
+use Rattle.seccomp_profiles.proofs.compiled.compile_profile.Goals.{else-strict-via-else-strict}
 
 pub returns-in-Ok-clause-compiled : goal.returns-in-Ok-clause-compiled
 returns-in-Ok-clause-compiled c = record {

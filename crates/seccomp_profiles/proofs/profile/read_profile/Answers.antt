@@ -32,6 +32,7 @@ returns-clause-found c = record {
   flags = search rules;
   entries = search rules;
   lists_x86 = search rules;
+  lists_x32 = search rules;
   unknown_architecture = search rules;
   has_listener = search rules;
   unknown_keys = keys_are c.args.value.now c.in-Object.members _ c.in-Object.is c.in_ok-unknown_keys.ensures;

@@ -1,10 +1,10 @@
 use Rattle.std.proofs.Common.{◌↔◌, length}
 use Rattle.serde_json.specs.View.{items_view}
-use Rattle.seccomp_profiles.specs.Listed.{HasItem, IsX86Map}
-use Rattle.seccomp_profiles.proofs.listed.has_x86_map.Given as goal
+use Rattle.seccomp_profiles.specs.Listed.{HasItem, MapsTo}
+use Rattle.seccomp_profiles.proofs.listed.has_map_to.Given as goal
 
 abbrev pub invariant-loop-rest : goal.invariant-loop-rest
-invariant-loop-rest l = HasItem IsX86Map (items_view l.rest) ↔ HasItem IsX86Map (items_view l.items)
+invariant-loop-rest l = HasItem (MapsTo l.name) (items_view l.rest) ↔ HasItem (MapsTo l.name) (items_view l.items)
 
 abbrev pub decreases-loop-rest : goal.decreases-loop-rest
 decreases-loop-rest l = length l.rest

@@ -1,10 +1,13 @@
 -- Why an engine gives no answer: each error has its cause in what is given. Lack of memory may come in place of all.
-use Rattle.seccomptool.specs.Words.{[], ⊤, ◌∷◌, ◌≡◌, AllZip, AnswerError, AreUncompiledIn, AreUncompiledInSome, Bool, Call, Compile}
-use Rattle.seccomptool.specs.Words.{Container, Diff, Explain, Fault, Filter, FilterError, Global, HasUnknown, IsFilterOf, IsLayer, IsOfKind}
+use Rattle.std.specs.List.{AllZip}
+use Rattle.std.specs.Prelude.{[], ⊤, ◌∷◌, ◌≡◌, Bool, List, Option, String, Vec, false, true, ℕ}
+use Rattle.std.specs.declared.alloc.Global.{Global}
+use Rattle.seccomptool.specs.Words.{AnswerError, AreUncompiledIn, AreUncompiledInSome, Call, Compile}
+use Rattle.seccomptool.specs.Words.{Container, Diff, Explain, Fault, Filter, FilterError, HasUnknown, IsFilterOf, IsLayer, IsOfKind}
 use Rattle.seccomptool.specs.Words.{IsOfLayers, IsRefusal, IsRefusedAs, IsRefusedBeside, IsRefusedPolicy, IsRefusedProfile}
 use Rattle.seccomptool.specs.Words.{IsRefusedProgram, IsSideOf, IsTooLarge, IsTreeTooLarge, IsUncalled, IsUnchosen, IsUndecided, IsUndiffed}
-use Rattle.seccomptool.specs.Words.{Layer, Layout, Linear, List, One, Option, OutOfMemory, Profile, Show, Side, Stack, String, Subject}
-use Rattle.seccomptool.specs.Words.{TargetArch, Tree, Vec, false, from_filter, from_stack, sock_filter, text_of, true, ℕ}
+use Rattle.seccomptool.specs.Words.{Layer, Layout, Linear, One, OutOfMemory, Profile, Show, Side, Stack, Subject}
+use Rattle.seccomptool.specs.Words.{TargetArch, Tree, from_filter, from_stack, sock_filter, text_of}
 use Rattle.seccomp_tree.specs.declared.error.FilterError.TheVariants as filter
 use Rattle.seccomp_profiles.specs.declared.compiled.CompileError.TheVariants as profile
 use Rattle.seccomp_stack.specs.declared.StackError.{StackError}

@@ -1,11 +1,15 @@
 -- What it means that a command is carried out on the texts that it is given.
-use Rattle.seccomptool.specs.Words.{[], ⊤, ◌%◌, ◌++◌, ◌/◌, ◌<◌, ◌↔◌, ◌∷◌, ◌≡◌, ◌≢◌, AllZip, AnswerError, AreKnownCalls, ArePrograms, Bool}
-use Rattle.seccomptool.specs.Words.{Bor, Call, Calls, Command, Compile, Container, Different, Explain, Explains, Filter, Global, IsCheckOf}
+use Rattle.std.specs.Borrow.{Bor}
+use Rattle.std.specs.List.{AllZip}
+use Rattle.std.specs.Prelude.{[], ⊤, ◌%◌, ◌++◌, ◌/◌, ◌<◌, ◌↔◌, ◌∷◌, ◌≡◌, ◌≢◌, Bool, IsTrue, List, None, Option, Some, Vec, false, length}
+use Rattle.std.specs.Prelude.{true, ℕ}
+use Rattle.std.specs.declared.alloc.Global.{Global}
+use Rattle.seccomptool.specs.Words.{AnswerError, AreKnownCalls, ArePrograms}
+use Rattle.seccomptool.specs.Words.{Call, Calls, Command, Compile, Container, Different, Explain, Explains, Filter, IsCheckOf}
 use Rattle.seccomptool.specs.Words.{IsCompiledIn, IsCompiledProfile, IsDiff, IsFilterOf, IsLayer, IsProfileCheckOf, IsProgramOf, IsRecordOf}
-use Rattle.seccomptool.specs.Words.{IsRefusedProfile, IsRefusedProgram, IsSideOf, IsStackExplained, IsTakenAs, IsTrue, IsWrittenAs, Layer}
-use Rattle.seccomptool.specs.Words.{Layout, Learn, List, Log, Made, None, One, Option, OutOfMemory, Records, Same, Show, Side, Some, Stack}
-use Rattle.seccomptool.specs.Words.{Subject, TargetArch, Vec, Verdict, false, length, sock_filter, text_of, true, verdict_in, verdict_where}
-use Rattle.seccomptool.specs.Words.{ℕ}
+use Rattle.seccomptool.specs.Words.{IsRefusedProfile, IsRefusedProgram, IsSideOf, IsStackExplained, IsTakenAs, IsWrittenAs, Layer}
+use Rattle.seccomptool.specs.Words.{Layout, Learn, Log, Made, One, OutOfMemory, Records, Same, Show, Side, Stack}
+use Rattle.seccomptool.specs.Words.{Subject, TargetArch, Verdict, sock_filter, text_of, verdict_in, verdict_where}
 use Rattle.std.specs.Simd.{first_chunks}
 use Rattle.seccompiler.specs.JsonAnswers.{OfValue}
 use Rattle.seccomp_compare.specs.Machine.{IsChecked}

@@ -1,7 +1,9 @@
 -- With which status a command ends, and what is done outside until then.
-use Rattle.seccomptool.specs.Words.{[], ◌++◌, ◌<◌, ◌∷◌, ◌≡◌, ◌⊎◌, Answer, AnswerError, Bool, Bor, Command, Contains, Different, Failure}
-use Rattle.seccomptool.specs.Words.{Layer, List, Made, Named, None, Option, Overwrites, Same, Some, Terminal, Undecided, Verdict, false}
-use Rattle.seccomptool.specs.Words.{map, max, text_of, true, ℕ}
+use Rattle.std.specs.Borrow.{Bor}
+use Rattle.std.specs.Prelude.{[], ◌++◌, ◌<◌, ◌∷◌, ◌≡◌, ◌⊎◌, Bool, Contains, List, None, Option, Some, false, map, max, true, ℕ}
+use Rattle.seccomptool.specs.Words.{Answer, AnswerError, Command, Different, Failure}
+use Rattle.seccomptool.specs.Words.{Layer, Made, Named, Overwrites, Same, Terminal, Undecided, Verdict}
+use Rattle.seccomptool.specs.Words.{text_of}
 use Rattle.seccomptool.specs.Commands.{Answers}
 use Rattle.seccomptool.specs.Failures.{Fails}
 use Rattle.seccomptool.specs.Files.{IsAsked, Paths, files_of, guarded, lists, output_of, subjects_of, whole, writes_bytes}

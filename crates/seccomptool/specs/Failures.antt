@@ -1,6 +1,7 @@
 -- Why a command isn't carried out on what is read for it.
-use Rattle.seccomptool.specs.Words.{[], ◌∷◌, ◌≡◌, AnswerError, Bool, Call, Command, IsUncalled, IsUnknownCall, Layer, List, OutOfMemory}
-use Rattle.seccomptool.specs.Words.{TargetArch, false, true, ℕ}
+use Rattle.std.specs.Prelude.{[], ◌∷◌, ◌≡◌, Bool, List, false, true, ℕ}
+use Rattle.seccomptool.specs.Words.{AnswerError, Call, Command, IsUncalled, IsUnknownCall, Layer, OutOfMemory}
+use Rattle.seccomptool.specs.Words.{TargetArch}
 use Rattle.seccomptool.specs.declared.command.Command.TheVariants as command
 use Rattle.seccomptool.specs.Causes.{IsUncompared, IsUncompiled, IsUnexplained, IsUnshown, IsUnstacked}
 use Rattle.seccomptool.specs.Commands.{IsAskedAbout, IsParted}

@@ -1,8 +1,13 @@
 -- Which files a command reads, in which order, and which one it writes; and which arguments name them.
-use Rattle.seccomptool.specs.Words.{[], ⊤, ◌++◌, ◌==◌, ◌||◌, ◌∷◌, ◌≡◌, ◌≢◌, All, AllZip, Bool, Bor, Calls, Command, IfSome, Into, List, Log}
-use Rattle.seccomptool.specs.Words.{Named, None, One, Option, Otherwise, Records, Some, Start, TargetArch, bytes_eq, codes, false}
-use Rattle.seccomptool.specs.Words.{first_value, if◌then◌else◌, is_none, length, map, matched_of, one_text, option_map, raw_values, take}
-use Rattle.seccomptool.specs.Words.{text_of, true, unwrap_or, ℕ}
+use Rattle.std.specs.Borrow.{Bor}
+use Rattle.std.specs.List.{AllZip}
+use Rattle.std.specs.Prelude.{[], ⊤, ◌++◌, ◌==◌, ◌||◌, ◌∷◌, ◌≡◌, ◌≢◌, All, Bool, IfSome, List, None, Option, Some, codes, false}
+use Rattle.std.specs.Prelude.{if◌then◌else◌, is_none, length, map, option_map, take, true, unwrap_or, ℕ}
+use Rattle.std.specs.Str.{bytes_eq}
+use Rattle.seccomptool.specs.Words.{Calls, Command, Into, Log}
+use Rattle.seccomptool.specs.Words.{Named, One, Otherwise, Records, Start, TargetArch}
+use Rattle.seccomptool.specs.Words.{first_value, matched_of, one_text, raw_values}
+use Rattle.seccomptool.specs.Words.{text_of}
 use Rattle.clap.specs.declared.parser.matches.Found.{Found}
 use Rattle.seccompiler.specs.declared.backend.TargetArch.TheVariants.{x86_64, aarch64, riscv64}
 use Rattle.seccomp_views.specs.declared.check.format.CheckFormat.{CheckFormat}

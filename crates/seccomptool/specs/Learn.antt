@@ -1,9 +1,13 @@
 -- What `learn` gives: a policy of the calls that were observed, which are added to a filter.
-use Rattle.seccomptool.specs.Words.{[], ⊤, ◌++◌, ◌∷◌, ◌≡◌, ◌≢◌, ◌≤◌, ◌⊎◌, AllZip, Allow, AnswerError, Any, AreCloning, AreRunnable}
-use Rattle.seccomptool.specs.Words.{AreUsual, AskedArguments, Bool, Bor, Errno, Fault, HasFilter, HasFilters, Into, IsAskedArgument, IsCall}
-use Rattle.seccomptool.specs.Words.{IsChosen, IsUncalled, IsUnnamed, JsonFilter, Kept, Layer, Learn, List, None, Observation, Option}
-use Rattle.seccomptool.specs.Words.{Otherwise, OutOfMemory, Some, Start, TargetArch, Told, Trace, beside, codes, false, flat_map}
-use Rattle.seccomptool.specs.Words.{from_library, slice_index_or, text_of, true, unwrap_or, ℕ}
+use Rattle.std.specs.Borrow.{Bor}
+use Rattle.std.specs.List.{AllZip}
+use Rattle.std.specs.Prelude.{[], ⊤, ◌++◌, ◌∷◌, ◌≡◌, ◌≢◌, ◌≤◌, ◌⊎◌, Any, Bool, List, None, Option, Some, codes, false, flat_map}
+use Rattle.std.specs.Prelude.{slice_index_or, true, unwrap_or, ℕ}
+use Rattle.seccomptool.specs.Words.{Allow, AnswerError, AreCloning, AreRunnable}
+use Rattle.seccomptool.specs.Words.{AreUsual, AskedArguments, Errno, Fault, HasFilter, HasFilters, Into, IsAskedArgument, IsCall}
+use Rattle.seccomptool.specs.Words.{IsChosen, IsUncalled, IsUnnamed, JsonFilter, Kept, Layer, Learn, Observation}
+use Rattle.seccomptool.specs.Words.{Otherwise, OutOfMemory, Start, TargetArch, Told, Trace, beside}
+use Rattle.seccomptool.specs.Words.{from_library, text_of}
 use Rattle.seccompiler.specs.declared.backend.SeccompAction.{SeccompAction}
 use Rattle.seccompiler.specs.declared.json.error.JsonFrontendError.{JsonFrontendError}
 use Rattle.seccompiler.specs.Errors.{from_frontend}

@@ -1,5 +1,6 @@
 -- What is done outside, and what is answered there.
-use Rattle.seccomptool.specs.Words.{[], ◌∷◌, Answer, Bool, Failure, Layer, List, Named, Option, OutOfMemory, false, true, ℕ}
+use Rattle.std.specs.Prelude.{[], ◌∷◌, Bool, List, Option, false, true, ℕ}
+use Rattle.seccomptool.specs.Words.{Answer, Failure, Layer, Named, OutOfMemory}
 use Rattle.seccomptool.specs.declared.outside.Cause.{Cause}
 
 pub data Event : Type 0 where

@@ -1,6 +1,7 @@
 // The calls of a name or a number, or the record of one.
 
-ghost use Rattle.seccomptool.specs.Words.{AreKnownCalls, IfErr, IfOk, IsUnknownCall};
+ghost use Rattle.std.specs.Prelude.{IfErr, IfOk};
+ghost use Rattle.seccomp_answers.specs.Calls.{AreKnownCalls, IsUnknownCall};
 ghost use Rattle.seccomptool.specs.Commands.{IsAskedAbout, IsCalled, IsPlain};
 ghost use Rattle.seccomptool.specs.Failures.{IsUncalledOn};
 

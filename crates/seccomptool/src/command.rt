@@ -1,6 +1,7 @@
 // The commands, and what each is asked for.
 
-ghost use Rattle.seccomptool.specs.Words.{◌≡◌, IfOk, option_map, text_of};
+ghost use Rattle.std.specs.Prelude.{◌≡◌, IfOk, option_map};
+ghost use Rattle.seccomp_answers.specs.Chosen.{text_of};
 ghost use Rattle.seccomptool.specs.Files as spec;
 
 use crate::learn::{AskedArguments, Start};

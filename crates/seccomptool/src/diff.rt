@@ -1,6 +1,6 @@
 // On which calls a new side rules otherwise than an old one, or permits more.
 
-ghost use Rattle.seccomptool.specs.Words.{◌≡◌, IfErr, IfOk, false};
+ghost use Rattle.std.specs.Prelude.{◌≡◌, IfErr, IfOk, false};
 ghost use Rattle.seccomptool.specs.Causes.{IsUncompared};
 ghost use Rattle.seccomptool.specs.Commands.{IsCompared};
 

@@ -3,7 +3,11 @@
 mod arguments;
 pub(crate) mod notes;
 
-ghost use Rattle.seccomptool.specs.Words.{◌≡◌, AllZip, Any, AreCloning, AreRunnable, IfErr, IfOk, OnOk, found_in, string_bytes, text_of};
+ghost use Rattle.std.specs.List.{AllZip};
+ghost use Rattle.std.specs.Prelude.{◌≡◌, Any, IfErr, IfOk, OnOk, string_bytes};
+ghost use Rattle.seccomp_answers.specs.Chosen.{text_of};
+ghost use Rattle.seccomp_learn.specs.Usual.{AreCloning, AreRunnable};
+ghost use Rattle.seccomp_learn.specs.Written.{found_in};
 ghost use Rattle.seccomptool.specs.Commands.{IsPlain};
 ghost use Rattle.seccomptool.specs.Files.{start_file};
 ghost use Rattle.seccomptool.specs.Learn.{AreIf, AreObserved, IsBase, IsLearned, IsLesson, IsStrangeOf, IsTaken, IsTraceOf, IsUnlearned, IsUntaken, IsUntaught, IsUnwritten, IsWrittenPolicy, OrMemory, Unless, clone3_filter, with_second};

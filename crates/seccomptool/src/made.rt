@@ -1,6 +1,7 @@
 // What a command makes of what it is given: a text, and what it finds.
 
-ghost use Rattle.seccomptool.specs.Words.{◌≡◌, IfErr, IfOk, Ok, OutOfMemory, false};
+ghost use Rattle.std.specs.Prelude.{◌≡◌, IfErr, IfOk, Ok, false};
+ghost use Rattle.seccomp_answers.specs.declared.error.AnswerError.TheVariants.{OutOfMemory};
 ghost use Rattle.seccomptool.specs.Commands.{IsPlain};
 
 use seccomp_answers::error::AnswerError;

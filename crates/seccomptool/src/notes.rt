@@ -1,6 +1,7 @@
 // What the program tells on standard error: failures, and notes on what stands at a path.
 
-ghost use Rattle.seccomptool.specs.Words.{◌≡◌, ◌≤◌, ◌⊎◌, kind_of};
+ghost use Rattle.std.specs.Prelude.{◌≡◌, ◌≤◌, ◌⊎◌};
+ghost use Rattle.clap.specs.Words.{kind_of};
 ghost use Rattle.clap.specs.declared.error.kind.ErrorKind.TheVariants.{DisplayHelp, DisplayVersion};
 ghost use Rattle.seccomptool.specs.Learn.{IsTold};
 

@@ -1,6 +1,6 @@
 // A command, carried out on what is read for it.
 
-ghost use Rattle.seccomptool.specs.Words.{◌≤◌, IfErr, IfOk, IfSome, length, map};
+ghost use Rattle.std.specs.Prelude.{◌≤◌, IfErr, IfOk, IfSome, length, map};
 ghost use Rattle.seccomptool.specs.Commands.{Answers, IsParted};
 ghost use Rattle.seccomptool.specs.Ends.{AreOf};
 ghost use Rattle.seccomptool.specs.Failures.{Fails};

@@ -1,6 +1,8 @@
 // What the program does with its arguments: carries out what they ask for, and ends with a status.
 
-ghost use Rattle.seccomptool.specs.Words.{[], ◌≡◌, Answer, IfErr, IfOk, IsSome, OnErr, OnOk, false, map, text_of};
+ghost use Rattle.std.specs.Prelude.{[], ◌≡◌, IfErr, IfOk, IsSome, OnErr, OnOk, false, map};
+ghost use Rattle.seccomp_answers.specs.Chosen.{text_of};
+ghost use Rattle.seccomptool.specs.declared.outside.Cause.TheVariants.{Answer};
 ghost use Rattle.seccomptool.specs.Ends as spec;
 ghost use Rattle.seccomptool.specs.Ends.{AreOf, Ends, EndsInList, EndsOnEach, EndsWith, IsAnswered, IsCarriedOut, IsKept, IsOfOutside, IsRefused, IsSaid, apart_of};
 ghost use Rattle.seccomptool.specs.Files.{guarded as guarded_of, lists, output_of, subjects_of, writes_bytes};

@@ -1,6 +1,6 @@
 // The programs of what is given, for people, or how long they are and how many steps they take.
 
-ghost use Rattle.seccomptool.specs.Words.{IfErr, IfOk, OnOk};
+ghost use Rattle.std.specs.Prelude.{IfErr, IfOk, OnOk};
 ghost use Rattle.seccomptool.specs.Causes.{IsUnshown, IsUnshownAs};
 ghost use Rattle.seccomptool.specs.Commands.{IsPlain, IsShown, IsShownUnless};
 

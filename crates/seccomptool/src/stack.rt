@@ -1,6 +1,6 @@
 // One program for all that hold together.
 
-ghost use Rattle.seccomptool.specs.Words.{IfErr, IfOk};
+ghost use Rattle.std.specs.Prelude.{IfErr, IfOk};
 ghost use Rattle.seccomptool.specs.Causes.{IsUnstacked};
 ghost use Rattle.seccomptool.specs.Commands.{IsPlain, IsStacked};
 

@@ -4,7 +4,8 @@ mod files;
 mod program;
 mod values;
 
-ghost use Rattle.seccomptool.specs.Words.{IfOk, None, found_of};
+ghost use Rattle.std.specs.Prelude.{IfOk, None};
+ghost use Rattle.clap.specs.Words.{found_of};
 ghost use Rattle.seccomptool.specs.Files.{IsAsked, IsAskedBy, IsFor};
 ghost use Rattle.seccomptool.specs.declared.command.Command.TheVariants as command;
 

@@ -1,6 +1,7 @@
 // The arguments whose values are kept, and what is noted of `--args` that keeps no values.
 
-ghost use Rattle.seccomptool.specs.Words.{◌≡◌, Any, IfErr, IfOk, IsUncalled, OnOk, false, slice_index_or};
+ghost use Rattle.std.specs.Prelude.{◌≡◌, Any, IfErr, IfOk, OnOk, false, slice_index_or};
+ghost use Rattle.seccomp_answers.specs.Calls.{IsUncalled};
 ghost use Rattle.seccomptool.specs.Learn.{AreWanted, AreWithCall, InTurn, IsUnknown, IsWithArgument, OrMemory};
 
 use super::AskedArguments;

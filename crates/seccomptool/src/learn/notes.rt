@@ -1,6 +1,6 @@
 // What is noted of a trace, and what is learned as JSON.
 
-ghost use Rattle.seccomptool.specs.Words.{◌↔◌, Any, IfErr, IsTrue, OnOk};
+ghost use Rattle.std.specs.Prelude.{◌↔◌, Any, IfErr, IsTrue, OnOk};
 ghost use Rattle.seccomptool.specs.Learn.{IsArgument, IsStrange, IsUnderstood};
 
 use crate::command::Learn;

@@ -1,6 +1,9 @@
 // The files that the arguments name.
 
-ghost use Rattle.seccomptool.specs.Words.{◌≡◌, AllZip, IfOk, codes, first_value, found_of, map, text_of};
+ghost use Rattle.std.specs.List.{AllZip};
+ghost use Rattle.std.specs.Prelude.{◌≡◌, IfOk, codes, map};
+ghost use Rattle.clap.specs.Words.{first_value, found_of};
+ghost use Rattle.seccomp_answers.specs.Chosen.{text_of};
 ghost use Rattle.seccomptool.specs.Files as spec;
 ghost use Rattle.seccomptool.specs.Files.{AreCalls, IsNamedBy, IsSubject, all_values, path_given};
 

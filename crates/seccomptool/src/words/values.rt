@@ -1,7 +1,9 @@
 // The values of options and arguments, in clap's matches. If an option takes some names alone, clap lets no other pass. One that a
 // command doesn't have isn't given.
 
-ghost use Rattle.seccomptool.specs.Words.{◌≡◌, codes, first_value, found_of, text_of};
+ghost use Rattle.std.specs.Prelude.{◌≡◌, codes};
+ghost use Rattle.clap.specs.Words.{first_value, found_of};
+ghost use Rattle.seccomp_answers.specs.Chosen.{text_of};
 ghost use Rattle.seccomptool.specs.Files as spec;
 ghost use Rattle.seccomptool.specs.Files.{path_given, start_file};
 

@@ -20,7 +20,8 @@ returns-then-has_concerned-2 c = λ yes.
     subst (IsDoubtIn p l) (sym c.in-NoListener.is) (λ arch container is decides. (
       own.0,
       is_concerned p l (λ e. e.action ≡ Notify)
-          c.in-NoListener.place own.1 c.args.index (c.has_concerned-in-NoListener.ensures c.if-has_concerned-2.true) arch container is decides,
+          c.in-NoListener.place own.1 c.args.index (c.has_concerned-in-NoListener.ensures c.if-has_concerned-2.true)
+          arch container is decides,
     ))
 
 pub returns-then-has_concerned-3 : goal.returns-then-has_concerned-3

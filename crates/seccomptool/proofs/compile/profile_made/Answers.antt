@@ -8,7 +8,7 @@ pub returns-clause-made : goal.returns-clause-made
 returns-clause-made c =
     let program = c.in-Ok.compiled.program.items in
     let format = c.args.asked.now.format in
-    let same : c.deref-2.result.now ≡ program = search rules in
+    let same : c.deref.result.now ≡ program = search rules in
     let written = subst (λ p. IfOk c.program_written-text.result (λ w. IsWrittenAs format p w.items)) same c.program_written-text.ensures in
     IfOk-weaker c.of.result _ _ (λ (made : Made) is. (
       (

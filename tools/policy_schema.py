@@ -50,7 +50,8 @@ UNSAID = re.compile(
     r"|The input ends inside a record, |Error (reading input|writing output)\."
     r"|No filter has this name: |Name one of its filters: |The policy has no filters\.|No call of \w+ has this name or number: "
     r"|line \d+, column \d+: |\d+ more errors?\n"
-    r"|The JSON value isn't a seccomp profile, |[A-Z][\w ]+ \(os error \d+\)\n|usage: |error: |$"
+    r"|The JSON value isn't a seccomp profile, |a container's configuration without a profile: "
+    r"|[A-Z][\w ]+ \(os error \d+\)\n|usage: |error: |$"
 )
 
 # What `check` reports after a place: that the shape is wrong there; and what can only be found in one that is right.

@@ -10,11 +10,11 @@ use Rattle.std.proofs.lemmas.Map.Text.{text_cmp}
 use Rattle.std.proofs.lemmas.Option.{slice_get_within}
 use Rattle.serde_json.specs.Data.{Data}
 use Rattle.seccompiler.specs.Compiled.{IsLeastUnfit, IsRefusal, numbers_of}
-use Rattle.seccompiler.specs.Errors.{IsNoMemoryInFrontend, IsNoMemoryInside, IsNoReader, from_backend, from_frontend}
-use Rattle.seccompiler.specs.JsonAnswers.{ArePoliciesOf, OfValue, TellsFrontendFault}
+use Rattle.seccompiler.specs.Errors.{IsNoMemoryInFrontend, from_backend, from_frontend}
+use Rattle.seccompiler.specs.JsonAnswers.{ArePoliciesOf, IsValueOf, OfValue, TellsFrontendFault}
 use Rattle.seccompiler.specs.JsonFilters.{AreFound}
 use Rattle.seccompiler.specs.JsonPrograms.{TellsFirstFault}
-use Rattle.seccompiler.specs.JsonSteps.{IsNoFailedRead}
+use Rattle.seccompiler.specs.JsonSteps.{IsNoFailedRead, IsShapeRefusal}
 use Rattle.seccompiler.specs.Policy.{Filter}
 use Rattle.seccompiler.specs.SyscallTable.{IsTableNumber}
 use Rattle.seccompiler.specs.declared.backend.BackendError.{BackendError}
@@ -28,7 +28,7 @@ use Rattle.seccomp_tree.specs.declared.error.FilterError.{FilterError}
 use Rattle.seccomp_tree.specs.declared.error.FilterError.TheVariants as filter
 use Rattle.seccomp_tree.specs.declared.layout.Layout.{Layout}
 use Rattle.seccomp_tree.specs.declared.layout.Layout.TheVariants.{Linear, Tree}
-use Rattle.seccomp_faults.specs.Checks.{IsRefusedFor, IsRejection, IsRejectionOf, cause_told}
+use Rattle.seccomp_faults.specs.Checks.{IsRejection, IsRejectionOf, cause_told}
 use Rattle.seccomp_faults.specs.declared.policy.Rejection.{Rejection}
 use Rattle.seccomp_faults.specs.declared.policy.Rejection.TheVariants as rejection
 use Rattle.seccomp_answers.proofs.Found.{nowhere, there}
@@ -64,43 +64,43 @@ told_refusal target text (rejection.Placed first faults) e is (inr (told, same, 
 told_refusal target text rejection.OutOfMemory e is same = subst (IsTextRefusal target text) (sym same) tt
 
 -- The same of the front end's refusal.
-pub told_unread : (target : TargetArch) (text : List ℕ) (own : JsonFrontendError) (r : Rejection) (e : AnswerError)
-    → IsRejection target text r → IsRejectionOf target text (from_frontend own) r → IsToldAs r e → IsUnread target text e
-told_unread target text frontend.OutOfMemory (rejection.Library refusal) e is of same = absurd (is.memory of)
-told_unread target text own (rejection.Library refusal) e is of same =
-    let front : e ≡ Library (library.JsonFrontend own) = same ∙ ap Library of in
-    let refused : IsRefusedFor target text (library.JsonFrontend own) = subst (IsRefusedFor target text) of is in
-    subst (IsUnread target text) (sym front) (record {
-      memory = refused.none_inside.0;
-      none_inside = refused.none_inside.1;
-      no_reader = refused.no_reader;
-      first = refused.first;
-    })
-told_unread target text own (rejection.Placed first faults) e is of (inl same) = subst (IsUnread target text) (sym same) tt
-told_unread target text frontend.OutOfMemory (rejection.Placed first faults) e is of (inr (told, same, within)) =
+told_unread : (target : TargetArch) (text : List ℕ) (own : JsonFrontendError) (r : Rejection) (e : AnswerError)
+    → TellsFrontendFault target text own → IsNoFailedRead own → IsNoMemoryInFrontend own
+    → IsRejectionOf target text (from_frontend own) r → IsToldAs r e → IsUnread target text e
+told_unread target text frontend.OutOfMemory (rejection.Library refusal) e first reader memory of same = absurd (of.1 refl)
+told_unread target text own (rejection.Library refusal) e first reader memory of same =
+    subst (IsUnread target text) (sym (same ∙ ap Library of.0)) (unread_for target text own first reader memory)
+told_unread target text own (rejection.Placed first faults) e told reader memory of (inl same) =
+    subst (IsUnread target text) (sym same) tt
+told_unread target text frontend.OutOfMemory (rejection.Placed first faults) e told reader memory of (inr is) =
     let kind = subst (λ refusal. cause_told refusal ≡ Some of.0.cause) of.1 of.0.kind in cc
-told_unread target text own (rejection.Placed first faults) e is of (inr (told, same, within)) =
+told_unread target text own (rejection.Placed first faults) e told reader memory of (inr (place, same, within)) =
     subst (IsUnread target text) (sym same) (record {
       are = record {
         first = first;
         placed = of.0;
-        there = within (slice_get_within faults.items first is.at.0 is.at.1);
+        there = within (slice_get_within faults.items first of.0.at.0 of.0.at.1);
       };
       own = own;
       of_front = of.1;
     })
-told_unread target text own rejection.OutOfMemory e is of same = subst (IsUnread target text) (sym same) tt
+told_unread target text own rejection.OutOfMemory e first reader memory of same = subst (IsUnread target text) (sym same) tt
 
 pub told_front : (target : TargetArch) (text : List ℕ) (own : JsonFrontendError) (r : Rejection) (e : AnswerError)
     → TellsFrontendFault target text own → IsNoFailedRead own → IsNoMemoryInFrontend own
-    → (IsNoMemoryInside (from_frontend own) → IsNoReader (from_frontend own) → TellsFirstFault target text (from_frontend own)
-    → IsRejection target text r)
     → (TellsFirstFault target text (from_frontend own) → IsRejectionOf target text (from_frontend own) r) → IsToldAs r e
     → IsUnread target text e
-told_front target text frontend.OutOfMemory r e first reader memory is of same =
-    told_unread target text frontend.OutOfMemory r e (is tt tt tt) (of tt) same
-told_front target text own r e first reader memory is of same =
-    told_unread target text own r e (is (λ none. cc, memory) reader first) (of first) same
+told_front target text frontend.OutOfMemory r e first reader memory of same =
+    told_unread target text frontend.OutOfMemory r e first reader memory (of tt) same
+told_front target text own r e first reader memory of same = told_unread target text own r e first reader memory (of first) same
+
+-- The refusal of a value's shape tells the fault of its text.
+pub told_shape : (target : TargetArch) (text : List ℕ) (d : Data) → IsValueOf text d → (e : JsonFrontendError) → IsShapeRefusal d e
+    → TellsFrontendFault target text e × IsNoFailedRead e × IsNoMemoryInFrontend e
+told_shape target text d is frontend.NotAnObject refused = ((d, is, refused), tt, tt)
+told_shape target text d is (frontend.Shape name) refused = ((d, is, refused), tt, tt)
+told_shape target text d is frontend.OutOfMemory refused = (tt, tt, tt)
+told_shape target text d is e refused = absurd refused
 
 -- What the front end refuses is refused by the library as a whole.
 pub refused_unread : (target : TargetArch) (text : List ℕ) (e : AnswerError) → IsUnread target text e → IsTextRefusal target text e

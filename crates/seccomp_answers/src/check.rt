@@ -5,12 +5,13 @@ ghost use Rattle.seccomp_answers.specs.Causes.{IsRefusedProfile};
 ghost use Rattle.seccomp_answers.specs.Check as spec;
 ghost use Rattle.seccomp_answers.specs.Check.{AreWarningsIn, IsCheckOf, IsRefusal};
 ghost use Rattle.seccomp_answers.specs.CheckProfile.{IsProfileCheckOf};
+ghost use Rattle.seccomp_answers.specs.Errors.{IsToldAs};
 
 use crate::error::AnswerError;
 use crate::findings::Verdict;
-use crate::policy::{MOST, rejected};
+use crate::policy::MOST;
 use crate::profile::compiled_of;
-use seccomp_faults::check;
+use seccomp_faults::{Rejection, check};
 use seccomp_profile_checks::{ProfileWarning, profile_warnings_of};
 use seccomp_profiles::{CompiledProfile, Container};
 use seccomp_warnings::{Code, FilterWarned, beside_of, codes_beside, policy_warnings_of};
@@ -59,7 +60,7 @@ pub fn checked(
 {
     let filters = match check(alloc, target, MOST, text) {
         Ok(filters) => filters,
-        Err(rejection) => return Err(rejected(alloc, text, rejection)),
+        Err(rejection) => return Err(told_whole(rejection)),
     };
     // The policy is taken, so that each of its filters is one of the architecture: an error is want of memory.
     match warnings_in(alloc, target, allowed, &filters) {
@@ -69,6 +70,17 @@ pub fn checked(
             drop(error);
             Err(AnswerError::OutOfMemory)
         }
+    }
+}
+
+// A rejection as an error. All of its faults are printed, in the order that the text gives them.
+fn told_whole(rejection: Rejection) -> AnswerError
+    ensures { IsToldAs rejection result }
+{
+    match rejection {
+        Rejection::Library(refusal) => AnswerError::Library(refusal),
+        Rejection::OutOfMemory => AnswerError::OutOfMemory,
+        Rejection::Placed(first, faults) => AnswerError::Placed(first, faults),
     }
 }
 

@@ -17,13 +17,11 @@ use crate::profile::unread;
 use crate::program::program_of;
 use seccomp_compare::machine;
 use seccomp_entries::{Lowered, Reason, explain, lowered_policy};
-use seccomp_faults::rejection_of;
+use seccomp_faults::check;
 use seccomp_profiles::{Container, lowered_profile, profile_of};
 use seccompiler::bpf::BPF_MAX_LEN;
 use seccompiler::machine::Outcome;
-use seccompiler::{
-    BpfProgramRef, JsonCompiler, JsonFilterMap, JsonFrontendError, TargetArch, programs_of,
-};
+use seccompiler::{BpfProgramRef, JsonCompiler, JsonFilterMap, JsonFrontendError, TargetArch};
 use std::alloc::{AllocError, Global};
 
 /// Why a record is decided as it is.
@@ -157,14 +155,10 @@ fn refuse_faulty(
     if let Ok(true) = are_short(alloc, target, filters) {
         return Ok(());
     }
-    match programs_of(alloc, text, target) {
+    match check(alloc, target, MOST, text) {
         // Memory that was lacking is there again.
-        Ok(_) => Err(AnswerError::OutOfMemory),
-        Err(refusal) => Err(rejected(
-            alloc,
-            text,
-            rejection_of(alloc, target, MOST, text, refusal),
-        )),
+        Ok(_filters) => Err(AnswerError::OutOfMemory),
+        Err(rejection) => Err(rejected(alloc, text, rejection)),
     }
 }
 

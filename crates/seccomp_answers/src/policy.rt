@@ -4,18 +4,21 @@ ghost use Rattle.std.specs.Prelude.{◌<◌, ℕ, List, All, IfErr, IfOk, IfSome
 ghost use Rattle.std.specs.BTreeMap.{get_by_text};
 ghost use Rattle.serde_json.specs.Data.{Data};
 ghost use Rattle.seccompiler.specs.Compiled.{numbers_of};
-ghost use Rattle.seccompiler.specs.JsonAnswers.{ArePoliciesOf, HasPolicy, OfValue, TellsFrontendFault};
+ghost use Rattle.serde_json.specs.View.{view};
+ghost use Rattle.seccompiler.specs.JsonAnswers.{ArePoliciesOf, HasPolicy, IsValueOf, OfValue, TellsFrontendFault};
 ghost use Rattle.seccompiler.specs.JsonFilters.{IsReadBack};
 ghost use Rattle.seccompiler.specs.SyscallTable.{IsTableNumber};
+ghost use Rattle.seccompiler.specs.declared.backend.TargetArch.{TargetArch};
 ghost use Rattle.seccompiler.specs.Errors.{IsNoMemoryInFrontend};
 ghost use Rattle.seccompiler.specs.JsonSteps.{AreFilters, IsNoFailedRead};
 ghost use Rattle.seccomp_answers.specs.Causes.{IsUnread};
 ghost use Rattle.seccomp_answers.specs.Errors.{IsToldAs};
 
 use crate::error::AnswerError;
-use seccomp_faults::{Fault, JsonFault, Rejection, outline_of, rejection_of};
-use seccompiler::json::{JsonFrontendError, filters_of};
-use seccompiler::{JsonCompiler, JsonFilterMap, SeccompFilter, TargetArch};
+use seccomp_faults::{Fault, JsonFault, Rejection, outline_of, rejection_in};
+use seccompiler::json::{JsonFrontendError, read_filters, value_of};
+use seccompiler::{JsonFilterMap, SeccompFilter, TargetArch, json};
+use serde_json::Value;
 use std::alloc::{AllocError, Global};
 use std::collections::BTreeMap;
 
@@ -33,9 +36,10 @@ pub(crate) fn policies_in(
     ensures numbers { IfOk result (λ m. (name : List ℕ) → IfSome (get_by_text m name) (λ f. All IsTableNumber (numbers_of f.chains))) }
     ensures unread { IfErr result (IsUnread target text.now) }
 {
-    match JsonCompiler::new(target).policies_of(alloc, text) {
+    let value = value_in(alloc, text)?;
+    match json::policies_in(alloc, &value, target) {
         Ok(policies) => Ok(policies),
-        Err(refusal) => Err(unread(alloc, target, text, refusal)),
+        Err(refusal) => Err(unread(alloc, target, text, &value, refusal)),
     }
 }
 
@@ -48,21 +52,36 @@ pub(crate) fn filters_in(
     ensures filters { IfOk result (λ filters. OfValue text.now (λ d. AreFilters d filters)) }
     ensures unread { IfErr result (IsUnread target text.now) }
 {
-    match filters_of(alloc, text) {
+    let value = value_in(alloc, text)?;
+    match read_filters(alloc, &value) {
         Ok(filters) => Ok(filters),
-        Err(refusal) => Err(unread(alloc, target, text, refusal)),
+        Err(refusal) => Err(unread(alloc, target, text, &value, refusal)),
     }
 }
 
-// Why a policy's text is rejected, of which this is the library's refusal.
-fn unread(alloc: Global, target: TargetArch, text: &[u8], refusal: JsonFrontendError) -> AnswerError
-    ensures { TellsFrontendFault target text.now refusal → IsNoFailedRead refusal → IsNoMemoryInFrontend refusal → IsUnread target text.now result }
+// The value of a policy's text.
+fn value_in(alloc: Global, text: &[u8]) -> Result<Value, AnswerError>
+    ensures value { IfOk result (λ value. IsValueOf text.now (view value)) }
+    // On whichever architecture.
+    ensures unread { IfErr result (λ error. (target : TargetArch) → IsUnread target text.now error) }
 {
-    rejected(
-        alloc,
-        text,
-        rejection_of(alloc, target, MOST, text, refusal.into()),
-    )
+    let value = value_of(alloc, text)?;
+    Ok(value)
+}
+
+// Why the value of a policy's text is rejected, of which this is the library's refusal.
+fn unread(
+    alloc: Global,
+    target: TargetArch,
+    text: &[u8],
+    value: &Value,
+    refusal: JsonFrontendError,
+) -> AnswerError
+    ensures { IsValueOf text.now (view value.now) → TellsFrontendFault target text.now refusal → IsNoFailedRead refusal
+        → IsNoMemoryInFrontend refusal → IsUnread target text.now result }
+{
+    let rejection = rejection_in(alloc, target, MOST, value, refusal.into());
+    rejected(alloc, text, rejection)
 }
 
 /// A rejection of a policy's text as an error, of which the fault that comes first in the text is printed.

@@ -1,65 +1,58 @@
--- For `check` and `placed`: what is answered, from what the library answers and from what is found.
-use Rattle.std.proofs.Common.{◌≡◌, ℕ, List, All, Option, Some, Vec, Global, refl, sym, ◌∙◌, subst}
+-- For `check` and `rejection_in`: what is answered, from what the library answers and from what is found.
+use Rattle.std.proofs.Common.{◌≡◌, ℕ, List, All, Option, Some, Vec, Global, refl, sym, subst}
 use Rattle.serde_json.specs.Data.{Data}
-use Rattle.seccompiler.specs.declared.backend.BackendError.TheVariants as backend
 use Rattle.seccompiler.specs.declared.backend.TargetArch.{TargetArch}
+use Rattle.seccompiler.specs.declared.bpf.sock_filter.{sock_filter}
 use Rattle.seccompiler.specs.declared.error.Error.{Error}
 use Rattle.seccompiler.specs.declared.error.Error.TheVariants as library
 use Rattle.seccompiler.specs.declared.json.error.JsonFrontendError.{JsonFrontendError}
 use Rattle.seccompiler.specs.declared.json.error.JsonFrontendError.TheVariants as json
-use Rattle.seccompiler.specs.JsonAnswers.{IsReadAs, IsValueOf, OfValue, TellsFrontendFault}
+use Rattle.seccompiler.specs.Errors.{IsNoMemoryInFrontend, IsNoMemoryInside, IsNoReader, from_frontend}
+use Rattle.seccompiler.specs.JsonAnswers.{IsValueOf, TellsFrontendFault}
 use Rattle.seccompiler.specs.JsonPrograms.{AreProgramsOf, TellsFirstFault}
-use Rattle.seccompiler.specs.JsonSteps.{AreFilters}
-use Rattle.seccompiler.specs.declared.bpf.sock_filter.{sock_filter}
-use Rattle.seccompiler.specs.declared.json.types.JsonFilterMap.{JsonFilterMap}
-use Rattle.seccomp_faults.specs.Checks.{AreAllCompiled, ArePlaced, IsAtOf, cause_told, frontend_cause}
+use Rattle.seccompiler.specs.JsonSteps.{IsNoFailedRead}
+use Rattle.seccomp_faults.specs.Checks.{AreAllCompiled, IsAtOf, IsRejection, IsRejectionOf, cause_told, from_library}
 use Rattle.seccomp_faults.specs.Faults.{IsFault}
-use Rattle.seccomp_faults.specs.declared.fault.Fault.{Fault}
-use Rattle.seccomp_faults.specs.declared.table.Form.TheVariants as form
 use Rattle.seccomp_faults.specs.declared.fault.Cause.{Cause}
+use Rattle.seccomp_faults.specs.declared.fault.Fault.{Fault}
+use Rattle.seccomp_faults.specs.declared.policy.Rejection.{Rejection}
+use Rattle.seccomp_faults.specs.declared.policy.Rejection.TheVariants as rejection
+use Rattle.seccomp_faults.specs.declared.table.Form.TheVariants as form
+
+-- If the value has programs, all its filters are compiled.
+pub all_compiled : (target : TargetArch) (find : List ℕ → Option (Vec sock_filter Global)) (d : Data) → AreProgramsOf target find d
+    → AreAllCompiled target d
+all_compiled target find d are = record {
+  is_object = are.is_object;
+  each = λ name value has. ((are.each name value has).found.items, (are.each name value has).own);
+}
 
 module _ (target : TargetArch) (text : List ℕ) where
-  -- If the text has programs, all its filters are compiled.
-  pub all_compiled : (find : List ℕ → Option (Vec sock_filter Global)) (filters : JsonFilterMap) → OfValue text (AreProgramsOf target find)
-      → OfValue text (λ d. AreFilters d filters) → OfValue text (λ d. AreFilters d filters × AreAllCompiled target d)
-  all_compiled find filters (e, own, are) (d, is, read) =
-      let both : Some e ≡ Some d = sym own.is_read.value ∙ is.is_read.value in
-      let same : e ≡ d = cc in
-      let all : AreAllCompiled target e = record {
-        is_object = are.is_object;
-        each = λ name value has. ((are.each name value has).found.items, (are.each name value has).own);
-      } in
-      (d, is, (read, subst (AreAllCompiled target) same all))
+  -- A refusal as it is.
+  pub without_place : (e : Error) (r : Rejection) → r ≡ from_library e → IsRejectionOf target text e r
+  without_place library.OutOfMemory r is = subst (IsRejectionOf target text library.OutOfMemory) (sym is) tt
+  without_place e r is = subst (IsRejectionOf target text e) (sym is) (refl, λ same. cc)
 
-  -- A text of which a fault of the front end with a place is reported has a value.
-  pub has_frontend_value : (e : JsonFrontendError) (cause : Cause) → TellsFrontendFault target text e → frontend_cause e ≡ Some cause
-      → (d : Data) × IsValueOf text d
-  has_frontend_value json.NotAnObject cause first is = (first.0, first.1)
-  has_frontend_value (json.Shape name) cause first is = (first.0, first.1)
-  has_frontend_value (json.SyscallName name known) cause first is = (first.0, first.1)
-  has_frontend_value (json.Backend e) cause first is = (first.0, first.1)
-  has_frontend_value _ cause first is = cc
+  -- The faults with their places, of a text of this value that is refused for this.
+  pub are_placed : (d : Data) → IsValueOf text d → (e : Error) (cause : Cause) (first : ℕ) (faults : Vec Fault Global)
+      → TellsFirstFault target text e → cause_told e ≡ Some cause → All (IsFault target form.Policy d) faults.items
+      → IsAtOf cause faults.items first → IsRejectionOf target text e (rejection.Placed first faults)
+  are_placed d of e cause first faults told is found at = (
+    record { refusal = e; is_first = told; cause = cause; kind = is; placed = (d, of, found); at = at },
+    refl,
+  )
 
-  -- A text of which a fault with a place is reported has a value.
-  has_value : (e : Error) (cause : Cause) → TellsFirstFault target text e → cause_told e ≡ Some cause → (d : Data) × IsValueOf text d
-  has_value (library.JsonFrontend e) cause first is = has_frontend_value e cause first is
-  has_value (library.Backend (backend.FilterTooLarge n)) cause first is = (first.0, first.1)
-  has_value (library.Backend e) cause first is = absurd first
-  has_value _ cause first is = cc
+  -- A rejection for a refusal is one.
+  pub is_rejection : (e : Error) (r : Rejection) → IsNoMemoryInside e → IsNoReader e → TellsFirstFault target text e
+      → IsRejectionOf target text e r → IsRejection target text r
+  is_rejection e (rejection.Library own) memory reader first of =
+      rw of.0 (record { memory = of.1; none_inside = memory; no_reader = reader; first = first })
+  is_rejection e (rejection.Placed own faults) memory reader first of = of.0
+  is_rejection e rejection.OutOfMemory memory reader first of = tt
 
-  -- The faults with their places, of a text that is refused for this.
-  pub are_placed : (e : Error) (cause : Cause) (first : ℕ) (faults : List Fault) → TellsFirstFault target text e → cause_told e ≡ Some cause
-      → ((d : Data) → IsReadAs text d → All (IsFault target form.Policy d) faults) → IsAtOf cause faults first
-      → (are : ArePlaced target text first faults) × (are.refusal ≡ e)
-  are_placed e cause first faults told is found at =
-      let value = has_value e cause told is in (
-        record {
-          refusal = e;
-          is_first = told;
-          cause = cause;
-          kind = is;
-          placed = (value.0, value.1, found value.0 value.1.is_read);
-          at = at;
-        },
-        refl,
-      )
+  -- The front end's refusal of a text that has no value.
+  pub is_unread : (e : JsonFrontendError) → IsNoMemoryInFrontend e → IsNoFailedRead e → TellsFrontendFault target text e
+      → IsRejection target text (from_library (from_frontend e))
+  is_unread json.OutOfMemory memory reader first = tt
+  is_unread e memory reader first =
+      record { memory = λ same. cc; none_inside = (λ same. cc, memory); no_reader = reader; first = first }

@@ -14,7 +14,7 @@ use Rattle.serde_json.specs.Find.{get_item, get_member}
 pub use Rattle.serde_json.specs.View.{view}
 pub use Rattle.seccompiler.specs.declared.backend.TargetArch.{TargetArch}
 pub use Rattle.seccomp_faults.specs.Faults.{IsFault, IsPart}
-use Rattle.seccomp_faults.specs.Faults.{IsGiven, step_to}
+use Rattle.seccomp_faults.specs.Faults.{step_to}
 use Rattle.seccomp_faults.specs.Table.{Row, row_of}
 use Rattle.seccomp_faults.specs.declared.table.Rule.{Rule}
 use Rattle.seccomp_text.specs.declared.steps.Step.{Step}
@@ -35,11 +35,6 @@ row_at rules rows i d are inside =
     let at : get_or (map row_of rules) i (row_of d) ≡ row_of (get_or rules i d) = get_or-map row_of rules i d (row_of d) inside in
     let there = Contains-get_or (map row_of rules) i (row_of d) (rw length-map inside) in
     subst (λ all. Contains all (row_of (get_or rules i d))) are (subst (Contains (map row_of rules)) at there)
-
--- What is given is there.
-pub given_there : (o : Option Data) → IsGiven o → (value : Data) × (o ≡ Some value)
-given_there None given = absurd given
-given_there (Some d) given = (d, refl)
 
 -- ---- depths
 

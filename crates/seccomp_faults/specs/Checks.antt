@@ -80,7 +80,7 @@ IsRejection target text OutOfMemory = ⊤
 
 -- The same of this refusal of the library.
 abbrev pub IsRejectionOf : TargetArch → List ℕ → Error → Rejection → Type 0
-IsRejectionOf target text e (Library own) = own ≡ e
+IsRejectionOf target text e (Library own) = (own ≡ e) × (e ≢ library.OutOfMemory)
 IsRejectionOf target text e (Placed first faults) = (are : ArePlaced target text first faults.items) × (are.refusal ≡ e)
 IsRejectionOf target text e OutOfMemory = ⊤
 

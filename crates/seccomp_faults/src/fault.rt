@@ -3,7 +3,8 @@
 ghost use Rattle.std.specs.Prelude.{◌≡◌};
 ghost use Rattle.seccomp_faults.specs.Faults as spec;
 
-use crate::table::Form;
+use crate::json_text::{Outline, Position};
+use crate::table::{Form, is_of_profile};
 use seccomp_text::steps::Step;
 use seccompiler::TargetArch;
 
@@ -73,5 +74,24 @@ pub fn cause_of(problem: &Problem) -> Cause
         Problem::SameActions => Cause::Actions,
         Problem::TooLong(_, _, _) => Cause::Length,
         _ => Cause::Shape,
+    }
+}
+
+impl Outline {
+    /// Where a fault stands: where its value does, or the key in it that no object of its form has.
+    pub fn place_of(&self, fault: &Fault) -> Position {
+        let mut value = self.whole;
+        for step in &fault.path {
+            value = match step {
+                Step::Key(key) => self.under(value, key.as_str()),
+                Step::Item(place) => self.item(value, *place),
+            };
+        }
+        match &fault.problem {
+            Problem::Strange(key) if !is_of_profile(fault.form) => {
+                self.under(value, key.as_str()).key
+            }
+            _ => value.begins,
+        }
     }
 }

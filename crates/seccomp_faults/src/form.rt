@@ -110,20 +110,13 @@ const LONGEST: usize = 80;
 // Whether a value is a number from 0 to 2^64, written with a point or an exponent, where a whole number is expected.
 fn is_no_whole(form: Form, value: &Value) -> bool {
     match form {
-        Form::Argument
-        | Form::Index
-        | Form::ActionNumber
-        | Form::Number
-        | Form::ErrnoNumber
-        | Form::ProfileIndex
-        | Form::ProfileNumber
-        | Form::NumberOrNull => {
-            value.as_u64().is_none()
-                && value.as_i64().is_none()
-                && matches!(value.as_f64(), Some(number) if 0.0 <= number && number < 18446744073709551616.0)
-        }
-        _ => false,
+        Form::Argument | Form::Index | Form::ActionNumber | Form::Number => {}
+        Form::ErrnoNumber | Form::ProfileIndex | Form::ProfileNumber | Form::NumberOrNull => {}
+        _ => return false,
     }
+    value.as_u64().is_none()
+        && value.as_i64().is_none()
+        && matches!(value.as_f64(), Some(number) if 0.0 <= number && number < 18446744073709551616.0)
 }
 
 // The front of a long text, in whole characters, and how many bytes it has.

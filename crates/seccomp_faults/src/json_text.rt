@@ -2,8 +2,6 @@
 
 ghost use Rattle.std.specs.Prelude.{◌≤◌, length};
 
-use crate::fault::{Fault, Problem};
-use crate::table::is_of_profile;
 use seccomp_text::steps::Step;
 use serde_json::Value;
 use std::alloc::{AllocError, Global};
@@ -41,6 +39,12 @@ pub struct Located {
     inside: usize,
 }
 
+const NOWHERE: Located = Located {
+    begins: START,
+    key: START,
+    inside: usize::MAX,
+};
+
 /// Why a text has no outline.
 #[derive(Drop)]
 pub enum JsonFault {
@@ -48,6 +52,12 @@ pub enum JsonFault {
     At(Position, String),
     /// Memory ran out.
     OutOfMemory,
+}
+
+impl From<AllocError> for JsonFault {
+    fn from(_refused: AllocError) -> JsonFault {
+        JsonFault::OutOfMemory
+    }
 }
 
 /// The values of a JSON text.
@@ -61,21 +71,19 @@ pub struct Outline {
     inside: Vec<Inside>,
 }
 
-// The values inside an array or an object.
+// The values inside an array, or those inside an object with their keys.
 #[derive(Drop)]
 struct Inside {
     items: Vec<Located>,
     members: BTreeMap<String, Located>,
 }
 
-// An array or an object whose end isn't read.
+// An array or an object whose end isn't read: the step to it, and the place of what is inside it.
 #[derive(Drop)]
 struct Open {
-    // The place of what is inside it.
+    step: Step,
     inside: usize,
     is_object: bool,
-    // Its path, with a point in front of each key.
-    path: String,
 }
 
 // What may come next.
@@ -115,10 +123,26 @@ pub fn outline_of(alloc: Global, text: &[u8]) -> Result<Outline, JsonFault> {
         key_begins: START,
         outline: Outline::new(alloc),
     };
-    match reading.read(alloc, text) {
-        Ok(None) => Ok(reading.outline),
-        Ok(Some(told)) => Err(JsonFault::At(reading.at, told)),
-        Err(AllocError) => Err(JsonFault::OutOfMemory),
+    if let Err(error) = str::from_utf8(text) {
+        for byte in text.iter().take(error.valid_up_to()) {
+            reading.pass(*byte, 1);
+        }
+        return Err(reading.fault(String::from_str(alloc, "the text isn't UTF-8")));
+    }
+    let mut rest = text;
+    // A piece has a byte at least, while there is a rest.
+    for _ in 0..text.len() {
+        let (piece, behind) = rest.split_at(json_piece_len(rest));
+        let Some(first) = piece.first() else {
+            break;
+        };
+        reading.take(alloc, *first, piece)?;
+        reading.pass(*first, piece.len());
+        rest = behind;
+    }
+    match (reading.wanted, reading.open.is_empty()) {
+        (Wanted::More, true) => Ok(reading.outline),
+        _ => Err(reading.fault(unexpected(alloc, reading.expected(), b""))),
     }
 }
 
@@ -144,11 +168,7 @@ impl Outline {
     /// That of no text.
     pub fn new(alloc: Global) -> Outline {
         Outline {
-            whole: Located {
-                begins: START,
-                key: START,
-                inside: usize::MAX,
-            },
+            whole: NOWHERE,
             repeated: None,
             inside: Vec::new(alloc),
         }
@@ -164,60 +184,24 @@ impl Outline {
 
     /// The value under this key of an object; or this one, if there is none. A filter's actions have two names.
     pub fn under(&self, outer: Located, key: &str) -> Located {
-        let other = match key {
-            "mismatch_action" => "default_action",
-            "match_action" => "filter_action",
-            _ => key,
-        };
         let Some(Inside { members, .. }) = self.inside.get(outer.inside) else {
             return outer;
         };
-        *members.get(key).or(members.get(other)).unwrap_or(&outer)
-    }
-
-    /// Where a fault stands: where its value does, or the key in it that no object of its form has.
-    pub fn place_of(&self, fault: &Fault) -> Position {
-        let mut value = self.whole;
-        for step in &fault.path {
-            value = match step {
-                Step::Key(key) => self.under(value, key.as_str()),
-                Step::Item(place) => self.item(value, *place),
-            };
-        }
-        match &fault.problem {
-            Problem::Strange(key) if !is_of_profile(fault.form) => {
-                self.under(value, key.as_str()).key
-            }
-            _ => value.begins,
+        match (members.get(key), key) {
+            (Some(located), _) => *located,
+            (None, "mismatch_action") => *members.get("default_action").unwrap_or(&outer),
+            (None, "match_action") => *members.get("filter_action").unwrap_or(&outer),
+            (None, _) => outer,
         }
     }
 }
 
 impl Reading {
-    // Reads a text, or says what is wrong where the reading is then.
-    fn read(&mut self, alloc: Global, text: &[u8]) -> Result<Option<String>, AllocError> {
-        if let Err(error) = str::from_utf8(text) {
-            for byte in text.iter().take(error.valid_up_to()) {
-                self.pass(*byte, 1);
-            }
-            return Ok(Some(String::from_str(alloc, "the text isn't UTF-8")?));
-        }
-        let mut rest = text;
-        // A piece has a byte at least, while there is a rest.
-        for _ in 0..text.len() {
-            let (piece, behind) = rest.split_at(json_piece_len(rest));
-            let Some(first) = piece.first() else {
-                break;
-            };
-            if let Some(told) = self.take(alloc, *first, piece)? {
-                return Ok(Some(told));
-            }
-            self.pass(*first, piece.len());
-            rest = behind;
-        }
-        match (self.wanted, self.open.is_empty()) {
-            (Wanted::More, true) => Ok(None),
-            _ => Ok(Some(unexpected(alloc, self.expected(), b"")?)),
+    // That this is wrong with what comes next.
+    fn fault(&self, told: Result<String, AllocError>) -> JsonFault {
+        match told {
+            Ok(told) => JsonFault::At(self.at, told),
+            Err(_) => JsonFault::OutOfMemory,
         }
     }
 
@@ -237,25 +221,13 @@ impl Reading {
     }
 
     // Takes a piece of the text, which begins with this byte; or says what is wrong with it.
-    fn take(
-        &mut self,
-        alloc: Global,
-        first: u8,
-        piece: &[u8],
-    ) -> Result<Option<String>, AllocError> {
+    fn take(&mut self, alloc: Global, first: u8, piece: &[u8]) -> Result<(), JsonFault> {
         self.wanted = match (self.wanted, first, self.is_in_object()) {
-            (_, b' ' | b'\t' | b'\r' | b'\n', _) => return Ok(None),
-            (Wanted::Value | Wanted::ValueOrEnd, b'{' | b'[', _) => {
-                if self.open.len() >= DEEPEST {
-                    return Ok(Some(String::from_str(alloc, "nested more than 127 deep")?));
-                }
-                self.file(alloc, first)?;
-                if first == b'{' {
-                    Wanted::NameOrEnd
-                } else {
-                    Wanted::ValueOrEnd
-                }
+            (_, b' ' | b'\t' | b'\r' | b'\n', _) => return Ok(()),
+            (Wanted::Value | Wanted::ValueOrEnd, b'{' | b'[', _) if self.open.len() >= DEEPEST => {
+                return Err(self.fault(String::from_str(alloc, "nested more than 127 deep")));
             }
+            (Wanted::Value | Wanted::ValueOrEnd, b'{' | b'[', _) => self.file(alloc, first)?,
             (Wanted::ValueOrEnd | Wanted::More, b']', Some(false))
             | (Wanted::NameOrEnd | Wanted::More, b'}', Some(true)) => {
                 drop(self.open.pop());
@@ -263,68 +235,94 @@ impl Reading {
             }
             (Wanted::More, b',', Some(true)) => Wanted::Name,
             (Wanted::More, b',', Some(false)) | (Wanted::Colon, b':', _) => Wanted::Value,
-            (Wanted::Name | Wanted::NameOrEnd, b'"', _) => match text_of(alloc, piece)? {
-                Ok(key) => {
-                    self.key = key;
-                    self.key_begins = self.at;
-                    Wanted::Colon
-                }
-                Err(told) => return Ok(Some(told)),
-            },
+            (Wanted::Name | Wanted::NameOrEnd, b'"', _) => {
+                self.key = self.text_of(alloc, first, piece)?;
+                self.key_begins = self.at;
+                Wanted::Colon
+            }
             (Wanted::Value | Wanted::ValueOrEnd, _, _)
                 if first == b'"' || !MARKS.contains(&first) => {
-                if let Err(told) = text_of(alloc, piece)? {
-                    return Ok(Some(told));
+                if !is_plain(piece) {
+                    drop(self.text_of(alloc, first, piece)?);
                 }
-                self.file(alloc, first)?;
-                Wanted::More
+                self.file(alloc, first)?
             }
-            _ => return Ok(Some(unexpected(alloc, self.expected(), piece)?)),
+            _ => return Err(self.fault(unexpected(alloc, self.expected(), piece))),
         };
-        Ok(None)
+        Ok(())
     }
 
-    // Files the value that begins here with this byte, and goes on inside it if it is an array or an object.
-    fn file(&mut self, alloc: Global, first: u8) -> Result<(), AllocError> {
-        let inside = match first {
-            b'{' | b'[' => self.outline.inside.len(),
-            _ => usize::MAX,
-        };
-        let (begins, mut path) = (self.at, String::new(alloc));
-        let mut located = Located {
-            begins,
-            key: begins,
-            inside,
-        };
+    // The text of a string, and no text of another value; or what is wrong with a piece that is no value.
+    fn text_of(&self, alloc: Global, first: u8, piece: &[u8]) -> Result<String, JsonFault> {
+        if let [b'"', plain @ .., b'"'] = piece {
+            if is_plain(piece) {
+                return Ok(String::from_utf8_lossy(alloc, plain)?);
+            }
+        }
+        match Value::from_slice(alloc, piece) {
+            Ok(value) => match value {
+                Value::String(text) => Ok(text),
+                _other => Ok(String::new(alloc)),
+            },
+            Err(error) if error.is_memory() => Err(JsonFault::OutOfMemory),
+            Err(error) => {
+                let is_large = error.to_string(alloc)?.starts_with("number out of range");
+                Err(self.fault(match first {
+                    b'"' => String::from_str(alloc, wrong_in_string(piece)),
+                    b'-' | b'0'..=b'9' if is_large => unexpected(
+                        alloc,
+                        "a number below 1.8e308",
+                        piece,
+                    ),
+                    b'-' | b'0'..=b'9' => unexpected(alloc, "a number in decimal digits", piece),
+                    _ => unexpected(alloc, "a value", piece),
+                }))
+            }
+        }
+    }
+
+    // Files the value that begins here with this byte, and goes on inside it if it is an array or an object. Gives what may come next.
+    fn file(&mut self, alloc: Global, first: u8) -> Result<Wanted, AllocError> {
+        let (mut located, mut step) = (NOWHERE, Step::Item(0));
+        located.begins = self.at;
+        located.key = self.at;
+        if let b'{' | b'[' = first {
+            located.inside = self.outline.inside.len();
+        }
         match self.open.last() {
             None => self.outline.whole = located,
             Some(around) => if let Some(own) = self.outline.inside.get_mut(around.inside) {
-                let outer = &around.path;
                 if around.is_object {
                     located.key = self.key_begins;
-                    path = format!(in alloc; "{outer}.{}", self.key)?;
                     let key = mem::replace(&mut self.key, String::new(alloc));
+                    let name = key.clone()?;
                     let earlier = own.members.insert(key, located)?;
                     if earlier.is_some() && self.outline.repeated.is_none() {
-                        self.outline.repeated = Some((path.clone()?, located.key));
+                        let path = path_to(alloc, &self.open, name.as_str())?;
+                        self.outline.repeated = Some((path, located.key));
                     }
+                    step = Step::Key(name);
                 } else {
-                    path = format!(in alloc; "{outer}[{}]", own.items.len())?;
+                    step = Step::Item(own.items.len());
                     own.items.push(located)?;
                 }
             }
         }
-        if inside != usize::MAX {
-            let (items, members) = (Vec::new(alloc), BTreeMap::new(alloc));
-            self.outline.inside.push(Inside { items, members })?;
-            let is_object = first == b'{';
-            self.open.push(Open {
-                inside,
-                is_object,
-                path,
-            })?;
+        if located.inside == usize::MAX {
+            return Ok(Wanted::More);
         }
-        Ok(())
+        let (items, members) = (Vec::new(alloc), BTreeMap::new(alloc));
+        self.outline.inside.push(Inside { items, members })?;
+        let (inside, is_object) = (located.inside, first == b'{');
+        self.open.push(Open {
+            step,
+            inside,
+            is_object,
+        })?;
+        match first {
+            b'{' => Ok(Wanted::NameOrEnd),
+            _ => Ok(Wanted::ValueOrEnd),
+        }
     }
 
     // What may come next, in words.
@@ -342,33 +340,26 @@ impl Reading {
     }
 }
 
-// The text of a string, and no text of another value; or what is wrong with a piece that is no value.
-fn text_of(alloc: Global, piece: &[u8]) -> Result<Result<String, String>, AllocError> {
-    if let [b'"', plain @ .., b'"'] = piece {
-        if plain.iter().all(|it| *it >= b' ' && *it != b'\\') {
-            return Ok(Ok(String::from_utf8_lossy(alloc, plain)?));
-        }
+// The path to what is under a key of the last of these, with a point in front of each key.
+fn path_to(alloc: Global, open: &[Open], key: &str) -> Result<String, AllocError> {
+    let mut path = String::new(alloc);
+    for around in open.iter().skip(1) {
+        path = match &around.step {
+            Step::Key(key) => format!(in alloc; "{path}.{key}")?,
+            Step::Item(place) => format!(in alloc; "{path}[{place}]")?,
+        };
     }
-    match Value::from_slice(alloc, piece) {
-        Ok(value) => match value {
-            Value::String(text) => Ok(Ok(text)),
-            _other => Ok(Ok(String::new(alloc))),
-        },
-        Err(error) if error.is_memory() => Err(AllocError),
-        Err(error) => {
-            let is_large = error.to_string(alloc)?.starts_with("number out of range");
-            Ok(Err(wrong_with(alloc, piece, is_large)?))
-        }
-    }
+    format!(in alloc; "{path}.{key}")
 }
 
-// What is wrong with a piece that is no value, and may be too large a number.
-fn wrong_with(alloc: Global, piece: &[u8], is_large: bool) -> Result<String, AllocError> {
-    match piece.first() {
-        Some(b'"') => String::from_str(alloc, wrong_in_string(piece)),
-        Some(b'-' | b'0'..=b'9') if is_large => unexpected(alloc, "a number below 1.8e308", piece),
-        Some(b'-' | b'0'..=b'9') => unexpected(alloc, "a number in decimal digits", piece),
-        _ => unexpected(alloc, "a value", piece),
+// Whether a piece is a value at first sight: a string without escapes, a name, or some digits.
+fn is_plain(piece: &[u8]) -> bool {
+    match piece {
+        [b'"', plain @ .., b'"'] => plain.iter().all(|it| *it >= b' ' && *it != b'\\'),
+        b"true" | b"false" | b"null" => true,
+        [b'1'..=b'9', digits @ ..] => digits.len() < 18
+            && digits.iter().all(|it| it.is_ascii_digit()),
+        _ => false,
     }
 }
 

@@ -36,14 +36,15 @@ fn add<'v>(parts: &mut Vec<Part<'v>>, part: Option<Part<'v>>) -> Result<(), Allo
 fn add_members<'v>(
     parts: &mut Vec<Part<'v>>,
     alloc: Global,
+    target: TargetArch,
     form: Form,
     members: &'v Map<String, Value>,
 ) -> Result<(), AllocError>
-    ensures { (target : TargetArch) → let d = object (members_view members.now.entries) in All (IsPart target form d) parts.old.items
+    ensures { let d = object (members_view members.now.entries) in All (IsPart target form d) parts.old.items
         → OnOk result (All (IsPart target form d) parts.new.items) }
 {
     for (key, inner) in members.iter() {
-        add(parts, by_key(alloc, form, key.as_str(), inner)?)?;
+        add(parts, by_key(alloc, target, form, key.as_str(), inner)?)?;
     }
     Ok(())
 }
@@ -52,14 +53,15 @@ fn add_members<'v>(
 fn add_rules<'v>(
     parts: &mut Vec<Part<'v>>,
     alloc: Global,
+    target: TargetArch,
     form: Form,
     value: &'v Value,
 ) -> Result<(), AllocError>
-    ensures { (target : TargetArch) → IsObject (view value.now) → All (IsPart target form (view value.now)) parts.old.items
+    ensures { IsObject (view value.now) → All (IsPart target form (view value.now)) parts.old.items
         → OnOk result (All (IsPart target form (view value.now)) parts.new.items) }
 {
     for rule in rules_of(form) {
-        add(parts, by_rule(alloc, *rule, value)?)?;
+        add(parts, by_rule(alloc, target, *rule, value)?)?;
     }
     Ok(())
 }
@@ -68,16 +70,17 @@ fn add_rules<'v>(
 fn add_object<'v>(
     parts: &mut Vec<Part<'v>>,
     alloc: Global,
+    target: TargetArch,
     form: Form,
     value: &'v Value,
 ) -> Result<(), AllocError>
-    ensures { (target : TargetArch) → All (IsPart target form (view value.now)) parts.old.items
+    ensures { All (IsPart target form (view value.now)) parts.old.items
         → OnOk result (All (IsPart target form (view value.now)) parts.new.items) }
 {
     match value {
         Value::Object(members) if is_object(form) || members.len() == 1 => {
-            add_members(parts, alloc, form, members)?;
-            add_rules(parts, alloc, form, value)
+            add_members(parts, alloc, target, form, members)?;
+            add_rules(parts, alloc, target, form, value)
         }
         _ => Ok(()),
     }
@@ -109,21 +112,6 @@ fn add_array<'v>(parts: &mut Vec<Part<'v>>, form: Form, value: &'v Value) -> Res
     }
 }
 
-// The name that may have been meant, if it is wanted and the value is a text.
-fn near(
-    alloc: Global,
-    target: TargetArch,
-    suggests: bool,
-    value: &Value,
-) -> Result<Option<&'static str>, AllocError>
-    ensures { IfOk result (λ near. IfSome near (λ name. IsCallOf target (string name.now))) }
-{
-    match value {
-        Value::String(name) if suggests => near_name(alloc, target, name.as_str()),
-        _ => Ok(None),
-    }
-}
-
 // That a value isn't of this form.
 fn broken<'v>(
     alloc: Global,
@@ -135,11 +123,12 @@ fn broken<'v>(
     ensures { (form : Form) → Misses target form missed (view value.now) → IfOk result (λ part. IfSome part (IsPart target form (view value.now))) }
 {
     let shown = shown(alloc, missed, value)?;
-    match missed {
-        Form::Call => {
-            let near = near(alloc, target, suggests, value)?;
+    match (missed, value) {
+        (Form::Call, Value::String(name)) if suggests => {
+            let near = near_name(alloc, target, name.as_str())?;
             Ok(Some(Part::Broken(Problem::UnknownCall(shown, target, near))))
         }
+        (Form::Call, _) => Ok(Some(Part::Broken(Problem::UnknownCall(shown, target, None)))),
         _ => Ok(Some(Part::Broken(Problem::Stands(shown, missed)))),
     }
 }
@@ -175,7 +164,7 @@ pub(crate) fn level<'v>(
     ensures { IfOk result (λ parts. All (IsPart target form (view value.now)) parts.items) }
 {
     let mut parts = Vec::new(alloc);
-    add_object(&mut parts, alloc, form, value)?;
+    add_object(&mut parts, alloc, target, form, value)?;
     add_array(&mut parts, form, value)?;
     add_missed(&mut parts, alloc, target, suggests, form, value)?;
     Ok(parts)

@@ -28,7 +28,6 @@ mod level;
 mod near;
 mod part;
 pub mod policy;
-mod profile;
 pub mod table;
 mod text;
 mod walk;
@@ -36,8 +35,8 @@ mod walk;
 pub use fault::{Cause, Fault, Problem};
 pub use json_text::{JsonFault, Located, Outline, Position, outline_of};
 pub use policy::{
-    Rejection, cause_of_error, cause_of_frontend, check, faults, first_of, rejection_of,
+    Rejection, cause_of_error, cause_of_frontend, check, faults, first_of, profile_faults,
+    rejection_in,
 };
-pub use profile::profile_faults;
 pub use seccomp_text::steps::Step;
 pub use table::{Form, is_of_profile};

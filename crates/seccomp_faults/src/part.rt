@@ -11,10 +11,11 @@ ghost use Rattle.seccomp_faults.specs.Faults.{IsGiven, IsPart, NamesNone};
 ghost use Rattle.seccomp_faults.specs.Table.{IsUnder, actions_differ, has_key, must, names, none_beside, not_both, one_of, row_of, rows_of};
 
 use crate::fault::Problem;
+use crate::form::missed;
 use crate::table::{Form, Rule, is_closed, member_of, rules_of};
 use seccomp_text::steps::Step;
-use seccompiler::SeccompAction;
 use seccompiler::json::read_action;
+use seccompiler::{SeccompAction, TargetArch};
 use serde_json::Value;
 use std::alloc::{AllocError, Global};
 
@@ -50,68 +51,42 @@ fn is_key(form: Form, key: &str) -> bool
     false
 }
 
-// The value under a key, to be looked at.
+// The value under a key, to be looked at; none, if it is as it has to be and nothing is inside.
 fn under<'v>(
     alloc: Global,
+    target: TargetArch,
     key: &str,
     form: Form,
     value: &'v Value,
 ) -> Result<Option<Part<'v>>, AllocError>
-    ensures { (target : TargetArch) (outer : Form) (d : Data) → IsUnder outer key.now form → get key.now d ≡ Some (view value.now)
+    ensures { (outer : Form) (d : Data) → IsUnder outer key.now form → get key.now d ≡ Some (view value.now)
         → IfOk result (λ part. IfSome part (IsPart target outer d)) }
 {
+    let is_scalar = !matches!(value, Value::Object(_) | Value::Array(_));
+    if is_scalar && missed(target, form, value).is_none() {
+        return Ok(None);
+    }
     let key = String::from_str(alloc, key)?;
     Ok(Some(Part::Inner(Step::Key(key), form, value)))
-}
-
-// What is under a key, if anything.
-fn under_may<'v>(
-    alloc: Global,
-    key: &str,
-    form: Form,
-    value: &'v Value,
-) -> Result<Option<Part<'v>>, AllocError>
-    ensures { (target : TargetArch) (outer : Form) → IsUnder outer key.now form
-        → IfOk result (λ part. IfSome part (IsPart target outer (view value.now))) }
-{
-    match value.get(key) {
-        Some(inner) => under(alloc, key, form, inner),
-        None => Ok(None),
-    }
-}
-
-// What is under a key; or that nothing is.
-fn under_must<'v>(
-    alloc: Global,
-    key: &'static str,
-    form: Form,
-    value: &'v Value,
-) -> Result<Option<Part<'v>>, AllocError>
-    ensures { (target : TargetArch) (outer : Form) → Contains (rows_of outer) (must key.now form) → IsObject (view value.now)
-        → IfOk result (λ part. IfSome part (IsPart target outer (view value.now))) }
-{
-    match value.get(key) {
-        Some(inner) => under(alloc, key, form, inner),
-        None => Ok(Some(Part::Broken(Problem::Missing(key)))),
-    }
 }
 
 // What is under one of two keys; or that nothing is, or something under both.
 fn under_one_of<'v>(
     alloc: Global,
+    target: TargetArch,
     key: &'static str,
     other: &'static str,
     form: Form,
     value: &'v Value,
 ) -> Result<Option<Part<'v>>, AllocError>
-    ensures { (target : TargetArch) (outer : Form) → Contains (rows_of outer) (one_of key.now other.now form) → IsObject (view value.now)
+    ensures { (outer : Form) → Contains (rows_of outer) (one_of key.now other.now form) → IsObject (view value.now)
         → IfOk result (λ part. IfSome part (IsPart target outer (view value.now))) }
 {
     match (value.get(key), value.get(other)) {
         (Some(_), Some(_)) => Ok(Some(Part::Broken(Problem::Both(key, other)))),
         (None, None) => Ok(Some(Part::Broken(Problem::Neither(key, other)))),
-        (Some(inner), None) => under(alloc, key, form, inner),
-        (None, Some(inner)) => under(alloc, other, form, inner),
+        (Some(inner), None) => under(alloc, target, key, form, inner),
+        (None, Some(inner)) => under(alloc, target, other, form, inner),
     }
 }
 
@@ -161,26 +136,6 @@ fn is_given(value: Option<&Value>) -> bool
     }
 }
 
-// Whether an array that isn't empty stands there.
-fn has_items(value: Option<&Value>) -> bool
-    ensures { IsTrue result → IsGiven (option_map (λ v. view v.now) value.entry) }
-{
-    match value {
-        Some(Value::Array(items)) => !items.is_empty(),
-        _ => false,
-    }
-}
-
-// Whether a text that isn't empty stands there.
-fn has_text(value: Option<&Value>) -> bool
-    ensures { IsTrue result → IsGiven (option_map (λ v. view v.now) value.entry) }
-{
-    match value {
-        Some(Value::String(text)) => !text.is_empty(),
-        _ => false,
-    }
-}
-
 // That something stands beside an action that takes no number, if so.
 fn beside<'v>(action: &str, key: &'static str, value: &'v Value) -> Option<Part<'v>>
     ensures { (target : TargetArch) (outer : Form) → Contains (rows_of outer) (none_beside action.now key.now)
@@ -197,7 +152,12 @@ fn list_and_text<'v>(key: &'static str, other: &'static str, value: &'v Value) -
     ensures { (target : TargetArch) (outer : Form) → Contains (rows_of outer) (not_both key.now other.now)
         → IfSome result (IsPart target outer (view value.now)) }
 {
-    if !has_items(value.get(key)) || !has_text(value.get(other)) {
+    let (Some(list), Some(name)) = (value.get(key), value.get(other)) else {
+        return None;
+    };
+    let is_list = matches!(list, Value::Array(items) if !items.is_empty());
+    let is_named = matches!(name, Value::String(text) if !text.is_empty());
+    if !is_list || !is_named {
         return None;
     }
     Some(Part::Broken(Problem::Both(key, other)))
@@ -206,16 +166,23 @@ fn list_and_text<'v>(key: &'static str, other: &'static str, value: &'v Value) -
 /// What a rule says of an object.
 pub(crate) fn by_rule<'v>(
     alloc: Global,
+    target: TargetArch,
     rule: Rule,
     value: &'v Value,
 ) -> Result<Option<Part<'v>>, AllocError>
-    ensures { (target : TargetArch) (outer : Form) → Contains (rows_of outer) (row_of rule) → IsObject (view value.now)
+    ensures { (outer : Form) → Contains (rows_of outer) (row_of rule) → IsObject (view value.now)
         → IfOk result (λ part. IfSome part (IsPart target outer (view value.now))) }
 {
     match rule {
-        Rule::May(key, form) => under_may(alloc, key, form, value),
-        Rule::Must(key, form) => under_must(alloc, key, form, value),
-        Rule::OneOf(key, other, form) => under_one_of(alloc, key, other, form, value),
+        Rule::May(key, form) => match value.get(key) {
+            Some(inner) => under(alloc, target, key, form, inner),
+            None => Ok(None),
+        },
+        Rule::Must(key, form) => match value.get(key) {
+            Some(inner) => under(alloc, target, key, form, inner),
+            None => Ok(Some(Part::Broken(Problem::Missing(key)))),
+        },
+        Rule::OneOf(key, other, form) => under_one_of(alloc, target, key, other, form, value),
         Rule::ActionsDiffer => Ok(same_actions(value)),
         Rule::NoneBeside(action, key) => Ok(beside(action, key, value)),
         Rule::NotBoth(key, other) => Ok(list_and_text(key, other, value)),
@@ -225,14 +192,15 @@ pub(crate) fn by_rule<'v>(
 /// What a member of an object is: to be looked at, as each of a policy; or wrong, as a key that none of this form has.
 pub(crate) fn by_key<'v>(
     alloc: Global,
+    target: TargetArch,
     form: Form,
     key: &str,
     value: &'v Value,
 ) -> Result<Option<Part<'v>>, AllocError>
-    ensures { (target : TargetArch) (d : Data) → get key.now d ≡ Some (view value.now) → IfOk result (λ part. IfSome part (IsPart target form d)) }
+    ensures { (d : Data) → get key.now d ≡ Some (view value.now) → IfOk result (λ part. IfSome part (IsPart target form d)) }
 {
     if let Some(inner) = member_of(form) {
-        return under(alloc, key, inner, value);
+        return under(alloc, target, key, inner, value);
     }
     if !is_closed(form) || is_key(form, key) {
         return Ok(None);

@@ -1,12 +1,13 @@
-// Whether a policy is taken, and else its faults.
+// Whether a policy is taken, and else its faults; and those of a profile.
 
 ghost use Rattle.std.specs.Prelude.{◌≡◌, All, IfErr, IfOk, IfSome};
 ghost use Rattle.serde_json.specs.Data.{Data};
 ghost use Rattle.serde_json.specs.View.{view};
-ghost use Rattle.seccompiler.specs.Errors.{IsNoMemoryInside, IsNoReader};
-ghost use Rattle.seccompiler.specs.JsonAnswers.{IsReadAs, OfValue};
+ghost use Rattle.seccompiler.specs.JsonAnswers.{IsReadAs, OfEachText, OfValue};
 ghost use Rattle.seccompiler.specs.JsonPrograms.{TellsFirstFault};
 ghost use Rattle.seccompiler.specs.JsonSteps.{AreFilters};
+ghost use Rattle.seccompiler.specs.declared.backend.TargetArch.TheVariants.{x86_64};
+ghost use Rattle.seccomp_profiles.specs.ProfileText.{profile_in};
 ghost use Rattle.seccomp_faults.specs.Checks.{AreAllCompiled, IsAtOf, IsRejection, IsRejectionOf, frontend_cause, cause_told};
 ghost use Rattle.seccomp_faults.specs.Faults.{IsFault};
 ghost use Rattle.seccomp_faults.specs.declared.table.Form.TheVariants as form;
@@ -15,8 +16,10 @@ use crate::fault::{Cause, Fault, cause_of};
 use crate::length::lengths;
 use crate::table::Form;
 use crate::walk::walk;
-use seccompiler::json::{JsonFrontendError, filters_of};
-use seccompiler::{BackendError, Error, JsonFilterMap, TargetArch, programs_of};
+use seccomp_profiles::profile_in;
+use seccompiler::compile::programs_in;
+use seccompiler::json::{JsonFrontendError, read_filters, value_of};
+use seccompiler::{BackendError, Error, JsonFilterMap, TargetArch};
 use serde_json::Value;
 use std::alloc::{AllocError, Global};
 
@@ -66,9 +69,25 @@ pub fn check(
     ensures compiled { IfOk result (λ filters. OfValue text.now (λ d. AreFilters d filters × AreAllCompiled target d)) }
     ensures rejected { IfErr result (IsRejection target text.now) }
 {
-    match programs_of(alloc, text, target) {
-        Err(refusal) => Err(rejection_of(alloc, target, most, text, refusal)),
-        Ok(_programs) => match filters_of(alloc, text) {
+    match value_of(alloc, text) {
+        Ok(value) => check_in(alloc, target, most, &value),
+        Err(refusal) => Err(Error::from(refusal).into()),
+    }
+}
+
+// The same of the text's value.
+fn check_in(
+    alloc: Global,
+    target: TargetArch,
+    most: usize,
+    value: &Value,
+) -> Result<JsonFilterMap, Rejection>
+    ensures compiled { IfOk result (λ filters. AreFilters (view value.now) filters × AreAllCompiled target (view value.now)) }
+    ensures rejected { IfErr result (λ rejection. OfEachText (view value.now) (λ text. IsRejection target text rejection)) }
+{
+    match programs_in(alloc, value, target) {
+        Err(refusal) => Err(rejection_in(alloc, target, most, value, refusal)),
+        Ok(_programs) => match read_filters(alloc, value) {
             Ok(filters) => Ok(filters),
             // Memory is lacking that was there before.
             Err(_) => Err(Rejection::OutOfMemory),
@@ -123,7 +142,7 @@ pub fn faults(
     }
 }
 
-// The same of a value.
+// The same of the text's value.
 fn faults_in(
     alloc: Global,
     target: TargetArch,
@@ -139,6 +158,25 @@ fn faults_in(
     Ok(found)
 }
 
+/// All faults of a text that is no profile, in the order in which they are looked for; none if it is no JSON, or a profile.
+///
+/// # Errors
+///
+/// `AllocError` if memory runs out.
+pub fn profile_faults(alloc: Global, text: &[u8]) -> Result<Vec<Fault>, AllocError>
+    ensures { (d : Data) → IsReadAs text.now d → IfOk result (λ all. All (IsFault x86_64 form.Profile (profile_in d)) all.items) }
+{
+    match Value::from_slice(alloc, text) {
+        // No form of a profile depends on the architecture.
+        Ok(value) => {
+            let profile = profile_in(&value);
+            walk(alloc, TargetArch::x86_64, 0, Form::Profile, profile)
+        }
+        Err(error) if error.is_memory() => Err(AllocError),
+        Err(_) => Ok(Vec::new(alloc)),
+    }
+}
+
 /// The place of the first fault of a kind among some.
 pub fn first_of(cause: Cause, faults: &[Fault]) -> Option<usize>
     ensures { IfSome result (IsAtOf cause faults.now) }
@@ -151,21 +189,22 @@ pub fn first_of(cause: Cause, faults: &[Fault]) -> Option<usize>
     None
 }
 
-/// The rejection of a policy's text that the library rejects so: all faults, or the library's error as it is if it has no place.
-pub fn rejection_of(
+/// The rejection of the value of a policy's text, which the library rejects so: all faults, or the library's error as it is if it
+/// has no place.
+#[tactic(auto, using(crate::proofs::Judgements::without_place))]
+pub fn rejection_in(
     alloc: Global,
     target: TargetArch,
     most: usize,
-    text: &[u8],
+    value: &Value,
     refusal: Error,
 ) -> Rejection
-    ensures own { TellsFirstFault target text.now refusal → IsRejectionOf target text.now refusal result }
-    ensures rejection { IsNoMemoryInside refusal → IsNoReader refusal → TellsFirstFault target text.now refusal → IsRejection target text.now result }
+    ensures { OfEachText (view value.now) (λ text. TellsFirstFault target text refusal → IsRejectionOf target text refusal result) }
 {
     let Some(cause) = cause_of_error(&refusal) else {
         return refusal.into();
     };
-    match faults(alloc, target, most, text) {
+    match faults_in(alloc, target, most, value) {
         Ok(faults) => match first_of(cause, &faults) {
             Some(first) => Rejection::Placed(first, faults),
             None => refusal.into(),

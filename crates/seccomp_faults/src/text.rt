@@ -21,7 +21,7 @@ fn form_words(form: Form) -> &'static str {
         Form::Comment | Form::TextOrNull => "null or a string",
         Form::Conditions => "null or an array of conditions",
         Form::SomeConditions => "null or at least one condition",
-        Form::Index | Form::Argument => "0 to 5",
+        Form::Index | Form::Argument | Form::ProfileIndex => "0 to 5",
         Form::Length => "\"dword\" or \"qword\"",
         Form::Operator => { "\"eq\", \"ge\", \"gt\", \"le\", \"lt\", {\"masked_eq\": N} or \"ne\"" }
         Form::ActionNumber => "0 to 4294967295",
@@ -39,7 +39,6 @@ fn form_words(form: Form) -> &'static str {
             "SECCOMP_FILTER_FLAG_LOG, SECCOMP_FILTER_FLAG_SPEC_ALLOW, SECCOMP_FILTER_FLAG_TSYNC or SECCOMP_FILTER_FLAG_WAIT_KILLABLE_RECV"
         }
         Form::Text => "a string",
-        Form::ProfileIndex => "0 to 5",
         Form::NumberOrNull => "null or 0 to 18446744073709551615",
         Form::ProfileOperator => {
             "SCMP_CMP_EQ, SCMP_CMP_GE, SCMP_CMP_GT, SCMP_CMP_LE, SCMP_CMP_LT, SCMP_CMP_MASKED_EQ or SCMP_CMP_NE"

@@ -1,13 +1,16 @@
-use Rattle.std.proofs.Common.{subst}
-use Rattle.std.specs.BTreeMap.{get_by_text}
-use Rattle.serde_json.specs.Data.{Data}
-use Rattle.seccompiler.specs.JsonAnswers.{ArePoliciesOf, HasPolicy}
-use Rattle.seccompiler.specs.JsonFilters.{IsReadBack}
-use Rattle.seccompiler.specs.declared.backend.TargetArch.{TargetArch}
+use Rattle.std.proofs.lemmas.Result.{err_from_is_err_and}
+use Rattle.serde_json.specs.View.{view}
 use Rattle.seccomp_answers.proofs.policy.policies_in.Goals as goal
 
-pub returns-in-Ok-clause-read_back : goal.returns-in-Ok-clause-read_back
-returns-in-Ok-clause-read_back c =
-    let made = c.in-Ok.policies in
-    subst (λ (arch : TargetArch). (d : Data) → ArePoliciesOf arch (get_by_text made) d → IsReadBack (HasPolicy arch) made d) c.new.ensures
-    c.in-Ok.ensures.read_back
+pub returns-in_err-value-clause-unread : goal.returns-in_err-value-clause-unread
+returns-in_err-value-clause-unread c =
+    let error = err_from_is_err_and c.from_residual.result c.from_residual.ensures.1 in
+    rw (error.1, error.2) (c.in_err-value.ensures.unread c.args.target)
+
+pub returns-in-Ok-clause-policies : goal.returns-in-Ok-clause-policies
+returns-in-Ok-clause-policies c = (view c.in_ok-value.value, c.in_ok-value.ensures.value, c.in-Ok.ensures.policies)
+
+pub returns-clause-unread : goal.returns-clause-unread
+returns-clause-unread c =
+    let is = c.in_ok-value.ensures.value in
+    c.unread.ensures is (c.in-Err.ensures.fault c.args.text.now is) c.in-Err.ensures.no_reader c.in-Err.ensures.memory

@@ -21,5 +21,5 @@ loop-key-preserved c =
     let d = object (members_view c.args.members.now.entries) in (
       done ++ e ∷ [],
       all ∙ sym (append_assoc done (e ∷ []) left),
-      λ target old. c.in_ok-add.ensures target c.args.form d (c.in_ok-by_key.ensures target d there) (each target old),
+      λ old. c.in_ok-add.ensures c.args.target c.args.form d (c.in_ok-by_key.ensures d there) (each old),
     )

@@ -7,4 +7,4 @@ pub returns : goal.returns
 returns c =
     let P = IsPart c.args.target c.args.form (view c.args.value.now) in
     let none = subst (All P) (sym c.new-parts.ensures.items) (All-nil P) in
-    c.in_ok-add_missed.ensures (c.in_ok-add_array.ensures c.args.target (c.in_ok-add_object.ensures c.args.target none))
+    c.in_ok-add_missed.ensures (c.in_ok-add_array.ensures c.args.target (c.in_ok-add_object.ensures none))

@@ -5,10 +5,10 @@ use Rattle.seccomp_faults.proofs.Parts.{view}
 use Rattle.seccomp_faults.proofs.part.by_key.Goals as goal
 
 pub returns-in-Some : goal.returns-in-Some
-returns-in-Some c = λ target d there. c.under.ensures target c.args.form d (inl (sym c.member_of.ensures ∙ c.in-Some.is)) there
+returns-in-Some c = λ d there. c.under.ensures c.args.form d (inl (sym c.member_of.ensures ∙ c.in-Some.is)) there
 
 pub returns : goal.returns
-returns c = λ target d there.
+returns c = λ d there.
     let form = c.args.form in
     let same : c.args.key.now ≡ string_bytes c.in_ok-key.key = sym c.in_ok-key.ensures.ok in
     let closed : IsTrue (is_closed form) = sym c.if-not-is_closed.ensures in

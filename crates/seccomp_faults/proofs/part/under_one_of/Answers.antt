@@ -6,7 +6,7 @@ use Rattle.seccomp_faults.proofs.Parts.{view}
 use Rattle.seccomp_faults.proofs.part.under_one_of.Goals as goal
 
 pub returns-in-Some-Some : goal.returns-in-Some-Some
-returns-in-Some-Some c = λ target outer there is_object.
+returns-in-Some-Some c = λ outer there is_object.
     let one = c.in-Some-Some.field-0-0 in
     let other = c.in-Some-Some.field-0-1 in
     let d = view c.args.value.now in
@@ -15,12 +15,12 @@ returns-in-Some-Some c = λ target outer there is_object.
     (inl (c.args.form, there), has, has_other)
 
 pub returns-in-Some-None : goal.returns-in-Some-None
-returns-in-Some-None c = λ target outer there is_object.
-    c.under.ensures target outer (view c.args.value.now) (inr (one_of c.args.key.now c.args.other.now c.args.form, there, (inl refl, refl)))
+returns-in-Some-None c = λ outer there is_object.
+    c.under.ensures outer (view c.args.value.now) (inr (one_of c.args.key.now c.args.other.now c.args.form, there, (inl refl, refl)))
     (found_value c.get.result c.in-Some-None.inner _ c.get.ensures c.in-Some-None.is-0)
 
 pub returns-in-None-Some : goal.returns-in-None-Some
-returns-in-None-Some c = λ target outer there is_object.
-    c.under-in-None-Some.ensures target outer (view c.args.value.now)
+returns-in-None-Some c = λ outer there is_object.
+    c.under-in-None-Some.ensures outer (view c.args.value.now)
     (inr (one_of c.args.key.now c.args.other.now c.args.form, there, (inr refl, refl)))
     (found_value c.get-2.result c.in-None-Some.inner _ c.get-2.ensures c.in-None-Some.is-1)

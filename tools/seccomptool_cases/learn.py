@@ -28,6 +28,13 @@ exit_group(0)                           = ?
 +++ exited with 0 +++
 """
 
+
+def beside_empty(entries):
+    """Returns a policy of an empty filter `a`, and a filter `b` with these entries."""
+    empty = '{"mismatch_action":"trap","match_action":"allow","filter":'
+    return f'{{"a":{empty}[]}},"b":{empty}{entries}}}}}'
+
+
 # Calls whose arguments are numbers: hexadecimal, decimal, with their names, with what a descriptor is, or octal. One argument 1 of
 # `fcntl` has a high half, and one of `socket` is written as two flags.
 RAW = """77 fcntl(0x3, 0x3, 0)                = 0x8000
@@ -311,6 +318,7 @@ FILES = {
     "named.trace": NAMED, "raw.trace": RAW, "short.trace": SHORT, "other.trace": OTHER, "fronts.trace": FRONTS, "logged.log": LOGGED,
     "strange.trace": STRANGE, "one-strange.trace": ONE_STRANGE, "foreign.trace": FOREIGN, "unnamed.trace": UNNAMED, "many.trace": MANY,
     "later.trace": LATER, "learned.bin": RECORDS, "rest.bin": RECORDS + b"12345", "origin.json": ORIGIN, "denies.json": DENIES, "large-errno.json": LARGE_ERRNO,
+    "other-misshapen.json": beside_empty("null"), "other-unknown.json": beside_empty('[{"syscall":"nosyscall"}]'),
     "allows-all.json": ALLOWS, "picture.png": PICTURE, "paired.json": paired("clone3", "getuid", name="a").replace('"errno": 38', '"errno": 1'), "whole.json": learned("close", "fcntl", "getpid", name='"a"'),
 }
 
@@ -504,10 +512,13 @@ CASES = [
     rejects("learn short.trace >&-", "", CLOSED, OUTPUT), fails(shlex.quote(HOSTILE), f"{HOSTILE_TOLD}: {MISSING}"),
     # What is wrong with a policy that is added to.
     Case("learn --into no-json.json short.trace", 2, "", f"{TOOL}no-json.json: {FRONTEND}Error parsing Json: .."),
-    fails("--into list.json short.trace", f"list.json: {FRONTEND}Json is not an object of filters."),
-    fails("--into no-filter.json short.trace", f"no-filter.json: {FRONTEND}Json filter has a wrong shape: a."),
-    fails("--into unknown-call.json short.trace", f"unknown-call.json: {FRONTEND}Invalid syscall name: nosyscall for given arch: x86_64."),
-    fails("--into allows-all.json short.trace", f"allows-all.json: {FRONTEND}`match_action` and `mismatch_action` are equal."),
+    fails("--into list.json short.trace", "list.json: the policy: expected an object of filters, found an empty array"),
+    fails("--into no-filter.json short.trace", 'no-filter.json: a: missing "mismatch_action" or "default_action" (2 more errors; seccomptool check prints them)'),
+    fails("--into unknown-call.json short.trace", 'unknown-call.json: a.filter[0].syscall: unknown system call "nosyscall" on x86_64'),
+    fails("--into allows-all.json short.trace", "allows-all.json: a: expected two actions that differ, found the same one twice"),
+    # Of a filter that isn't added to, only the shape matters.
+    fails("--into other-misshapen.json --name a short.trace", "other-misshapen.json: b.filter: expected an array of entries, found null"),
+    Case("learn --into other-unknown.json --name a short.trace | ./seccomptool check -", 1, "", f'{TOOL}standard input: b.filter[0].syscall: unknown system call "nosyscall" on x86_64\n'),
     fails("--into denies.json short.trace", "denies.json: " + NOT_ALLOW),
     fails("--into origin.json --name m short.trace", "origin.json: " + NOT_ALLOW),
     fails("--into logs.json --name b short.trace", "logs.json: No filter has this name: b."),

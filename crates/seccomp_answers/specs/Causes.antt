@@ -125,10 +125,6 @@ pub data IsRefusedPolicy (target : TargetArch) (text : List ℕ) (Name Large : A
 abbrev pub IsUnpicked : TargetArch → (asked : Option (List ℕ)) → (text : List ℕ) → AnswerError → Type 0
 IsUnpicked target asked text e = IsUnread target text e ⊎ IsUnchosen asked text e
 
--- Why it has no name: the text is rejected, on whichever architecture; or that is wrong with the name that is asked for.
-abbrev pub IsUnnamed : (asked : Option (List ℕ)) → (text : List ℕ) → AnswerError → Type 0
-IsUnnamed asked text e = ((target : TargetArch) → IsUnread target text e) ⊎ IsUnchosen asked text e
-
 -- Why not all filters of a policy's text have programs in the layout, or none has the name that is asked for.
 abbrev pub AreUncompiledIn : TargetArch → Layout → (asked : Option (List ℕ)) → (text : List ℕ) → AnswerError → Type 0
 AreUncompiledIn target layout asked text e = IsRefusedPolicy target text (IsMissing asked text)

@@ -8,12 +8,11 @@ ghost use Rattle.seccompiler.specs.Compiled.{IsLeastUnfit, numbers_of};
 ghost use Rattle.seccompiler.specs.JsonAnswers.{OfValue};
 ghost use Rattle.seccompiler.specs.JsonFilters.{AreFound};
 ghost use Rattle.seccompiler.specs.JsonShape.{IsFilter};
-ghost use Rattle.seccomp_answers.specs.Causes.{IsMissingIn, IsOfName, IsUnchosenIn, IsUnnamed, IsUnpicked};
+ghost use Rattle.seccomp_answers.specs.Causes.{IsMissingIn, IsOfName, IsUnchosenIn, IsUnpicked};
 
 use crate::error::AnswerError;
-use crate::policy::policies_in;
+use crate::policy::{filters_in, policies_in};
 use seccomp_text::readable::{TextKind, push_readable};
-use seccompiler::json::filters_of;
 use seccompiler::{JsonFilterMap, SeccompFilter, TargetArch};
 use std::alloc::{AllocError, Global};
 use std::collections::BTreeMap;
@@ -82,15 +81,16 @@ pub fn chosen_filter(
 /// Those of [`chosen_filter`], but for what is at fault in filters alone.
 pub fn named_filters(
     alloc: Global,
+    target: TargetArch,
     asked: Option<&str>,
     text: &[u8],
 ) -> Result<(JsonFilterMap, String), AnswerError>
     ensures filters { IfOk result (λ of. OfValue text.now (AreFound IsFilter (get_by_text of.0.0))) }
     ensures chosen { IfOk result (λ of. IsChosen text.now (text_of asked.entry) (string_bytes of.1)) }
     ensures there { IfOk result (λ of. HasNamed text.now (get_by_text of.0.0) (string_bytes of.1)) }
-    ensures cause { IfErr result (IsUnnamed (text_of asked.entry) text.now) }
+    ensures cause { IfErr result (IsUnpicked target (text_of asked.entry) text.now) }
 {
-    let filters = filters_of(alloc, text)?;
+    let filters = filters_in(alloc, target, text)?;
     let name = chosen_name(alloc, asked, &filters.0)?;
     match filters.0.get(name.as_str()) {
         Some(_) => Ok((filters, name)),

@@ -6,27 +6,16 @@ ghost use Rattle.serde_json.specs.View.{view};
 ghost use Rattle.seccompiler.specs.JsonFilters.{IsReadBack};
 ghost use Rattle.seccompiler.specs.JsonShape.{IsFilter};
 ghost use Rattle.seccomp_faults.specs.declared.table.Form.TheVariants as form;
-ghost use Rattle.seccomp_faults.specs.Faults.{FitsAsTree, IsBroken, IsFault};
+ghost use Rattle.seccomp_faults.specs.Faults.{IsBroken, IsFault};
 
 use crate::fault::{Fault, Problem};
 use crate::table::Form;
 use seccomp_text::steps::Step;
 use seccomp_tree::{FilterError, to_tree_bpf};
 use seccompiler::json::{JsonCompiler, JsonFilter, JsonFilterMap, JsonFrontendError, read_filters};
-use seccompiler::{BackendError, SeccompFilter, TargetArch};
+use seccompiler::{BackendError, TargetArch};
 use serde_json::Value;
 use std::alloc::{AllocError, Global};
-
-// The length of the policy's program in the tree layout, if it fits.
-fn tree_length(alloc: Global, policy: &SeccompFilter) -> Result<Option<usize>, FilterError>
-    ensures { IfOk result (λ tree. FitsAsTree policy.now tree) }
-{
-    match to_tree_bpf(alloc, policy) {
-        Ok(program) => Ok(Some(program.len())),
-        Err(FilterError::TreeTooLarge) => Ok(None),
-        Err(error) => Err(error),
-    }
-}
 
 // That the filter's program is too long, if it is.
 fn too_long(
@@ -38,8 +27,11 @@ fn too_long(
 {
     match JsonCompiler::new(target).make_seccomp_filter(alloc, filter) {
         Ok(policy) => match policy.to_bpf(alloc) {
-            Err(BackendError::FilterTooLarge(length)) => match tree_length(alloc, &policy) {
-                Ok(tree) => Ok(Some(Problem::TooLong(length, tree, target))),
+            Err(BackendError::FilterTooLarge(length)) => match to_tree_bpf(alloc, &policy) {
+                Ok(tree) => Ok(Some(Problem::TooLong(length, Some(tree.len()), target))),
+                Err(FilterError::TreeTooLarge) => {
+                    Ok(Some(Problem::TooLong(length, None, target)))
+                }
                 Err(_) => Err(AllocError),
             },
             Err(BackendError::OutOfMemory) => Err(AllocError),

@@ -2,6 +2,7 @@
 
 use crate::fault::{Fault, Problem};
 use crate::table::Form;
+use seccomp_names::error_number;
 use seccomp_text::readable::{TextKind, readable};
 use seccomp_text::steps::Step;
 use std::alloc::{AllocError, Global};
@@ -61,6 +62,19 @@ fn keys_words(form: Form) -> &'static str {
     }
 }
 
+// That what is shown isn't of a form; of an errno's name in its number's place also the number.
+fn unlike(alloc: Global, path: &[Step], shown: &str, form: Form) -> Result<String, AllocError> {
+    let wanted = form_words(form);
+    if let (Form::ActionNumber, Some(Step::Key(key))) = (form, path.last())
+        && key.as_str() == "errno"
+        && let Some(number) = error_number(shown.trim_matches('"'))
+    {
+        let name = shown.trim_matches('"');
+        return format!(in alloc; "expected {wanted}, found {shown}; {name} is {number}");
+    }
+    format!(in alloc; "expected {wanted}, found {shown}")
+}
+
 impl Fault {
     /// What is wrong with the value, without the way to it.
     ///
@@ -69,9 +83,7 @@ impl Fault {
     /// `AllocError` if memory runs out.
     pub fn words(&self, alloc: Global) -> Result<String, AllocError> {
         match &self.problem {
-            Problem::Stands(shown, form) => {
-                format!(in alloc; "expected {}, found {shown}", form_words(*form))
-            }
+            Problem::Stands(shown, form) => unlike(alloc, &self.path, shown.as_str(), *form),
             Problem::UnknownCall(shown, target, None) => {
                 format!(in alloc; "unknown system call {shown} on {target}")
             }

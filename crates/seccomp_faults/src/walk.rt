@@ -4,11 +4,11 @@ ghost use Rattle.std.specs.Prelude.{◌≡◌, All, IfOk, OnOk, Some};
 ghost use Rattle.serde_json.specs.Data.{Data};
 ghost use Rattle.serde_json.specs.View.{view};
 ghost use Rattle.seccompiler.specs.declared.backend.TargetArch.{TargetArch};
-ghost use Rattle.seccomp_faults.specs.Faults.{IsBroken, IsFault, step_to};
+ghost use Rattle.seccomp_faults.specs.Faults.{IsFault, step_to};
 ghost use Rattle.seccomp_faults.specs.Table.{IsInside};
 ghost use Rattle.seccomp_faults.specs.declared.table.Form.{Form};
 
-use crate::fault::{Fault, Problem};
+use crate::fault::Fault;
 use crate::level::level;
 use crate::part::Part;
 use crate::table::Form;
@@ -54,24 +54,6 @@ fn add_inside(
     Ok(())
 }
 
-// Adds what is wrong with the value itself.
-fn add_broken(
-    found: &mut Vec<Fault>,
-    alloc: Global,
-    form: Form,
-    problem: Problem,
-) -> Result<(), AllocError>
-    ensures { (target : TargetArch) (d : Data) → IsBroken target form d problem → All (IsFault target form d) found.old.items
-        → OnOk result (All (IsFault target form d) found.new.items) }
-{
-    let path = Vec::new(alloc);
-    Ok(found.push(Fault {
-        path,
-        form,
-        problem,
-    })?)
-}
-
 /// All faults of a value that has to be of the form: of an object its own keys first, and then what the form's rules say, one
 /// after the other, each with all that is inside. An unknown name of a call gets a suggestion, which takes time, if fewer than
 /// `most` faults are in front of it.
@@ -87,7 +69,14 @@ pub(crate) fn walk(
     let mut found = Vec::new(alloc);
     for part in level(alloc, target, most > 0, form, value)? {
         match part {
-            Part::Broken(problem) => add_broken(&mut found, alloc, form, problem)?,
+            Part::Broken(problem) => {
+                let path = Vec::new(alloc);
+                found.push(Fault {
+                    path,
+                    form,
+                    problem,
+                })?;
+            }
             Part::Inner(step, inside, inner) => {
                 let left = most.saturating_sub(found.len());
                 let faults = walk(alloc, target, left, inside, inner)?;

@@ -1,7 +1,7 @@
 // Policies that are written as text, and read back.
 
 ghost use Rattle.std.specs.Prelude.{◌≡◌, IfErr, IfOk, IfSome};
-ghost use Rattle.seccompiler.specs.JsonSteps.{IsBeforePolicies};
+ghost use Rattle.seccompiler.specs.JsonSteps.{IsBeforePolicies, IsNoFailedRead};
 ghost use Rattle.seccomp_learn.specs.Written.{HasFilters, beside, found_in};
 
 use crate::text::policy_text;
@@ -25,7 +25,7 @@ pub fn written_policy(
     filter: &JsonFilter,
 ) -> Result<Vec<u8>, JsonFrontendError>
     ensures written { IfOk result (λ text. HasFilters text.items (beside (found_in others.now) name.now filter.now)) }
-    ensures refused { IfErr result IsBeforePolicies }
+    ensures refused { IfErr result (λ e. IsBeforePolicies e × IsNoFailedRead e) }
 {
     let text = policy_text(alloc, others, name, filter)?;
     let mut read = filters_of(alloc, &text)?;

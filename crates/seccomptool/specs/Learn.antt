@@ -5,13 +5,13 @@ use Rattle.std.specs.Prelude.{[], ⊤, ◌++◌, ◌∷◌, ◌≡◌, ◌≢◌
 use Rattle.std.specs.Prelude.{slice_index_or, true, unwrap_or, ℕ}
 use Rattle.seccomptool.specs.Words.{Allow, AnswerError, AreCloning, AreRunnable}
 use Rattle.seccomptool.specs.Words.{AreUsual, AskedArguments, Errno, Fault, HasFilter, HasFilters, Into, IsAskedArgument, IsCall}
-use Rattle.seccomptool.specs.Words.{IsChosen, IsUncalled, IsUnnamed, JsonFilter, Kept, Layer, Learn, Observation}
+use Rattle.seccomptool.specs.Words.{IsChosen, IsUncalled, IsUnpicked, JsonFilter, Kept, Layer, Learn, Observation}
 use Rattle.seccomptool.specs.Words.{Otherwise, OutOfMemory, Start, TargetArch, Told, Trace, beside}
 use Rattle.seccomptool.specs.Words.{from_library, text_of}
 use Rattle.seccompiler.specs.declared.backend.SeccompAction.{SeccompAction}
 use Rattle.seccompiler.specs.declared.json.error.JsonFrontendError.{JsonFrontendError}
 use Rattle.seccompiler.specs.Errors.{from_frontend}
-use Rattle.seccompiler.specs.JsonSteps.{IsBeforePolicies, IsPolicyRefusal}
+use Rattle.seccompiler.specs.JsonSteps.{IsBeforePolicies, IsNoFailedRead, IsPolicyRefusal}
 use Rattle.seccomp_learn.specs.declared.policy.Lesson.{Lesson}
 use Rattle.seccomp_learn.specs.Learned.{IsLearnedWithin}
 use Rattle.seccomptool.specs.Causes.{IsFaultText}
@@ -166,11 +166,16 @@ IsStrangeOf reads asked e input = (trace : Trace) × reads asked.arch input.text
 abbrev pub IsUnknown : Learn → AnswerError → Type 0
 IsUnknown asked e = Any (λ (call : AskedArguments). IsUncalled asked.arch call.call.now e) asked.arguments.items
 
--- Why nothing is learned: a policy that calls are added to is rejected, on whichever architecture, or by the filter's name; or its filter
+-- The policy that calls are added to is rejected, or has no filter of the name.
+abbrev pub IsUnpickedInto : Learn → (text : List ℕ) → AnswerError → Type 0
+IsUnpickedInto asked text e =
+    (path : Bor (List ℕ)) × (asked.start ≡ Into path) × IsUnpicked asked.arch (text_of asked.name) text e
+
+-- Why nothing is learned: a policy that calls are added to is rejected, or none of its filters is picked by name; or its filter
 -- doesn't allow what it lists; or the filter is no policy of the architecture; or systemd doesn't take its errno. Or memory ran out.
 pub data IsUntaught (asked : Learn) (text : List ℕ) (e : AnswerError) : Type 0 where
   no_memory : e ≡ OutOfMemory → IsUntaught asked text e
-  unnamed : (path : Bor (List ℕ)) → asked.start ≡ Into path → IsUnnamed (text_of asked.name) text e → IsUntaught asked text e
+  unpicked : IsUnpickedInto asked text e → IsUntaught asked text e
   denying : (path : Bor (List ℕ)) → asked.start ≡ Into path → (name : List ℕ) (filter : JsonFilter)
       → IsChosen text (text_of asked.name) name → HasFilter text name filter → filter.match_action ≢ Allow → IsFaultText e
       → IsUntaught asked text e
@@ -182,10 +187,10 @@ pub data IsUntaught (asked : Learn) (text : List ℕ) (e : AnswerError) : Type 0
       → IsBase asked.start (text_of asked.name) text name base others → IsUntaken asked.as_unit base.mismatch_action e
       → IsUntaught asked text e
 
--- A policy's text that is made is rejected when it is read back.
+-- A policy's text that is made is rejected when it is read back. No reader failed.
 abbrev pub IsUnwritten : Learn → AnswerError → Type 0
 IsUnwritten asked e = (asked.as_profile ≡ false) × (asked.as_unit ≡ false) × (cause : JsonFrontendError) × IsBeforePolicies cause
-    × (e ≡ from_library (from_frontend cause))
+    × IsNoFailedRead cause × (e ≡ from_library (from_frontend cause))
 
 -- Memory ran out, or that is so.
 abbrev pub OrMemory : (AnswerError → Type 0) → AnswerError → Type 0

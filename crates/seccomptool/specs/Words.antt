@@ -2,7 +2,7 @@
 pub use Rattle.clap.specs.Words.{first_value, found_of, kind_of, matched_of, one_text, raw_values}
 pub use Rattle.seccomp_answers.specs.Calls.{AreKnownCalls, IsCall, IsRecordOf, IsUncalled, IsUnknownCall}
 pub use Rattle.seccomp_answers.specs.Causes.{AreUncompiledIn, AreUncompiledInSome, IsOfKind, IsOfLayers, IsRefusedAs, IsRefusedBeside}
-pub use Rattle.seccomp_answers.specs.Causes.{IsRefusedPolicy, IsRefusedProfile, IsUnchosen, IsUndecided, IsUndiffed, IsUnfitting, IsUnnamed}
+pub use Rattle.seccomp_answers.specs.Causes.{IsRefusedPolicy, IsRefusedProfile, IsUnchosen, IsUndecided, IsUndiffed, IsUnfitting}
 pub use Rattle.seccomp_answers.specs.Causes.{IsUnpicked, IsUnread, named, of_kind, of_name, refused, too_large, unknown, unread}
 pub use Rattle.seccomp_answers.specs.Check.{IsCheckOf, verdict_where}
 pub use Rattle.seccomp_answers.specs.CheckProfile.{IsProfileCheckOf}

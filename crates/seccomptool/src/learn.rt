@@ -4,20 +4,22 @@ mod arguments;
 pub(crate) mod notes;
 
 ghost use Rattle.std.specs.List.{AllZip};
-ghost use Rattle.std.specs.Prelude.{◌≡◌, Any, IfErr, IfOk, OnOk, string_bytes};
+ghost use Rattle.std.specs.Prelude.{◌≡◌, ◌⊎◌, Any, IfErr, IfOk, OnOk, string_bytes};
 ghost use Rattle.seccomp_answers.specs.Chosen.{text_of};
+ghost use Rattle.seccomp_answers.specs.Errors.{from_library};
+ghost use Rattle.seccompiler.specs.Errors.{from_frontend};
 ghost use Rattle.seccomp_learn.specs.Usual.{AreCloning, AreRunnable};
 ghost use Rattle.seccomp_learn.specs.Written.{found_in};
 ghost use Rattle.seccomptool.specs.Commands.{IsPlain};
 ghost use Rattle.seccomptool.specs.Files.{start_file};
-ghost use Rattle.seccomptool.specs.Learn.{AreIf, AreObserved, IsBase, IsLearned, IsLesson, IsStrangeOf, IsTaken, IsTraceOf, IsUnlearned, IsUntaken, IsUntaught, IsUnwritten, IsWrittenPolicy, OrMemory, Unless, clone3_filter, with_second};
+ghost use Rattle.seccomptool.specs.Learn.{AreIf, AreObserved, IsBase, IsLearned, IsLesson, IsStrangeOf, IsTaken, IsTraceOf, IsUnlearned, IsUnpickedInto, IsUntaken, IsUntaught, IsUnwritten, IsWrittenPolicy, OrMemory, Unless, clone3_filter, with_second};
 
 use crate::command::Learn;
 use crate::learn::arguments::{push_asked_notes, wanted_in};
 use crate::learn::notes::{learned_json, path_at, push_notes, refuse_trace};
 use crate::made::{Made, shown};
 use crate::outside::Outside;
-use seccomp_answers::chosen::named_filters;
+use seccomp_answers::chosen::{chosen_filter, named_filters};
 use seccomp_answers::error::AnswerError;
 use seccomp_answers::findings::Verdict;
 use seccomp_answers::layers::Layer;
@@ -27,7 +29,9 @@ use seccomp_learn::{
 };
 use seccomp_views::text::Text;
 use seccomp_views::unit::{push_unit_notes, unit_text};
-use seccompiler::{JsonFilter, JsonFilterMap, JsonRule, SeccompAction, TargetArch};
+use seccompiler::{
+    JsonFilter, JsonFilterMap, JsonFrontendError, JsonRule, SeccompAction, TargetArch,
+};
 use std::alloc::{AllocError, Global};
 use std::collections::BTreeMap;
 
@@ -220,8 +224,27 @@ fn learned_of(
     refuse_errno(alloc, asked.as_unit, &filter)?;
     let (arch, most) = (asked.arch, asked.most);
     push_second(alloc, asked.old_clone, name.as_str(), &mut others)?;
-    let lesson = learn_within(alloc, arch, observed, wanted, most, filter)?;
-    Ok((name, lesson, others))
+    match learn_within(alloc, arch, observed, wanted, most, filter) {
+        Ok(lesson) => Ok((name, lesson, others)),
+        Err(refusal) => Err(untaught(alloc, asked, policy, refusal)),
+    }
+}
+
+// Why nothing is learned if the library rejects the filter so: what is told of the policy that it is of, if it is of one.
+fn untaught(
+    alloc: Global,
+    asked: &Learn<'_>,
+    policy: &[u8],
+    refusal: JsonFrontendError,
+) -> AnswerError
+    ensures { IsUnpickedInto asked.now policy.now result ⊎ (result ≡ from_library (from_frontend refusal)) }
+{
+    if let Start::Into(_) = asked.start {
+        if let Err(error) = chosen_filter(alloc, asked.arch, asked.name, policy) {
+            return error;
+        }
+    }
+    refusal.into()
 }
 
 // Rejects an errno that systemd doesn't take for other calls, if a drop-in is asked for.
@@ -296,7 +319,7 @@ fn base_of(
         }
         Start::Into(_) => {}
     }
-    let (mut others, name) = named_filters(alloc, asked.name, policy)?;
+    let (mut others, name) = named_filters(alloc, asked.arch, asked.name, policy)?;
     let Some(filter) = take_filter(&mut others, name.as_str()) else {
         return Err(AnswerError::NoFilter(name));
     };

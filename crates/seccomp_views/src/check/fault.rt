@@ -3,8 +3,7 @@
 use crate::check::format::{CheckFormat, Lines, Place};
 use crate::notes::{failure, note, readable};
 use seccomp_answers::error::AnswerError;
-use seccomp_faults::{Fault, Form, Position, Problem, Step, is_of_profile};
-use seccomp_names::error_number;
+use seccomp_faults::{Fault, Position, Problem, Step, is_of_profile};
 use seccomp_profiles::{CompileError, ProfileError};
 use seccomp_text::readable::TextKind;
 use seccompiler::{Error, JsonFrontendError};
@@ -145,7 +144,7 @@ fn push_fault(lines: &mut Lines<'_>, fault: &Fault) {
         }
     }
     let code = code_of(lines, fault);
-    match message_of(alloc, fault) {
+    match fault.words(alloc) {
         Ok(message) => lines.push("error", code, message.as_str()),
         Err(_) => lines.text.fail(),
     }
@@ -180,37 +179,6 @@ fn code_of(lines: &mut Lines<'_>, fault: &Fault) -> &'static str {
 
 // What is said of a fault for people: the path, and what is wrong there.
 fn line_of(alloc: Global, fault: &Fault) -> Result<String, AllocError> {
-    let mut told = fault.text(alloc)?;
-    push_errno(&mut told, alloc, fault)?;
+    let told = fault.text(alloc)?;
     readable(alloc, told.as_bytes(), TextKind::Line)
-}
-
-// The same without the path.
-fn message_of(alloc: Global, fault: &Fault) -> Result<String, AllocError> {
-    let mut told = fault.words(alloc)?;
-    push_errno(&mut told, alloc, fault)?;
-    Ok(told)
-}
-
-// Adds the number of an errno whose name stands in the number's place.
-fn push_errno(text: &mut String, alloc: Global, fault: &Fault) -> Result<(), AllocError> {
-    let Some((name, number)) = errno_of(fault) else {
-        return Ok(());
-    };
-    let told = format!(in alloc; "; {name} is {number}")?;
-    Ok(text.push_str(told.as_str())?)
-}
-
-// The errno whose name stands in its number's place, and the number.
-fn errno_of(fault: &Fault) -> Option<(&str, u32)> {
-    let Problem::Stands(shown, Form::ActionNumber) = &fault.problem else {
-        return None;
-    };
-    match fault.path.last() {
-        Some(Step::Key(key)) if key.as_str() == "errno" => {
-            let name = shown.as_str().trim_matches('"');
-            Some((name, error_number(name)?))
-        }
-        _ => None,
-    }
 }

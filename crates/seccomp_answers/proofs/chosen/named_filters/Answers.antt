@@ -7,7 +7,7 @@ use Rattle.seccompiler.specs.JsonTypes.{JsonFilter}
 use Rattle.seccomp_answers.proofs.Found.{there}
 use Rattle.seccomp_answers.specs.Chosen.{text_of}
 use Rattle.seccomp_answers.specs.declared.error.AnswerError.TheVariants.{NoFilter}
-use Rattle.seccomp_answers.proofs.Causes.{unchosen_in, unread_for}
+use Rattle.seccomp_answers.proofs.Causes.{unchosen_in}
 use Rattle.seccomp_answers.proofs.chosen.Names.{asked_for, chosen_in}
 use Rattle.seccomp_answers.proofs.chosen.named_filters.Goals as goal
 
@@ -27,9 +27,7 @@ returns-in-Some-clause-there c =
 pub returns-in_err-filters-clause-cause : goal.returns-in_err-filters-clause-cause
 returns-in_err-filters-clause-cause c =
     let error = err_from_is_err_and c.from_residual.result c.from_residual.ensures.1 in
-    let is = c.in_err-filters.ensures in
-    rw (error.1, error.2) (inl (λ target. unread_for target c.args.text.now c.in_err-filters.field-0.0 (is.fault target) is.no_reader
-    is.memory))
+    rw (error.1, error.2) (inl c.in_err-filters.ensures.unread)
 
 pub returns-in_err-name-clause-cause : goal.returns-in_err-name-clause-cause
 returns-in_err-name-clause-cause c =

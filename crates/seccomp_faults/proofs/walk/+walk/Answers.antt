@@ -1,7 +1,7 @@
-use Rattle.std.proofs.Common.{◌<◌, All, sym, subst, rules}
+use Rattle.std.proofs.Common.{◌<◌, All, refl, sym, subst, rules}
 use Rattle.std.proofs.lemmas.List.Elements.{All-nil}
 use Rattle.serde_json.specs.Data.{depth}
-use Rattle.seccomp_faults.proofs.Parts.{IsFault, IsPart, shallower, split, view}
+use Rattle.seccomp_faults.proofs.Parts.{IsFault, IsPart, pushed, shallower, split, view}
 use Rattle.seccomp_faults.proofs.walk.+walk.Goals as goal
 
 pub loop-part-init : goal.loop-part-init
@@ -23,8 +23,12 @@ walk-requires t c =
 pub loop-part-preserved-in-Continue-branch-2 : goal.loop-part-preserved-in-Continue-branch-2
 loop-part-preserved-in-Continue-branch-2 t c =
     let d = view c.args.value.now in
-    let (first, rest) = split (IsPart c.args.target c.args.form d) _ _ _ c.loop-part.invariant.0 c.in-Some.ensures.steps.0 in
-    (rest, c.in_ok-add_broken-in-Broken.ensures c.args.target d (rw c.in-Broken.is at first) c.loop-part.invariant.1)
+    let (first, rest) = split (IsPart c.args.target c.args.form d) _ _ _ c.loop-part.invariant.0 c.in-Some.ensures.steps.0 in (
+      rest,
+      pushed (IsFault c.args.target c.args.form d) c.loop-part.found.items c.push.new.self.items _
+          c.in_ok-push-in-Broken.ensures.items c.loop-part.invariant.1
+          (record { value = d; leads = rw c.new-path.ensures.items (refl, refl); broken = rw c.in-Broken.is at first }),
+    )
 
 pub loop-part-preserved : goal.loop-part-preserved
 loop-part-preserved t c =

@@ -2,7 +2,7 @@ use Rattle.seccomptool.proofs.Common.{◌∙◌, ◌≡◌, ◌≢◌, Allow, Js
 use Rattle.seccomptool.proofs.Common.{get_by_text, rules, string_bytes, subst, sym, ℕ}
 use Rattle.seccompiler.specs.JsonFilters.{AreFound}
 use Rattle.seccompiler.specs.JsonShape.{IsFilter}
-use Rattle.seccomptool.specs.Learn.{denying, unnamed}
+use Rattle.seccomptool.specs.Learn.{denying, unpicked}
 use Rattle.seccomptool.proofs.learn.base_of.Goals as goal
 
 pub returns-in-Allow-clause-base : goal.returns-in-Allow-clause-base
@@ -20,7 +20,7 @@ returns-in-Allow-clause-base c =
 pub returns-in_err-others-clause-cause : goal.returns-in_err-others-clause-cause
 returns-in_err-others-clause-cause c =
     let error = err_from_is_err_and c.from_residual-in_err-others.result c.from_residual-in_err-others.ensures.1 in
-    rw (error.1, error.2) (unnamed _ c.in-Into.is c.in_err-others.ensures.cause)
+    rw (error.1, error.2) (unpicked (_, c.in-Into.is, c.in_err-others.ensures.cause))
 
 pub returns-in_default-clause-cause : goal.returns-in_default-clause-cause
 returns-in_default-clause-cause c =

@@ -8,6 +8,7 @@ returns-in_err-written_policy-clause-cause c =
       c.if-asked.false,
       c.if-asked-2.false,
       c.in_err-written_policy.field-0.0,
-      c.in_err-written_policy.ensures.refused,
+      c.in_err-written_policy.ensures.refused.0,
+      c.in_err-written_policy.ensures.refused.1,
       refl,
     ))

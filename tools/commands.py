@@ -1,12 +1,12 @@
 """Runs commands where the kit isn't found, for tools/check-package and tools/try-jail."""
 
 import os
-import pathlib
 import re
 import shutil
 import subprocess
 
-TOP = pathlib.Path(__file__).resolve().parent.parent
+from results import TOP
+
 SECONDS = 300
 ENVIRONMENT = {"PATH": "/usr/bin:/bin", "LC_ALL": "C"}
 

@@ -6,7 +6,7 @@ import pathlib
 import subprocess
 import sys
 
-TOP = pathlib.Path(__file__).resolve().parent.parent
+from results import TOP
 
 
 def kit():

@@ -1,6 +1,9 @@
 """The one form of report of the scripts that check: what is compared is counted, and what differs is printed."""
 
 import difflib
+import pathlib
+
+TOP = pathlib.Path(__file__).resolve().parent.parent
 
 
 class Results:

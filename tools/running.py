@@ -2,15 +2,15 @@
 
 import contextlib
 import os
-import pathlib
 import socket
 import subprocess
 import tempfile
 from typing import NamedTuple, Union
 
-TOP = pathlib.Path(__file__).resolve().parent.parent
+from results import TOP
+
 PROGRAMS = {name: TOP / f"crates/{name}/out/{name}" for name in ("seccompc", "seccomptool", "seccomp_vectors")}
-SHORT_CALLS = TOP / "tools/short-calls.c"
+SHORT_CALLS = TOP / "tools/cases/short-calls.c"
 SECONDS = 60
 
 
@@ -30,7 +30,7 @@ class Calls(NamedTuple):
     error: int = 0
 
     def words(self):
-        """Returns what tools/short-calls.c is told."""
+        """Returns what tools/cases/short-calls.c is told."""
         return dict(zip(("DESCRIPTOR", "AT_ONCE", "BYTES", "ERROR"), self))
 
 
@@ -90,7 +90,7 @@ def given_by(case, program, folder):
 
 
 def build_short_calls(folder):
-    """Builds tools/short-calls.c in a folder; returns whether that can be, and what the compiler says."""
+    """Builds tools/cases/short-calls.c in a folder; returns whether that can be, and what the compiler says."""
     words = ["env", "cc", "-O1", "-Wall", "-Wextra", "-shared", "-fPIC", "-o", folder / "short-calls.so", SHORT_CALLS]
     ran = subprocess.run(words, capture_output=True)
     return ran.returncode == 0, text_of(ran.stderr)

@@ -1,4 +1,4 @@
-// Answers the questions of standard input, which tools/driver_rows.py makes of rows: a line each, `KIND SUBJECT VERB ..`, with numbers in
+// Answers the questions of standard input, which tools/rows/driver_rows.py makes of rows: a line each, `KIND SUBJECT VERB ..`, with numbers in
 // place of most words, and behind a tab a text. If memory runs out, a question is asked once more; if it runs out again, the answers end.
 #![tactic(auto)]
 

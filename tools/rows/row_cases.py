@@ -13,7 +13,7 @@ import struct
 import model
 from results import TOP
 from rows import driver_rows, library_calls
-from rows.row_grammar import (Filter, NoRow, conditions, expanded, instructions, matched, numbers_in, record_of, rows_of, shown_as, stated)
+from rows.row_grammar import (Filter, NoRow, conditions, expanded, instructions, matched, numbers_in, record_of, rows_of, shown_as, stated, unrolled)
 from running import run
 
 ROWS = TOP / "tools/rows"
@@ -169,7 +169,8 @@ class Bench:
         """Returns what seccompc and seccomptool answer; nothing if they aren't asked."""
         is_named = isinstance(self.above, Policy) and self.above.is_named()
         if kind == "compare":
-            return self.above.compared(self.kept, {"": "", "at most": "--only-more"}[rest])
+            old, new = (self.above, self.kept) if rest.startswith("back") else (self.kept, self.above)
+            return new.compared(old, {"": "", "at most": "--only-more"}[rest.removeprefix("back").strip()])
         if kind == "records":
             outcomes = self.above.outcomes([record_of(it) for it in rest.split("|")])
             return " and ".join(sorted({it.split()[0] for it in outcomes}))
@@ -273,7 +274,7 @@ def answered(bench, row):
     """Takes a row; returns what is wanted, and what is answered or why it can't be taken, or the question for the driver; nothing of a
     statement."""
     asked, is_asked, wanted = row.partition("=>")
-    asked, wanted = asked.strip(), wanted.strip()
+    asked, wanted = asked.strip(), unrolled(wanted.strip())
     try:
         if not is_asked:
             return bench.state(asked)

@@ -1,6 +1,8 @@
 """Rows of tools/rows: worked examples of what the library does, which no test in its own language repeats.
 
-A row is a line `QUESTION => ANSWER`, or a statement, which has no answer. Lines that begin with a space go on with the row above them.
+A row is a line `QUESTION => ANSWER`, or a statement, which has no answer. Lines that begin with a space go on with the row above them. A
+question in which words stand for each other, as in `decide/returns 5`, is one for each of these in turn, and of several such words for
+each pair; the error of a policy's text has `Json Frontend error: ` in front only for compile_from_json and programs_of.
 tools/rows/row_cases.py asks seccompc, seccomptool, the library for C, or the program of crates/seccomp_vectors, and says which. Rows of
 tools/rows/memory are asked of the last one, while requests for memory fail; behind an answer stands how many requests the library makes
 for it: [0], [1], or [+] for some. Statements are
@@ -8,6 +10,7 @@ for it: [0], [1], or [+] for some. Statements are
     policy ARCH MISMATCH MATCH    a filter without calls, of which the next rows ask; an action is `allow` or `errno(1)`
     call NUMBER[, COUNT times][: RULE | RULE]
                                   one entry more of a call for each rule, or one without rules; all of them maybe so many times
+    call NUMBER, NUMBER ..        one entry more without rules of each of these calls
     calls FIRST STEP COUNT        so many calls without rules
     decisions ARCH START=VALUE .. decisions of the crate `seccomp_tree`, with the values of calls that have none
     call NUMBER: RULE gives VALUE | RULE gives VALUE
@@ -25,6 +28,8 @@ a name, and distances. RECORD is `NUMBER [a0=..] [arch=..] [ip=..]`. Questions a
     decide RECORD, returns RECORD what is decided, and what the decisions' program returns
     compare, compare at most      on which call of which name the policy decides otherwise than the kept one, or permits more: the
                                   name and both actions, or `same`, or `nowhere more permissive`
+    compare back, compare back at most
+                                  the same of the kept policy beside this one
     to_bpf, to_tree_bpf, program_len, copy, equal
                                   what the call of the library gives: instructions, a length, whether a copy or the kept one is equal
     check program, check tree     whether a kernel takes the program, or at which place it doesn't
@@ -60,26 +65,33 @@ and about what stands in the row
                                   none to all; FAULT may be `never`
     make_seccomp_filter ARCH TEXT, widened ARCH TEXT, read_filters TEXT, repeats_key TEXT
 
-An answer of instructions may begin with their number, and with how many relays are among them; `..` stands for any others. If a call is
-rejected the answer is the error's text. In a TEXT `<3 x ENTRY>` stands for an entry three times.
+An answer of instructions may begin with their number, and with how many relays are among them; `..` stands for any others, and
+`<9 to 3 by 3: JEQ 0,0,N; JEQ 1,0,N-1>` for these two with each of the numbers 9, 6 and 3 as N. If a call is rejected the answer is the
+error's text. In a TEXT `<3 x ENTRY>` stands for an entry three times.
 """
 
+import itertools
 import re
 import struct
 
-from model import ARCHITECTURES, TESTS
 import model
+from model import ARCHITECTURES, TESTS
 
 CODES = {0x20: "LD", 0x54: "AND", 0x05: "JA", 0x06: "RET", 0x15: "JEQ", 0x25: "JGT", 0x35: "JGE"}
 
 CONDITION = re.compile(r"(?:(\d+) x )?(\d+) (dword|qword) (?:(eq|ne|ge|gt|le|lt)|masked_eq\((\w+)\)) (\w+)")
 INSTRUCTION = re.compile(r"(?:(\d+) x )?(\w+) (\w+)(?:,(\d+),(\d+))?")
-CALL = re.compile(r"call (-?\d+)(?:, (\d+) times)?(?:: (.*))?")
+CALL = re.compile(r"call (-?\d+(?:, -?\d+)*)(?:, (\d+) times)?(?:: (.*))?")
 CALLS = re.compile(r"calls (-?\d+) (\d+) (\d+)")
 ACTION = re.compile(r"(\w+)(?:\((\d+)\))?")
 REPEATED = re.compile(r"<(\d+) x (.*?)>")
+DESCENDING = re.compile(r"<(\d+) to (\d+) by (\d+): (.*?)>")
 WANTED = re.compile(r"(?:(\d+ instructions)(, \d+ relays)?(?:: |$))?(.*)")
 HEXADECIMAL = re.compile(r"\b0x[0-9a-f]+\b")
+
+# What of a question stands in front of a text, and of an error of one.
+HEAD = re.compile(r'[^{\["\\]*')
+FRONTEND = "Json Frontend error: "
 
 
 class NoRow(Exception):
@@ -166,6 +178,27 @@ def numbers_in(text):
     return HEXADECIMAL.sub(lambda found: str(int(found[0], 16)), text)
 
 
+def unrolled(text):
+    """Returns an answer with the instructions that stand there once for several numbers."""
+    def each(found):
+        first, last, step, part = found.groups()
+        return "; ".join(re.sub(r"\bN\b(?:-(\d+))?", lambda it: str(number - int(it[1] or 0)), part)
+                         for number in range(int(first), int(last) - 1, -int(step)))
+    return DESCENDING.sub(each, text)
+
+
+def spelled_out(row):
+    """Returns the rows for which one stands."""
+    asked, is_asked, wanted = row.partition(" => ")
+    head = HEAD.match(asked)[0]
+    words = ([one + it[len(it.rstrip(";:")):] for one in it.rstrip(";:").split("/")] for it in head.split(" "))
+    for some in itertools.product(*words) if is_asked else ():
+        is_outer = "compile_from_json" not in head or {"compile_from_json", "programs_of"} & {*some}
+        yield f"{' '.join(some)}{asked[len(head):]} => {wanted if is_outer else wanted.removeprefix(FRONTEND)}"
+    if not is_asked:
+        yield row
+
+
 def rows_of(path):
     """Returns the rows of a file, each with the number of its first line."""
     rows = []
@@ -174,7 +207,7 @@ def rows_of(path):
             rows[-1][1] += " " + line.strip()
         elif line.strip() and not line.startswith("#"):
             rows.append([number, line.strip()])
-    return rows
+    return [(number, it) for number, row in rows for it in spelled_out(row)]
 
 
 class Filter:
@@ -188,8 +221,8 @@ class Filter:
         if row.startswith("calls "):
             self.steps.append(tuple(map(int, matched(CALLS, row))))
             return
-        number, count, rules = matched(CALL, row)
-        for rule in rules.split("|") if rules else ("",):
+        numbers, count, rules = matched(CALL, row)
+        for number, rule in itertools.product(numbers.split(", "), rules.split("|") if rules else ("",)):
             times, has_times, rest = rule.partition(" times ")
             self.entries.append((int(number), int(times) if has_times else int(count or 1), conditions(rest if has_times else rule)))
 

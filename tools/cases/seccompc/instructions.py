@@ -41,16 +41,6 @@ def jump_equal(k, jt, jf):
     return instruction(0x15, k, jt, jf)
 
 
-def jump_greater(k, jt, jf):
-    """Jumps over `jt` instructions if the accumulator is greater than `k`, else over `jf`."""
-    return instruction(0x25, k, jt, jf)
-
-
-def jump_at_least(k, jt, jf):
-    """Jumps over `jt` instructions if the accumulator is at least `k`, else over `jf`."""
-    return instruction(0x35, k, jt, jf)
-
-
 def give(k):
     """Ends, and returns the word `k`."""
     return instruction(0x06, k)

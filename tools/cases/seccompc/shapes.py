@@ -1,11 +1,8 @@
-"""Which values are filters, entries, conditions, actions and operators, and what is told of those that are none."""
+"""Which values are filters, entries, conditions and actions, and what is told of those that are none; tools/rows has the operators."""
 
 from cases.seccompc.commands import INDEX
 
-from .instructions import (
-    ALLOW, ERRNO, KILL_PROCESS, KILL_THREAD, LOG, TRACE, TRAP, jump_at_least, jump_equal, jump_greater, load, mask,
-    program
-)
+from .instructions import ALLOW, ERRNO, KILL_PROCESS, KILL_THREAD, LOG, TRACE, TRAP, jump_equal, load, program
 from .policy_texts import (
     EMPTY, EQUAL_ACTIONS, NO_CONDITIONS, NO_OBJECT, READ_ALWAYS, READS, listed, policy_of, reads, shape, told, under_a
 )
@@ -107,13 +104,6 @@ OF_5 = [
     ('{"comment":"c","val":0,"op":"eq","type":"qword","index":5}', [load(60), jump_equal(0, 0, 3), load(56), jump_equal(0, 0, 1)]),
 ]
 
-# Values that are operators, and their code after the load of the argument, with the number 2.
-OPERATORS = [
-    ('"eq"', [jump_equal(2, 0, 1)]), ('"ge"', [jump_at_least(2, 0, 1)]), ('"gt"', [jump_greater(2, 0, 1)]),
-    ('"le"', [jump_greater(2, 1, 0)]), ('"lt"', [jump_at_least(2, 1, 0)]), ('"ne"', [jump_equal(2, 1, 0)]),
-    ('{"masked_eq":18446744073709551615}', [mask(4294967295), jump_equal(2, 0, 1)]),
-]
-
 # Values that are no conditions; the other numbers that are none stand in numbers.py.
 NO_CONDITION = [
     '{"index":0,"type":"dword","op":"eq","val":-1846}', '{"index":0,"type":"dword","op":"eq","val":1846.4}',
@@ -126,16 +116,10 @@ NO_CONDITION = [
 ]
 
 
-def compares(operator):
-    """Returns the policy whose one condition has this operator, on argument 1 and with the number 2."""
-    return policy_of(reads(f'{{"index":1,"type":"dword","op":{operator},"val":2}}'))
-
-
 CASES = [
     *(told(it, NO_OBJECT) for it in NO_OBJECTS), *(told(text, shape(name)) for text, name in LEAST),
     *(told(under_a(it), shape()) for it in NO_FILTERS), *OF_ACTIONS, *(listed(policy_of(it), READ_ALWAYS) for it in ENTRIES_WITHOUT),
     told(policy_of(reads("")), NO_CONDITIONS), *(told(policy_of(it), shape()) for it in NO_ENTRIES),
     *(told(policy_of(reads(it)), INDEX) for it in ABOVE_5), *(listed(policy_of(reads(it)), program((0, code))) for it, code in OF_5),
-    *(listed(compares(it), program((0, [load(24), *code]))) for it, code in OPERATORS),
     *(told(policy_of(reads(it)), shape()) for it in NO_CONDITION),
 ]

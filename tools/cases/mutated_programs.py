@@ -154,7 +154,7 @@ def compared(run, tool, folder, old, mutations):
     files = [folder / f"{number}.bpf" for number in range(len(mutations) + 1)]
     for file, program in zip(files, [old, *mutations]):
         file.write_bytes(b"".join(struct.pack("<HBBI", *it) for it in program))
-    statuses = run(["sh", "-c", DIFFS, tool, *files])[1].split()
+    statuses = run(["sh", "-c", DIFFS, tool, *files], "/dev/null")[1].split()
     return [(int(status), file.with_suffix(".out").read_text(encoding="utf-8")) for status, file in zip(statuses, files[1:])]
 
 
@@ -172,7 +172,8 @@ def is_right(old, new, records, status, lines):
 
 
 def check_mutations(results, folder, top, tool, run):
-    """Compares programs with mutated ones. run(command) returns the exit status, the output and the errors."""
+    """Compares programs with mutated ones. run(command, path) returns the exit status, the output and the errors of a command that reads
+    the file at a path."""
     numbers, tried, reached = random.Random(62), 0, 0
     for name, old, count in programs(numbers, top):
         mutations = [mutated(numbers, old) for _ in range(count)]

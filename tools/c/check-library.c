@@ -380,15 +380,6 @@ static void check_rules_length(void)
     for (size_t i = 0; i < 4096; i++)
         chains[i].number = (int64_t)(2 * i);
     for (uint32_t layout = 0; layout < 2; layout++) {
-        struct asked asked = fine(layout);
-        equal(length_of_rules(&asked), compile_rules(&asked), "the length of a program of rules");
-        asked.match_kind = 1, equal(length_of_rules(&asked), SECCOMPILER_UNKNOWN_ACTION, "the length of no action's program");
-        asked.layout = 2, equal(length_of_rules(&asked), SECCOMPILER_UNKNOWN_LAYOUT, "a length in no layout");
-        asked.arch = 0, equal(length_of_rules(&asked), SECCOMPILER_UNKNOWN_ARCHITECTURE, "a length for no architecture");
-        asked = fine(layout), asked.rules[0].conditions = 2;
-        equal(length_of_rules(&asked), SECCOMPILER_BAD_COUNTS, "the length of bad counts");
-        asked = fine(layout), asked.chains[2].number = 4294967296;
-        equal(length_of_rules(&asked), SECCOMPILER_BAD_NUMBER, "the length with a number above 32 bits");
         int64_t length = length_of_chains(chains, 1000, layout);
         check(layout == 0 ? length == 5005 : length > 4 && length < 4096, "the length of 1000 chains");
         equal(length_of_chains(chains, 4096, layout), layout == 0 ? 20485 : SECCOMPILER_TOO_LARGE,
@@ -629,18 +620,19 @@ static void check_lengths(void)
 /* Makes a call with all requests refused, which answers want of memory; then once for each of its
  * requests, that one refused. Each answer is want of memory or the ample one, which comes if the call
  * goes on without what was refused, and at the end. */
-static void sweep(int64_t (*call)(void), int64_t ample, int64_t refused)
+static void sweep(int64_t (*call)(void), int64_t ample)
 {
     long number = 0, scarce = 0;
+    held = 0;
     refuse(1, LONG_MAX);
-    equal(call(), refused, "an answer with all requests refused");
+    equal(call(), SECCOMPILER_OUT_OF_MEMORY, "an answer with all requests refused");
     equal(held, 0, "memory that is kept");
     do {
         number++;
         refuse(number, number);
         int64_t answer = call();
         scarce += answer != ample;
-        check(answer == ample || answer == refused, "an answer with a refused request");
+        check(answer == ample || answer == SECCOMPILER_OUT_OF_MEMORY, "an answer with a refused request");
         if (answer != ample)
             check(requests >= number, "want of memory with none refused");
         equal(held, 0, "memory that is kept");
@@ -649,17 +641,13 @@ static void sweep(int64_t (*call)(void), int64_t ample, int64_t refused)
     refuse(1, 0);
 }
 
-static int64_t in_linear(void)
-{
-    int64_t answer = compile_readme(SECCOMPILER_LAYOUT_LINEAR, 30);
-    check(is_marked(answer < 0 ? 0 : 24), "an array with a refused request");
-    return answer;
-}
+/* The layout of the calls below. */
+static uint32_t swept;
 
-static int64_t as_tree(void)
+static int64_t compiled(void)
 {
-    int64_t answer = compile_readme(SECCOMPILER_LAYOUT_TREE, 30);
-    check(is_marked(answer < 0 ? 0 : 13), "an array with a refused request");
+    int64_t answer = compile_readme(swept, 30);
+    check(is_marked(answer < 0 ? 0 : answer), "an array with a refused request");
     return answer;
 }
 
@@ -669,15 +657,9 @@ static int64_t decided(void)
     return decide(README, NAME, AUDIT_ARCH_X86_64, &call);
 }
 
-static int64_t rules_linear(void)
+static int64_t rules_compiled(void)
 {
-    struct asked asked = fine(SECCOMPILER_LAYOUT_LINEAR);
-    return compile_rules(&asked);
-}
-
-static int64_t rules_as_tree(void)
-{
-    struct asked asked = fine(SECCOMPILER_LAYOUT_TREE);
+    struct asked asked = fine(swept);
     return compile_rules(&asked);
 }
 
@@ -694,7 +676,7 @@ static int64_t rules_decided(void)
 
 static int64_t rules_long(void)
 {
-    struct asked asked = fine(SECCOMPILER_LAYOUT_TREE);
+    struct asked asked = fine(swept);
     return length_of_rules(&asked);
 }
 
@@ -800,24 +782,20 @@ int main(void)
     check_comparisons();
     check_numbers();
     check_lengths();
-    held = 0;
-    sweep(in_linear, 24, SECCOMPILER_OUT_OF_MEMORY);
-    sweep(as_tree, 13, SECCOMPILER_OUT_OF_MEMORY);
-    int64_t linear = rules_linear(), tree = rules_as_tree();
-    held = 0;
-    sweep(rules_linear, linear, SECCOMPILER_OUT_OF_MEMORY);
-    sweep(rules_as_tree, tree, SECCOMPILER_OUT_OF_MEMORY);
-    int64_t code = rule_code();
-    held = 0;
-    sweep(rule_code, code, SECCOMPILER_OUT_OF_MEMORY);
-    sweep(decided, SECCOMP_RET_ALLOW, SECCOMPILER_OUT_OF_MEMORY);
-    sweep(rules_decided, SECCOMP_RET_ERRNO | 13, SECCOMPILER_OUT_OF_MEMORY);
-    sweep(rules_long, tree, SECCOMPILER_OUT_OF_MEMORY);
-    sweep(named, FILTERS[0].bytes, SECCOMPILER_OUT_OF_MEMORY);
-    sweep(compared, 0, SECCOMPILER_OUT_OF_MEMORY);
-    sweep(compared_alike, 1, SECCOMPILER_OUT_OF_MEMORY);
-    sweep(steering, SECCOMPILER_REJECTED, SECCOMPILER_OUT_OF_MEMORY);
-    sweep(shape, SECCOMPILER_REJECTED, SECCOMPILER_OUT_OF_MEMORY);
+    for (swept = 0; swept < 2; swept++) {
+        int64_t count = rules_compiled();
+        sweep(compiled, swept == SECCOMPILER_LAYOUT_TREE ? 13 : 24);
+        sweep(rules_compiled, count);
+        sweep(rules_long, count);
+    }
+    sweep(rule_code, rule_code());
+    sweep(decided, SECCOMP_RET_ALLOW);
+    sweep(rules_decided, SECCOMP_RET_ERRNO | 13);
+    sweep(named, FILTERS[0].bytes);
+    sweep(compared, 0);
+    sweep(compared_alike, 1);
+    sweep(steering, SECCOMPILER_REJECTED);
+    sweep(shape, SECCOMPILER_REJECTED);
     without_room();
     without_memory();
     printf("%d passed, %d failed\n", passed, failed);

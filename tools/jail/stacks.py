@@ -12,13 +12,11 @@ import struct
 from commands import run
 from jail.running import TOOL
 from jail.running_kernel import under
+from model import ARCHITECTURES, numbers_on
 
 # Calls that do nothing, by their numbers.
-CALLS = {
-    "x86_64": {"sched_yield": 24, "getuid": 102, "getgid": 104, "geteuid": 107, "getegid": 108, "getppid": 110},
-    "aarch64": {"sched_yield": 124, "getppid": 173, "getuid": 174, "geteuid": 175, "getgid": 176, "getegid": 177},
-    "riscv64": {"sched_yield": 124, "getppid": 173, "getuid": 174, "geteuid": 175, "getgid": 176, "getegid": 177},
-}.get(platform.machine(), {})
+MACHINE = platform.machine()
+CALLS = {it: numbers_on(MACHINE)[it] for it in ("sched_yield", "getuid", "getgid", "geteuid", "getegid", "getppid") if MACHINE in ARCHITECTURES}
 
 # Return values of each action (linux/seccomp.h), and what a process without a tracer and without a supervisor sees of them: nothing,
 # an error number, or SIGSYS.

@@ -29,8 +29,8 @@ import tempfile
 
 SECONDS = 300
 
-# How many sets the first try looks at.
-FIRST = 10_000
+# How many sets the first try looks at, and the last one at most.
+FIRST, MOST = 10_000, 32_000_000
 
 # What goes back to the begin of a line, and what erases it from there on.
 BACK, ERASE = b"\r", b"\x1b[K"
@@ -79,24 +79,23 @@ def on_pipe(program, folder, words):
     return ran.returncode, ran.stdout.decode(), ran.stderr
 
 
-def sums_of_tries(most):
-    """Returns how many sets all tries so far looked at, after each try but one that has an answer."""
-    tries = [min(FIRST, most)]
-    while tries[-1] < most:
-        tries.append(min(4 * tries[-1], most))
+def sums_of_tries():
+    """Returns how many sets all tries so far looked at, after each try but the last one, which has an answer."""
+    tries = [FIRST]
+    while 4 * tries[-1] < MOST:
+        tries.append(4 * tries[-1])
     return list(itertools.accumulate(tries))
 
 
-def compare_lines(results, what, most, is_decided, shown):
+def compare_lines(results, shown):
     """Compares the lines on a terminal with the sums of tries, of which the first ones come too early."""
-    results.compare(f"{what}: the last line is erased", (ERASE + BACK + ERASE,), (shown[-len(ERASE + BACK + ERASE):],))
-    results.compare(f"{what}: there is nothing but lines", (BACK + ERASE,), (LINE.sub(b"", shown),))
+    results.compare("progress: the last line is erased", (ERASE + BACK + ERASE,), (shown[-len(ERASE + BACK + ERASE):],))
+    results.compare("progress: there is nothing but lines", (BACK + ERASE,), (LINE.sub(b"", shown),))
     lines = LINE.findall(shown)
-    results.compare(f"{what}: the call", ({b"read"},), ({name for name, _ in lines},))
+    results.compare("progress: the call", ({b"read"},), ({name for name, _ in lines},))
     given = [int(it) for _, it in lines]
-    sums = sums_of_tries(most)[:-1] if is_decided else sums_of_tries(most)
-    stated = [it for it in sums if it >= min(given, default=0)]
-    results.compare(f"{what}: how many sets", (True, stated), (bool(given), given))
+    stated = [it for it in sums_of_tries() if it >= min(given, default=0)]
+    results.compare("progress: how many sets", (True, stated), (bool(given), given))
 
 
 def compare_progress(results, program):
@@ -108,15 +107,13 @@ def compare_progress(results, program):
         (folder / "none.json").write_text("{")
         compiled = subprocess.run([program, "compile", "new.json"], cwd=folder, capture_output=True, timeout=SECONDS)
         (folder / "new.bpf").write_bytes(compiled.stdout)
-        long = [("diff", 0, "filter a: same\nother architectures: same\n", 32_000_000, ["old.json", "new.bpf"])]
-        for name, status, output, most, files in long:
-            words = [name, "--quiet", "--most", str(most), *files]
-            runs = [lanes.submit(it, program, folder, words) for it in (on_terminal, on_pipe)]
-            on_the_terminal, on_the_pipe = (it.result() for it in runs)
-            what = f"seccomptool {' '.join(words)}"
-            results.compare(f"{what} on a pipe", (status, output, b""), on_the_pipe)
-            results.compare(f"{what} on a terminal", (status, output), on_the_terminal[:2])
-            compare_lines(results, what, most, status == 0, on_the_terminal[2])
+        words = ["diff", "--quiet", "--most", str(MOST), "old.json", "new.bpf"]
+        runs = [lanes.submit(it, program, folder, words) for it in (on_terminal, on_pipe)]
+        on_the_terminal, on_the_pipe = (it.result() for it in runs)
+        stated = 0, "filter a: same\nother architectures: same\n"
+        results.compare(f"seccomptool {' '.join(words)} on a pipe", (*stated, b""), on_the_pipe)
+        results.compare(f"seccomptool {' '.join(words)} on a terminal", stated, on_the_terminal[:2])
+        compare_lines(results, on_the_terminal[2])
         for words in (["diff", "old.json", "old.json"], ["diff", "old.json", "new.json"], ["diff", "--most", "0", "old.json", "old.json"],
                       ["diff", "none.json", "old.json"]):
             status, output, errors = on_pipe(program, folder, words)
@@ -140,8 +137,12 @@ OF_TEXT = (
 NO_BYTES = "seccomptool: standard output: bytes aren't written to a terminal; use a file or a pipe\n"
 
 
+# Commands whose output nobody reads: each ends at once, and says nothing. A file behind the first isn't looked for.
+UNREAD = (["check", "few.json", "missing.json"], ["show", "few.json"], ["explain", "few.json", "read"], ["call", "read"], ["--help"])
+
+
 def compare_outputs(results, program):
-    """Runs commands with standard output as a terminal, of the program with this path."""
+    """Runs commands with standard output as a terminal, and as a pipe that nobody reads, of the program with this path."""
     with tempfile.TemporaryDirectory(prefix="terminal-") as room:
         folder = pathlib.Path(room)
         (folder / "few.json").write_text('{"a":{"mismatch_action":"trap","match_action":"allow","filter":[]}}')
@@ -152,17 +153,6 @@ def compare_outputs(results, program):
         for words, text in OF_TEXT:
             found = on_terminal(program, folder, words, "stdout")
             results.compare(f"seccomptool {' '.join(words)} to a terminal", (0, "", text.replace("\n", "\r\n").encode()), found)
-
-
-# Commands whose output nobody reads: each ends at once, and says nothing. A file behind the first isn't looked for.
-UNREAD = (["check", "few.json", "missing.json"], ["show", "few.json"], ["explain", "few.json", "read"], ["call", "read"], ["--help"])
-
-
-def compare_unread(results, program):
-    """Runs commands with standard output as a pipe that nobody reads, of the program with this path."""
-    with tempfile.TemporaryDirectory(prefix="unread-") as room:
-        folder = pathlib.Path(room)
-        (folder / "few.json").write_text('{"a":{"mismatch_action":"trap","match_action":"allow","filter":[]}}')
         for words in UNREAD:
             reads, writes = os.pipe()
             os.close(reads)

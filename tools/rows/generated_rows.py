@@ -4,23 +4,23 @@ If the answer isn't known the row says `decided`: any but `undecided`."""
 import random
 import struct
 
+from model import TESTS
+from rows.row_grammar import shown
+
 PAIRS = 5000
 POLICIES = 2000
 MOST = 1 << 20
 PROGRAM_LEN = 24
 
-TESTS = (0x15, 0x25, 0x35, 0x45)
-CODES = {0x20: "LD", 0x54: "AND", 0x05: "JA", 0x06: "RET", 0x15: "JEQ", 0x25: "JGT", 0x35: "JGE", 0x45: "0x45"}
 
-
-def shown(code):
+def listed(code):
     """Returns instructions as rows have them."""
-    return "; ".join(f"{CODES[kind]} {k}" + (f",{when},{otherwise}" if kind in TESTS else "") for kind, when, otherwise, k in code)
+    return "; ".join(map(shown, code))
 
 
 def compared(first, second, told):
     """Returns the row that compares the programs of two files."""
-    first, second = (shown(struct.iter_unpack("<HBBI", path.read_bytes())) for path in (first, second))
+    first, second = (listed(struct.iter_unpack("<HBBI", path.read_bytes())) for path in (first, second))
     return f"compare_code alike {MOST}: {first} with {second} => {told}"
 
 
@@ -39,7 +39,7 @@ def of_programs(numbers):
     first = [*(instruction(numbers, room) for room in rooms), (0x06, 0, 0, 0)]
     place = numbers.randrange(PROGRAM_LEN - 1)
     second = [*first[:place], instruction(numbers, rooms[place]), *first[place + 1:]]
-    return f"compare_code alike {MOST}: {shown(first)} with {shown(second)} => decided"
+    return f"compare_code alike {MOST}: {listed(first)} with {listed(second)} => decided"
 
 
 def condition(numbers):

@@ -1,12 +1,10 @@
 """Checks of the completions, a part of tools/check-documents. It needs the built programs, and bash; zsh and fish are asked
 if they are installed.
 
-Each shell is asked itself, by the file of completions/ that it takes. What is wanted comes from the programs' help, from the files of the
-folder, from tools/call_names, and of filters from the policy on the line:
+Each shell is asked itself, by the file of completions/ that it takes, for each row that tools/make-man makes of the programs' help. What is
+wanted comes from these, from the files of the folder, from tools/call_names, and of filters from the policy on the line:
 
-- the commands are exactly those that the help lists, and each command's options exactly those of its own help;
-- an option's values are those that its help lists; a file is completed if the help names one, and `-` beside it
-  if the help says that it is standard input; nothing is completed for any other argument;
+- the commands and options are exactly those of the rows, and so are values; nothing is completed for any other argument;
 - what the names of filters hold isn't run by the shell;
 - behind the jailer's own words the command is completed as any command is. zsh takes its completions, and not its own for the jail of
   FreeBSD;
@@ -23,6 +21,7 @@ import subprocess
 import tempfile
 
 from model import numbers_on
+from pages.completions_of_help import commands_of, rows_of_tool, rows_of_usage
 from results import TOP
 
 NAMES = ("seccomptool", "seccompc")
@@ -42,11 +41,8 @@ SHELLS = {
 TAKEN_BY_ZSH = """fpath=($1 $fpath); autoload -Uz compinit; compinit -D -u; autoload +X $_comps[jail]
 print -- $functions_source[$_comps[jail]]"""
 
-# An option of a help, its short form, what it takes, and the values that are listed.
-OPTION = re.compile(r"^ +(?:(-\w), )?(--[a-z][a-z-]*)(?: <([A-Z]+)[^>]*>)?(?:.*\[possible values: ([^]]*)\])?", re.M)
-
-# The arguments that are files.
-FILES = ("FILE", "NEW", "OLD", "POLICY", "SUBJECT", "TRACE")
+# What stands on a line in front of the place of an argument.
+GIVEN = {"seccomptool": ["given"] * 3, "seccompc": ["x86_64", "policy.json", "given"]}
 
 # A filter's name that does something if a shell expands it, and one that is quoted.
 FILTERS = ("$(touch made)", "a b", "main")
@@ -82,62 +78,47 @@ def printed(folder, command, stream="stdout"):
     return getattr(ran, stream)
 
 
-def wanted_for(kind, text, files, arch="x86_64"):
-    """Returns what is completed if a help names this kind of argument."""
-    if kind == "CALL":
-        return [*numbers_on(arch)]
-    is_input = re.search(rf"^ +[<\[]{kind}[>\]].* - for standard input", text, re.M) is not None
-    return [*(files if kind in FILES else []), *["-"] * is_input]
+def rows_of(folder):
+    """Returns the rows of both programs by their help, as their completions have them: tools/make-man compares those."""
+    whole = printed(folder, "./seccomptool --help")
+    helps = {it: printed(folder, f"./seccomptool help {it}") for it, _ in commands_of(whole) if it != "help"}
+    return {"seccomptool": rows_of_tool({"": whole, **helps}), "seccompc": rows_of_usage(printed(folder, "./seccompc", "stderr"))}
 
 
-def rows_of_command(command, text, files):
-    """Returns words of a command of seccomptool, and what is completed for the last of them, by its help."""
-    found = OPTION.findall(text)
-    usage = re.search(rf"^Usage: seccomptool {command}(?: \[OPTIONS\])?(.*)$", text, re.M)[1]
-    kinds = re.findall(r"([A-Z]+)[>\]](\.\.\.)?", usage)
-    first = ["-"] * ("-" in wanted_for(kinds[0][0], text, files))
-    rows = [([command, "-"], [it for short, option, _, _ in found for it in (short, option) if it] + first),
-            ([command, "--"], [option for _, option, _, _ in found])]
-    for short, option, kind, values in (it for it in found if it[2] not in ("", "FILTER")):
-        listed = values.split(", ") if values else wanted_for(kind, text, files)
-        rows += [([command, form, ""], listed) for form in (short, option) if form]
-        rows += [([command, f"{option}={it[:2]}"], [other for other in listed if other.startswith(it[:2])]) for it in listed if values]
-    for arch, before in (("x86_64", []), ("aarch64", ["-a", "arm64"]), ("aarch64", ["--arch=arm64"])):
-        rows += [([command, *before, *["given"] * place, ""], wanted_for(kind, text, files, arch)) for place, (kind, _) in enumerate(kinds)]
-    more = wanted_for(kinds[-1][0], text, files) if kinds[-1][1] else []
-    rows.append(([command, *["given"] * len(kinds), ""], more))
-    if any(kind == "FILTER" for _, _, kind, _ in found):
-        rows += [([command, "policy.json", "-f", ""], FILTERS), ([command, "policy.json", "--filter=m"], ["main"])]
-    return rows
+def wanted_for(takes, files, arch="x86_64"):
+    """Returns what is completed by what a row takes."""
+    kinds = {"<files>": files, "<filters>": FILTERS, "<calls>": [*numbers_on(arch)], "<>": []}
+    return [it for word in takes.split() for it in kinds.get(word, [word])]
 
 
-def rows_of_tool(results, folder, files):
-    """Returns such words of seccomptool, which has a row of its own for each command."""
-    text = printed(folder, "./seccomptool --help")
-    listed = re.search(r"^Commands:\n((?:  .*\n)+)", text, re.M)
-    commands = re.findall(r"^  ([a-z]+)\b", listed[1] if listed else "", re.M)
-    results.compare("the help lists commands", (True,), ({"check", "compile", "help"} <= {*commands},))
-    rows = [([""], commands), (["help", ""], commands), (["-"], [it for short, option, _, _ in OPTION.findall(text) for it in (short, option) if it])]
-    for command in commands:
-        rows.append(([command], [command]))
-        rows += rows_of_command(command, printed(folder, f"./seccomptool help {command}"), files) if command != "help" else []
-    inputs = [("-" in wanted) for words, wanted in rows if words in (["check", ""], ["check", "given", ""], ["show", "given", ""], ["compile", "-o", ""])]
-    results.compare("seccomptool check, show and compile -o: what may be -", ([True, True, False, False],), (sorted(inputs, reverse=True),))
-    return rows
+def asked_of(program, command, own, files):
+    """Returns words of a command of a program, or of none, and what is completed for the last of them; by the names of its rows and what
+    they take."""
+    front, options = [command] * bool(command), [it for it in own if it.startswith("-")]
+    inputs = ["-"] * ("-" in own.get("#1", own.get("#+", "")).split())
+    places = [int(it[1:]) for it in own if re.match(r"#\d", it)]
+    asked = [([*front, "-"], [*options, *inputs]), ([*front, "--"], [it for it in options if it.startswith("--")])]
+    asked += [([*front, ""], [it for it in own if own[it].startswith("=")])] * (not command)
+    for name, takes in own.items():
+        if name.startswith("#"):
+            before = GIVEN[program][:(max(places, default=0) if name == "#+" else int(name[1:]) - 1)]
+            asked += [([*front, *more, *before, ""], wanted_for(takes, files, arch)) for arch, more in
+                      (("x86_64", []), ("aarch64", ["-a", "arm64"]), ("aarch64", ["--arch=arm64"])) if not more or "-a" in own]
+        elif name in options and takes:
+            asked.append(([*front, *["policy.json"] * (takes == "<filters>"), name, ""], wanted_for(takes, files)))
+            asked += [([*front, f"{name}={it[:2]}"], [other for other in takes.split() if other.startswith(it[:2])])
+                      for it in takes.split() if name.startswith("--") and "<" not in takes]
+    return asked + [([*front, *GIVEN[program][:len(places)], ""], [])] * ("#+" not in own and bool(places))
 
 
-def rows_of_small(results, folder, files):
-    """Returns such words of seccompc, by its usage line, with the architectures that it takes."""
-    forms = dict(it.split(" ", 1) for it in printed(folder, "./seccompc", "stderr").strip().removeprefix("usage: seccompc ").split(" | "))
+def compare_architectures(results, folder):
+    """Compares that seccompc takes the architectures that are completed."""
     names = completed("bash", folder, "seccompc", ["run", ""])
     statuses = {printed(folder, f"printf '{{}}' | ./seccompc list {it} 2>&1; echo $?") for it in names}
     results.compare("seccompc: architectures", (3, {"0\n"}), (len(names), statuses))
-    wanted = {"ARCH": names, "FILE": files, "NAME": FILTERS}
-    return [([""], [*forms])] + [([command, *["x86_64", "policy.json", "given"][:place], ""], wanted.get(kind, []))
-                                 for command, form in forms.items() for place, kind in enumerate([*form.split(), "MORE"][:4])]
 
 
-def rows_of_jailer(files):
+def asked_of_jailer(files):
     """Returns such words of the jailer, which is linked with nothing here: options are those of its help."""
     options = re.findall(r'^    "  (--[a-z-]+) +', (TOP / "examples/jail/jail.c").read_text(), re.M)
     named = [it for it in FILTERS if "$" not in it]
@@ -196,8 +177,12 @@ def compare_completions(results, programs):
         for name, filters in (("given", None), ("a file", None), ("policy.json", FILTERS), ("two.json", FILTERS[1:])):
             (folder / name).write_text(json.dumps({it: ENTRIES for it in filters}) if filters else "")
         files = [it.name for it in folder.iterdir()]
-        rows = {"seccomptool": rows_of_tool(results, folder, files), "seccompc": rows_of_small(results, folder, files), "jail": rows_of_jailer(files)}
-        compare_rows(results, folder, rows)
+        asked = {"jail": asked_of_jailer(files)}
+        for program, rows in rows_of(folder).items():
+            commands = {of: {name: takes for command, name, takes, _ in rows if command == of} for of, *_ in rows}
+            asked[program] = [it for command, own in commands.items() for it in asked_of(program, command, own, files)]
+        compare_rows(results, folder, asked)
+        compare_architectures(results, folder)
         compare_behind(results, folder)
         results.compare("a filter's name is run by the shell", (False,), ((folder / "made").exists(),))
         compare_scripts(results, folder)

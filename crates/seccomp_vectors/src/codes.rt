@@ -75,7 +75,7 @@ impl<'a> Question<'a> {
 }
 
 // A kernel with one answer to each of its calls: code and errno.
-#[derive(Clone, Copy)]
+#[derive(Drop)]
 struct ScriptedKernel<'a> {
     flags: u64,
     program: BpfProgramRef<'a>,

@@ -16,7 +16,16 @@ HEADERS = {
     "x86_64": ("asm/unistd_64.h", ""),
     "aarch64": ("asm-generic/unistd.h", f"{WANTED} -D__ARCH_WANT_RENAMEAT"),
     "riscv64": ("asm-generic/unistd.h", WANTED),
+    "i386": ("asm/unistd_32.h", ""),
+    "x32": ("asm/unistd_x32.h", ""),
 }
+
+# How a table of 32-bit programs numbers what has a header of its own: `socketcall` and `ipc` of i386.
+ASKED = {"socketcall": ("linux/net.h", "SYS_"), "ipc": ("linux/ipc.h", "")}
+
+# The constants by which libseccomp knows architectures (seccomp.h), and the bit that a number of x32 has.
+SECCOMP_ARCHITECTURES = {**ARCHITECTURES, "i386": 0x40000003, "x32": 0x4000003E}
+X32_BIT = 0x40000000
 
 # The least number of names that a source shares with a table.
 SHARED = 280
@@ -35,18 +44,21 @@ FOUND = re.compile(r"(?:([0-9]+) )?([0-9]+)")
 BORDERS = {"arch_specific_syscall", "syscalls"}
 
 
-def in_header(arch):
-    """Returns the numbers of names as a header has them; none if there is no header or no compiler."""
-    header, defined = HEADERS[arch]
+def defined_in(header, defined, prefix):
+    """Returns the numbers that a header defines of names with this prefix; none if there is no header or no compiler."""
     words = ["env", "cc", "-E", "-dM", *defined.split(), "-include", header, "-x", "c", "/dev/null"]
     try:
         ran = subprocess.run(words, capture_output=True, text=True)
     except FileNotFoundError:
         return {}
-    defines = dict(re.findall(r"^#define (__NR\w+) (\w+)$", ran.stdout if ran.returncode == 0 else "", re.M))
+    defines = dict(re.findall(r"^#define (\w+) (?:\(__X32_SYSCALL_BIT \+ )?(\w+)\)?$", ran.stdout if ran.returncode == 0 else "", re.M))
     numbers = {name: defines.get(value, value) for name, value in defines.items()}
-    return {name.removeprefix("__NR_"): int(number) for name, number in numbers.items()
-            if name.startswith("__NR_") and number.isdigit()}
+    return {name.removeprefix(prefix): int(number) for name, number in numbers.items() if name.startswith(prefix) and number.isdigit()}
+
+
+def in_header(arch):
+    """Returns the numbers of an architecture's names as its header has them."""
+    return defined_in(*HEADERS[arch], "__NR_")
 
 
 def in_libseccomp(arch, names):
@@ -56,8 +68,8 @@ def in_libseccomp(arch, names):
         return {}
     resolve = ctypes.CDLL(file).seccomp_syscall_resolve_name_arch
     resolve.argtypes = [ctypes.c_uint32, ctypes.c_char_p]
-    found = {name: resolve(ARCHITECTURES[arch], name.encode()) for name in names}
-    return {name: number for name, number in found.items() if number >= 0}
+    found = {name: resolve(SECCOMP_ARCHITECTURES[arch], name.encode()) for name in names}
+    return {name: number & ~X32_BIT if arch == "x32" else number for name, number in found.items() if number >= 0}
 
 
 def compare_with(results, what, pairs, other):
@@ -99,11 +111,25 @@ def compare_table(results, arch):
         results.compare(f"{arch}: {name!r}", (str(numbers.get(name, "none")), True), (number, least <= compared <= 9))
 
 
+def compare_compat(results, name):
+    """Compares a table of 32-bit programs with the file of its pairs."""
+    pairs = [(call, int(number)) for call, number in map(str.split, (NAMES / name).read_text(encoding="ascii").splitlines())]
+    results.compare(f"{name}: names, numbers", (len(pairs),) * 2, (len(dict(pairs)), len({number for _, number in pairs})))
+    results.compare(f"{name}: the table's pairs", (pairs,), (pairs_in(driver_rows.TOP / f"crates/seccomp_names/src/{name}.rt"),))
+
+
 def compare_tables(results):
-    """Compares each table with its pairs, then with each source, and riscv64's with aarch64's, which has the same calls but for three."""
+    """Compares each table with its pairs, then with each source, and riscv64's with aarch64's, which has the same calls but for three.
+    Names of 32-bit programs that are newer than the headers are x86_64's, whose numbers from 424 on are everybody's."""
     for arch in ARCHITECTURES:
         compare_table(results, arch)
-    tables = {arch: numbers_on(arch) for arch in ARCHITECTURES}
+    for name in ("i386", "x32", *ASKED):
+        compare_compat(results, name)
+    for name, (header, prefix) in ASKED.items():
+        found = {call.lower(): number for call, number in defined_in(header, "", prefix).items()}
+        asked = numbers_on(name)
+        results.compare(f"{name}: {header}", (asked,), ({call: found.get(call) for call in asked},) if found else (asked,))
+    tables = {arch: numbers_on(arch) for arch in HEADERS}
     generic = {name: number for name, number in tables["aarch64"].items() if name != "renameat"}
     results.compare("riscv64: aarch64", (tables["riscv64"],), ({**generic, "riscv_flush_icache": 259, "riscv_hwprobe": 258},))
     for arch, pairs in tables.items():

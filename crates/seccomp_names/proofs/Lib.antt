@@ -1,2 +1,2 @@
--- What holds of lists, which the proofs of both modules cite.
+-- What holds of lists, which the proofs of several modules cite.
 pub mod Mapped

@@ -1,0 +1,2 @@
+-- Lemmas on tables.
+pub mod Looked

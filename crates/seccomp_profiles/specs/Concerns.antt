@@ -5,12 +5,14 @@ use Rattle.std.specs.Prelude.{Bool, nat_lt}
 use Rattle.std.specs.Bool.{then_some}
 use Rattle.std.specs.List.{AllPairs, AllZip, flat_map}
 use Rattle.seccomp_entries.specs.declared.entry.Action.{Action}
-use Rattle.seccompiler.specs.declared.backend.TargetArch.{TargetArch}
+use Rattle.seccompiler.specs.declared.backend.SeccompCmpArgLen.{SeccompCmpArgLen}
 use Rattle.seccompiler.specs.Policy.{Condition}
 use Rattle.seccomp_entries.specs.Entries as entries
 use Rattle.seccomp_profiles.specs.Conditions.{condition_of}
-use Rattle.seccomp_profiles.specs.Decision.{Concerns, ShareArgument, rank, tested}
+use Rattle.seccomp_profiles.specs.Abis.{end_for, length_for}
+use Rattle.seccomp_profiles.specs.Decision.{ConcernsOn, ShareArgument, rank, tested}
 use Rattle.seccomp_profiles.specs.Lowered.{IsAskedBefore, IsOwn, rank_in}
+use Rattle.seccomp_profiles.specs.declared.types.Abi.{Abi}
 use Rattle.seccomp_profiles.specs.declared.types.Argument.{Argument}
 use Rattle.seccomp_profiles.specs.Types.{Container, Entry}
 
@@ -22,23 +24,23 @@ pub record Concern : Type 0 where
   pub rank : ℕ
   pub alternatives : List (List Condition)
 
--- These are the numbers of which something holds, each once. No call has a number of 463 or more.
-pub record AreCallsOf (P : ℕ → Type 0) (numbers : List ℕ) : Type 0 where
+-- These are the numbers of which something holds, each once. All are below the end.
+pub record AreCallsOf (end : ℕ) (P : ℕ → Type 0) (numbers : List ℕ) : Type 0 where
   pub exactly : (n : ℕ) → Contains numbers n ↔ P n
   pub once : AllPairs (λ m n. m ≢ n) numbers
-  pub below : All (λ n. n < 463) numbers
+  pub below : All (λ n. n < end) numbers
 
 -- The lists of conditions of an entry: one of all its conditions; or one of each, if two are on one argument.
-pub data AreListsOf (args : List Argument) (lists : List (List Condition)) : Type 0 where
-  together : (ShareArgument args → ⊥) → lists ≡ map condition_of args ∷ [] → AreListsOf args lists
-  apart : ShareArgument args → lists ≡ map (λ a. condition_of a ∷ []) args → AreListsOf args lists
+pub data AreListsOf (len : SeccompCmpArgLen) (args : List Argument) (lists : List (List Condition)) : Type 0 where
+  together : (ShareArgument args → ⊥) → lists ≡ map (condition_of len) args ∷ [] → AreListsOf len args lists
+  apart : ShareArgument args → lists ≡ map (λ a. condition_of len a ∷ []) args → AreListsOf len args lists
 
 -- This is what the entry says in a container, beside this default action.
-pub record IsConcernOf (arch : TargetArch) (container : Container) (default : Action) (e : Entry) (c : Concern) : Type 0 where
-  pub numbers : AreCallsOf (λ n. Concerns arch container default n e) c.numbers
+pub record IsConcernOf (abi : Abi) (container : Container) (default : Action) (e : Entry) (c : Concern) : Type 0 where
+  pub numbers : AreCallsOf (end_for abi) (λ n. ConcernsOn abi container default n e) c.numbers
   pub action : c.action ≡ e.action
   pub rank : c.rank ≡ rank e
-  pub alternatives : AreListsOf (tested e.args) c.alternatives
+  pub alternatives : AreListsOf (length_for abi) (tested e.args) c.alternatives
 
 -- ---- what they become
 
@@ -71,16 +73,16 @@ abbrev pub IsAskedTo : ℕ → ℕ → entries.Entry → Type 0
 IsAskedTo s i e = (rank_in e.conditions e.action < s) ⊎ ((rank_in e.conditions e.action ≡ s) × (e.place < i))
 
 -- They are those that are asked before the entries of rank s from place i on.
-pub record AreAskedTo (arch : TargetArch) (container : Container) (default : Action) (own : List Entry) (s i : ℕ)
+pub record AreAskedTo (abi : Abi) (container : Container) (default : Action) (own : List Entry) (s i : ℕ)
     (all : List entries.Entry) : Type 0 where
-  pub exactly : (e : entries.Entry) → Contains all e ↔ (IsOwn arch container default own e × IsAskedTo s i e)
+  pub exactly : (e : entries.Entry) → Contains all e ↔ (IsOwn abi container default own e × IsAskedTo s i e)
   pub ordered : AllPairs IsAskedBefore all
-  pub below : All (λ e. e.number < 463) all
+  pub below : All (λ e. e.number < end_for abi) all
 
 -- They are those of the entries below a rank that say this.
 abbrev pub AreLoweredTo : List Concern → ℕ → List entries.Entry → Type 0
-AreLoweredTo concerns s all = (arch : TargetArch) (container : Container) (default : Action) (own : List Entry)
-    → AllZip (IsConcernOf arch container default) own concerns → AreAskedTo arch container default own s 0 all
+AreLoweredTo concerns s all = (abi : Abi) (container : Container) (default : Action) (own : List Entry)
+    → AllZip (IsConcernOf abi container default) own concerns → AreAskedTo abi container default own s 0 all
 
 -- What is said at a place has given its entries, if it is of this rank.
 pub data IsPushed (place s : ℕ) (c : Concern) (old new : List entries.Entry) : Type 0 where

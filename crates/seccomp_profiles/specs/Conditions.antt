@@ -1,5 +1,6 @@
 -- The conditions of an entry of a profile, as the library has them.
 use Rattle.std.specs.Prelude.{◌≡◌, ◌<◌, ℕ, List, [], ◌∷◌, length, map, slice_index_or, Option, Some, None}
+use Rattle.seccompiler.specs.declared.backend.SeccompCmpArgLen.{SeccompCmpArgLen}
 use Rattle.seccompiler.specs.declared.backend.SeccompCmpArgLen.TheVariants.{Qword}
 use Rattle.seccompiler.specs.declared.backend.SeccompCmpOp.{SeccompCmpOp}
 use Rattle.seccompiler.specs.declared.backend.SeccompCmpOp.TheVariants as library
@@ -19,17 +20,20 @@ compared_by Ge v w = (library.Ge, v)
 compared_by Gt v w = (library.Gt, v)
 compared_by MaskedEq v w = (library.MaskedEq v, w)
 
--- All 64 bits of the argument are compared.
-abbrev pub condition_of : Argument → Condition
-condition_of a = record {
+-- So much of the argument is compared.
+abbrev pub condition_of : SeccompCmpArgLen → Argument → Condition
+condition_of len a = record {
   arg_index = a.index;
-  arg_len = Qword;
+  arg_len = len;
   operator = (compared_by a.operator a.value a.value_two).0;
   value = (compared_by a.operator a.value a.value_two).1;
 }
 
 -- The conditions of an entry: all of them; or the one at a place, if two are on one argument.
-pub data AreConditionsOf (args : List Argument) : Option ℕ → List Condition → Type 0 where
-  together : (ShareArgument args → ⊥) → AreConditionsOf args None (map condition_of args)
+pub data AreConditionsIn (len : SeccompCmpArgLen) (args : List Argument) : Option ℕ → List Condition → Type 0 where
+  together : (ShareArgument args → ⊥) → AreConditionsIn len args None (map (condition_of len) args)
   alone : ShareArgument args → (k : ℕ) (a : Argument) → k < length args → a ≡ slice_index_or args k a
-      → AreConditionsOf args (Some k) (condition_of a ∷ [])
+      → AreConditionsIn len args (Some k) (condition_of len a ∷ [])
+
+abbrev pub AreConditionsOf : List Argument → Option ℕ → List Condition → Type 0
+AreConditionsOf args = AreConditionsIn Qword args

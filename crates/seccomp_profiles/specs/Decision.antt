@@ -6,11 +6,14 @@ use Rattle.std.specs.List.{list_any}
 use Rattle.seccomp_entries.specs.declared.entry.Action.{Action}
 use Rattle.seccomp_entries.specs.declared.entry.Action.TheVariants.{Notify, Own}
 use Rattle.seccompiler.specs.declared.backend.SeccompAction.TheVariants.{Allow, Errno, KillThread, KillProcess, Log, Trace, Trap}
+use Rattle.seccompiler.specs.declared.backend.SeccompCmpArgLen.{SeccompCmpArgLen}
 use Rattle.seccompiler.specs.declared.backend.TargetArch.{TargetArch}
 use Rattle.seccompiler.specs.declared.backend.TargetArch.TheVariants.{x86_64, aarch64, riscv64}
-use Rattle.seccompiler.specs.Architecture.{table_of}
 use Rattle.seccompiler.specs.Machine.{argument_at, word_at}
-use Rattle.seccompiler.specs.SyscallTable.{number_of}
+use Rattle.seccompiler.specs.Policy.{part_of}
+use Rattle.seccomp_profiles.specs.Abis.{is_listed, length_for, machine_of, number_for}
+use Rattle.seccomp_profiles.specs.declared.types.Abi.{Abi}
+use Rattle.seccomp_profiles.specs.declared.types.Abi.TheVariants.{Native}
 use Rattle.seccomp_profiles.specs.declared.types.Argument.{Argument}
 use Rattle.seccomp_profiles.specs.declared.types.Kernel.{Kernel}
 use Rattle.seccomp_profiles.specs.declared.types.Operator.{Operator}
@@ -56,9 +59,9 @@ Meets Ge x v w = v ≤ x
 Meets Gt x v w = v < x
 Meets MaskedEq x v w = bit_and x v ≡ bit_and w v
 
--- A call record meets the condition: all 64 bits of the argument are compared.
-abbrev pub IsMet : List ℕ → Argument → Type 0
-IsMet r a = Meets a.operator (argument_at r a.index) a.value a.value_two
+-- A call record meets the condition: so much of the argument is compared with as much of the numbers.
+abbrev pub IsMet : SeccompCmpArgLen → List ℕ → Argument → Type 0
+IsMet len r a = Meets a.operator (part_of len (argument_at r a.index)) (part_of len a.value) (part_of len a.value_two)
 
 -- Whether two of the conditions are on one argument.
 abbrev pub share : List Argument → Bool
@@ -70,9 +73,9 @@ ShareArgument args = IsTrue (share args)
 
 -- A call record meets the conditions of an entry: all of them; or one of them, if two are on one argument (a runtime then
 -- takes them for alternatives).
-pub data AreMet (r : List ℕ) (args : List Argument) : Type 0 where
-  all_met : (ShareArgument args → ⊥) → All (IsMet r) args → AreMet r args
-  one_met : ShareArgument args → Any (IsMet r) args → AreMet r args
+pub data AreMet (len : SeccompCmpArgLen) (r : List ℕ) (args : List Argument) : Type 0 where
+  all_met : (ShareArgument args → ⊥) → All (IsMet len r) args → AreMet len r args
+  one_met : ShareArgument args → Any (IsMet len r) args → AreMet len r args
 
 abbrev pub is_idle_by : Operator → ℕ → Bool
 is_idle_by MaskedEq mask = nat_eq mask 0
@@ -98,16 +101,20 @@ tested args = if pass_all args then [] else args
 
 -- ---- what a profile decides
 
--- The text is the name of the call of this number on the architecture.
-abbrev pub IsNameOf : TargetArch → ℕ → List ℕ → Type 0
-IsNameOf arch n name = number_of (table_of arch) name ≡ Some (pos n)
+-- The text is the name of the call of this number.
+abbrev pub IsNameOf : Abi → ℕ → List ℕ → Type 0
+IsNameOf abi n name = number_for abi name ≡ Some (pos n)
 
 -- The entry concerns the calls of this number, in a container: it applies there, it names the call, and its action isn't the
 -- default one. A runtime passes over an entry that says what holds without it.
-pub record Concerns (arch : TargetArch) (container : Container) (default : Action) (n : ℕ) (e : Entry) : Type 0 where
-  pub applies : Applies arch container e
-  pub named : Any (IsNameOf arch n) e.names
+pub record ConcernsOn (abi : Abi) (container : Container) (default : Action) (n : ℕ) (e : Entry) : Type 0 where
+  pub applies : Applies (machine_of abi) container e
+  pub named : Any (IsNameOf abi n) e.names
   pub other : e.action ≢ default
+
+-- Of an architecture's own calls.
+abbrev pub Concerns : TargetArch → Container → Action → ℕ → Entry → Type 0
+Concerns arch = ConcernsOn (Native arch)
 
 -- How much an action permits (seccomp(2)): the strictest has the least number.
 abbrev pub strictness : Action → ℕ
@@ -129,8 +136,11 @@ abbrev pub rank : Entry → ℕ
 rank e = rank_by (tested e.args) e.action
 
 -- The entry concerns the record's call, and the record meets its conditions.
+abbrev pub MatchesOn : Abi → Container → Action → List ℕ → Entry → Type 0
+MatchesOn abi container default r e = ConcernsOn abi container default (word_at r 0) e × AreMet (length_for abi) r (tested e.args)
+
 abbrev pub Matches : TargetArch → Container → Action → List ℕ → Entry → Type 0
-Matches arch container default r e = Concerns arch container default (word_at r 0) e × AreMet r (tested e.args)
+Matches arch = MatchesOn (Native arch)
 
 -- Of the first n that have a property, the one at this place has the least rank, and is the first that has this rank.
 pub record IsFirstLeast {X : Type 0} (rank_of : X → ℕ) (P : X → Type 0) (xs : List X) (n place : ℕ) (x : X) : Type 0 where
@@ -148,14 +158,14 @@ NoneOf {X = X} P xs n = (k : ℕ) (y : X) → k < n → y ≡ slice_index_or xs 
 
 -- The default action of a number. On x86_64 the thread is killed that makes a call by a number of x32, which has bit 30
 -- (asm/unistd.h); libseccomp takes the greatest number for none of these. Errno 38 (ENOSYS) answers numbers above all that are named.
-abbrev pub default_of : TargetArch → Action → Bool → ℕ → Action
-default_of x86_64 default above n = if nat_le 0x40000000 n then (if nat_le 0xffffffff n then default else Own KillThread)
+abbrev pub default_of : Abi → Action → Bool → ℕ → Action
+default_of (Native x86_64) default above n = if nat_le 0x40000000 n then (if nat_le 0xffffffff n then default else Own KillThread)
     else (if above then Own (Errno 38) else default)
-default_of arch default above n = if above then Own (Errno 38) else default
+default_of abi default above n = if above then Own (Errno 38) else default
 
 -- An entry that applies names the call of this number.
-abbrev pub IsNamed : TargetArch → Container → List Entry → ℕ → Type 0
-IsNamed arch container entries n = Any (λ (e : Entry). Applies arch container e × Any (IsNameOf arch n) e.names) entries
+abbrev pub IsNamed : Abi → Container → List Entry → ℕ → Type 0
+IsNamed abi container entries n = Any (λ (e : Entry). Applies (machine_of abi) container e × Any (IsNameOf abi n) e.names) entries
 
 -- The action lets a call be made, if only for a tracer.
 abbrev pub lets : Action → Bool
@@ -166,30 +176,38 @@ lets action = false
 
 -- runc answers the calls of this number with ENOSYS: the number is above all that are named, of which one isn't 0, and the default
 -- action lets no call be made (libcontainer/seccomp/patchbpf).
-pub record IsAbove (arch : TargetArch) (container : Container) (p : Profile) (n : ℕ) : Type 0 where
+pub record IsAbove (abi : Abi) (container : Container) (p : Profile) (n : ℕ) : Type 0 where
   pub runc : container.runtime ≡ Runc
   pub denies : lets p.default ≡ false
-  pub some : (m : ℕ) × (0 < m) × IsNamed arch container p.entries m
-  pub above : (m : ℕ) → IsNamed arch container p.entries m → m < n
+  pub some : (m : ℕ) × (0 < m) × IsNamed abi container p.entries m
+  pub above : (m : ℕ) → IsNamed abi container p.entries m → m < n
 
-pub record IsDefault (arch : TargetArch) (container : Container) (p : Profile) (n : ℕ) (action : Action) : Type 0 where
+-- Calls whose architecture isn't listed kill the thread (libseccomp).
+pub record IsDefault (abi : Abi) (container : Container) (p : Profile) (n : ℕ) (action : Action) : Type 0 where
   pub above : Bool
-  pub is_above : IsTrue above ↔ IsAbove arch container p n
-  pub is : action ≡ default_of arch p.default above n
+  pub is_above : IsTrue above ↔ IsAbove abi container p n
+  pub is : action ≡ (if is_listed abi p then default_of abi p.default above n else Own KillThread)
 
 -- ---- what a profile decides
 
--- The entry at this place decides the record, as this action: of those that match it is asked first.
-pub record IsByEntry (arch : TargetArch) (container : Container) (p : Profile) (r : List ℕ) (action : Action) (place : ℕ)
-    : Type 0 where
+-- Of these entries the one at this place decides the record, as this action: of those that match it is asked first.
+pub record IsByEntryOf (abi : Abi) (container : Container) (default : Action) (own : List Entry) (r : List ℕ) (action : Action)
+    (place : ℕ) : Type 0 where
   pub entry : Entry
-  pub first : IsFirstLeast rank (Matches arch container p.default r) p.entries (length p.entries) place entry
+  pub first : IsFirstLeast rank (MatchesOn abi container default r) own (length own) place entry
   pub is : action ≡ entry.action
 
--- What a profile decides of a call record of the architecture, in a container. Of the entries that match the first without
--- conditions decides, whatever stands beside it. Else it is the first of the strictest; if they name several actions, the
+abbrev pub IsByEntry : TargetArch → Container → Profile → List ℕ → Action → ℕ → Type 0
+IsByEntry arch container p = IsByEntryOf (Native arch) container p.default p.entries
+
+-- What a profile decides by these entries of a call record of the architecture, in a container. Of the entries that match the first
+-- without conditions decides, whatever stands beside it. Else it is the first of the strictest; if they name several actions, the
 -- profile leaves the answer open. If none matches, it is the default action.
-pub data IsProfileDecision (arch : TargetArch) (container : Container) (p : Profile) (r : List ℕ) (action : Action) : Type 0 where
-  by_entry : (place : ℕ) → IsByEntry arch container p r action place → IsProfileDecision arch container p r action
-  by_default : NoneOf (Matches arch container p.default r) p.entries (length p.entries)
-      → IsDefault arch container p (word_at r 0) action → IsProfileDecision arch container p r action
+pub data IsDecisionOf (abi : Abi) (container : Container) (p : Profile) (own : List Entry) (r : List ℕ) (action : Action) : Type 0 where
+  by_entry : (place : ℕ) → IsByEntryOf abi container p.default own r action place → IsDecisionOf abi container p own r action
+  by_default : NoneOf (MatchesOn abi container p.default r) own (length own)
+      → IsDefault abi container p (word_at r 0) action → IsDecisionOf abi container p own r action
+
+-- What it decides of an architecture's own calls.
+abbrev pub IsProfileDecision : TargetArch → Container → Profile → List ℕ → Action → Type 0
+IsProfileDecision arch container p = IsDecisionOf (Native arch) container p p.entries

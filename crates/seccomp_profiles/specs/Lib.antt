@@ -9,7 +9,9 @@ pub mod Actions
 pub mod Listed
 pub mod ProfileShape
 pub mod ProfileText
+pub mod Abis
 pub mod Decision
+pub mod Taken
 pub mod ProfileDecisions
 pub mod Conditions
 pub mod Lowered

@@ -9,9 +9,13 @@ use Rattle.seccomp_tree.specs.Decided.{DecisionSet, default_for}
 use Rattle.seccomp_entries.specs.Entries.{IsDecided, IsDecider, Lowered, Meets}
 use Rattle.seccomp_entries.specs.Entries as entries
 use Rattle.seccomp_entries.specs.Rulings.{AreDecisions}
-use Rattle.seccomp_profiles.specs.Conditions.{AreConditionsOf}
-use Rattle.seccomp_profiles.specs.Decision.{Concerns, IsByEntry, IsDefault, Matches, strictness, tested}
-use Rattle.seccomp_profiles.specs.ProfileDecisions.{IsProfileWord}
+use Rattle.seccomp_profiles.specs.Abis.{length_for, machine_of}
+use Rattle.seccomp_profiles.specs.Conditions.{AreConditionsIn}
+use Rattle.seccomp_profiles.specs.Decision.{ConcernsOn, IsByEntryOf, IsDefault, MatchesOn, strictness, tested}
+use Rattle.seccomp_profiles.specs.ProfileDecisions.{IsWordOf}
+use Rattle.seccomp_profiles.specs.Taken.{entries_on}
+use Rattle.seccomp_profiles.specs.declared.types.Abi.{Abi}
+use Rattle.seccomp_profiles.specs.declared.types.Abi.TheVariants.{Native}
 use Rattle.seccomp_profiles.specs.Types.{Container, Entry, Profile}
 
 -- It is the entry at this place.
@@ -22,15 +26,14 @@ IsEntryAt own place x = (place < length own) × (x ≡ slice_index_or own place 
 abbrev pub AtEntry : List Entry → ℕ → (Entry → Type 0) → Type 0
 AtEntry own place P = (x : Entry) × IsEntryAt own place x × P x
 
--- It is of the profile's entry at its place: of a number that this one concerns, with its conditions and its action.
-pub record IsOwn (arch : TargetArch) (container : Container) (default : Action) (own : List Entry) (e : entries.Entry) : Type 0
-  where
-    pub entry : Entry
-    pub within : e.place < length own
-    pub there : entry ≡ slice_index_or own e.place entry
-    pub concerns : Concerns arch container default e.number entry
-    pub conditions : AreConditionsOf (tested entry.args) e.alternative e.conditions
-    pub action : e.action ≡ entry.action
+-- It is of the entry at its place: of a number that this one concerns, with its conditions and its action.
+pub record IsOwn (abi : Abi) (container : Container) (default : Action) (own : List Entry) (e : entries.Entry) : Type 0 where
+  pub entry : Entry
+  pub within : e.place < length own
+  pub there : entry ≡ slice_index_or own e.place entry
+  pub concerns : ConcernsOn abi container default e.number entry
+  pub conditions : AreConditionsIn (length_for abi) (tested entry.args) e.alternative e.conditions
+  pub action : e.action ≡ entry.action
 
 -- How soon it is asked, as its entry of the profile: one without conditions before all others, and of the others the strictest first.
 abbrev pub rank_in : List Condition → Action → ℕ
@@ -45,21 +48,36 @@ pub data IsAskedBefore (e f : entries.Entry) : Type 0 where
   by_number : e.place ≡ f.place → e.number ≢ f.number → IsAskedBefore e f
   by_condition : e.place ≡ f.place → (j k : ℕ) → e.alternative ≡ Some j → f.alternative ≡ Some k → j < k → IsAskedBefore e f
 
--- The profile in one form: exactly its own entries, each once, in the order in which they are asked.
-pub record IsLoweredProfile (arch : TargetArch) (container : Container) (p : Profile) (l : Lowered) : Type 0 where
-  pub target_arch : l.target_arch ≡ arch
-  pub defaults : (n : ℕ) → (action : Action) × IsDefault arch container p n action × (default_for l.defaults n ≡ value_of action)
-  pub exactly : (e : entries.Entry) → Contains l.entries e ↔ IsOwn arch container p.default p.entries e
+-- The profile in one form, by these entries: exactly these, each once, in the order in which they are asked.
+pub record IsLoweredOf (abi : Abi) (container : Container) (p : Profile) (own : List Entry) (l : Lowered) : Type 0 where
+  pub target_arch : l.target_arch ≡ machine_of abi
+  pub defaults : (n : ℕ) → (action : Action) × IsDefault abi container p n action × (default_for l.defaults n ≡ value_of action)
+  pub exactly : (e : entries.Entry) → Contains l.entries e ↔ IsOwn abi container p.default own e
   pub ordered : AllPairs IsAskedBefore l.entries
 
--- What is decided is what the profile decides, and nothing else is; the entry that decides is of the one that decides in the profile,
--- and one that a record meets of one that matches it.
-pub record DecidesAs (arch : TargetArch) (container : Container) (p : Profile) (l : Lowered) : Type 0 where
-  pub decides : (r : List ℕ) (w : ℕ) → IsDecided l r w → IsProfileWord arch container p r w
-  pub only : (r : List ℕ) (w v : ℕ) → IsDecided l r w → IsProfileWord arch container p r v → v ≡ w
-  pub by_entry : (r : List ℕ) (index : ℕ) (is : IsDecider l.entries r index) → IsByEntry arch container p r is.entry.action is.entry.place
+-- What is decided is what the profile decides by these entries, and nothing else is; the entry that decides is of the one that decides
+-- in the profile, and one that a record meets of one that matches it.
+pub record DecidesOf (abi : Abi) (container : Container) (p : Profile) (own : List Entry) (l : Lowered) : Type 0 where
+  pub decides : (r : List ℕ) (w : ℕ) → IsDecided l r w → IsWordOf abi container p own r w
+  pub only : (r : List ℕ) (w v : ℕ) → IsDecided l r w → IsWordOf abi container p own r v → v ≡ w
+  pub by_entry : (r : List ℕ) (index : ℕ) (is : IsDecider l.entries r index)
+      → IsByEntryOf abi container p.default own r is.entry.action is.entry.place
   pub matched : (r : List ℕ) (e : entries.Entry) → Contains l.entries e → Meets r e
-      → AtEntry p.entries e.place (Matches arch container p.default r)
+      → AtEntry own e.place (MatchesOn abi container p.default r)
+
+-- The same for an architecture's own calls, by all entries of the profile.
+abbrev pub IsLoweredProfile : TargetArch → Container → Profile → Lowered → Type 0
+IsLoweredProfile arch container p = IsLoweredOf (Native arch) container p p.entries
+
+abbrev pub DecidesAs : TargetArch → Container → Profile → Lowered → Type 0
+DecidesAs arch container p = DecidesOf (Native arch) container p p.entries
+
+-- The same for whosever calls, by the entries that count for them. A record is as IsSeenAs has it.
+abbrev pub IsLoweredOn : Abi → Container → Profile → Lowered → Type 0
+IsLoweredOn abi container p = IsLoweredOf abi container p (entries_on abi p)
+
+abbrev pub DecidesOn : Abi → Container → Profile → Lowered → Type 0
+DecidesOn abi container p = DecidesOf abi container p (entries_on abi p)
 
 -- These are the profile's own decisions: those of the profile in one form.
 pub record AreOwn (arch : TargetArch) (container : Container) (p : Profile) (d : DecisionSet) : Type 0 where

@@ -2,20 +2,17 @@
 
 ghost use Rattle.std.specs.Prelude.{◌≡◌, ◌↔◌, ◌<◌, ◌∷◌, ℕ, ◌≤◌, List, [], pos, Contains, IfOk, IfSome, IfNone, IsTrue, map, nat_eq};
 ghost use Rattle.std.specs.List.{AllZip, list_any};
-ghost use Rattle.seccompiler.specs.Architecture.{table_of};
-ghost use Rattle.seccompiler.specs.SyscallTable.{number_of};
 ghost use Rattle.seccompiler.specs.Policy.{Compares, Holds};
+ghost use Rattle.seccomp_profiles.specs.Abis.{end_for, length_for, number_for};
 ghost use Rattle.seccomp_profiles.specs.Concerns.{AreCallsOf, AreListsOf, IsConcernOf};
 ghost use Rattle.seccomp_profiles.specs.Conditions.{compared_by, condition_of};
-ghost use Rattle.seccomp_profiles.specs.Decision.{Concerns, IsMet, Meets, ShareArgument, are_idle, is_idle, pass_all, rank_by, share, tested};
+ghost use Rattle.seccomp_profiles.specs.Decision.{ConcernsOn, IsMet, Meets, ShareArgument, are_idle, is_idle, pass_all, rank_by, share, tested};
 ghost use Rattle.seccomp_profiles.specs.Types.{AllOnArguments, AreOnArguments};
 
-use crate::scope::applies;
-use crate::{Argument, Container, Entry, Operator};
+use crate::abis::{applies_on, number_of};
+use crate::{Abi, Argument, Container, Entry, Operator};
 use seccomp_entries::Action;
-use seccompiler::{
-    SeccompAction, SeccompCmpArgLen, SeccompCmpOp, SeccompCondition, SyscallTable, TargetArch,
-};
+use seccompiler::{SeccompAction, SeccompCmpArgLen, SeccompCmpOp, SeccompCondition};
 use std::alloc::{AllocError, Global};
 use std::marker::Model;
 
@@ -44,17 +41,17 @@ impl Model for Concern {
 /// What each entry of a profile of this default action says.
 pub(crate) fn concerns_of(
     alloc: Global,
-    arch: TargetArch,
+    abi: Abi,
     container: &Container,
     default: Action,
     entries: &[Entry],
 ) -> Result<Vec<Concern>, AllocError>
     requires { AllOnArguments entries.now }
-    ensures { IfOk result (λ all. AllZip (IsConcernOf arch container.now default) entries.now all.items) }
+    ensures { IfOk result (λ all. AllZip (IsConcernOf abi container.now default) entries.now all.items) }
 {
     let mut concerns = Vec::with_capacity(alloc, entries.len())?;
     for entry in entries {
-        concerns.push(concern_of(alloc, arch, container, default, entry)?)?;
+        concerns.push(concern_of(alloc, abi, container, default, entry)?)?;
     }
     Ok(concerns)
 }
@@ -62,17 +59,17 @@ pub(crate) fn concerns_of(
 // What an entry says.
 fn concern_of(
     alloc: Global,
-    arch: TargetArch,
+    abi: Abi,
     container: &Container,
     default: Action,
     entry: &Entry,
 ) -> Result<Concern, AllocError>
     requires { AreOnArguments entry.now.args }
-    ensures { IfOk result (IsConcernOf arch container.now default entry.now) }
+    ensures { IfOk result (IsConcernOf abi container.now default entry.now) }
 {
-    let numbers = numbers_in(alloc, arch, container, default, entry)?;
+    let numbers = numbers_in(alloc, abi, container, default, entry)?;
     let args = tested(entry.args.as_slice());
-    let alternatives = alternatives_of(alloc, args)?;
+    let alternatives = alternatives_of(alloc, abi.arg_len(), args)?;
     Ok(Concern {
         numbers,
         action: entry.action,
@@ -161,20 +158,20 @@ pub(crate) fn rank(args: &[Argument], action: Action) -> u8
 // The numbers of the calls that an entry concerns, each once.
 fn numbers_in(
     alloc: Global,
-    arch: TargetArch,
+    abi: Abi,
     container: &Container,
     default: Action,
     entry: &Entry,
 ) -> Result<Vec<u32>, AllocError>
-    ensures { IfOk result (λ numbers. AreCallsOf (λ n. Concerns arch container.now default n entry.now) numbers.items) }
+    ensures { IfOk result (λ numbers. AreCallsOf (end_for abi) (λ n. ConcernsOn abi container.now default n entry.now) numbers.items) }
 {
-    if entry.action == default || !applies(arch, container, entry) {
+    if entry.action == default || !applies_on(abi, container, entry) {
         return Ok(Vec::new(alloc));
     }
     let names = entry.names.as_slice();
     let mut numbers = Vec::with_capacity(alloc, names.len())?;
     for name in names {
-        let Some(number) = number_of(arch, name.as_str()) else {
+        let Some(number) = number_of(abi, name.as_str()) else {
             continue;
         };
         if is_there(numbers.as_slice(), number) {
@@ -191,56 +188,50 @@ fn is_there(numbers: &[u32], number: u32) -> bool
     numbers.contains(&number)
 }
 
-/// The number of the call of this name, if the architecture has one.
-pub(crate) fn number_of(arch: TargetArch, name: &str) -> Option<u32>
-    ensures some { IfSome result (λ n. (number_of (table_of arch) name.now ≡ Some (pos n)) × (n < 463)) }
-    ensures none { IfNone result ((n : ℕ) → number_of (table_of arch) name.now ≡ Some (pos n) → ⊥) }
-{
-    match SyscallTable::new(arch).get_syscall_nr(name) {
-        Some(number) => Some(number as u32),
-        None => None,
-    }
-}
-
 // Lists of conditions, one of which holds where these conditions are met.
 fn alternatives_of(
     alloc: Global,
+    arg_len: SeccompCmpArgLen,
     args: &[Argument],
 ) -> Result<Vec<Vec<SeccompCondition>>, AllocError>
     requires { AreOnArguments args.now }
-    ensures { IfOk result (λ all. AreListsOf args.now (map (λ cs. cs.items) all.items)) }
+    ensures { IfOk result (λ all. AreListsOf arg_len args.now (map (λ cs. cs.items) all.items)) }
 {
     if share_argument(args) {
-        return each_alone(alloc, args);
+        return each_alone(alloc, arg_len, args);
     }
     let mut all = Vec::with_capacity(alloc, args.len())?;
     for argument in args {
-        all.push(condition_of(argument))?;
+        all.push(condition_of(arg_len, argument))?;
     }
     Ok(vec![in alloc; all]?)
 }
 
 // A list of each condition.
-fn each_alone(alloc: Global, args: &[Argument]) -> Result<Vec<Vec<SeccompCondition>>, AllocError>
+fn each_alone(
+    alloc: Global,
+    arg_len: SeccompCmpArgLen,
+    args: &[Argument],
+) -> Result<Vec<Vec<SeccompCondition>>, AllocError>
     requires { AreOnArguments args.now }
-    ensures { IfOk result (λ all. map (λ cs. cs.items) all.items ≡ map (λ a. condition_of a ∷ []) args.now) }
+    ensures { IfOk result (λ all. map (λ cs. cs.items) all.items ≡ map (λ a. condition_of arg_len a ∷ []) args.now) }
 {
     let mut all = Vec::with_capacity(alloc, args.len())?;
     for argument in args {
-        let condition = condition_of(argument);
+        let condition = condition_of(arg_len, argument);
         all.push(vec![in alloc; condition]?)?;
     }
     Ok(all)
 }
 
 /// The condition that holds if this one is met.
-pub(crate) fn condition_of(argument: &Argument) -> SeccompCondition
+pub(crate) fn condition_of(arg_len: SeccompCmpArgLen, argument: &Argument) -> SeccompCondition
     requires { argument.now.index ≤ 5 }
-    ensures is { result ≡ condition_of argument.now }
-    ensures holds { (r : List ℕ) → Holds result r ↔ IsMet r argument.now }
+    ensures is { result ≡ condition_of arg_len argument.now }
+    ensures holds { (r : List ℕ) → Holds result r ↔ IsMet arg_len r argument.now }
 {
     let (operator, value) = compared(argument);
-    match SeccompCondition::new(argument.index, SeccompCmpArgLen::Qword, operator, value) {
+    match SeccompCondition::new(argument.index, arg_len, operator, value) {
         Ok(condition) => condition,
         Err(_) => unreachable!(),
     }

@@ -17,6 +17,7 @@
 //! of 0, the entry counts as one without conditions.
 #![tactic(auto)]
 
+mod abis;
 mod actions;
 pub mod compiled;
 mod concerns;
@@ -32,6 +33,7 @@ mod parts;
 mod profile;
 pub mod readers;
 mod scope;
+mod taken;
 pub mod types;
 mod unknown;
 mod version;
@@ -40,9 +42,12 @@ pub use compiled::{CompileError, CompiledProfile, compile_profile};
 pub use concerns::{comparison, share_argument};
 pub use decisions::decisions_of_profile;
 pub use error::ProfileError;
-pub use lowered::lowered_profile;
+pub use lowered::{lowered_on, lowered_profile};
 pub use profile::{profile_in, profile_of};
 pub use scope::{applies, has_text};
-pub use types::{Argument, Container, Criteria, Entry, Flag, Kernel, Operator, Profile, Runtime};
+pub use taken::places_on;
+pub use types::{
+    Abi, Argument, Container, Criteria, Entry, Flag, Kernel, Operator, Profile, Runtime,
+};
 pub use unknown::unknown_names;
 pub use version::kernel_of;

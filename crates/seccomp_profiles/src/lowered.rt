@@ -1,16 +1,18 @@
 // A profile as entries that have one number each.
 
-ghost use Rattle.std.specs.Prelude.{◌≡◌, ◌+◌, ◌++◌, IfOk, map};
+ghost use Rattle.std.specs.Prelude.{◌≡◌, ◌+◌, ◌++◌, ◌<◌, All, IfOk, map};
 ghost use Rattle.std.specs.List.{flat_map};
 ghost use Rattle.seccomp_profiles.specs.Concerns.{AreAskedTo, AreLoweredTo, IsPushed, entries_for, entries_of_lists};
-ghost use Rattle.seccomp_profiles.specs.Lowered.{DecidesAs, IsLoweredProfile};
+ghost use Rattle.seccomp_profiles.specs.Abis.{end_for};
+ghost use Rattle.seccomp_profiles.specs.Lowered.{DecidesAs, DecidesOf, DecidesOn, IsLoweredOf, IsLoweredOn, IsLoweredProfile};
 ghost use Rattle.seccomp_entries.specs.Rulings.{AreOfCalls};
 ghost use Rattle.seccomp_profiles.specs.Types.{AllOnArguments};
 ghost use Rattle.seccomp_tree.specs.Decided.{AscendFromZero};
 
 use crate::concerns::{Concern, concerns_of};
 use crate::defaults::defaults_of;
-use crate::{Container, Entry, Profile};
+use crate::taken::taken;
+use crate::{Abi, Container, Entry, Profile};
 use seccomp_entries::{Action, Lowered};
 use seccompiler::{SeccompCondition, TargetArch};
 use std::alloc::{AllocError, Global};
@@ -38,16 +40,63 @@ pub fn lowered_profile(
     ensures ascend { IfOk result (λ l. AscendFromZero l.defaults) }
     ensures of_calls { IfOk result (λ l. AreOfCalls l.entries) }
 {
-    let entries = entries_of(
-        alloc,
-        arch,
-        container,
-        profile.default,
-        profile.entries.as_slice(),
-    )?;
-    let defaults = defaults_of(alloc, arch, container, profile)?;
+    let entries = profile.entries.as_slice();
+    lowered_of(alloc, Abi::Native(arch), container, profile, entries)
+}
+
+/// The same for whosever calls: of 32-bit programs those entries that runtimes make of the profile's, if it lists their
+/// architecture.
+///
+/// Their conditions compare the low 32 bits. On i386 an entry of a call of sockets or System V IPC is also one of `socketcall` or
+/// `ipc`, with the call's number in place of conditions on argument 0; such entries stand behind those of the profile. If the
+/// architecture isn't listed, each of its calls kills the thread. A record is decided as [`seen`](Abi::seen) gives it.
+///
+/// # Errors
+///
+/// An error is returned if memory runs out.
+pub fn lowered_on(
+    alloc: Global,
+    abi: Abi,
+    container: &Container,
+    profile: &Profile,
+) -> Result<Lowered, AllocError>
+    requires { AllOnArguments profile.now.entries }
+    ensures lowered { IfOk result (IsLoweredOn abi container.now profile.now) }
+    ensures decides { IfOk result (DecidesOn abi container.now profile.now) }
+    ensures ascend { IfOk result (λ l. AscendFromZero l.defaults) }
+{
+    let entries = profile.entries.as_slice();
+    match abi {
+        Abi::Native(_) => lowered_of(alloc, abi, container, profile, entries),
+        Abi::I386 => {
+            let own = taken(alloc, profile.lists_x86, true, entries)?;
+            lowered_of(alloc, abi, container, profile, own.as_slice())
+        }
+        Abi::X32 => {
+            let own = taken(alloc, profile.lists_x32, false, entries)?;
+            lowered_of(alloc, abi, container, profile, own.as_slice())
+        }
+    }
+}
+
+// A profile in one form, by these entries.
+fn lowered_of(
+    alloc: Global,
+    abi: Abi,
+    container: &Container,
+    profile: &Profile,
+    own: &[Entry],
+) -> Result<Lowered, AllocError>
+    requires { AllOnArguments own.now }
+    ensures lowered { IfOk result (IsLoweredOf abi container.now profile.now own.now) }
+    ensures decides { IfOk result (DecidesOf abi container.now profile.now own.now) }
+    ensures ascend { IfOk result (λ l. AscendFromZero l.defaults) }
+    ensures below { IfOk result (λ l. All (λ e. e.number < end_for abi) l.entries) }
+{
+    let entries = entries_of(alloc, abi, container, profile.default, own)?;
+    let defaults = defaults_of(alloc, abi, container, profile)?;
     Ok(Lowered {
-        target_arch: arch,
+        target_arch: abi.machine(),
         defaults,
         entries,
     })
@@ -56,15 +105,15 @@ pub fn lowered_profile(
 // The entries of a profile of this default action, in the order in which they are asked.
 fn entries_of(
     alloc: Global,
-    arch: TargetArch,
+    abi: Abi,
     container: &Container,
     default: Action,
     entries: &[Entry],
 ) -> Result<Vec<seccomp_entries::Entry>, AllocError>
     requires { AllOnArguments entries.now }
-    ensures { IfOk result (λ all. AreAskedTo arch container.now default entries.now 9 0 all.items) }
+    ensures { IfOk result (λ all. AreAskedTo abi container.now default entries.now 9 0 all.items) }
 {
-    let concerns = concerns_of(alloc, arch, container, default, entries)?;
+    let concerns = concerns_of(alloc, abi, container, default, entries)?;
     let mut all = Vec::new(alloc);
     for rank in 0..9u8 {
         push_rank(alloc, &mut all, concerns.as_slice(), rank)?;

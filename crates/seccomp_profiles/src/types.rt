@@ -1,7 +1,19 @@
 // A profile as types.
 
 use seccomp_entries::Action;
+use seccompiler::TargetArch;
 use std::marker::Model;
+
+/// Whose calls a profile is asked about.
+#[derive(Clone, Copy)]
+pub enum Abi {
+    /// An architecture's own.
+    Native(TargetArch),
+    /// Those of i386, which programs make on `x86_64` by `int 0x80`.
+    I386,
+    /// Those of x32, which programs make on `x86_64` by numbers from 0x40000000 on.
+    X32,
+}
 
 /// How an argument of a call is compared, both numbers unsigned and of 64 bits.
 #[derive(Clone, Copy)]

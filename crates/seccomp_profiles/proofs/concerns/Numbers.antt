@@ -6,11 +6,10 @@ use Rattle.std.proofs.lemmas.List.{get_or_default}
 use Rattle.std.proofs.lemmas.List.Elements.{All-push, Contains-append_left, Contains-push, Contains-push_cases}
 use Rattle.std.proofs.lemmas.List.Quantifiers.{all_pairs_push}
 use Rattle.seccomp_entries.specs.declared.entry.Action.{Action}
-use Rattle.seccompiler.specs.declared.backend.TargetArch.{TargetArch}
-use Rattle.seccompiler.specs.Architecture.{table_of}
-use Rattle.seccompiler.specs.SyscallTable.{number_of}
+use Rattle.seccomp_profiles.specs.declared.types.Abi.{Abi}
+use Rattle.seccomp_profiles.specs.Abis.{end_for, machine_of, number_for}
 use Rattle.seccomp_profiles.specs.Concerns.{AreCallsOf}
-use Rattle.seccomp_profiles.specs.Decision.{Applies, Concerns, IsNameOf}
+use Rattle.seccomp_profiles.specs.Decision.{Applies, ConcernsOn, IsNameOf}
 use Rattle.seccomp_profiles.specs.Types.{Container, Entry}
 use Rattle.seccomp_profiles.proofs.Quantified.{any_push, more_texts}
 
@@ -18,38 +17,38 @@ use Rattle.seccomp_profiles.proofs.Quantified.{any_push, more_texts}
 abbrev IsAddedTo : (old new : List ℕ) → ℕ → Type 0
 IsAddedTo old new n = ((new ≡ old ++ n ∷ []) × (Contains old n → ⊥)) ⊎ (Contains old n × (new ≡ old))
 
-module _ (arch : TargetArch) where
+module _ (abi : Abi) where
   -- The numbers of these names.
   abbrev pub AreNumbersOf : List (List ℕ) → List ℕ → Type 0
-  AreNumbersOf texts numbers = AreCallsOf (λ n. Any (IsNameOf arch n) texts) numbers
+  AreNumbersOf texts numbers = AreCallsOf (end_for abi) (λ n. Any (IsNameOf abi n) texts) numbers
 
   -- What is at a place of a list isn't what the list hasn't.
   apart_from : (old : List ℕ) (k : ℕ) → (Contains old k → ⊥) → (i d : ℕ) → i < length old → get_or old i d ≢ k
   apart_from old k new i d within same = new (i, within, get_or_default old i k d within ∙ same)
 
-  one_more : (old : List ℕ) (before : List (List ℕ)) (text : List ℕ) (k : ℕ) → IsNameOf arch k text → k < 463
+  one_more : (old : List ℕ) (before : List (List ℕ)) (text : List ℕ) (k : ℕ) → IsNameOf abi k text → k < end_for abi
       → (Contains old k → ⊥) → AreNumbersOf before old → AreNumbersOf (before ++ text ∷ []) (old ++ k ∷ [])
   one_more old before text k is small new so_far = record {
     exactly = λ n. (
-      λ has. (any_push (IsNameOf arch n) before text).1 (elim (Contains-push_cases old k n has) [
+      λ has. (any_push (IsNameOf abi n) before text).1 (elim (Contains-push_cases old k n has) [
         | inl earlier ↦ inl ((so_far.exactly n).0 earlier)
-        | inr same ↦ inr (subst (λ n. IsNameOf arch n text) same is)
+        | inr same ↦ inr (subst (λ n. IsNameOf abi n text) same is)
       ]),
-      λ any. elim ((any_push (IsNameOf arch n) before text).0 any) [
+      λ any. elim ((any_push (IsNameOf abi n) before text).0 any) [
         | inl earlier ↦ Contains-append_left old (k ∷ []) n ((so_far.exactly n).1 earlier)
         | inr named ↦ let same : k ≡ n = cc in subst (λ n. Contains (old ++ k ∷ []) n) same (Contains-push old k)
       ],
     );
     once = all_pairs_push (λ m n. m ≢ n) old k so_far.once (apart_from old k new);
-    below = All-push (λ n. n < 463) old k so_far.below small;
+    below = All-push (λ n. n < end_for abi) old k so_far.below small;
   }
 
-  one_again : (old : List ℕ) (before : List (List ℕ)) (text : List ℕ) (k : ℕ) → IsNameOf arch k text → Contains old k
+  one_again : (old : List ℕ) (before : List (List ℕ)) (text : List ℕ) (k : ℕ) → IsNameOf abi k text → Contains old k
       → AreNumbersOf before old → AreNumbersOf (before ++ text ∷ []) old
   one_again old before text k is there so_far = record {
     exactly = λ n. (
-      λ has. (any_push (IsNameOf arch n) before text).1 (inl ((so_far.exactly n).0 has)),
-      λ any. elim ((any_push (IsNameOf arch n) before text).0 any) [
+      λ has. (any_push (IsNameOf abi n) before text).1 (inl ((so_far.exactly n).0 has)),
+      λ any. elim ((any_push (IsNameOf abi n) before text).0 any) [
         | inl earlier ↦ (so_far.exactly n).1 earlier
         | inr named ↦ let same : k ≡ n = cc in subst (λ n. Contains old n) same there
       ],
@@ -58,12 +57,12 @@ module _ (arch : TargetArch) where
     below = so_far.below;
   }
 
-  one_unknown : (old : List ℕ) (before : List (List ℕ)) (text : List ℕ) → ((n : ℕ) → IsNameOf arch n text → ⊥)
+  one_unknown : (old : List ℕ) (before : List (List ℕ)) (text : List ℕ) → ((n : ℕ) → IsNameOf abi n text → ⊥)
       → AreNumbersOf before old → AreNumbersOf (before ++ text ∷ []) old
   one_unknown old before text unknown so_far = record {
     exactly = λ n. (
-      λ has. (any_push (IsNameOf arch n) before text).1 (inl ((so_far.exactly n).0 has)),
-      λ any. elim ((any_push (IsNameOf arch n) before text).0 any) [
+      λ has. (any_push (IsNameOf abi n) before text).1 (inl ((so_far.exactly n).0 has)),
+      λ any. elim ((any_push (IsNameOf abi n) before text).0 any) [
         | inl earlier ↦ (so_far.exactly n).1 earlier
         | inr named ↦ absurd (unknown n named)
       ],
@@ -75,17 +74,17 @@ module _ (arch : TargetArch) where
   -- The numbers so far and that of one name more, if it has one.
   pub next : (old new : List ℕ) (names : List (String Global)) (i : ℕ) (name : String Global) (text : List ℕ) (o : Option ℕ)
       → i < length names → name ≡ get_or names i name → text ≡ string_bytes name
-      → IfSome o (λ n. (number_of (table_of arch) text ≡ Some (pos n)) × (n < 463))
-      → IfNone o ((n : ℕ) → number_of (table_of arch) text ≡ Some (pos n) → ⊥)
+      → IfSome o (λ n. (number_for abi text ≡ Some (pos n)) × (n < end_for abi))
+      → IfNone o ((n : ℕ) → number_for abi text ≡ Some (pos n) → ⊥)
       → MatchOption o (new ≡ old) (IsAddedTo old new) → AreNumbersOf (map string_bytes (take i names)) old
       → AreNumbersOf (map string_bytes (take (i + 1) names)) new
   next old new names i name text None within read same some none longer so_far =
       subst (λ texts. AreNumbersOf texts new) (sym (more_texts names i name within read))
       (subst (AreNumbersOf (map string_bytes (take i names) ++ string_bytes name ∷ [])) (sym longer)
       (one_unknown old (map string_bytes (take i names)) (string_bytes name)
-      (λ n is. none n (ap (number_of (table_of arch)) same ∙ is)) so_far))
+      (λ n is. none n (ap (number_for abi) same ∙ is)) so_far))
   next old new names i name text (Some k) within read same some none longer so_far =
-      let named : IsNameOf arch k (string_bytes name) = ap (number_of (table_of arch)) (sym same) ∙ some.0 in
+      let named : IsNameOf abi k (string_bytes name) = ap (number_for abi) (sym same) ∙ some.0 in
       subst (λ texts. AreNumbersOf texts new) (sym (more_texts names i name within read)) (elim longer [
         | inl added ↦ subst (AreNumbersOf (map string_bytes (take i names) ++ string_bytes name ∷ [])) (sym added.0)
             (one_more old (map string_bytes (take i names)) (string_bytes name) k named some.1 added.1 so_far)
@@ -94,8 +93,8 @@ module _ (arch : TargetArch) where
       ])
 
   -- The calls that an entry concerns.
-  pub concerned : (container : Container) (default : Action) (e : Entry) (numbers : List ℕ) → Applies arch container e
-      → e.action ≢ default → AreNumbersOf e.names numbers → AreCallsOf (λ n. Concerns arch container default n e) numbers
+  pub concerned : (container : Container) (default : Action) (e : Entry) (numbers : List ℕ) → Applies (machine_of abi) container e
+      → e.action ≢ default → AreNumbersOf e.names numbers → AreCallsOf (end_for abi) (λ n. ConcernsOn abi container default n e) numbers
   concerned container default e numbers applies other are = record {
     exactly = λ n. (
       λ has. record { applies = applies; named = (are.exactly n).0 has; other = other },

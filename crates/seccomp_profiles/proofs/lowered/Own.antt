@@ -9,13 +9,15 @@ use Rattle.std.proofs.lemmas.List.{get_or-map, get_or_default, length-map}
 use Rattle.std.proofs.lemmas.List.Elements.{All-contains}
 use Rattle.std.proofs.lemmas.List.Kept.{AllPairs-cons}
 use Rattle.seccomp_entries.specs.declared.entry.Action.{Action}
-use Rattle.seccompiler.specs.declared.backend.TargetArch.{TargetArch}
+use Rattle.seccomp_profiles.specs.declared.types.Abi.{Abi}
+use Rattle.seccompiler.specs.declared.backend.SeccompCmpArgLen.{SeccompCmpArgLen}
 use Rattle.seccompiler.specs.Policy.{Condition}
+use Rattle.seccomp_profiles.specs.Abis.{end_for, length_for}
 use Rattle.seccomp_entries.specs.Entries as entries
 use Rattle.seccomp_profiles.specs.Concerns.{AreListsOf, Concern, IsConcernOf, apart, entries_for, entries_from, entries_of_lists, entry_for}
 use Rattle.seccomp_profiles.specs.Concerns as said
-use Rattle.seccomp_profiles.specs.Conditions.{AreConditionsOf, alone, condition_of, together}
-use Rattle.seccomp_profiles.specs.Decision.{Concerns, ShareArgument, rank, rank_by, tested}
+use Rattle.seccomp_profiles.specs.Conditions.{AreConditionsIn, alone, condition_of, together}
+use Rattle.seccomp_profiles.specs.Decision.{ConcernsOn, ShareArgument, rank, rank_by, tested}
 use Rattle.seccomp_profiles.specs.Lowered.{IsAskedBefore, IsOwn, by_condition, by_number, rank_in}
 use Rattle.seccomp_profiles.specs.declared.types.Argument.{Argument}
 use Rattle.seccomp_profiles.specs.Types.{Container, Entry}
@@ -25,7 +27,7 @@ use Rattle.seccomp_profiles.proofs.lowered.Pairs.{pairs_tail, to_mapped}
 
 -- ---- of one number
 
-module _ (place : ℕ) (action : Action) (number : ℕ) where
+module _ (len : SeccompCmpArgLen) (place : ℕ) (action : Action) (number : ℕ) where
   -- It is the entry of one of these lists.
   record IsFrom (is_alone : Bool) (index : ℕ) (lists : List (List Condition)) (e : entries.Entry) : Type 0 where
     pub nth : ℕ
@@ -90,10 +92,10 @@ module _ (place : ℕ) (action : Action) (number : ℕ) where
 
   -- The entries of an entry's lists.
   record AreOf (args : List Argument) (all : List entries.Entry) : Type 0 where
-    pub has : (o : Option ℕ) (cs : List Condition) → AreConditionsOf args o cs
+    pub has : (o : Option ℕ) (cs : List Condition) → AreConditionsIn len args o cs
         → Contains all (record { place = place; alternative = o; number = number; conditions = cs; action = action })
     pub only : (e : entries.Entry) → Contains all e
-        → AreConditionsOf args e.alternative e.conditions × (e.place ≡ place) × (e.number ≡ number) × (e.action ≡ action)
+        → AreConditionsIn len args e.alternative e.conditions × (e.place ≡ place) × (e.number ≡ number) × (e.action ≡ action)
     pub ordered : AllPairs IsAskedBefore all
 
   shared_many : (args : List Argument) → ShareArgument args → 1 < length args
@@ -102,15 +104,15 @@ module _ (place : ℕ) (action : Action) (number : ℕ) where
   shared_many (a ∷ b ∷ args) share = omega arith
 
   abbrev each_own : Argument → List Condition
-  each_own a = condition_of a ∷ []
+  each_own a = condition_of len a ∷ []
 
-  has_all : (args : List Argument) → (ShareArgument args → ⊥) → (o : Option ℕ) (cs : List Condition) → AreConditionsOf args o cs
-      → Contains (entry_for place action number false 0 (map condition_of args) ∷ [])
+  has_all : (args : List Argument) → (ShareArgument args → ⊥) → (o : Option ℕ) (cs : List Condition) → AreConditionsIn len args o cs
+      → Contains (entry_for place action number false 0 (map (condition_of len) args) ∷ [])
       (record { place = place; alternative = o; number = number; conditions = cs; action = action })
   has_all args share o cs (together not) = (0, omega arith, refl)
   has_all args share o cs (alone shared k a within there) = absurd (share shared)
 
-  has_each : (args : List Argument) → ShareArgument args → (o : Option ℕ) (cs : List Condition) → AreConditionsOf args o cs
+  has_each : (args : List Argument) → ShareArgument args → (o : Option ℕ) (cs : List Condition) → AreConditionsIn len args o cs
       → Contains (entries_from place action number true 0 (map each_own args))
       (record { place = place; alternative = o; number = number; conditions = cs; action = action })
   has_each args share o cs (together not) = absurd (not share)
@@ -124,18 +126,18 @@ module _ (place : ℕ) (action : Action) (number : ℕ) where
 
   -- It has these conditions of the entry, its place, the number and the action.
   abbrev Is : List Argument → entries.Entry → Type 0
-  Is args e = AreConditionsOf args e.alternative e.conditions × (e.place ≡ place) × (e.number ≡ number) × (e.action ≡ action)
+  Is args e = AreConditionsIn len args e.alternative e.conditions × (e.place ≡ place) × (e.number ≡ number) × (e.action ≡ action)
 
-  only_all : (args : List Argument) → (ShareArgument args → ⊥) → (e : entries.Entry) → IsFrom false 0 (map condition_of args ∷ []) e
+  only_all : (args : List Argument) → (ShareArgument args → ⊥) → (e : entries.Entry) → IsFrom false 0 (map (condition_of len) args ∷ []) e
       → Is args e
   only_all args share e own = subst (Is args) (sym own.is) (
-    subst (AreConditionsOf args None) (sym (first own.nth own.conditions own.within own.there)) (together share),
+    subst (AreConditionsIn len args None) (sym (first own.nth own.conditions own.within own.there)) (together share),
     refl,
     refl,
     refl,
   )
     where
-      first : (k : ℕ) (cs : List Condition) → k < 1 → cs ≡ get_or (map condition_of args ∷ []) k cs → cs ≡ map condition_of args
+      first : (k : ℕ) (cs : List Condition) → k < 1 → cs ≡ get_or (map (condition_of len) args ∷ []) k cs → cs ≡ map (condition_of len) args
       first zero cs within is = is
       first (suc k) cs within is = absurd (omega arith)
 
@@ -151,19 +153,19 @@ module _ (place : ℕ) (action : Action) (number : ℕ) where
           let same : 0 + k ≡ k = omega arith in
           let conditions : cs ≡ each_own a = there ∙ get_or-map each_own args k b cs within in
           subst (Is args) (sym (is ∙ ap (λ n. entry_for place action number true n cs) same)) (
-            subst (AreConditionsOf args (Some k)) (sym conditions)
+            subst (AreConditionsIn len args (Some k)) (sym conditions)
                 (alone share k a within (get_or_default args k b a within)),
             refl,
             refl,
             refl,
           )
 
-  are_of : (args : List Argument) (lists : List (List Condition)) → AreListsOf args lists
+  are_of : (args : List Argument) (lists : List (List Condition)) → AreListsOf len args lists
       → AreOf args (entries_of_lists place action lists number)
   are_of args lists (said.together share is) = subst (λ all. AreOf args (entries_of_lists place action all number)) (sym is) (record {
     has = has_all args share;
-    only = λ e has. only_all args share e (from_lists false 0 (map condition_of args ∷ []) e has);
-    ordered = pairs_one IsAskedBefore (entry_for place action number false 0 (map condition_of args));
+    only = λ e has. only_all args share e (from_lists false 0 (map (condition_of len) args ∷ []) e has);
+    ordered = pairs_one IsAskedBefore (entry_for place action number false 0 (map (condition_of len) args));
   })
   are_of args lists (apart share is) = subst (λ all. AreOf args (entries_of_lists place action all number)) (sym is)
       (subst (λ b. AreOf args (entries_from place action number b 0 (map each_own args))) (sym several) (record {
@@ -182,27 +184,28 @@ module _ (place : ℕ) (action : Action) (number : ℕ) where
 -- ---- of all numbers
 
 -- What has the conditions of an entry and its action has its rank.
-pub ranked : (args : List Argument) (action : Action) (o : Option ℕ) (cs : List Condition) → AreConditionsOf args o cs
-    → rank_in cs action ≡ rank_by args action
-ranked [] action o cs (together not) = refl
-ranked (a ∷ args) action o cs (together not) = refl
-ranked [] action o cs (alone share k a within there) = absurd (false≢true share)
-ranked (b ∷ args) action o cs (alone share k a within there) = refl
+pub ranked : (len : SeccompCmpArgLen) (args : List Argument) (action : Action) (o : Option ℕ) (cs : List Condition)
+    → AreConditionsIn len args o cs → rank_in cs action ≡ rank_by args action
+ranked len [] action o cs (together not) = refl
+ranked len (a ∷ args) action o cs (together not) = refl
+ranked len [] action o cs (alone share k a within there) = absurd (false≢true share)
+ranked len (b ∷ args) action o cs (alone share k a within there) = refl
 
-module _ (arch : TargetArch) (container : Container) (default : Action) (own : List Entry) where
-  pub own_rank : (e : entries.Entry) → (is : IsOwn arch container default own e) → rank_in e.conditions e.action ≡ rank is.entry
+module _ (abi : Abi) (container : Container) (default : Action) (own : List Entry) where
+  pub own_rank : (e : entries.Entry) → (is : IsOwn abi container default own e) → rank_in e.conditions e.action ≡ rank is.entry
   own_rank e is =
-      ranked (tested is.entry.args) e.action e.alternative e.conditions is.conditions ∙ ap (rank_by (tested is.entry.args)) is.action
+      ranked (length_for abi) (tested is.entry.args) e.action e.alternative e.conditions is.conditions
+      ∙ ap (rank_by (tested is.entry.args)) is.action
 
   module _ (i : ℕ) (x : Entry) (c : Concern) (within : i < length own) (read : x ≡ get_or own i x)
-      (says : IsConcernOf arch container default x c) where
+      (says : IsConcernOf abi container default x c) where
     abbrev each_number : ℕ → List entries.Entry
     each_number n = entries_of_lists i c.action c.alternatives n
 
-    of_number : (n : ℕ) → AreOf i c.action n (tested x.args) (each_number n)
-    of_number n = are_of i c.action n (tested x.args) c.alternatives says.alternatives
+    of_number : (n : ℕ) → AreOf (length_for abi) i c.action n (tested x.args) (each_number n)
+    of_number n = are_of (length_for abi) i c.action n (tested x.args) c.alternatives says.alternatives
 
-    pub said_only : (e : entries.Entry) → Contains (entries_for i c) e → IsOwn arch container default own e × (e.place ≡ i)
+    pub said_only : (e : entries.Entry) → Contains (entries_for i c) e → IsOwn abi container default own e × (e.place ≡ i)
     said_only e has =
         let from = from_mapped each_number c.numbers e has in
         let is = (of_number from.0).only e from.2 in (
@@ -210,18 +213,19 @@ module _ (arch : TargetArch) (container : Container) (default : Action) (own : L
             entry = x;
             within = subst (λ k. k < length own) (sym is.1) within;
             there = subst (λ k. x ≡ get_or own k x) (sym is.1) read;
-            concerns = subst (λ n. Concerns arch container default n x) (sym is.2) ((says.numbers.exactly from.0).0 from.1);
+            concerns = subst (λ n. ConcernsOn abi container default n x) (sym is.2) ((says.numbers.exactly from.0).0 from.1);
             conditions = is.0;
             action = is.3 ∙ says.action;
           },
           is.1,
         )
 
-    pub said_has : (e : entries.Entry) → IsOwn arch container default own e → e.place ≡ i → Contains (entries_for i c) e
+    pub said_has : (e : entries.Entry) → IsOwn abi container default own e → e.place ≡ i → Contains (entries_for i c) e
     said_has e is at =
         let same : is.entry ≡ x = same_at own i is.entry x within (subst (λ k. is.entry ≡ get_or own k is.entry) at is.there) read in
-        let concerns = subst (Concerns arch container default e.number) same is.concerns in
-        let conditions = subst (λ (y : Entry). AreConditionsOf (tested y.args) e.alternative e.conditions) same is.conditions in
+        let concerns = subst (ConcernsOn abi container default e.number) same is.concerns in
+        let conditions =
+        subst (λ (y : Entry). AreConditionsIn (length_for abi) (tested y.args) e.alternative e.conditions) same is.conditions in
         let action : e.action ≡ c.action = is.action ∙ ap (λ (y : Entry). y.action) same ∙ sym says.action in
         to_mapped each_number c.numbers e.number e ((says.numbers.exactly e.number).1 concerns)
         (subst (Contains (each_number e.number))
@@ -245,8 +249,8 @@ module _ (arch : TargetArch) (container : Container) (default : Action) (own : L
             let apart = All-contains (λ m. n ≢ m) ns from.0 (pairs_head (λ m n. m ≢ n) n ns once) from.1 in
             by_number (one.1 ∙ sym other.1) (λ same. apart (sym one.2 ∙ same ∙ other.2)))
 
-    pub said_below : All (λ e. e.number < 463) (entries_for i c)
-    said_below = each_had (λ e. e.number < 463) (entries_for i c) (λ e has.
+    pub said_below : All (λ e. e.number < end_for abi) (entries_for i c)
+    said_below = each_had (λ e. e.number < end_for abi) (entries_for i c) (λ e has.
         let from = from_mapped each_number c.numbers e has in
         let is = (of_number from.0).only e from.2 in
-        subst (λ n. n < 463) (sym is.2) (All-contains (λ n. n < 463) c.numbers from.0 says.numbers.below from.1))
+        subst (λ n. n < end_for abi) (sym is.2) (All-contains (λ n. n < end_for abi) c.numbers from.0 says.numbers.below from.1))

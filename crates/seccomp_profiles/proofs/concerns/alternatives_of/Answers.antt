@@ -16,7 +16,7 @@ returns-then-share_argument c = IfOk-weaker c.each_alone.result _ _
 pub returns : goal.returns
 returns c = together (λ share. true≢false (sym (c.share_argument.ensures.1 share) ∙ c.if-share_argument.false))
     (ap lists_of c.in_ok-vec.ensures.items ∙ ap (λ cs. cs ∷ []) (c.loop-argument.invariant
-    ∙ ap (map condition_of) (take_all c.loop-argument.argument-index c.args.args.now c.loop-argument-test.false)))
+    ∙ ap (map (condition_of c.args.arg_len)) (take_all c.loop-argument.argument-index c.args.args.now c.loop-argument-test.false)))
 
 pub loop-argument-preserved : goal.loop-argument-preserved
 loop-argument-preserved c = grind (arith, common_steps)

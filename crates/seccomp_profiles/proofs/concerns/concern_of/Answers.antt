@@ -1,5 +1,6 @@
 use Rattle.std.proofs.Common.{ap, ◌∙◌, subst}
 use Rattle.seccomp_profiles.specs.Decision.{rank, rank_by, tested}
+use Rattle.seccomp_profiles.specs.Abis.{length_for}
 use Rattle.seccomp_profiles.specs.Concerns.{AreListsOf}
 use Rattle.seccomp_profiles.specs.Types.{Entry}
 use Rattle.seccomp_profiles.proofs.concerns.Conditions.{lists_of}
@@ -14,6 +15,7 @@ returns c =
       rank = c.rank.ensures.value ∙
           ap (λ args. rank_by args c.entry.inside.action) (c.tested-args.ensures.value ∙ ap tested c.as_slice.ensures.value)
           ∙ ap rank c.entry.view_is;
-      alternatives = subst (λ args. AreListsOf args (lists_of c.in_ok-alternatives.alternatives.items)) args
-          c.in_ok-alternatives.ensures;
+      alternatives = subst (λ args. AreListsOf (length_for c.args.abi) args (lists_of c.in_ok-alternatives.alternatives.items)) args
+          (subst (λ len. AreListsOf len c.tested-args.result.now
+          (lists_of c.in_ok-alternatives.alternatives.items)) c.arg_len.ensures c.in_ok-alternatives.ensures);
     }

@@ -4,4 +4,4 @@ use Rattle.seccomp_profiles.specs.Concerns.{IsConcernOf}
 use Rattle.seccomp_profiles.proofs.concerns.concerns_of.Given as goal
 
 abbrev pub invariant-loop-entry : goal.invariant-loop-entry
-invariant-loop-entry l = AllZip (IsConcernOf l.arch l.container l.default) (take l.entry-index l.entries) l.concerns.items
+invariant-loop-entry l = AllZip (IsConcernOf l.abi l.container l.default) (take l.entry-index l.entries) l.concerns.items

@@ -3,4 +3,4 @@ use Rattle.seccomp_profiles.proofs.concerns.Numbers.{AreNumbersOf}
 use Rattle.seccomp_profiles.proofs.concerns.numbers_in.Given as goal
 
 abbrev pub invariant-loop-name : goal.invariant-loop-name
-invariant-loop-name l = AreNumbersOf l.arch (map string_bytes (take l.name-index l.names)) l.numbers.items
+invariant-loop-name l = AreNumbersOf l.abi (map string_bytes (take l.name-index l.names)) l.numbers.items

@@ -4,8 +4,8 @@ use Rattle.seccomp_profiles.proofs.lowered.Asked.{none_asked}
 use Rattle.seccomp_profiles.proofs.lowered.entries_of.Goals as goal
 
 pub loop-rank-init : goal.loop-rank-init
-loop-rank-init c = λ arch container default own zip.
-    subst (AreAskedTo arch container default own 0 0) (sym c.new-all.ensures.items) (none_asked arch container default own)
+loop-rank-init c = λ abi container default own zip.
+    subst (AreAskedTo abi container default own 0 0) (sym c.new-all.ensures.items) (none_asked abi container default own)
 
 pub loop-rank-preserved : goal.loop-rank-preserved
 loop-rank-preserved c =
@@ -16,5 +16,5 @@ loop-rank-preserved c =
 pub returns : goal.returns
 returns c =
     let end : c.loop-rank.rank ≡ 9 = omega arith in
-    subst (λ s. AreLoweredTo c.in_ok-concerns.concerns.items s c.loop-rank.all.items) end c.loop-rank.invariant c.args.arch
+    subst (λ s. AreLoweredTo c.in_ok-concerns.concerns.items s c.loop-rank.all.items) end c.loop-rank.invariant c.args.abi
     c.args.container.now c.args.default c.args.entries.now c.in_ok-concerns.ensures

@@ -1,0 +1,2 @@
+-- Lemmas for the functions of `taken`.
+pub mod OnArguments

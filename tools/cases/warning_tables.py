@@ -19,8 +19,12 @@ def value_of(word):
 def rows_of(name):
     """Returns the rows of a table of calls, each a tuple of its fields."""
     text = (SOURCES / "tables.rt").read_text(encoding="utf-8")
-    body = re.search(rf"const {name}: \[[^;]*; (\d+)\] = \[\n(.*?)\n\];", text, re.S)
+    body = re.search(rf"const {name}: \[[^;]*; (\d+)\] = (?:\[|rows! \{{)\n(.*?)\n[\]}}];", text, re.S)
     rows = [tuple(value_of(it.strip()) for it in row.split(",")) for row in re.findall(r"\(([^()]*)\)", body[2])]
+    # Rows in one: what they have in common, and their calls; or a call, and those that it has.
+    for head, arrow, calls in re.findall(r"^    (\S[^:=;]*?)(:| =>)([^;]*);$", body[2], re.M):
+        common = [value_of(it) for it in head.split()]
+        rows += [(*common, call) if arrow != ":" else (call, *common) for call in map(value_of, calls.split())]
     assert len(rows) == int(body[1]), name
     return rows
 
@@ -33,11 +37,11 @@ def by_index(rows):
 def codes_in():
     """Returns the rows of the codes of warnings, each by the names of its fields."""
     text = (SOURCES / "text.rt").read_text(encoding="utf-8")
-    field = r"\n\s+(\w+):\s+((?:Some\()?\"(?:[^\"\\]|\\.)*\"|None|Code::\w+)"
-    rows = [dict(re.findall(field, body)) for body in re.findall(r"\n    CodeRow \{(.*?)\n    \}", text, re.S)]
-    texts = ("name", "said", "of_profile", "paragraph")
-    return [{"code": row["code"], "key": None if row["key"] == "None" else ast.literal_eval(row["key"].removeprefix("Some(")),
-             **{it: ast.literal_eval(row[it]) for it in texts}} for row in rows]
+    word = r"(\"(?:[^\"\\]|\\.)*\")"
+    rows = re.findall(rf"\n    (\w+), {word}, (?:None|Some\({word}\)),\s+{word},\s+{word},\s+{word};", text)
+    fields = ("name", "key", "said", "of_profile", "paragraph")
+    return [{"code": f"Code::{code}", **{field: ast.literal_eval(it) if it else None for field, it in zip(fields, texts)}}
+            for code, *texts in rows]
 
 
 # The calls whose argument of an index is an address, or is signed.
@@ -53,5 +57,3 @@ for _name, _other in rows_of("SIBLINGS"):
     SIBLINGS.setdefault(_name, []).append(_other)
 # The codes, in their order.
 CODES = codes_in()
-# The codes of which a part of a filter or of a profile may have warnings, in their order.
-PART_CODES = re.findall(r"Code::(\w+),", re.search(r"PART_CODES: .*?\];", (SOURCES / "walk.rt").read_text(encoding="utf-8"), re.S)[0])

@@ -23,7 +23,7 @@ import os
 import pathlib
 import re
 
-from cases.warning_tables import ADDRESSES, CODES, DETOURS, FLAGS, PART_CODES, SIBLINGS, SIGNED
+from cases.warning_tables import ADDRESSES, CODES, DETOURS, FLAGS, SIBLINGS, SIGNED
 from results import TOP
 
 LINE = 140
@@ -318,11 +318,6 @@ def compare_tables(results):
     results.compare("docs/CHECKS.md: the calls of other flags", ([],), ([call for call, *_ in flags if f"`{call}`" not in told],))
 
 
-# The codes of warnings that are of no part: evasions, and what is said of profiles alone.
-NOT_OF_PARTS = {"high-half-evades", "flag-evades", "condition-evaded", "no-effect", "open-order", "refused-by-libseccomp",
-                "libseccomp-miscompiles", "runtimes-differ", "unknown-key"}
-
-
 def compare_codes(results):
     """Compares the sections of docs/CHECKS.md with what the codes are called and what is said of them."""
     page, source = TOP / "docs/CHECKS.md", (TOP / "crates/seccomp_warnings/src/code.rt").read_text(encoding="utf-8")
@@ -330,8 +325,6 @@ def compare_codes(results):
     variants = re.findall(r"^    (\w+),$", source.partition("pub enum Code {")[2].partition("\n}\n")[0], re.M)
     results.compare("crates/seccomp_warnings: the codes in the order of their enum", ([f"Code::{it}" for it in variants],), (
         [row["code"] for row in CODES],))
-    results.compare("crates/seccomp_warnings: the codes of parts", ([it for it in variants if it in PART_CODES],), (
-        [row["code"].removeprefix("Code::") for row in CODES if row["name"] not in NOT_OF_PARTS],))
     sections = re.findall(r"^### `([a-z0-9-]+)`$", page.read_text(encoding="utf-8"), re.M)
     rows = re.findall(r"^\| [a-z ]+ \| (\[`.*) \|$", page.read_text(encoding="utf-8"), re.M)
     table = re.findall(r"\[`([a-z0-9-]+)`\]\(#\1\)", "\n".join(rows))

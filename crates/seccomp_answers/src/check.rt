@@ -12,9 +12,11 @@ use crate::findings::Verdict;
 use crate::policy::MOST;
 use crate::profile::compiled_of;
 use seccomp_faults::{Rejection, check};
-use seccomp_profile_checks::{ProfileWarning, profile_warnings_of};
 use seccomp_profiles::{CompiledProfile, Container};
-use seccomp_warnings::{Code, FilterWarned, beside_of, codes_beside, policy_warnings_of};
+use seccomp_warnings::{
+    Code, FilterWarned, ProfileWarning, beside_of, codes_beside, policy_warnings_of,
+    profile_warnings_of,
+};
 use seccompiler::{JsonFilterMap, JsonFrontendError, TargetArch};
 use std::alloc::Global;
 

@@ -1,112 +1,58 @@
--- For `always_holds` and `never_holds`: values of an argument for which a condition holds, and for which it doesn't.
-use Rattle.std.proofs.Common.{◌≡◌, ◌≢◌, ◌↔◌, ℕ, ◌<◌, ◌^◌, refl, sym, subst, ap, ◌∙◌, arith}
-use Rattle.std.proofs.Common.{⊎_elim, Bool, true, false, true≢false, IsTrue, IsFalse}
+-- For `always_holds` and `never_holds`: the numbers that tell whether a condition holds for all numbers, or for none.
+use Rattle.std.proofs.Common.{◌≡◌, ◌≢◌, ◌≤◌, ◌-◌, ℕ, ◌<◌, ◌^◌, refl, sym, ap, ◌∙◌, arith, ⊎_elim}
 use Rattle.std.specs.Prelude.{bit_and}
-use Rattle.std.specs.Int.Bits.{and_zero_l, xor_self, xor_add_and}
+use Rattle.std.specs.Int.Bits.{and_zero_l, and_zero_r, xor_self, xor_add_and}
 use Rattle.std.proofs.lemmas.Bool.{cases_lt}
 use Rattle.seccompiler.specs.declared.backend.SeccompCmpOp.{SeccompCmpOp}
 use Rattle.seccompiler.specs.declared.backend.SeccompCmpOp.TheVariants.{Eq, Ge, Gt, Le, Lt, MaskedEq, Ne}
 use Rattle.seccompiler.specs.declared.backend.SeccompCmpArgLen.{SeccompCmpArgLen}
 use Rattle.seccompiler.specs.declared.backend.SeccompCmpArgLen.TheVariants.{Dword, Qword}
-use Rattle.seccompiler.specs.Policy.{Condition, Compares, operator_part, part_of}
-use Rattle.seccomp_warnings.specs.AnyArgument.{HoldsForAll, HoldsForNone, HoldsForSome, FailsForSome}
-
--- what a condition with this operator says of a value of its argument
-abbrev Says : Condition → SeccompCmpOp → ℕ → Type 0
-Says c operator x = Compares (operator_part c.arg_len operator) (part_of c.arg_len x) (part_of c.arg_len c.value)
-
--- It fails for some value if it does for this one.
-fails_at : (c : Condition) (operator : SeccompCmpOp) → c.operator ≡ operator → (x : ℕ)
-    → x < 2 ^ 64 → (Says c operator x → ⊥) → FailsForSome c
-fails_at c operator e x small fails = record { argument = x; fits = small; fails = λ holds. fails (subst (λ o. Says c o x) e holds) }
-
--- It holds for some value if it does for this one.
-holds_at : (c : Condition) (operator : SeccompCmpOp) → c.operator ≡ operator → (x : ℕ) → x < 2 ^ 64 → Says c operator x → HoldsForSome c
-holds_at c operator e x small holds = record { argument = x; fits = small; holds = subst (λ o. Says c o x) (sym e) holds }
-
--- one of 0 and 1 differs from a number in what is compared
-record Other (length : SeccompCmpArgLen) (v : ℕ) : Type 0 where
-  number : ℕ
-  fits : number < 2 ^ 64
-  differs : part_of length number ≢ part_of length v
-
-other : (length : SeccompCmpArgLen) (v : ℕ) → Other length v
-other Dword v = ⊎_elim
-    (λ above. record { number = 0; fits = omega arith; differs = λ e. omega (arith, e, above) })
-    (λ zero. record { number = 1; fits = omega arith; differs = λ e. omega (arith, e, zero) })
-    (cases_lt 0 (part_of Dword v))
-other Qword v = ⊎_elim
-    (λ above. record { number = 0; fits = omega arith; differs = λ e. omega (arith, e, above) })
-    (λ zero. record { number = 1; fits = omega arith; differs = λ e. omega (arith, e, zero) })
-    (cases_lt 0 v)
+use Rattle.seccompiler.specs.Policy.{Compares, operator_part, part_of}
+use Rattle.seccomp_warnings.specs.AnyArgument.{last_of}
 
 -- a number and itself under a mask
-pub masked_self : (m : ℕ) → bit_and m m ≡ m
+masked_self : (m : ℕ) → bit_and m m ≡ m
 masked_self m = omega (arith, xor_self m, xor_add_and m m)
 
--- `Eq` fails for another number than the value; `Ne`, `Gt` and `Lt` fail for the value.
-pub eq_fails : (c : Condition) → c.operator ≡ Eq → FailsForSome c
-eq_fails c e = let o = other c.arg_len c.value in fails_at c Eq e o.number o.fits o.differs
+-- what is compared of 0, of 1, and of the greatest number
+of_zero : (length : SeccompCmpArgLen) → part_of length 0 ≡ 0
+of_zero Dword = refl
+of_zero Qword = refl
 
-pub ne_fails : (c : Condition) → c.value < 2 ^ 64 → c.operator ≡ Ne → FailsForSome c
-ne_fails c small e = fails_at c Ne e c.value small (λ differs. differs refl)
+of_one : (length : SeccompCmpArgLen) → part_of length 1 ≡ 1
+of_one Dword = refl
+of_one Qword = refl
 
-pub gt_fails : (c : Condition) → c.value < 2 ^ 64 → c.operator ≡ Gt → FailsForSome c
-gt_fails c small e = fails_at c Gt e c.value small (λ above. omega (arith, above))
+below_most : (length : SeccompCmpArgLen) (x : ℕ) → x < 2 ^ 64 → part_of length x ≤ part_of length (2 ^ 64 - 1)
+below_most Dword x small = omega arith
+below_most Qword x small = omega (arith, small)
 
-pub lt_fails : (c : Condition) → c.value < 2 ^ 64 → c.operator ≡ Lt → FailsForSome c
-lt_fails c small e = fails_at c Lt e c.value small (λ below. omega (arith, below))
+module _ (length : SeccompCmpArgLen) (v x : ℕ) (small : x < 2 ^ 64) where
+  -- A condition with this operator and the value v holds for a number.
+  abbrev Says : SeccompCmpOp → ℕ → Type 0
+  Says o n = Compares (operator_part length o) (part_of length n) (part_of length v)
 
--- nothing is cut of 0
-cut_zero : (length : SeccompCmpArgLen) → part_of length 0 ≡ 0
-cut_zero Dword = omega arith
-cut_zero Qword = refl
+  pub for_all : (o : SeccompCmpOp) → Says o 0 → Says o 1 → Says o v → Says o (last_of o) → Says o x
+  for_all Eq zero one own last = absurd (omega (arith, zero, one, of_zero length, of_one length))
+  for_all Ne zero one own last = absurd (own refl)
+  for_all Ge zero one own last = omega (arith, zero, of_zero length)
+  for_all Gt zero one own last = absurd (omega (arith, own))
+  for_all Le zero one own last = omega (arith, last, below_most length x small)
+  for_all Lt zero one own last = absurd (omega (arith, own))
+  for_all (MaskedEq m) zero one own last =
+      let k = part_of length m in
+      let nothing : bit_and (part_of length v) k ≡ 0 = sym zero ∙ ap (λ (n : ℕ). bit_and n k) (of_zero length) ∙ and_zero_l k in
+      let none : k ≡ 0 = sym (masked_self k) ∙ last ∙ nothing in
+      ap (bit_and (part_of length x)) none ∙ and_zero_r (part_of length x) ∙ sym nothing
 
--- what is compared of a number is what is compared of that
-cut_twice : (length : SeccompCmpArgLen) (n : ℕ) → part_of length (part_of length n) ≡ part_of length n
-cut_twice Dword n = omega arith
-cut_twice Qword n = refl
-
--- `MaskedEq` fails for the mask if the value has no bit under it, and for 0 if it has some.
-pub masked_eq_fails : (c : Condition) (m : ℕ) → part_of c.arg_len m < 2 ^ 64 → part_of c.arg_len m ≢ 0
-    → c.operator ≡ MaskedEq m → FailsForSome c
-masked_eq_fails c m small some e =
-    let k = part_of c.arg_len m in
-    let masked = bit_and (part_of c.arg_len c.value) k in
-    let of_zero : bit_and (part_of c.arg_len 0) k ≡ 0 = ap (λ n. bit_and n k) (cut_zero c.arg_len) ∙ and_zero_l k in
-    let of_mask : bit_and (part_of c.arg_len k) k ≡ k = ap (λ n. bit_and n k) (cut_twice c.arg_len m) ∙ masked_self k in
-    ⊎_elim
-    (λ above. fails_at c (MaskedEq m) e 0 (omega arith) (λ same. omega (arith, above, sym same ∙ of_zero)))
-    (λ not. fails_at c (MaskedEq m) e k small (λ same. some (omega (arith, not, sym of_mask ∙ same))))
-    (cases_lt 0 masked)
-
--- `Ne` holds for another number than the value; `Eq`, `Ge`, `Le` and `MaskedEq` hold for the value.
-pub eq_holds : (c : Condition) → c.value < 2 ^ 64 → c.operator ≡ Eq → HoldsForSome c
-eq_holds c small e = holds_at c Eq e c.value small refl
-
-pub ne_holds : (c : Condition) → c.operator ≡ Ne → HoldsForSome c
-ne_holds c e = let o = other c.arg_len c.value in holds_at c Ne e o.number o.fits o.differs
-
-pub ge_holds : (c : Condition) → c.value < 2 ^ 64 → c.operator ≡ Ge → HoldsForSome c
-ge_holds c small e = holds_at c Ge e c.value small (omega arith)
-
-pub le_holds : (c : Condition) → c.value < 2 ^ 64 → c.operator ≡ Le → HoldsForSome c
-le_holds c small e = holds_at c Le e c.value small (omega arith)
-
-pub masked_eq_holds : (c : Condition) (m : ℕ) → c.value < 2 ^ 64 → c.operator ≡ MaskedEq m → HoldsForSome c
-masked_eq_holds c m small e = holds_at c (MaskedEq m) e c.value small refl
-
--- A test that tells where a condition holds for all arguments, and else that it fails for some, tells exactly that.
-pub exactly_all : (b : Bool) (c : Condition) → (IsTrue b → HoldsForAll c) → (IsFalse b → FailsForSome c) → IsTrue b ↔ HoldsForAll c
-exactly_all true c all some = (all, λ every. refl)
-exactly_all false c all some = (
-  λ t. absurd (true≢false (sym t)),
-  λ every. let x = some refl in absurd (x.fails (every x.argument x.fits)),
-)
-
-pub exactly_none : (b : Bool) (c : Condition) → (IsTrue b → HoldsForNone c) → (IsFalse b → HoldsForSome c) → IsTrue b ↔ HoldsForNone c
-exactly_none true c none some = (none, λ every. refl)
-exactly_none false c none some = (
-  λ t. absurd (true≢false (sym t)),
-  λ every. let x = some refl in absurd (every x.argument x.fits x.holds),
-)
+  pub for_none : (o : SeccompCmpOp) → (Says o 0 → ⊥) → (Says o 1 → ⊥) → (Says o v → ⊥) → (Says o (2 ^ 64 - 1) → ⊥) → Says o x → ⊥
+  for_none Eq zero one own last holds = own refl
+  for_none Ne zero one own last holds = ⊎_elim
+      (λ (above : 0 < part_of length v). zero (λ same. omega (arith, same, above, of_zero length)))
+      (λ (not : part_of length v ≤ 0). one (λ same. omega (arith, same, not, of_one length)))
+      (cases_lt 0 (part_of length v))
+  for_none Ge zero one own last holds = own (omega arith)
+  for_none Gt zero one own last holds = last (omega (arith, holds, below_most length x small))
+  for_none Le zero one own last holds = own (omega arith)
+  for_none Lt zero one own last holds = zero (omega (arith, holds, of_zero length))
+  for_none (MaskedEq m) zero one own last holds = own refl

@@ -1,5 +1,7 @@
 -- Conditions that hold whatever their argument is, and conditions that never do.
-use Rattle.std.specs.Prelude.{ℕ, ◌<◌, ◌^◌}
+use Rattle.std.specs.Prelude.{ℕ, ◌<◌, ◌^◌, ◌-◌}
+use Rattle.seccompiler.specs.declared.backend.SeccompCmpOp.{SeccompCmpOp}
+use Rattle.seccompiler.specs.declared.backend.SeccompCmpOp.TheVariants.{MaskedEq}
 use Rattle.seccompiler.specs.Policy.{Condition, Compares, operator_part, part_of}
 use Rattle.seccomp_warnings.specs.declared.warning.Comparison.{Comparison}
 
@@ -27,14 +29,7 @@ HoldsForAll c = (x : ℕ) → x < 2 ^ 64 → HoldsFor c x
 abbrev pub HoldsForNone : Condition → Type 0
 HoldsForNone c = (x : ℕ) → x < 2 ^ 64 → HoldsFor c x → ⊥
 
--- There is a value for which it holds.
-pub record HoldsForSome (c : Condition) : Type 0 where
-  pub argument : ℕ
-  pub fits : argument < 2 ^ 64
-  pub holds : HoldsFor c argument
-
--- There is a value for which it doesn't.
-pub record FailsForSome (c : Condition) : Type 0 where
-  pub argument : ℕ
-  pub fits : argument < 2 ^ 64
-  pub fails : HoldsFor c argument → ⊥
+-- The mask of the operator, or the greatest number.
+abbrev pub last_of : SeccompCmpOp → ℕ
+last_of (MaskedEq mask) = mask
+last_of operator = 2 ^ 64 - 1

@@ -1,5 +1,5 @@
 -- What the filters of one text mean for the warnings of each other: one may answer each clone3 as a kernel that hasn't the call.
-use Rattle.std.specs.Prelude.{◌≡◌, ◌≢◌, ◌⊎◌, ◌↔◌, List, [], String, All, Any, Contains, IsTrue, IsSomeAnd, codes}
+use Rattle.std.specs.Prelude.{◌≡◌, ◌≢◌, ◌⊎◌, ◌↔◌, List, [], String, All, Any, Contains, IsTrue, IsSomeAnd, codes, map}
 use Rattle.std.specs.declared.alloc.Global.{Global}
 use Rattle.seccompiler.specs.JsonTypes.{JsonFilter, JsonRule}
 use Rattle.seccompiler.specs.Policy.{word_of}
@@ -39,8 +39,8 @@ DoesMore f = HidesAlone f → ⊥
 
 -- This is so of some filter of a text.
 pub record IsBeside (filters : List (String Global × JsonFilter)) (b : Beside) : Type 0 where
-  pub hides_clone3 : IsTrue b.hides_clone3 ↔ Any (λ named. HidesClone3 named.1) filters
-  pub does_more : IsTrue b.does_more ↔ Any (λ named. DoesMore named.1) filters
+  pub hides_clone3 : IsTrue b.hides_clone3 ↔ Any HidesClone3 (map (λ named. named.1) filters)
+  pub does_more : IsTrue b.does_more ↔ Any DoesMore (map (λ named. named.1) filters)
 
 -- Beside such filters a warning of the code says nothing of the filter.
 abbrev pub IsSettled : Beside → JsonFilter → Code → Type 0

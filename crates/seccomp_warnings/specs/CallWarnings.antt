@@ -1,5 +1,8 @@
--- What is so of the calls that entries are for, and of those that none is for, that a part's author may not mean.
-use Rattle.std.specs.Prelude.{◌≡◌, ℕ, pos, ◌⊎◌, List, [], ◌∷◌, Any, IsSome, IsSomeAnd, Some, codes, map, slice_get}
+-- What is so of the calls that entries are for, of their arguments, and of the calls that none is for, that a part's author may not mean.
+-- Which calls and arguments these are, the tables of the crate say.
+use Rattle.std.specs.Prelude.{◌≡◌, ◌≢◌, ℕ, pos, ◌⊎◌, List, [], Any, IsSome, IsSomeAnd, Some, codes, map, slice_get, ⊤}
+use Rattle.seccompiler.specs.declared.backend.SeccompCmpOp.{SeccompCmpOp}
+use Rattle.seccompiler.specs.declared.backend.SeccompCmpOp.TheVariants.{Ge, Gt, Le, Lt}
 use Rattle.seccompiler.specs.declared.backend.TargetArch.{TargetArch}
 use Rattle.seccompiler.specs.Architecture.{table_of}
 use Rattle.seccompiler.specs.SyscallTable.{number_of}
@@ -12,7 +15,8 @@ use Rattle.seccomp_warnings.specs.declared.code.Code.{Code}
 use Rattle.seccomp_warnings.specs.declared.code.Code.TheVariants as code
 use Rattle.seccomp_warnings.specs.declared.unlisted.Unlisted.{Unlisted}
 use Rattle.seccomp_warnings.specs.declared.unlisted.Unlisted.TheVariants as unlisted
-use Rattle.seccomp_warnings.specs.declared.tables.TheConstants.{SIBLINGS}
+use Rattle.seccomp_warnings.specs.declared.tables.TheConstants.{ADDRESSES, SIBLINGS, SIGNED}
+use Rattle.seccomp_warnings.specs.declared.warning.Comparison.{Comparison}
 
 -- ---- the entries of a part
 
@@ -133,3 +137,25 @@ IsOfVerdict other v = ⊥
 -- There is a verdict at the place, by which what a code says is so.
 abbrev pub IsJudged : Code → List Verdict → ℕ → Type 0
 IsJudged kind verdicts place = IsSomeAnd (slice_get verdicts place) (IsOfVerdict kind)
+
+-- ---- what is so of an argument
+
+-- One of these rows, each of a call and of the index of an argument, is for the argument of this index of the call of this number.
+abbrev pub HasRow : TargetArch → (number index : ℕ) → List (List ℕ × ℕ) → Type 0
+HasRow arch number index rows = Any (λ (row : List ℕ × ℕ). IsNumberOf arch row.0 number × (row.1 ≡ index)) rows
+
+-- The operator asks for the order of numbers.
+abbrev pub IsOrder : SeccompCmpOp → Type 0
+IsOrder Ge = ⊤
+IsOrder Gt = ⊤
+IsOrder Le = ⊤
+IsOrder Lt = ⊤
+IsOrder operator = ⊥
+
+-- What a code says of a condition on an argument of the call of this number is so.
+abbrev pub IsSoOfArgument : Code → TargetArch → (number : ℕ) → Comparison → Type 0
+IsSoOfArgument code.PointerCompared arch number c =
+    (c.value ≢ 0) × HasRow arch number c.arg_index (map (λ row. (row.0.now, row.1)) ADDRESSES)
+IsSoOfArgument code.SignedCompared arch number c =
+    IsOrder c.operator × HasRow arch number c.arg_index (map (λ row. (row.0.now, row.1)) SIGNED)
+IsSoOfArgument other arch number c = ⊥

@@ -1,11 +1,11 @@
--- The definitions that the contracts cite: which warnings a part has.
+-- The definitions that the contracts cite: which warnings a part has, and which a profile.
 pub mod ActionWarnings
 pub mod AnyArgument
-pub mod Arguments
 pub mod Beside
 pub mod CallWarnings
+pub mod Doubts
 pub mod Evasions
 pub mod Parts
+pub mod ProfileParts
+pub mod ProfileWarnings
 pub mod Warnings
--- Between layers.
-pub mod Walks

@@ -1,8 +1,7 @@
 // What is so of the arguments of calls.
 
 ghost use Rattle.std.specs.Prelude.{◌≡◌, ◌↔◌, Any, IsSomeAnd, IsTrue, map, slice_get};
-ghost use Rattle.seccomp_warnings.specs.Arguments.{HasRow, IsSoOfArgument};
-ghost use Rattle.seccomp_warnings.specs.CallWarnings.{IsNumberOf};
+ghost use Rattle.seccomp_warnings.specs.CallWarnings.{HasRow, IsNumberOf, IsSoOfArgument};
 
 use crate::call::is_number_of;
 use crate::code::Code;

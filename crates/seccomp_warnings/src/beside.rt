@@ -1,6 +1,6 @@
 // What the filters of one text mean for the warnings of each other.
 
-ghost use Rattle.std.specs.Prelude.{◌≡◌, ◌↔◌, ◌⊎◌, Contains, IfOk, IsTrue, OnOk};
+ghost use Rattle.std.specs.Prelude.{◌≡◌, ◌↔◌, ◌⊎◌, Any, Contains, IfOk, IsTrue, OnOk, map};
 ghost use Rattle.seccomp_warnings.specs.Beside.{AreCodesBeside, DoesMore, HasArgs, HidesAlone, HidesByEntry, HidesClone3, IsBeside, NamesClone3};
 ghost use Rattle.seccomp_warnings.specs.declared.code.Code.{Code as CodeValue};
 
@@ -68,29 +68,26 @@ fn hides_alone(filter: &JsonFilter) -> bool
         && filter.rules.iter().all(names_clone3)
 }
 
-// What is so of some of the filters so far, and this one.
-fn with_filter(beside: Beside, filter: &JsonFilter) -> Beside
-    ensures hides_clone3 { IsTrue result.hides_clone3 ↔ (IsTrue beside.hides_clone3 ⊎ HidesClone3 filter.now) }
-    ensures does_more { IsTrue result.does_more ↔ (IsTrue beside.does_more ⊎ DoesMore filter.now) }
-{
-    Beside {
-        hides_clone3: beside.hides_clone3 || hides_clone3(filter),
-        does_more: beside.does_more || !hides_alone(filter),
-    }
-}
-
 /// What is so of some filter of a text.
 pub fn beside_of(filters: &JsonFilterMap) -> Beside
     ensures { IsBeside filters.now.0.entries result }
 {
-    let mut beside = Beside {
-        hides_clone3: false,
-        does_more: false,
-    };
-    for (_name, filter) in &filters.0 {
-        beside = with_filter(beside, filter);
+    Beside {
+        hides_clone3: some_hides(filters),
+        does_more: some_does_more(filters),
     }
-    beside
+}
+
+fn some_hides(filters: &JsonFilterMap) -> bool
+    ensures { IsTrue result ↔ Any HidesClone3 (map (λ named. named.1) filters.now.0.entries) }
+{
+    filters.0.values().any(|filter| hides_clone3(filter))
+}
+
+fn some_does_more(filters: &JsonFilterMap) -> bool
+    ensures { IsTrue result ↔ Any DoesMore (map (λ named. named.1) filters.now.0.entries) }
+{
+    filters.0.values().any(|filter| !hides_alone(filter))
 }
 
 // Adds a code if something is so.

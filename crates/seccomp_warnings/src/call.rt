@@ -59,7 +59,7 @@ fn matches_each_call(part: &Part, name: &str) -> bool
 }
 
 /// Whether every call of this name is denied: by an entry without conditions, or since no entry is for the call.
-pub fn denies_each(part: &Part, name: &str) -> bool
+pub(crate) fn denies_each(part: &Part, name: &str) -> bool
     ensures { IsTrue result ↔ DeniesEach name.now part.now }
 {
     (!permits(part.actions.matching) && matches_each_call(part, name))

@@ -12,7 +12,7 @@ use seccomp_entries::Entry;
 use seccompiler::{SeccompCmpArgLen, SeccompCmpOp, SeccompCondition, SyscallTable, TargetArch};
 use std::alloc::{AllocError, Global};
 
-// How many sets of calls are looked at for one that meets an entry.
+// How many sets of calls are looked at for one that meets conditions.
 const MOST_SETS: usize = 1_000;
 
 // The low half of an argument.
@@ -153,10 +153,7 @@ impl Search<'_> {
             push_condition(&mut asked, index, SeccompCmpArgLen::Dword, unmet, value)?;
             push_condition(&mut asked, index, SeccompCmpArgLen::Qword, high, bits)?;
         }
-        match cover_of(alloc, self.arch, own.number, &asked, &[], MOST_SETS)? {
-            Cover::Escapes(call) => Ok(Some(call)),
-            Cover::Covered | Cover::Undecided => Ok(None),
-        }
+        met_call(alloc, self.arch, own.number, &asked)
     }
 
     // The call of a detour's first name with what is asked for, and the other one with what it takes of that: if the condition is on what
@@ -189,6 +186,19 @@ impl Search<'_> {
         } else {
             edge | bits
         }
+    }
+}
+
+/// A call of this number that meets these conditions, if one is found.
+pub(crate) fn met_call(
+    alloc: Global,
+    arch: TargetArch,
+    number: u32,
+    conditions: &[SeccompCondition],
+) -> Result<Option<[u8; 64]>, AllocError> {
+    match cover_of(alloc, arch, number, conditions, &[], MOST_SETS)? {
+        Cover::Escapes(call) => Ok(Some(call)),
+        Cover::Covered | Cover::Undecided => Ok(None),
     }
 }
 
@@ -274,16 +284,16 @@ fn likely_call(arch: TargetArch, number: u32, conditions: &[SeccompCondition]) -
     call
 }
 
-/// The call of this number whose arguments are 0.
-pub fn blank_call(arch: TargetArch, number: u32) -> [u8; 64] {
+// The call of this number whose arguments are 0.
+fn blank_call(arch: TargetArch, number: u32) -> [u8; 64] {
     let mut call = [0; 64];
     put(&mut call, 0, &number.to_le_bytes());
     put(&mut call, 4, &arch.get_audit_value().to_le_bytes());
     call
 }
 
-/// The same call with this argument. None has an index above 5.
-pub fn with_argument(call: &[u8; 64], index: u8, argument: u64) -> [u8; 64] {
+// The same call with this argument. None has an index above 5.
+fn with_argument(call: &[u8; 64], index: u8, argument: u64) -> [u8; 64] {
     let mut other = *call;
     if index <= 5 {
         let at = 16 + 8 * usize::from(index);

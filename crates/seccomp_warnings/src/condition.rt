@@ -1,8 +1,8 @@
 // What is so of a condition.
 
-ghost use Rattle.std.specs.Prelude.{◌≡◌, ◌↔◌, IsTrue, IsFalse};
+ghost use Rattle.std.specs.Prelude.{◌≡◌, ◌↔◌, IsTrue};
 ghost use Rattle.seccompiler.specs.Policy.{part_of};
-ghost use Rattle.seccomp_warnings.specs.AnyArgument.{HoldsForAll, HoldsForNone, HoldsForSome, FailsForSome, comparison_at, condition_in};
+ghost use Rattle.seccomp_warnings.specs.AnyArgument.{HoldsFor, HoldsForAll, HoldsForNone, comparison_at, condition_in, last_of};
 ghost use Rattle.seccomp_warnings.specs.Warnings.{IsSoOfCondition};
 
 use crate::code::Code;
@@ -36,42 +36,70 @@ pub(crate) fn part_of(length: SeccompCmpArgLen, number: u64) -> u64
     }
 }
 
-// Whether the condition holds for every argument. Which argument it is plays no part.
-//
-// What the length compares counts alone, of the value and of a mask as well.
-fn always_holds(comparison: Comparison) -> bool
-    ensures exactly { IsTrue result ↔ HoldsForAll (condition_in comparison) }
-    ensures all { IsTrue result → HoldsForAll (condition_in comparison) }
-    ensures some { IsFalse result → FailsForSome (condition_in comparison) }
+// Whether the condition holds for a number. Which argument that is plays no part, and what the length compares counts alone, of the number,
+// the value and a mask.
+fn holds_for(comparison: Comparison, number: u64) -> bool
+    ensures { IsTrue result ↔ HoldsFor (condition_in comparison) number }
 {
-    let value = part_of(comparison.arg_len, comparison.value);
+    let length = comparison.arg_len;
+    let (number, value) = (part_of(length, number), part_of(length, comparison.value));
     match comparison.operator {
-        SeccompCmpOp::Ge => value == 0,
-        SeccompCmpOp::Le => value == part_of(comparison.arg_len, u64::MAX),
-        SeccompCmpOp::MaskedEq(mask) => part_of(comparison.arg_len, mask) == 0,
-        SeccompCmpOp::Eq | SeccompCmpOp::Ne | SeccompCmpOp::Gt | SeccompCmpOp::Lt => false,
+        SeccompCmpOp::Eq => number == value,
+        SeccompCmpOp::Ne => number != value,
+        SeccompCmpOp::Ge => number >= value,
+        SeccompCmpOp::Gt => number > value,
+        SeccompCmpOp::Le => number <= value,
+        SeccompCmpOp::Lt => number < value,
+        SeccompCmpOp::MaskedEq(mask) => {
+            let mask = part_of(length, mask);
+            number & mask == value & mask
+        }
     }
 }
 
-// Whether the condition holds for no argument. Which argument it is plays no part.
-//
-// `MaskedEq` cuts its value by its mask too. So an argument that is the value meets it, whatever bits the value has outside
-// the mask.
-fn never_holds(comparison: Comparison) -> bool
-    ensures exactly { IsTrue result ↔ HoldsForNone (condition_in comparison) }
-    ensures none { IsTrue result → HoldsForNone (condition_in comparison) }
-    ensures some { IsFalse result → HoldsForSome (condition_in comparison) }
+// The number for which a condition with the operator holds last: the mask, or the greatest.
+fn last_of(operator: SeccompCmpOp) -> u64
+    ensures { result ≡ last_of operator }
 {
-    let value = part_of(comparison.arg_len, comparison.value);
-    match comparison.operator {
-        SeccompCmpOp::Lt => value == 0,
-        SeccompCmpOp::Gt => value == part_of(comparison.arg_len, u64::MAX),
-        SeccompCmpOp::Eq
-        | SeccompCmpOp::Ne
-        | SeccompCmpOp::Ge
-        | SeccompCmpOp::Le
-        | SeccompCmpOp::MaskedEq(_) => false,
+    match operator {
+        SeccompCmpOp::MaskedEq(mask) => mask,
+        _ => u64::MAX,
     }
+}
+
+// Whether the condition holds for the numbers that tell whether it holds for all.
+fn holds_at(comparison: Comparison, last: u64) -> bool
+    ensures { IsTrue result ↔ (HoldsFor (condition_in comparison) 0 × HoldsFor (condition_in comparison) 1 × HoldsFor (condition_in comparison) comparison.value × HoldsFor (condition_in comparison) last) }
+{
+    holds_for(comparison, 0)
+        && holds_for(comparison, 1)
+        && holds_for(comparison, comparison.value)
+        && holds_for(comparison, last)
+}
+
+// Whether the condition holds for every argument.
+fn always_holds(comparison: Comparison) -> bool
+    ensures { IsTrue result ↔ HoldsForAll (condition_in comparison) }
+{
+    holds_at(comparison, last_of(comparison.operator))
+}
+
+// Whether the condition fails for the numbers that tell whether it holds for none.
+fn fails_at(comparison: Comparison, last: u64) -> bool
+    ensures { IsTrue result ↔ ((HoldsFor (condition_in comparison) 0 → ⊥) × (HoldsFor (condition_in comparison) 1 → ⊥) × (HoldsFor (condition_in comparison) comparison.value → ⊥) × (HoldsFor (condition_in comparison) last → ⊥)) }
+{
+    !holds_for(comparison, 0)
+        && !holds_for(comparison, 1)
+        && !holds_for(comparison, comparison.value)
+        && !holds_for(comparison, last)
+}
+
+// Whether the condition holds for no argument. `MaskedEq` cuts its value by its mask too. So an argument that is the value meets it,
+// whatever bits the value has outside the mask.
+fn never_holds(comparison: Comparison) -> bool
+    ensures { IsTrue result ↔ HoldsForNone (condition_in comparison) }
+{
+    fails_at(comparison, u64::MAX)
 }
 
 // Whether what a code says is so of a condition.

@@ -25,6 +25,7 @@ pub mod code;
 mod condition;
 pub mod evasion;
 mod part;
+pub mod profile;
 mod sibling;
 mod tables;
 mod text;
@@ -33,11 +34,12 @@ mod walk;
 pub mod warning;
 
 pub use crate::beside::{Beside, beside_of, codes_beside, hides_clone3};
-pub use crate::call::denies_each;
-pub use crate::candidate::{blank_call, with_argument};
 pub use crate::code::Code;
 pub use crate::evasion::{Evasion, evasions_of};
 pub use crate::part::Part;
+pub use crate::profile::{
+    Clash, Doubt, Effect, Origin, ProfileWarning, code_of, profile_warnings_of,
+};
 pub use crate::sibling::sibling_of;
 pub use crate::text::CodeRow;
 pub use crate::unlisted::Unlisted;

@@ -1,6 +1,6 @@
 // Calls by which the same can be done.
 
-ghost use Rattle.std.specs.Prelude.{◌≡◌, ◌↔◌, Any, IfNone, IfSome, IsTrue, map};
+ghost use Rattle.std.specs.Prelude.{◌↔◌, Any, IsTrue, map};
 ghost use Rattle.seccomp_warnings.specs.CallWarnings.{IsDeniedAlone, IsOpen, IsUndone, IsUnnamed};
 
 use crate::action::permits;
@@ -14,14 +14,19 @@ use seccompiler::SyscallTable;
 /// it; none if there is none, or the part has no entry at the place.
 pub fn sibling_of(part: &Part, place: usize) -> Option<&'static str> {
     let entry = part.entries.get(place)?;
-    open_in(part, entry, &SIBLINGS)
+    for row in &SIBLINGS {
+        if is_open(part, entry, row.0, row.1) {
+            return Some(row.1);
+        }
+    }
+    None
 }
 
 // Whether the entry denies each of its calls, and there is such a call.
 pub(crate) fn is_undone(part: &Part, entry: &Entry) -> bool
     ensures { IsTrue result ↔ IsUndone part.now entry.now }
 {
-    is_denied_alone(part, entry) && open_in(part, entry, &SIBLINGS).is_some()
+    is_denied_alone(part, entry) && has_open(part, entry, &SIBLINGS)
 }
 
 // Whether calls that an entry matches are denied and the others let through, and this entry matches each of its calls.
@@ -31,21 +36,18 @@ fn is_denied_alone(part: &Part, entry: &Entry) -> bool
     !permits(part.actions.matching) && permits(part.actions.mismatch) && has_no_args(entry)
 }
 
-// The second call of the first of these pairs of which the first is the entry's, and the second is unnamed.
-fn open_in(
-    part: &Part,
-    entry: &Entry,
-    rows: &[(&'static str, &'static str)],
-) -> Option<&'static str>
-    ensures found { IfSome result (λ other. Any (λ pair. IsOpen part.now entry.now pair × (pair.1 ≡ other.now)) (map (λ row. (row.0.now, row.1.now)) rows.now)) }
-    ensures none { IfNone result (Any (IsOpen part.now entry.now) (map (λ row. (row.0.now, row.1.now)) rows.now) → ⊥) }
+// Whether of one of these pairs the first call is the entry's, and the second is unnamed.
+fn has_open(part: &Part, entry: &Entry, rows: &[(&str, &str)]) -> bool
+    ensures { IsTrue result ↔ Any (IsOpen part.now entry.now) (map (λ row. (row.0.now, row.1.now)) rows.now) }
 {
-    for row in rows {
-        if is_open(part, entry, row.0, row.1) {
-            return Some(row.1);
-        }
-    }
-    None
+    is_listed(part, entry, rows)
+}
+
+// The same, said of the rows as they are lent.
+fn is_listed(part: &Part, entry: &Entry, rows: &[(&str, &str)]) -> bool
+    ensures { IsTrue result ↔ Any (λ row. IsOpen part.now entry.now (row.0.now, row.1.now)) rows.now }
+{
+    rows.iter().any(|row| is_open(part, entry, row.0, row.1))
 }
 
 // Whether the first call is the entry's, and the second is unnamed.

@@ -1,230 +1,62 @@
 // What is known of calls, by the prototypes of Linux 6.12 (include/linux/syscalls.h) and the manual pages (section 2). The definitions of
 // warnings cite these tables, and tools/check-documents compares the lists of docs/CHECKS.md with them.
 
-/// The arguments of calls on files, programs, mounts and sockets that are addresses: the call, and the index of the argument.
-pub(crate) const ADDRESSES: [(&str, u8); 175] = [
-    ("access", 0),
-    ("acct", 0),
-    ("chdir", 0),
-    ("chmod", 0),
-    ("chown", 0),
-    ("chroot", 0),
-    ("creat", 0),
-    ("execve", 0),
-    ("fsopen", 0),
-    ("getcwd", 0),
-    ("getxattr", 0),
-    ("lchown", 0),
-    ("lgetxattr", 0),
-    ("link", 0),
-    ("listmount", 0),
-    ("listxattr", 0),
-    ("llistxattr", 0),
-    ("lremovexattr", 0),
-    ("lsetxattr", 0),
-    ("lstat", 0),
-    ("memfd_create", 0),
-    ("mkdir", 0),
-    ("mknod", 0),
-    ("mount", 0),
-    ("open", 0),
-    ("pipe", 0),
-    ("pipe2", 0),
-    ("pivot_root", 0),
-    ("readlink", 0),
-    ("removexattr", 0),
-    ("rename", 0),
-    ("rmdir", 0),
-    ("setxattr", 0),
-    ("stat", 0),
-    ("statfs", 0),
-    ("statmount", 0),
-    ("swapoff", 0),
-    ("swapon", 0),
-    ("symlink", 0),
-    ("symlinkat", 0),
-    ("truncate", 0),
-    ("umount2", 0),
-    ("unlink", 0),
-    ("uselib", 0),
-    ("utime", 0),
-    ("utimes", 0),
-    ("accept", 1),
-    ("accept4", 1),
-    ("bind", 1),
-    ("cachestat", 1),
-    ("connect", 1),
-    ("copy_file_range", 1),
-    ("execve", 1),
-    ("execveat", 1),
-    ("faccessat", 1),
-    ("faccessat2", 1),
-    ("fchmodat", 1),
-    ("fchmodat2", 1),
-    ("fchownat", 1),
-    ("fgetxattr", 1),
-    ("flistxattr", 1),
-    ("fremovexattr", 1),
-    ("fsetxattr", 1),
-    ("fspick", 1),
-    ("fstat", 1),
-    ("fstatfs", 1),
-    ("futimesat", 1),
-    ("getdents", 1),
-    ("getdents64", 1),
-    ("getpeername", 1),
-    ("getsockname", 1),
-    ("getxattr", 1),
-    ("inotify_add_watch", 1),
-    ("lgetxattr", 1),
-    ("link", 1),
-    ("linkat", 1),
-    ("listmount", 1),
-    ("listxattr", 1),
-    ("llistxattr", 1),
-    ("lremovexattr", 1),
-    ("lsetxattr", 1),
-    ("lstat", 1),
-    ("mkdirat", 1),
-    ("mknodat", 1),
-    ("mount", 1),
-    ("mount_setattr", 1),
-    ("move_mount", 1),
-    ("name_to_handle_at", 1),
-    ("newfstatat", 1),
-    ("open_by_handle_at", 1),
-    ("open_tree", 1),
-    ("openat", 1),
-    ("openat2", 1),
-    ("pivot_root", 1),
-    ("pread64", 1),
-    ("preadv", 1),
-    ("preadv2", 1),
-    ("pwrite64", 1),
-    ("pwritev", 1),
-    ("pwritev2", 1),
-    ("quotactl", 1),
-    ("read", 1),
-    ("readlink", 1),
-    ("readlinkat", 1),
-    ("readv", 1),
-    ("recvfrom", 1),
-    ("recvmmsg", 1),
-    ("recvmsg", 1),
-    ("removexattr", 1),
-    ("rename", 1),
-    ("renameat", 1),
-    ("renameat2", 1),
-    ("sendmmsg", 1),
-    ("sendmsg", 1),
-    ("sendto", 1),
-    ("setxattr", 1),
-    ("splice", 1),
-    ("stat", 1),
-    ("statfs", 1),
-    ("statmount", 1),
-    ("statx", 1),
-    ("symlink", 1),
-    ("unlinkat", 1),
-    ("ustat", 1),
-    ("utime", 1),
-    ("utimensat", 1),
-    ("utimes", 1),
-    ("vmsplice", 1),
-    ("write", 1),
-    ("writev", 1),
-    ("accept", 2),
-    ("accept4", 2),
-    ("cachestat", 2),
-    ("execve", 2),
-    ("execveat", 2),
-    ("fgetxattr", 2),
-    ("fsconfig", 2),
-    ("fsetxattr", 2),
-    ("futimesat", 2),
-    ("getpeername", 2),
-    ("getsockname", 2),
-    ("getxattr", 2),
-    ("lgetxattr", 2),
-    ("lsetxattr", 2),
-    ("mount", 2),
-    ("name_to_handle_at", 2),
-    ("newfstatat", 2),
-    ("openat2", 2),
-    ("readlinkat", 2),
-    ("sendfile", 2),
-    ("setxattr", 2),
-    ("symlinkat", 2),
-    ("utimensat", 2),
-    ("copy_file_range", 3),
-    ("execveat", 3),
-    ("fsconfig", 3),
-    ("getsockopt", 3),
-    ("linkat", 3),
-    ("mount_setattr", 3),
-    ("move_mount", 3),
-    ("name_to_handle_at", 3),
-    ("quotactl", 3),
-    ("renameat", 3),
-    ("renameat2", 3),
-    ("setsockopt", 3),
-    ("socketpair", 3),
-    ("splice", 3),
-    ("fanotify_mark", 4),
-    ("getsockopt", 4),
-    ("mount", 4),
-    ("recvfrom", 4),
-    ("recvmmsg", 4),
-    ("sendto", 4),
-    ("statx", 4),
-    ("recvfrom", 5),
-];
+// Rows that have all but one field in common.
+macro_rules! rows {
+    ($($index:literal: $($name:literal)*;)*) => { [$($(($name, $index),)*)*] };
+    ($($index:literal $flag:literal $closing:literal: $($name:literal)*;)*) => { [$($(($name, $index, $flag, $closing),)*)*] };
+    ($($name:literal => $($other:literal)*;)*) => { [$($(($name, $other),)*)*] };
+}
+
+/// The arguments of calls on files, programs, mounts and sockets that are addresses: the index of the argument, and the calls.
+pub(crate) const ADDRESSES: [(&str, u8); 175] = rows! {
+    0: "access" "acct" "chdir" "chmod" "chown" "chroot" "creat" "execve" "fsopen" "getcwd" "getxattr" "lchown"
+        "lgetxattr" "link" "listmount" "listxattr" "llistxattr" "lremovexattr" "lsetxattr" "lstat" "memfd_create"
+        "mkdir" "mknod" "mount" "open" "pipe" "pipe2" "pivot_root" "readlink" "removexattr" "rename" "rmdir" "setxattr"
+        "stat" "statfs" "statmount" "swapoff" "swapon" "symlink" "symlinkat" "truncate" "umount2" "unlink" "uselib"
+        "utime" "utimes";
+    1: "accept" "accept4" "bind" "cachestat" "connect" "copy_file_range" "execve" "execveat" "faccessat" "faccessat2"
+        "fchmodat" "fchmodat2" "fchownat" "fgetxattr" "flistxattr" "fremovexattr" "fsetxattr" "fspick" "fstat" "fstatfs"
+        "futimesat" "getdents" "getdents64" "getpeername" "getsockname" "getxattr" "inotify_add_watch" "lgetxattr"
+        "link" "linkat" "listmount" "listxattr" "llistxattr" "lremovexattr" "lsetxattr" "lstat" "mkdirat" "mknodat"
+        "mount" "mount_setattr" "move_mount" "name_to_handle_at" "newfstatat" "open_by_handle_at" "open_tree" "openat"
+        "openat2" "pivot_root" "pread64" "preadv" "preadv2" "pwrite64" "pwritev" "pwritev2" "quotactl" "read" "readlink"
+        "readlinkat" "readv" "recvfrom" "recvmmsg" "recvmsg" "removexattr" "rename" "renameat" "renameat2" "sendmmsg"
+        "sendmsg" "sendto" "setxattr" "splice" "stat" "statfs" "statmount" "statx" "symlink" "unlinkat" "ustat" "utime"
+        "utimensat" "utimes" "vmsplice" "write" "writev";
+    2: "accept" "accept4" "cachestat" "execve" "execveat" "fgetxattr" "fsconfig" "fsetxattr" "futimesat" "getpeername"
+        "getsockname" "getxattr" "lgetxattr" "lsetxattr" "mount" "name_to_handle_at" "newfstatat" "openat2" "readlinkat"
+        "sendfile" "setxattr" "symlinkat" "utimensat";
+    3: "copy_file_range" "execveat" "fsconfig" "getsockopt" "linkat" "mount_setattr" "move_mount" "name_to_handle_at"
+        "quotactl" "renameat" "renameat2" "setsockopt" "socketpair" "splice";
+    4: "fanotify_mark" "getsockopt" "mount" "recvfrom" "recvmmsg" "sendto" "statx";
+    5: "recvfrom";
+};
 
 /// The arguments that are signed.
-pub(crate) const SIGNED: [(&str, u8); 10] = [
-    ("kill", 0),
-    ("tkill", 0),
-    ("wait4", 0),
-    ("openat", 0),
-    ("prlimit64", 0),
-    ("lseek", 1),
-    ("setpriority", 2),
-    ("poll", 2),
-    ("epoll_wait", 3),
-    ("epoll_pwait", 3),
-];
+pub(crate) const SIGNED: [(&str, u8); 10] = rows! {
+    0: "kill" "tkill" "wait4" "openat" "prlimit64";
+    1: "lseek";
+    2: "setpriority" "poll";
+    3: "epoll_wait" "epoll_pwait";
+};
 
 /// A flag that changes nothing of what a call is denied for: the call, the index of the argument that has it, the flag, and whether it
 /// closes a descriptor on exec, which is no reason to deny a call.
 pub(crate) type Flag = (&'static str, u8, u64, bool);
 
 /// All of them: O_CLOEXEC and SOCK_CLOEXEC, CLONE_FILES, MS_NOATIME, MFD_CLOEXEC, PROT_READ and PROT_SEM.
-pub(crate) const FLAGS: [(&str, u8, u64, bool); 24] = [
-    ("epoll_create1", 0, 0x8_0000, true),
-    ("inotify_init1", 0, 0x8_0000, true),
-    ("userfaultfd", 0, 0x8_0000, true),
-    ("open", 1, 0x8_0000, true),
-    ("socket", 1, 0x8_0000, true),
-    ("socketpair", 1, 0x8_0000, true),
-    ("pipe2", 1, 0x8_0000, true),
-    ("eventfd2", 1, 0x8_0000, true),
-    ("timerfd_create", 1, 0x8_0000, true),
-    ("openat", 2, 0x8_0000, true),
-    ("dup3", 2, 0x8_0000, true),
-    ("open_by_handle_at", 2, 0x8_0000, true),
-    ("accept4", 3, 0x8_0000, true),
-    ("signalfd4", 3, 0x8_0000, true),
-    ("clone", 0, 0x400, false),
-    ("unshare", 0, 0x400, false),
-    ("mount", 3, 0x400, false),
-    ("memfd_create", 1, 1, true),
-    ("mmap", 2, 1, false),
-    ("mprotect", 2, 1, false),
-    ("pkey_mprotect", 2, 1, false),
-    ("mmap", 2, 8, false),
-    ("mprotect", 2, 8, false),
-    ("pkey_mprotect", 2, 8, false),
-];
+pub(crate) const FLAGS: [(&str, u8, u64, bool); 24] = rows! {
+    0 0x8_0000 true: "epoll_create1" "inotify_init1" "userfaultfd";
+    1 0x8_0000 true: "open" "socket" "socketpair" "pipe2" "eventfd2" "timerfd_create";
+    2 0x8_0000 true: "openat" "dup3" "open_by_handle_at";
+    3 0x8_0000 true: "accept4" "signalfd4";
+    0 0x400 false: "clone" "unshare";
+    3 0x400 false: "mount";
+    1 1 true: "memfd_create";
+    2 1 false: "mmap" "mprotect" "pkey_mprotect";
+    2 8 false: "mmap" "mprotect" "pkey_mprotect";
+};
 
 /// A call, and another one by which the same can be done: the call, the index of its argument that says what is asked, those bits of it
 /// that ask for more, the other call, the index of the argument in which that one takes the same, and the bits of what is asked that it
@@ -253,46 +85,27 @@ pub(crate) const DETOURS: [(&str, u8, u64, &str, u8, u64); 16] = [
 ];
 
 /// A call, and another one by which all that it does can be done.
-pub(crate) const SIBLINGS: [(&str, &str); 41] = [
-    ("open", "openat"),
-    ("open", "openat2"),
-    ("open", "creat"),
-    ("open", "io_uring_setup"),
-    ("openat", "open"),
-    ("openat", "openat2"),
-    ("openat", "creat"),
-    ("openat", "io_uring_setup"),
-    ("creat", "open"),
-    ("creat", "openat"),
-    ("creat", "openat2"),
-    ("creat", "io_uring_setup"),
-    ("execve", "execveat"),
-    ("mount", "move_mount"),
-    ("mount", "fsmount"),
-    ("ptrace", "process_vm_writev"),
-    ("mprotect", "pkey_mprotect"),
-    ("kill", "tgkill"),
-    ("kill", "tkill"),
-    ("kill", "rt_sigqueueinfo"),
-    ("kill", "pidfd_send_signal"),
-    ("unshare", "clone"),
-    ("unshare", "clone3"),
-    ("fork", "vfork"),
-    ("fork", "clone"),
-    ("fork", "clone3"),
-    ("clone", "fork"),
-    ("clone", "vfork"),
-    ("socket", "io_uring_setup"),
-    ("connect", "io_uring_setup"),
-    ("unlink", "unlinkat"),
-    ("rmdir", "unlinkat"),
-    ("rename", "renameat"),
-    ("rename", "renameat2"),
-    ("mkdir", "mkdirat"),
-    ("mknod", "mknodat"),
-    ("link", "linkat"),
-    ("symlink", "symlinkat"),
-    ("chmod", "fchmodat"),
-    ("chmod", "fchmodat2"),
-    ("chown", "fchownat"),
-];
+pub(crate) const SIBLINGS: [(&str, &str); 41] = rows! {
+    "open" => "openat" "openat2" "creat" "io_uring_setup";
+    "openat" => "open" "openat2" "creat" "io_uring_setup";
+    "creat" => "open" "openat" "openat2" "io_uring_setup";
+    "execve" => "execveat";
+    "mount" => "move_mount" "fsmount";
+    "ptrace" => "process_vm_writev";
+    "mprotect" => "pkey_mprotect";
+    "kill" => "tgkill" "tkill" "rt_sigqueueinfo" "pidfd_send_signal";
+    "unshare" => "clone" "clone3";
+    "fork" => "vfork" "clone" "clone3";
+    "clone" => "fork" "vfork";
+    "socket" => "io_uring_setup";
+    "connect" => "io_uring_setup";
+    "unlink" => "unlinkat";
+    "rmdir" => "unlinkat";
+    "rename" => "renameat" "renameat2";
+    "mkdir" => "mkdirat";
+    "mknod" => "mknodat";
+    "link" => "linkat";
+    "symlink" => "symlinkat";
+    "chmod" => "fchmodat" "fchmodat2";
+    "chown" => "fchownat";
+};

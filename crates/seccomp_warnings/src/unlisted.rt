@@ -1,8 +1,5 @@
 // Calls that a filter may leave to its mismatch action.
 
-ghost use Rattle.std.specs.Prelude.{◌≡◌};
-ghost use Rattle.seccomp_warnings.specs.Walks.{all_unlisted};
-
 /// A call that it matters of whether a filter has an entry for it.
 #[derive(Clone, Copy)]
 pub enum Unlisted {
@@ -21,20 +18,6 @@ pub enum Unlisted {
 }
 
 impl Unlisted {
-    // Every such call, each once, in the order in which it is asked about.
-    pub(crate) fn all() -> &'static [Unlisted]
-        ensures { result.now ≡ all_unlisted }
-    {
-        &[
-            Unlisted::Exit,
-            Unlisted::ExitGroup,
-            Unlisted::RtSigreturn,
-            Unlisted::Clone3,
-            Unlisted::Execve,
-            Unlisted::RestartSyscall,
-        ]
-    }
-
     /// The call's name, the same on all architectures.
     pub fn name(self) -> &'static str {
         match self {

@@ -1,12 +1,12 @@
 // The warnings of a part, in the order of its entries.
 
-ghost use Rattle.std.specs.Prelude.{◌↔◌, Contains, IfErr, IfOk, OnOk, IsTrue};
+ghost use Rattle.std.specs.Prelude.{◌≡◌, ◌↔◌, [], ◌∷◌, ◌++◌, List, IfErr, IfOk, OnOk, IsTrue};
 ghost use Rattle.seccompiler.specs.JsonPolicyOf.{IsPolicyOf};
 ghost use Rattle.seccompiler.specs.JsonSteps.{IsPolicyRefusal};
 ghost use Rattle.seccompiler.specs.Policy.{Filter};
 ghost use Rattle.seccomp_entries.specs.Verdicts.{AreVerdicts};
-ghost use Rattle.seccomp_warnings.specs.Walks.{Gains, IsCall, IsOfEntry, IsTold};
-ghost use Rattle.seccomp_warnings.specs.Warnings.{AreTrueWarnings, AreWarned, IsOf, IsSoOf};
+ghost use Rattle.seccomp_warnings.specs.Warnings as spec;
+ghost use Rattle.seccomp_warnings.specs.Warnings.{AreGiven, AreTrueWarnings, AreWarned, IsGiven, IsSoOf, subjects_at, subjects_in};
 ghost use Rattle.seccomp_warnings.specs.declared.warning.Subject.{Subject as SubjectValue};
 
 use crate::action::{is_so_of_action, is_so_of_both, is_so_of_default};
@@ -21,31 +21,6 @@ use crate::warning::{Actions, FilterWarned, Subject, Warned, Warning};
 use seccomp_entries::{Action, Entry, Verdict, lowered_policy, verdicts_of};
 use seccompiler::{JsonFilter, JsonFrontendError, TargetArch};
 use std::alloc::{AllocError, Global};
-
-// The codes of parts, in the order of `Code::all`.
-pub(crate) const PART_CODES: [Code; 21] = [
-    Code::FakeSuccess,
-    Code::ErrnoTooLarge,
-    Code::EndlessRetry,
-    Code::TraceWithoutTracer,
-    Code::AllowsByDefault,
-    Code::DeniesEverything,
-    Code::HighHalfIgnored,
-    Code::ValueOutsideMask,
-    Code::AlwaysHolds,
-    Code::NeverHolds,
-    Code::PointerCompared,
-    Code::SignedCompared,
-    Code::KillsExit,
-    Code::CloneByClone3,
-    Code::NoExecve,
-    Code::NoRestart,
-    Code::SiblingAllowed,
-    Code::CrateDiffers,
-    Code::UnreachableEntry,
-    Code::RedundantEntry,
-    Code::UndecidedEntry,
-];
 
 /// The warnings of a filter of a policy: those of its part, and its evasions.
 ///
@@ -95,14 +70,7 @@ pub fn warnings_of(alloc: Global, part: &Part, allowed: &[Code]) -> Result<Warne
     let subjects = subjects_of(alloc, part)?;
     let mut warnings = Vec::new(alloc);
     for subject in subjects.iter() {
-        push_those(
-            &mut warnings,
-            allowed,
-            &verdicts,
-            part,
-            &PART_CODES,
-            *subject,
-        )?;
+        push_given(&mut warnings, allowed, &verdicts, part, *subject)?;
     }
     Ok(Warned { verdicts, warnings })
 }
@@ -114,42 +82,72 @@ fn verdicts_at(alloc: Global, part: &Part) -> Result<Vec<Verdict>, AllocError>
     verdicts_of(alloc, part.target_arch, part.entries.as_slice())
 }
 
-// Adds the warnings of these codes that are true of a subject.
-fn push_those(
+// Adds the warnings about a subject that are true and whose codes aren't allowed.
+fn push_given(
     warnings: &mut Vec<Warning>,
     allowed: &[Code],
     verdicts: &[Verdict],
     part: &Part,
-    codes: &[Code],
     subject: Subject,
 ) -> Result<(), AllocError>
-    ensures { OnOk result (Gains (IsTold allowed.now verdicts.now part.now codes.now subject) warnings.old.items warnings.new.items) }
+    ensures { OnOk result ((front : List SubjectValue) → AreGiven allowed.now verdicts.now part.now front warnings.old.items → AreGiven allowed.now verdicts.now part.now (front ++ subject ∷ []) warnings.new.items) }
 {
-    for code in codes {
-        if is_told(*code, allowed, verdicts, part, subject) {
-            warnings.push(Warning {
-                code: *code,
-                subject,
-            })?;
+    for code in codes_about(subject) {
+        let warning = Warning {
+            code: *code,
+            subject,
+        };
+        if is_given(allowed, verdicts, part, warning) {
+            warnings.push(warning)?;
         }
     }
     Ok(())
 }
 
-// Whether what a code says of a subject is so, and the code isn't allowed.
-fn is_told(
-    code: Code,
-    allowed: &[Code],
-    verdicts: &[Verdict],
-    part: &Part,
-    subject: Subject,
-) -> bool
-    ensures { IsTrue result ↔ (IsSoOf code verdicts.now part.now subject × (Contains allowed.now code → ⊥)) }
+// The codes of what may be said of a subject, in the order of `Code::all`.
+fn codes_about(subject: Subject) -> &'static [Code]
+    ensures { result.now ≡ spec.codes_about subject }
 {
-    if is_among(allowed, code) {
-        return false;
+    match subject {
+        Subject::MismatchAction(_) | Subject::MatchAction(_) => &[
+            Code::FakeSuccess,
+            Code::ErrnoTooLarge,
+            Code::EndlessRetry,
+            Code::TraceWithoutTracer,
+            Code::AllowsByDefault,
+            Code::DeniesEverything,
+        ],
+        Subject::MismatchCall(_) => &[
+            Code::KillsExit,
+            Code::CloneByClone3,
+            Code::NoExecve,
+            Code::NoRestart,
+        ],
+        Subject::Entry(_) => &[
+            Code::KillsExit,
+            Code::CloneByClone3,
+            Code::SiblingAllowed,
+            Code::CrateDiffers,
+            Code::UnreachableEntry,
+            Code::RedundantEntry,
+            Code::UndecidedEntry,
+        ],
+        Subject::Condition(_) => &[
+            Code::HighHalfIgnored,
+            Code::ValueOutsideMask,
+            Code::AlwaysHolds,
+            Code::NeverHolds,
+            Code::PointerCompared,
+            Code::SignedCompared,
+        ],
     }
-    is_so_of(code, verdicts, part, subject)
+}
+
+// Whether a warning is true, and its code isn't allowed.
+fn is_given(allowed: &[Code], verdicts: &[Verdict], part: &Part, warning: Warning) -> bool
+    ensures { IsTrue result ↔ IsGiven allowed.now verdicts.now part.now warning }
+{
+    !is_among(allowed, warning.code) && is_so_of(warning.code, verdicts, part, warning.subject)
 }
 
 // Whether what a code says of a subject is so.
@@ -173,31 +171,27 @@ fn is_so_of(code: Code, verdicts: &[Verdict], part: &Part, subject: Subject) -> 
 
 // What warnings of a part are about, in their order.
 fn subjects_of(alloc: Global, part: &Part) -> Result<Vec<Subject>, AllocError>
-    ensures { IfOk result (λ subjects. (s : SubjectValue) → Contains subjects.items s ↔ IsOf part.now s) }
+    ensures { IfOk result (λ subjects. subjects.items ≡ subjects_in part.now) }
 {
-    let mut subjects = Vec::new(alloc);
-    subjects.push(Subject::MismatchAction(part.actions.mismatch))?;
-    push_calls(&mut subjects)?;
-    subjects.push(Subject::MatchAction(part.actions.matching))?;
+    let mut subjects = vec![in alloc;
+        Subject::MismatchAction(part.actions.mismatch),
+        Subject::MismatchCall(Unlisted::Exit),
+        Subject::MismatchCall(Unlisted::ExitGroup),
+        Subject::MismatchCall(Unlisted::RtSigreturn),
+        Subject::MismatchCall(Unlisted::Clone3),
+        Subject::MismatchCall(Unlisted::Execve),
+        Subject::MismatchCall(Unlisted::RestartSyscall),
+        Subject::MatchAction(part.actions.matching),
+    ]?;
     for (place, entry) in part.entries.iter().enumerate() {
         push_entry(&mut subjects, place, entry)?;
     }
     Ok(subjects)
 }
 
-// Adds the calls that an entry may be missing for.
-fn push_calls(subjects: &mut Vec<Subject>) -> Result<(), AllocError>
-    ensures { OnOk result (Gains IsCall subjects.old.items subjects.new.items) }
-{
-    for call in Unlisted::all() {
-        subjects.push(Subject::MismatchCall(*call))?;
-    }
-    Ok(())
-}
-
 // Adds the entry at a place, and its conditions.
 fn push_entry(subjects: &mut Vec<Subject>, place: usize, own: &Entry) -> Result<(), AllocError>
-    ensures { OnOk result (Gains (IsOfEntry place own.now) subjects.old.items subjects.new.items) }
+    ensures { OnOk result (subjects.new.items ≡ subjects.old.items ++ subjects_at (place, own.now)) }
 {
     subjects.push(Subject::Entry(place))?;
     for (nth, condition) in own.conditions.iter().enumerate() {

@@ -5,8 +5,9 @@ use crate::lines::push_example;
 use crate::text::Text;
 use seccomp_answers::check::CheckedProfile;
 use seccomp_answers::findings::parts::name_of;
-use seccomp_profile_checks::{Clash, Doubt, Effect, Origin, ProfileWarning, code_of};
-use seccomp_warnings::{Code, Comparison, Subject};
+use seccomp_warnings::{
+    Clash, Code, Comparison, Doubt, Effect, Origin, ProfileWarning, Subject, code_of,
+};
 use seccompiler::TargetArch;
 use seccompiler::record::word_at;
 use std::alloc::{AllocError, Global};

@@ -1,7 +1,0 @@
-use Rattle.std.proofs.Common.{◌≡◌, take}
-use Rattle.seccomp_profile_checks.specs.Parts.{entries_of}
-use Rattle.seccomp_profile_checks.proofs.parts.entries_of_number.Given as goal
-
--- those of the entries so far
-abbrev pub invariant-loop-entry : goal.invariant-loop-entry
-invariant-loop-entry l = l.own.items ≡ entries_of l.number (take l.entry-index l.entries)

@@ -786,7 +786,8 @@ int main(void)
         int64_t count = rules_compiled();
         sweep(compiled, swept == SECCOMPILER_LAYOUT_TREE ? 13 : 24);
         sweep(rules_compiled, count);
-        sweep(rules_long, count);
+        if (swept == SECCOMPILER_LAYOUT_TREE)
+            sweep(rules_long, count);
     }
     sweep(rule_code, rule_code());
     sweep(decided, SECCOMP_RET_ALLOW);

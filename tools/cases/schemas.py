@@ -18,8 +18,8 @@ from running import Failing
 UNSHAPED = {"unknown-call", "identical-actions", "program-too-large"}
 UNASKED = {"not-json", "repeated-key", "not-a-profile", "not-a-program", "more-errors"}
 
-# So much is shown of a policy or an answer.
-SHOWN = 200
+# So much is shown of a policy or an answer; and no longer texts are tried, which are of many entries, but for examples.
+SHOWN, LONGEST = 200, 2000
 
 
 def has_loose_numbers(text):
@@ -41,10 +41,12 @@ def is_profile(value):
 def policies():
     """Returns the texts of cases and examples that are JSON and no profile, each with its value, the shortest first."""
     given = [case.given for program in tables.MODULES for case in tables.cases_of(program) if not isinstance(case.given, Failing)]
-    found = {}
-    for text in [*given, *(it for _, it in tables.FILES), *(path.read_bytes() for path in sorted((TOP / "examples").glob("*-policy.json")))]:
+    examples, found = [path.read_bytes() for path in sorted((TOP / "examples").glob("*-policy.json"))], {}
+    for it in [*given, *(it for _, it in tables.FILES), *examples]:
         try:
-            text = text if isinstance(text, str) else text.decode() if isinstance(text, bytes) else json.dumps(text)
+            text = it if isinstance(it, str) else it.decode() if isinstance(it, bytes) else json.dumps(it)
+            if len(text) > LONGEST and it not in examples:
+                continue
             if not is_profile(json.loads(text)) and not has_loose_numbers(text):
                 found[text] = json.loads(text)
         except (ValueError, RecursionError):

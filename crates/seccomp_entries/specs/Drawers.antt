@@ -1,11 +1,11 @@
 -- Entries by what each call that meets them has.
-use Rattle.std.specs.Prelude.{◌≡◌, ◌<◌, ◌≤◌, ◌%◌, ◌^◌, ◌⊎◌, ℕ, List, Any, Contains, IsSomeAnd, Some, Vec, slice_get}
+use Rattle.std.specs.Prelude.{◌≡◌, ◌<◌, ◌≤◌, ◌%◌, ◌^◌, ◌⊎◌, ℕ, List, Option, Any, Contains, IsSomeAnd, Some, Vec, slice_get}
 use Rattle.std.specs.BTreeMap.{BTreeMap, get}
 use Rattle.std.specs.Ordering.{nat_cmp, ordering_then}
 use Rattle.std.specs.declared.cmp.Ordering.{Ordering}
 use Rattle.std.specs.declared.alloc.Global.{Global}
 use Rattle.seccompiler.specs.declared.backend.SeccompCmpOp.TheVariants.{Eq}
-use Rattle.seccomp_entries.specs.Entries.{Entry}
+use Rattle.seccomp_entries.specs.Entries.{Entry, Meets}
 
 -- An argument, and the low half of a value; or 6, and the number of a call.
 abbrev pub Drawer : Type 0
@@ -32,3 +32,13 @@ pub record IsFiled (files : BTreeMap Drawer (Vec ℕ Global)) (place : ℕ) (e :
 -- Each of the entries below this place is filed.
 abbrev pub AreFiled : List Entry → ℕ → BTreeMap Drawer (Vec ℕ Global) → Type 0
 AreFiled entries below files = (k : ℕ) (e : Entry) → k < below → slice_get entries k ≡ Some e → IsFiled files k e
+
+-- ---- between the private functions
+
+-- The record meets the entry at the index.
+abbrev pub MeetsAt : List Entry → List ℕ → ℕ → Type 0
+MeetsAt entries r k = IsSomeAnd (slice_get entries k) (Meets r)
+
+-- Something was found, and is no greater.
+abbrev pub IsFoundBy : Option ℕ → ℕ → Type 0
+IsFoundBy found k = IsSomeAnd found (λ j. j ≤ k)

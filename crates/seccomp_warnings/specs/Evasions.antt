@@ -6,7 +6,6 @@ use Rattle.seccompiler.specs.Architecture.{audit_word}
 use Rattle.seccompiler.specs.Machine.{word_at}
 use Rattle.seccompiler.specs.Policy.{Condition, Holds}
 use Rattle.seccomp_entries.specs.Entries.{Entry, IsDecided, Lowered, value_of}
-use Rattle.seccomp_tree.specs.Decided as decisions
 use Rattle.seccomp_warnings.specs.AnyArgument.{condition_of}
 use Rattle.seccomp_warnings.specs.CallWarnings.{IsNumberOf}
 use Rattle.seccomp_warnings.specs.declared.code.Code.{Code}
@@ -89,7 +88,3 @@ pub record IsEvasion (l : Lowered) (v : Evasion) : Type 0 where
 -- Evasions of entries and defaults, none of an allowed code.
 abbrev pub AreEvasions : List Code → Lowered → List Evasion → Type 0
 AreEvasions allowed l found = All (λ v. IsEvasion l v × (Contains allowed v.code → ⊥)) found
-
--- Between the private functions: what the decisions decide of a call, the entries and defaults decide.
-abbrev pub AreDecisionsOf : Lowered → decisions.DecisionSet → Type 0
-AreDecisionsOf l d = (r : List ℕ) (w : ℕ) → decisions.IsDecided d r w → IsDecided l r w

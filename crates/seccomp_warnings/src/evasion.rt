@@ -1,11 +1,10 @@
 // Evasions: two calls of which one is denied and the other let through, though they differ in what changes nothing of what is denied, or
 // the same can be done by the second.
 
-ghost use Rattle.std.specs.Prelude.{◌≡◌, ◌≤◌, ◌+◌, ◌*◌, ◌↔◌, Any, IfOk, IfSome, IsFalse, IsTrue, OnOk, map};
-ghost use Rattle.seccomp_entries.specs.Rulings.{AreOfCalls};
-ghost use Rattle.seccomp_tree.specs.Decided.{AscendFromZero};
+ghost use Rattle.std.specs.Prelude.{◌≡◌, ◌≤◌, ◌+◌, ◌*◌, ◌↔◌, Any, IfOk, IfSome, IsFalse, IsTrue, OnOk, length, map};
+ghost use Rattle.seccomp_entries.specs.Drawers.{AreFiled};
 ghost use Rattle.seccomp_warnings.specs.Evasions as spec;
-ghost use Rattle.seccomp_warnings.specs.Evasions.{AreDecisionsOf, AreEvasions, AreSameBut, DeniesCall, IsApart, IsDecidedBy, IsDetour, IsDetoured, IsEvasion, IsFlag, IsFlagApart, IsPermitting, IsSaid, LetsThrough};
+ghost use Rattle.seccomp_warnings.specs.Evasions.{AreEvasions, AreSameBut, DeniesCall, IsApart, IsDecidedBy, IsDetour, IsDetoured, IsEvasion, IsFlag, IsFlagApart, IsPermitting, IsSaid, LetsThrough};
 
 use crate::call::is_number_of;
 use crate::candidate::{Pair, pairs_of};
@@ -13,11 +12,14 @@ use crate::code::{Code, is_among};
 use crate::condition::comparison_at;
 use crate::tables::{DETOURS, Detour, FLAGS, Flag};
 use crate::warning::Comparison;
-use seccomp_entries::{Entry, Lowered, decisions_of};
-use seccomp_tree::Decisions;
+use seccomp_entries::{Drawer, Entry, Lowered, decided, filed};
 use seccompiler::record::word_at;
 use seccompiler::{SeccompCondition, TargetArch};
 use std::alloc::{AllocError, Global};
+use std::collections::BTreeMap;
+
+// The places of entries, by their drawers.
+type Files = BTreeMap<Drawer, Vec<usize>>;
 
 /// A condition, and two calls of which one is denied and the other let through, although they differ in what changes nothing of
 /// what is denied, or the same can be done by the other.
@@ -36,8 +38,6 @@ pub struct Evasion {
 /// Evasions of entries and defaults, in the order of the entries, but for those of the allowed codes. What each says is so: both calls are
 /// decided as it says, and they differ as its code says. Few pairs of calls are tried for each condition, so some are missing.
 ///
-/// The defaults start at 0, each above the one before it, and each entry is for a number up to 462.
-///
 /// # Errors
 ///
 /// An error is returned if memory runs out.
@@ -46,15 +46,13 @@ pub fn evasions_of(
     lowered: &Lowered,
     allowed: &[Code],
 ) -> Result<Vec<Evasion>, AllocError>
-    requires ascend { AscendFromZero lowered.now.defaults }
-    requires of_calls { AreOfCalls lowered.now.entries }
     ensures { IfOk result (λ found. AreEvasions allowed.now lowered.now found.items) }
 {
-    let decisions = decisions_of(alloc, lowered)?;
+    let files = filed(alloc, &lowered.entries)?;
     let mut found = Vec::new(alloc);
     for (place, entry) in lowered.entries.iter().enumerate() {
         let pairs = pairs_of(alloc, lowered.target_arch, entry)?;
-        push_shown(&mut found, lowered, &decisions, allowed, place, &pairs)?;
+        push_shown(&mut found, lowered, &files, allowed, place, &pairs)?;
     }
     Ok(found)
 }
@@ -63,19 +61,19 @@ pub fn evasions_of(
 fn push_shown(
     found: &mut Vec<Evasion>,
     lowered: &Lowered,
-    decisions: &Decisions,
+    files: &Files,
     allowed: &[Code],
     entry: usize,
     pairs: &[Pair],
 ) -> Result<(), AllocError>
-    requires { AreDecisionsOf lowered.now decisions.now }
+    requires { AreFiled lowered.now.entries (length lowered.now.entries) files.now }
     ensures { OnOk result (AreEvasions allowed.now lowered.now found.old.items → AreEvasions allowed.now lowered.now found.new.items) }
 {
     for pair in pairs {
         if is_among(allowed, pair.code) || is_told(found, entry, pair) {
             continue;
         }
-        if let Some(evasion) = evasion_by(lowered, decisions, entry, pair) {
+        if let Some(evasion) = evasion_by(lowered, files, entry, pair) {
             found.push(evasion)?;
         }
     }
@@ -98,13 +96,8 @@ fn is_told(found: &[Evasion], entry: usize, pair: &Pair) -> bool {
 }
 
 // The evasion of an entry that a pair of calls shows, if it does.
-fn evasion_by(
-    lowered: &Lowered,
-    decisions: &Decisions,
-    entry: usize,
-    pair: &Pair,
-) -> Option<Evasion>
-    requires { AreDecisionsOf lowered.now decisions.now }
+fn evasion_by(lowered: &Lowered, files: &Files, entry: usize, pair: &Pair) -> Option<Evasion>
+    requires { AreFiled lowered.now.entries (length lowered.now.entries) files.now }
     ensures evasion { IfSome result (IsEvasion lowered.now) }
     ensures code { IfSome result (λ v. v.code ≡ pair.now.code) }
 {
@@ -113,8 +106,8 @@ fn evasion_by(
     let arch = lowered.target_arch;
     let (denied, passed) = (&pair.denied, &pair.passed);
     if !is_call_of(arch, own.number, denied)
-        || is_let_through(lowered, decisions, denied)
-        || !is_let_through(lowered, decisions, passed)
+        || is_let_through(lowered, files, denied)
+        || !is_let_through(lowered, files, passed)
         || !is_said(pair.code, arch, own, condition, denied, passed)
     {
         return None;
@@ -135,12 +128,12 @@ fn is_call_of(arch: TargetArch, number: u32, call: &[u8; 64]) -> bool
 }
 
 // Whether the call is let through.
-fn is_let_through(lowered: &Lowered, decisions: &Decisions, call: &[u8; 64]) -> bool
-    requires { AreDecisionsOf lowered.now decisions.now }
+fn is_let_through(lowered: &Lowered, files: &Files, call: &[u8; 64]) -> bool
+    requires { AreFiled lowered.now.entries (length lowered.now.entries) files.now }
     ensures through { IsTrue result → LetsThrough lowered.now call.now }
     ensures denied { IsFalse result → DeniesCall lowered.now call.now }
 {
-    is_permitting(decisions.decide(call))
+    is_permitting(decided(lowered, files, call))
 }
 
 // Whether a return value lets a call through.

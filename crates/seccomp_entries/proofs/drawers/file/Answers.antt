@@ -3,7 +3,7 @@ use Rattle.std.specs.Prelude.{Contains}
 use Rattle.std.specs.BTreeMap.{get}
 use Rattle.std.proofs.lemmas.List.Elements.{Contains-append_left}
 use Rattle.seccomp_entries.specs.Drawers.{drawer_cmp}
-use Rattle.seccomp_entries.proofs.Filed.{kept}
+use Rattle.seccomp_entries.proofs.InDrawers.{kept}
 use Rattle.seccomp_entries.proofs.drawers.file.Goals.{in-None, in-Some}
 use Rattle.seccomp_entries.proofs.drawers.file.Goals as goal
 

@@ -3,7 +3,7 @@ use Rattle.std.proofs.lemmas.Option.{slice_get_within}
 use Rattle.seccomp_entries.specs.Drawers.{Drawer, IsIn}
 use Rattle.seccomp_entries.specs.Verdicts.{IsBeside}
 use Rattle.seccomp_entries.specs.Entries.{Meets}
-use Rattle.seccomp_entries.proofs.Filed.{drawers_of_call, none_weaker}
+use Rattle.seccomp_entries.proofs.InDrawers.{drawers_of_call, none_weaker}
 use Rattle.seccomp_entries.proofs.drawers.first_beside.Goals as goal
 
 pub returns-clause-none : goal.returns-clause-none

@@ -1,20 +1,22 @@
 -- For `drawers`: places in drawers, and calls that meet an entry of one.
 use Rattle.std.proofs.Common.{◌≡◌, ℕ, ◌+◌, ◌*◌, ◌<◌, ◌%◌, ◌^◌, true, List, Option, Some, None, Vec, Global}
-use Rattle.std.proofs.Common.{inl, inr, refl, sym, ap, ◌∙◌, subst, arith, ⊎_elim}
-use Rattle.std.specs.Prelude.{◌⊎◌, Contains, IfNone, IsSomeAnd, slice_index}
+use Rattle.std.proofs.Common.{inl, inr, refl, sym, ap, ◌∙◌, subst, arith, ⊎_elim, length, length-take-le}
+use Rattle.std.specs.Prelude.{◌⊎◌, Contains, IfNone, IfSome, IsSomeAnd, MatchOption, get_or, slice_get, slice_index}
 use Rattle.std.specs.BTreeMap.{BTreeMap, Updates, get, is_at}
 use Rattle.std.specs.Ordering.{is_eq, nat_cmp}
 use Rattle.std.specs.declared.cmp.Ordering.{Ordering}
 use Rattle.std.specs.declared.cmp.Ordering.TheVariants.{Equal, Greater, Less}
 use Rattle.std.proofs.lemmas.Bool.{cases_Bool}
+use Rattle.std.proofs.lemmas.List.{get_or-take}
+use Rattle.std.proofs.lemmas.Option.{slice_get-get_or, slice_get_within}
 use Rattle.std.proofs.lemmas.Map.Lookups.{exact_pairs, exact_unsigned}
 use Rattle.seccompiler.specs.Machine.{argument_at, word_at}
 use Rattle.seccompiler.specs.Policy.{Compares, Condition, Holds, operator_part, part_of}
 use Rattle.seccompiler.specs.declared.backend.SeccompCmpArgLen.{SeccompCmpArgLen}
 use Rattle.seccompiler.specs.declared.backend.SeccompCmpArgLen.TheVariants.{Dword, Qword}
 use Rattle.seccompiler.specs.declared.backend.SeccompCmpOp.TheVariants.{Eq}
-use Rattle.seccomp_entries.specs.Drawers.{Drawer, IsDrawerOf, IsIn, drawer_cmp}
-use Rattle.seccomp_entries.specs.Entries.{Entry, Meets}
+use Rattle.seccomp_entries.specs.Drawers.{Drawer, IsDrawerOf, IsFoundBy, IsIn, MeetsAt, drawer_cmp}
+use Rattle.seccomp_entries.specs.Entries.{Entry, IsDecider, Meets, NoneMeets}
 
 -- ---- one place more in a drawer
 
@@ -87,3 +89,29 @@ drawers_of_call e d r fits (inr (k, c, within, at, is)) meets =
 pub none_weaker : {X P Q : Type 0} (o : Option X) → (P → Q) → IfNone o P → IfNone o Q
 none_weaker None so is = so is
 none_weaker (Some x) so is = is
+
+-- ---- the first entry that is met
+
+pub met_at : (entries : List Entry) (r : List ℕ) (k : ℕ) (e : Entry) → slice_get entries k ≡ Some e → Meets r e → MeetsAt entries r k
+met_at entries r k e there meets = subst (λ o. IsSomeAnd o (Meets r)) (sym there) meets
+
+-- What is met, and no greater than any place that is met, is the first.
+pub first_by : (entries : List Entry) (r : List ℕ) (found : Option ℕ)
+    → ((k : ℕ) (e : Entry) → slice_get entries k ≡ Some e → Meets r e → IsFoundBy found k) → IfSome found (MeetsAt entries r)
+    → MatchOption found (NoneMeets entries r) (IsDecider entries r)
+first_by entries r None each met = λ k d within meets. each k (get_or entries k d) (slice_get-get_or entries k d within) meets
+first_by entries r (Some j) each met =
+    let own = some_value (slice_get entries j) (Meets r) met in
+    let there = slice_get_within entries j own.0 own.1 in
+    let long = length-take-le j entries (omega (arith, there)) in
+    record {
+      entry = own.0;
+      there = own.1;
+      meets = own.2;
+      before = λ k d within meets.
+          let less : k < j = omega (arith, within, long) in
+          let inside : k < length entries = omega (arith, less, there) in
+          let is = subst (Meets r) (get_or-take j entries k d less) meets in
+          let above = each k (get_or entries k d) (slice_get-get_or entries k d inside) is in
+          absurd (omega (arith, less, above));
+    }

@@ -2,20 +2,12 @@
 
 ghost use Rattle.std.specs.Prelude.{◌≤◌, length};
 
-use seccomp_text::steps::Step;
 use serde_json::Value;
 use std::alloc::{AllocError, Global};
-use std::collections::BTreeMap;
-use std::{mem, str};
+use std::str;
 
 // How deep arrays and objects may nest.
 const DEEPEST: usize = 127;
-
-// The bytes that end a number or a name.
-const MARKS: &[u8] = b"{}[],:\" \t\r\n";
-
-// The most characters that are shown of what stands at a place.
-const SHOWN: usize = 20;
 
 const START: Position = Position { line: 1, column: 1 };
 
@@ -35,15 +27,11 @@ pub struct Located {
     pub begins: Position,
     /// Where its key does, or itself if it has none.
     pub key: Position,
+    // Where its key begins and ends among those of the text.
+    name: (usize, usize),
     // The place of what is inside it; that of nothing, if it is no array or object.
     inside: usize,
 }
-
-const NOWHERE: Located = Located {
-    begins: START,
-    key: START,
-    inside: usize::MAX,
-};
 
 /// Why a text has no outline.
 #[derive(Drop)]
@@ -67,26 +55,13 @@ pub struct Outline {
     pub whole: Located,
     /// The first key that its object has already: the path of its value, and where the key begins.
     pub repeated: Option<(String, Position)>,
-    // What is inside each array and object, in the text's order.
-    inside: Vec<Inside>,
+    // What is inside each array, in the text's order, and inside each object, in the order of keys.
+    inside: Vec<Vec<Located>>,
+    // All keys, one behind the other.
+    names: Vec<u8>,
 }
 
-// The values inside an array, or those inside an object with their keys.
-#[derive(Drop)]
-struct Inside {
-    items: Vec<Located>,
-    members: BTreeMap<String, Located>,
-}
-
-// An array or an object whose end isn't read: the step to it, and the place of what is inside it.
-#[derive(Drop)]
-struct Open {
-    step: Step,
-    inside: usize,
-    is_object: bool,
-}
-
-// What may come next.
+// What may come next; that which is behind a value is `More`.
 #[derive(Clone, Copy)]
 enum Wanted {
     Value,
@@ -94,7 +69,6 @@ enum Wanted {
     Name,
     NameOrEnd,
     Colon,
-    // What is behind a value.
     More,
 }
 
@@ -103,11 +77,12 @@ enum Wanted {
 struct Reading {
     at: Position,
     wanted: Wanted,
-    // What is around that which comes next, the outermost first.
-    open: Vec<Open>,
-    // The last key, and where it begins.
-    key: String,
-    key_begins: Position,
+    // The arrays and objects around that which comes next, the outermost first: the place of what is inside, and whether it is an object.
+    open: Vec<(usize, bool)>,
+    // Where the first key begins that its object has already.
+    repeats: (usize, usize),
+    // The key of what comes next: where it begins, and among the names.
+    key: Option<(Position, (usize, usize))>,
     outline: Outline,
 }
 
@@ -119,30 +94,32 @@ pub fn outline_of(alloc: Global, text: &[u8]) -> Result<Outline, JsonFault> {
         at: START,
         wanted: Wanted::Value,
         open: Vec::new(alloc),
-        key: String::new(alloc),
-        key_begins: START,
+        repeats: (usize::MAX, usize::MAX),
+        key: None,
         outline: Outline::new(alloc),
     };
     if let Err(error) = str::from_utf8(text) {
         for byte in text.iter().take(error.valid_up_to()) {
             reading.pass(*byte, 1);
         }
-        return Err(reading.fault(String::from_str(alloc, "the text isn't UTF-8")));
+        let told = String::from_str(alloc, "the text isn't UTF-8")?;
+        return Err(JsonFault::At(reading.at, told));
     }
     let mut rest = text;
-    // A piece has a byte at least, while there is a rest.
     for _ in 0..text.len() {
         let (piece, behind) = rest.split_at(json_piece_len(rest));
         let Some(first) = piece.first() else {
             break;
         };
-        reading.take(alloc, *first, piece)?;
+        if !matches!(*first, b' ' | b'\t' | b'\r' | b'\n') {
+            reading.take(alloc, *first, piece)?;
+        }
         reading.pass(*first, piece.len());
         rest = behind;
     }
     match (reading.wanted, reading.open.is_empty()) {
         (Wanted::More, true) => Ok(reading.outline),
-        _ => Err(reading.fault(unexpected(alloc, reading.expected(), b""))),
+        _ => Err(JsonFault::At(reading.at, unexpected(alloc, reading.expected(), b"")?)),
     }
 }
 
@@ -153,58 +130,71 @@ fn json_piece_len(text: &[u8]) -> usize
     let mut is_escaped = false;
     for place in 1..text.len() {
         match (text[0], text[place]) {
-            (b'"', _) if is_escaped => is_escaped = false,
-            (b'"', b'\\') => is_escaped = true,
-            (b'"', b'"') => return place + 1,
-            (b'"', _) | (b' ', b' ') => {}
-            (first, next) if MARKS.contains(&first) || MARKS.contains(&next) => return place,
+            (b'"', b'"') if !is_escaped => return place + 1,
+            (b'"', next) => is_escaped = next == b'\\' && !is_escaped,
+            (b' ', b' ') => {}
+            (b'{' | b'}' | b'[' | b']' | b',' | b':' | b' ' | b'\t' | b'\r' | b'\n', _)
+            | (_, b'{' | b'}' | b'[' | b']' | b',' | b':' | b'"' | b' ' | b'\t' | b'\r' | b'\n') =>
+                {
+                    return place;
+                }
             _ => {}
         }
     }
     text.len()
 }
 
+// The key of a value.
+fn name_in<'n>(names: &'n [u8], located: &Located) -> &'n [u8] {
+    names.get(located.name.0..located.name.1).unwrap_or(b"")
+}
+
 impl Outline {
     /// That of no text.
     pub fn new(alloc: Global) -> Outline {
         Outline {
-            whole: NOWHERE,
+            whole: Located {
+                begins: START,
+                key: START,
+                name: (0, 0),
+                inside: usize::MAX,
+            },
             repeated: None,
             inside: Vec::new(alloc),
+            names: Vec::new(alloc),
         }
     }
 
     /// The value at this place of an array; or this one, if there is none.
     pub fn item(&self, outer: Located, place: usize) -> Located {
         match self.inside.get(outer.inside) {
-            Some(inside) => *inside.items.get(place).unwrap_or(&outer),
+            Some(inside) => *inside.get(place).unwrap_or(&outer),
             None => outer,
         }
     }
 
     /// The value under this key of an object; or this one, if there is none. A filter's actions have two names.
     pub fn under(&self, outer: Located, key: &str) -> Located {
-        let Some(Inside { members, .. }) = self.inside.get(outer.inside) else {
+        let Some(inside) = self.inside.get(outer.inside) else {
             return outer;
         };
-        match (members.get(key), key) {
-            (Some(located), _) => *located,
-            (None, "mismatch_action") => *members.get("default_action").unwrap_or(&outer),
-            (None, "match_action") => *members.get("filter_action").unwrap_or(&outer),
-            (None, _) => outer,
+        let other = match key {
+            "mismatch_action" => "default_action",
+            "match_action" => "filter_action",
+            _ => key,
+        };
+        for key in [key, other] {
+            let names = self.names.as_slice();
+            let found = inside.binary_search_by(|it| name_in(names, it).cmp(key.as_bytes()));
+            if let Ok(place) = found {
+                return inside[place];
+            }
         }
+        outer
     }
 }
 
 impl Reading {
-    // That this is wrong with what comes next.
-    fn fault(&self, told: Result<String, AllocError>) -> JsonFault {
-        match told {
-            Ok(told) => JsonFault::At(self.at, told),
-            Err(_) => JsonFault::OutOfMemory,
-        }
-    }
-
     // Goes on behind a piece that begins with this byte.
     fn pass(&mut self, first: u8, len: usize) {
         self.at.column = self.at.column.saturating_add(len);
@@ -214,51 +204,45 @@ impl Reading {
         }
     }
 
-    // Whether what comes next is in an object, and no array; none if it is in neither.
-    fn is_in_object(&self) -> Option<bool> {
-        let around = self.open.last()?;
-        Some(around.is_object)
-    }
-
     // Takes a piece of the text, which begins with this byte; or says what is wrong with it.
     fn take(&mut self, alloc: Global, first: u8, piece: &[u8]) -> Result<(), JsonFault> {
-        self.wanted = match (self.wanted, first, self.is_in_object()) {
-            (_, b' ' | b'\t' | b'\r' | b'\n', _) => return Ok(()),
+        self.wanted = match (self.wanted, first, self.open.last().copied()) {
             (Wanted::Value | Wanted::ValueOrEnd, b'{' | b'[', _) if self.open.len() >= DEEPEST => {
-                return Err(self.fault(String::from_str(alloc, "nested more than 127 deep")));
+                let told = String::from_str(alloc, "nested more than 127 deep")?;
+                return Err(JsonFault::At(self.at, told));
             }
             (Wanted::Value | Wanted::ValueOrEnd, b'{' | b'[', _) => self.file(alloc, first)?,
-            (Wanted::ValueOrEnd | Wanted::More, b']', Some(false))
-            | (Wanted::NameOrEnd | Wanted::More, b'}', Some(true)) => {
-                drop(self.open.pop());
-                Wanted::More
-            }
-            (Wanted::More, b',', Some(true)) => Wanted::Name,
-            (Wanted::More, b',', Some(false)) | (Wanted::Colon, b':', _) => Wanted::Value,
+            (Wanted::ValueOrEnd | Wanted::More, b']', Some((_, false)))
+            | (Wanted::NameOrEnd | Wanted::More, b'}', Some((_, true))) => self.close(alloc)?,
+            (Wanted::More, b',', Some((_, true))) => Wanted::Name,
+            (Wanted::More, b',', Some(_)) | (Wanted::Colon, b':', _) => Wanted::Value,
             (Wanted::Name | Wanted::NameOrEnd, b'"', _) => {
-                self.key = self.text_of(alloc, first, piece)?;
-                self.key_begins = self.at;
+                let begins = self.outline.names.len();
+                if let [_, plain @ .., _] = piece
+                    && is_plain(piece)
+                {
+                    self.outline.names.extend_from_slice(plain)?;
+                } else {
+                    let text = self.text_of(alloc, first, piece)?;
+                    self.outline.names.extend_from_slice(text.as_bytes())?;
+                }
+                self.key = Some((self.at, (begins, self.outline.names.len())));
                 Wanted::Colon
             }
-            (Wanted::Value | Wanted::ValueOrEnd, _, _)
-                if first == b'"' || !MARKS.contains(&first) => {
+            (Wanted::Value | Wanted::ValueOrEnd, first, _)
+                if !matches!(first, b'}' | b']' | b',' | b':') => {
                 if !is_plain(piece) {
                     drop(self.text_of(alloc, first, piece)?);
                 }
                 self.file(alloc, first)?
             }
-            _ => return Err(self.fault(unexpected(alloc, self.expected(), piece))),
+            _ => return Err(JsonFault::At(self.at, unexpected(alloc, self.expected(), piece)?)),
         };
         Ok(())
     }
 
     // The text of a string, and no text of another value; or what is wrong with a piece that is no value.
     fn text_of(&self, alloc: Global, first: u8, piece: &[u8]) -> Result<String, JsonFault> {
-        if let [b'"', plain @ .., b'"'] = piece {
-            if is_plain(piece) {
-                return Ok(String::from_utf8_lossy(alloc, plain)?);
-            }
-        }
         match Value::from_slice(alloc, piece) {
             Ok(value) => match value {
                 Value::String(text) => Ok(text),
@@ -267,96 +251,112 @@ impl Reading {
             Err(error) if error.is_memory() => Err(JsonFault::OutOfMemory),
             Err(error) => {
                 let is_large = error.to_string(alloc)?.starts_with("number out of range");
-                Err(self.fault(match first {
-                    b'"' => String::from_str(alloc, wrong_in_string(piece)),
-                    b'-' | b'0'..=b'9' if is_large => unexpected(
-                        alloc,
-                        "a number below 1.8e308",
-                        piece,
-                    ),
-                    b'-' | b'0'..=b'9' => unexpected(alloc, "a number in decimal digits", piece),
-                    _ => unexpected(alloc, "a value", piece),
-                }))
+                let told = match first {
+                    b'"' => String::from_str(alloc, wrong_in_string(piece))?,
+                    b'-' | b'0'..=b'9' if is_large => {
+                        unexpected(alloc, "a number below 1.8e308", piece)?
+                    }
+                    b'-' | b'0'..=b'9' => unexpected(alloc, "a number in decimal digits", piece)?,
+                    _ => unexpected(alloc, "a value", piece)?,
+                };
+                Err(JsonFault::At(self.at, told))
             }
         }
     }
 
     // Files the value that begins here with this byte, and goes on inside it if it is an array or an object. Gives what may come next.
     fn file(&mut self, alloc: Global, first: u8) -> Result<Wanted, AllocError> {
-        let (mut located, mut step) = (NOWHERE, Step::Item(0));
-        located.begins = self.at;
-        located.key = self.at;
-        if let b'{' | b'[' = first {
-            located.inside = self.outline.inside.len();
+        let (begins, inside) = (self.at, self.outline.inside.len());
+        let (key, name) = self.key.take().unwrap_or((begins, (0, 0)));
+        let (next, inside) = match first {
+            b'{' => (Wanted::NameOrEnd, inside),
+            b'[' => (Wanted::ValueOrEnd, inside),
+            _ => (Wanted::More, usize::MAX),
+        };
+        let located = Located {
+            begins,
+            key,
+            name,
+            inside,
+        };
+        if let Some((around, _)) = self.open.last()
+            && let Some(own) = self.outline.inside.get_mut(*around)
+        {
+            own.push(located)?;
+        } else {
+            self.outline.whole = located;
         }
-        match self.open.last() {
-            None => self.outline.whole = located,
-            Some(around) => if let Some(own) = self.outline.inside.get_mut(around.inside) {
-                if around.is_object {
-                    located.key = self.key_begins;
-                    let key = mem::replace(&mut self.key, String::new(alloc));
-                    let name = key.clone()?;
-                    let earlier = own.members.insert(key, located)?;
-                    if earlier.is_some() && self.outline.repeated.is_none() {
-                        let path = path_to(alloc, &self.open, name.as_str())?;
-                        self.outline.repeated = Some((path, located.key));
-                    }
-                    step = Step::Key(name);
-                } else {
-                    step = Step::Item(own.items.len());
-                    own.items.push(located)?;
+        if inside != usize::MAX {
+            self.outline.inside.push(Vec::new(alloc))?;
+            self.open.push((inside, first == b'{'))?;
+        }
+        Ok(next)
+    }
+
+    // Ends the innermost array or object: sorts what is inside an object by keys, and looks for the first one that it has already.
+    fn close(&mut self, alloc: Global) -> Result<Wanted, AllocError> {
+        let mut found = None;
+        if let Some((around, true)) = self.open.pop()
+            && let Some(inside) = self.outline.inside.get_mut(around)
+        {
+            let names = self.outline.names.as_slice();
+            inside.sort_by(|one, other| name_in(names, one).cmp(name_in(names, other)))?;
+            for pair in inside.windows(2) {
+                if let [one, other] = pair
+                    && name_in(names, one) == name_in(names, other)
+                    && (other.key.line, other.key.column) < self.repeats
+                {
+                    self.repeats = (other.key.line, other.key.column);
+                    found = Some(*other);
                 }
             }
         }
-        if located.inside == usize::MAX {
-            return Ok(Wanted::More);
+        if let Some(member) = found {
+            self.outline.repeated = Some((self.path_to(alloc, member)?, member.key));
         }
-        let (items, members) = (Vec::new(alloc), BTreeMap::new(alloc));
-        self.outline.inside.push(Inside { items, members })?;
-        let (inside, is_object) = (located.inside, first == b'{');
-        self.open.push(Open {
-            step,
-            inside,
-            is_object,
-        })?;
-        match first {
-            b'{' => Ok(Wanted::NameOrEnd),
-            _ => Ok(Wanted::ValueOrEnd),
+        Ok(Wanted::More)
+    }
+
+    // The path to a member of the object that was read last, with a point in front of each key.
+    fn path_to(&self, alloc: Global, member: Located) -> Result<String, AllocError> {
+        let names = self.outline.names.as_slice();
+        let mut path = String::new(alloc);
+        for (around, is_object) in &self.open {
+            let Some(inside) = self.outline.inside.get(*around) else {
+                break;
+            };
+            path = match inside.last() {
+                Some(last) if *is_object => {
+                    let key = String::from_utf8_lossy(alloc, name_in(names, last))?;
+                    format!(in alloc; "{path}.{key}")?
+                }
+                _ => format!(in alloc; "{path}[{}]", inside.len().saturating_sub(1))?,
+            };
         }
+        let key = String::from_utf8_lossy(alloc, name_in(names, &member))?;
+        format!(in alloc; "{path}.{key}")
     }
 
     // What may come next, in words.
     fn expected(&self) -> &'static str {
-        match (self.wanted, self.is_in_object()) {
+        match (self.wanted, self.open.last().copied()) {
             (Wanted::Value, _) => "a value",
             (Wanted::ValueOrEnd, _) => "a value or \"]\"",
             (Wanted::Name, _) => "a name in quotes",
             (Wanted::NameOrEnd, _) => "a name in quotes or \"}\"",
             (Wanted::Colon, _) => "\":\"",
-            (Wanted::More, Some(true)) => "\",\" or \"}\"",
-            (Wanted::More, Some(false)) => "\",\" or \"]\"",
+            (Wanted::More, Some((_, true))) => "\",\" or \"}\"",
+            (Wanted::More, Some(_)) => "\",\" or \"]\"",
             (Wanted::More, None) => "the end of the text",
         }
     }
-}
-
-// The path to what is under a key of the last of these, with a point in front of each key.
-fn path_to(alloc: Global, open: &[Open], key: &str) -> Result<String, AllocError> {
-    let mut path = String::new(alloc);
-    for around in open.iter().skip(1) {
-        path = match &around.step {
-            Step::Key(key) => format!(in alloc; "{path}.{key}")?,
-            Step::Item(place) => format!(in alloc; "{path}[{place}]")?,
-        };
-    }
-    format!(in alloc; "{path}.{key}")
 }
 
 // Whether a piece is a value at first sight: a string without escapes, a name, or some digits.
 fn is_plain(piece: &[u8]) -> bool {
     match piece {
         [b'"', plain @ .., b'"'] => plain.iter().all(|it| *it >= b' ' && *it != b'\\'),
-        b"true" | b"false" | b"null" => true,
+        b"true" | b"false" | b"null" | b"0" => true,
         [b'1'..=b'9', digits @ ..] => digits.len() < 18
             && digits.iter().all(|it| it.is_ascii_digit()),
         _ => false,
@@ -378,7 +378,7 @@ fn wrong_in_string(piece: &[u8]) -> &'static str {
     "the text ends inside a string"
 }
 
-// That something else was expected than this piece; none is the end of the text.
+// That something else was expected than this piece, of which 20 characters are shown; none is the end of the text.
 fn unexpected(alloc: Global, expected: &str, piece: &[u8]) -> Result<String, AllocError> {
     match piece.first() {
         None => format!(in alloc; "expected {expected}, found the end of the text"),
@@ -386,7 +386,7 @@ fn unexpected(alloc: Global, expected: &str, piece: &[u8]) -> Result<String, All
         Some(_) => {
             let piece = String::from_utf8_lossy(alloc, piece)?;
             let mut shown = String::new(alloc);
-            for character in piece.chars().take(SHOWN) {
+            for character in piece.chars().take(20) {
                 shown.push(character)?;
             }
             format!(in alloc; "expected {expected}, found \"{shown}\"")

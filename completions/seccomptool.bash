@@ -66,8 +66,8 @@ show|--json||Write the answer as one JSON object
 show|-h||Print help
 show|--help||Print help
 show|#1|<files> -|
-explain|-a|x86_64 aarch64 riscv64 amd64 arm64|The architecture [default: x86_64]
-explain|--arch|x86_64 aarch64 riscv64 amd64 arm64|The architecture [default: x86_64]
+explain|-a|x86_64 aarch64 riscv64 amd64 arm64 x86 x32|The architecture [default: x86_64]
+explain|--arch|x86_64 aarch64 riscv64 amd64 arm64 x86 x32|The architecture [default: x86_64]
 explain|--oci||Read each text as a profile of a container runtime, whatever it contains
 explain|--cap|<>|Capabilities of a profile'\''s container, such as CAP_SYS_ADMIN,CAP_BPF; all; docker-default; podman-default
 explain|--kernel|<>|The kernel version for a profile, such as 6.1; without it, newer than any

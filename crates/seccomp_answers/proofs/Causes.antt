@@ -1,15 +1,11 @@
 -- For the causes of errors: what a layer below refuses, as an error of the tool.
-use Rattle.std.proofs.Common.{◌≡◌, ℕ, ℤ, pos, negsuc, ◌<◌, ◌^◌, List, ◌∷◌, ◌++◌, Option}
-use Rattle.std.proofs.Common.{IfSome, All, Some, ap, inl, inr, String, Global, string_bytes, string_cmp, refl, subst, sym, ◌∙◌, arith}
-use Rattle.std.specs.BTreeMap.{is_at}
-use Rattle.std.specs.List.Sorted.{IsStrictlySortedBy}
-use Rattle.std.specs.Map.{keys_of, lookup}
+use Rattle.std.proofs.Common.{◌≡◌, ℕ, ℤ, pos, negsuc, ◌<◌, ◌^◌, List, Option}
+use Rattle.std.proofs.Common.{IfSome, All, Some, ap, inl, inr, string_bytes, refl, subst, sym, ◌∙◌, arith}
 use Rattle.std.proofs.lemmas.Int.{ints}
 use Rattle.std.proofs.lemmas.List.Elements.{All-contains}
-use Rattle.std.proofs.lemmas.Map.Text.{text_cmp}
 use Rattle.std.proofs.lemmas.Option.{slice_get_within}
 use Rattle.serde_json.specs.Data.{Data}
-use Rattle.seccompiler.specs.Compiled.{IsLeastUnfit, IsRefusal, numbers_of}
+use Rattle.seccompiler.specs.Compiled.{IsLeastUnfit, numbers_of}
 use Rattle.seccompiler.specs.Errors.{IsNoMemoryInFrontend, from_backend, from_frontend}
 use Rattle.seccompiler.specs.JsonAnswers.{ArePoliciesOf, IsValueOf, OfValue, TellsFrontendFault}
 use Rattle.seccompiler.specs.JsonFilters.{AreFound}
@@ -36,9 +32,8 @@ use Rattle.seccomp_answers.specs.Check.{IsRefusal as IsTextRefusal}
 use Rattle.seccomp_answers.specs.Errors.{IsToldAs, from_filter, from_library}
 use Rattle.seccomp_answers.specs.declared.error.AnswerError.{AnswerError}
 use Rattle.seccomp_answers.specs.declared.error.AnswerError.TheVariants.{Library, NoFilter, OutOfMemory, Placed, Unchosen}
-use Rattle.seccomp_answers.specs.declared.kind.Subject.TheVariants as subject
 use Rattle.seccomp_answers.specs.Sides.{Policies}
-use Rattle.seccomp_answers.specs.Causes.{IsRefusedPolicy, IsUnpicked, of_name, AreUncompiledIn, IsFilterIn, IsMissing, IsMissingIn}
+use Rattle.seccomp_answers.specs.Causes.{IsRefusedPolicy, IsUnpicked, of_name, AreUncompiledIn, IsMissing, IsMissingIn}
 use Rattle.seccomp_answers.specs.Causes.{IsUnchosen, IsUnchosenIn, IsUnfitAmong, IsUnread, TellsLarge, TellsUnfitting}
 use Rattle.seccomp_answers.specs.Causes.{too_large, unread}
 

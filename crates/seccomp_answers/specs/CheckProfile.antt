@@ -3,7 +3,6 @@ use Rattle.std.specs.Prelude.{ℕ, false, List}
 use Rattle.seccompiler.specs.declared.backend.TargetArch.{TargetArch}
 use Rattle.seccomp_profiles.specs.CompiledProfile.{IsCompiledProfile}
 use Rattle.seccomp_profiles.specs.Types.{Container}
-use Rattle.seccomp_profiles.specs.declared.compiled.CompileError.TheVariants as fault
 use Rattle.seccomp_warnings.specs.ProfileWarnings.{AreProfileWarnings}
 use Rattle.seccomp_warnings.specs.declared.code.Code.{Code}
 use Rattle.seccomp_answers.specs.declared.check.CheckedProfile.{CheckedProfile}

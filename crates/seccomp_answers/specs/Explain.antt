@@ -14,8 +14,9 @@ use Rattle.seccomp_entries.specs.Entries.{IsDecided, Lowered, value_of}
 use Rattle.seccomp_entries.specs.Policies.{DecidesAs, IsLoweredPolicy}
 use Rattle.seccomp_entries.specs.Reasons.{IsReason}
 use Rattle.seccomp_entries.specs.declared.reason.Reason.{Reason}
-use Rattle.seccomp_profiles.specs.Lowered.{IsLoweredProfile}
-use Rattle.seccomp_profiles.specs.Lowered as profiles
+use Rattle.seccomp_profiles.specs.Abis.{IsSeenAs, machine_of}
+use Rattle.seccomp_profiles.specs.declared.types.Abi.{Abi}
+use Rattle.seccomp_profiles.specs.Lowered.{DecidesOn, IsLoweredOn}
 use Rattle.seccomp_profiles.specs.ProfileText.{IsProfileText}
 use Rattle.seccomp_profiles.specs.Types.{Container, Profile}
 use Rattle.seccomp_stack.specs.Stack.{HaveSteps, IsDecidedAt, IsStackDecision}
@@ -27,7 +28,7 @@ use Rattle.seccomp_answers.specs.declared.kind.Subject.{Subject}
 use Rattle.seccomp_answers.specs.declared.kind.Subject.TheVariants as subject
 use Rattle.seccomp_answers.specs.Chosen.{IsChosen}
 use Rattle.seccomp_answers.specs.Kinds.{IsTakenAs}
-use Rattle.seccomp_answers.specs.Calls.{number_for}
+use Rattle.seccomp_answers.specs.Calls.{number_for, number_on}
 use Rattle.seccomp_answers.specs.Programs.{IsProgramOf}
 
 -- ---- entries
@@ -59,31 +60,35 @@ pub record IsOfPolicy (target : TargetArch) (asked : Option (List ℕ)) (text : 
 
 -- ---- profiles
 
+-- So they do on the record as it is seen on the machine.
+abbrev pub IsExplainedOn : Abi → Lowered → (r : List ℕ) → Explained → Type 0
+IsExplainedOn abi l r e = (seen : List ℕ) × IsSeenAs abi r seen × IsExplainedBy l seen e
+
 -- The profile of the text, in one form, decides so on the records, as the profile does.
-pub record IsOfProfile (target : TargetArch) (container : Container) (text : List ℕ) (records : List (List ℕ)) (e : Explanation) : Type 0
+pub record IsOfProfile (abi : Abi) (container : Container) (text : List ℕ) (records : List (List ℕ)) (e : Explanation) : Type 0
   where
     pub profile : Profile
     pub of_text : IsProfileText text profile
     pub lowered : Lowered
-    pub is_lowered : IsLoweredProfile target container profile lowered
-    pub decides : profiles.DecidesAs target container profile lowered
+    pub is_lowered : IsLoweredOn abi container profile lowered
+    pub decides : DecidesOn abi container profile lowered
     pub default : e.default ≡ Some (value_of profile.default)
     pub entries : e.entries.items ≡ lowered.entries
-    pub each : AllZip (IsExplainedBy lowered) records e.records.items
+    pub each : AllZip (IsExplainedOn abi lowered) records e.records.items
 
 -- ---- programs
 
 -- The program ends on the record with this word, after so many steps.
-pub record IsReturned (target : TargetArch) (program : List sock_filter) (r : List ℕ) (e : Explained) : Type 0 where
+pub record IsReturned (abi : Abi) (program : List sock_filter) (r : List ℕ) (e : Explained) : Type 0 where
   pub steps : ℕ
-  pub is : e.why ≡ variant.Program (number_for target r) steps
+  pub is : e.why ≡ variant.Program (number_on abi r) steps
   pub ends : Ends program r steps e.word
 
 -- The program that is given ends so on the records.
-pub record IsOfProgram (target : TargetArch) (given : List ℕ) (records : List (List ℕ)) (e : Explanation) : Type 0 where
+pub record IsOfProgram (abi : Abi) (given : List ℕ) (records : List (List ℕ)) (e : Explanation) : Type 0 where
   pub program : List sock_filter
   pub is_program : IsProgramOf given program
-  pub each : AllZip (IsReturned target program) records e.records.items
+  pub each : AllZip (IsReturned abi program) records e.records.items
 
 -- ---- programs that hold together
 
@@ -100,12 +105,12 @@ pub record IsOfStack (target : TargetArch) (programs : List (Vec sock_filter Glo
 -- ---- what is given
 
 -- What is given decides so on the records, and why: a policy's filter, a profile or a program.
-abbrev pub IsExplainedAs : TargetArch → Subject → (asked : Option (List ℕ)) → (given : List ℕ) → (records : List (List ℕ)) → Explanation
+abbrev pub IsExplainedAs : Abi → Subject → (asked : Option (List ℕ)) → (given : List ℕ) → (records : List (List ℕ)) → Explanation
     → Type 0
-IsExplainedAs target subject.Policy asked text records e = IsOfPolicy target asked text records e
-IsExplainedAs target (subject.Profile container) asked text records e = IsOfProfile target container.now text records e
-IsExplainedAs target subject.Program asked bytes records e = IsOfProgram target bytes records e
+IsExplainedAs abi subject.Policy asked text records e = IsOfPolicy (machine_of abi) asked text records e
+IsExplainedAs abi (subject.Profile container) asked text records e = IsOfProfile abi container.now text records e
+IsExplainedAs abi subject.Program asked bytes records e = IsOfProgram abi bytes records e
 
-abbrev pub Explains : TargetArch → Reading → (asked : Option (List ℕ)) → (given : List ℕ) → (records : List (List ℕ)) → Explanation → Type 0
-Explains target reading asked given records e =
-    (kind : Subject) × IsTakenAs reading given kind × IsExplainedAs target kind asked given records e
+abbrev pub Explains : Abi → Reading → (asked : Option (List ℕ)) → (given : List ℕ) → (records : List (List ℕ)) → Explanation → Type 0
+Explains abi reading asked given records e =
+    (kind : Subject) × IsTakenAs reading given kind × IsExplainedAs abi kind asked given records e

@@ -5,7 +5,7 @@ use Rattle.std.specs.List.{filter}
 use Rattle.std.specs.Ordering.{int_eq}
 use Rattle.seccompiler.specs.declared.backend.TargetArch.{TargetArch}
 use Rattle.seccomp_compare.specs.declared.Relation.{Relation}
-use Rattle.seccompiler.specs.Architecture.{audit_word, table_of}
+use Rattle.seccompiler.specs.Architecture.{audit_word}
 use Rattle.seccompiler.specs.declared.bpf.sock_filter.{sock_filter}
 use Rattle.seccomp_compare.specs.Compare.{Related}
 use Rattle.seccomp_compare.specs.Machine.{Ends}

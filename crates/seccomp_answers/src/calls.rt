@@ -2,13 +2,15 @@
 
 ghost use Rattle.std.specs.Prelude.{◌≡◌, ◌≤◌, ℕ, Contains, IfOk, IfErr, IfSome, IfNone};
 ghost use Rattle.seccomp_answers.specs.Numbers.{IsNumber};
-ghost use Rattle.seccomp_answers.specs.Calls.{AreKnownCalls, IsCall, IsRecordOf, IsUncalled, IsUnknownCall, number_for};
+ghost use Rattle.seccomp_answers.specs.Calls.{AreKnownCalls, IsCall, IsCallOn, IsRecordOf, IsRecordOn, IsUncalled, IsUncalledOf, IsUnknownCall};
+ghost use Rattle.seccomp_answers.specs.Calls.{number_for, number_on, record_bytes};
 
 use crate::error::AnswerError;
 use crate::findings::parts::name_of;
+use seccomp_profiles::Abi;
 use seccomp_text::numbers::read_digits;
+use seccompiler::TargetArch;
 use seccompiler::record::word_at;
-use seccompiler::{SyscallTable, TargetArch};
 use std::alloc::{AllocError, Global};
 
 /// The record of a call as the kernel hands it to a program: the 64 bytes of a `struct seccomp_data`, as `seccomp(2)` has it.
@@ -24,16 +26,35 @@ pub fn called_record(
     ensures recorded { IfOk result (λ bytes. IsRecordOf target call.now arguments.now bytes.items) }
     ensures refused { IfErr result (IsUncalled target call.now) }
 {
-    let Some(number) = call_number(target, call) else {
-        return Err(AnswerError::UnknownCall(String::from_str(alloc, call)?, target));
-    };
-    let arch = target.get_audit_value();
+    called_on(alloc, Abi::Native(target), call, arguments)
+}
+
+// The bytes of the record of a call.
+fn bytes_of(alloc: Global, number: u32, arch: u32, arguments: &[u64]) -> Result<Vec<u8>, AllocError>
+    ensures { IfOk result (λ bytes. bytes.items ≡ record_bytes arch number arguments.now) }
+{
     let head = [number.to_le_bytes(), arch.to_le_bytes(), [0; 4], [0; 4]];
     let mut bytes = Vec::from_slice(alloc, head.as_flattened())?;
     for argument in arguments {
         bytes.extend_from_slice(&argument.to_le_bytes())?;
     }
     Ok(bytes)
+}
+
+/// The same of whosever calls, as [`called_record`] gives those of an architecture itself.
+pub fn called_on(
+    alloc: Global,
+    abi: Abi,
+    call: &str,
+    arguments: &[u64],
+) -> Result<Vec<u8>, AnswerError>
+    ensures recorded { IfOk result (λ bytes. IsRecordOn abi call.now arguments.now bytes.items) }
+    ensures refused { IfErr result (IsUncalledOf abi call.now) }
+{
+    let Some(number) = number_in(abi, call) else {
+        return Err(AnswerError::UnknownCall(String::from_str(alloc, call)?, abi));
+    };
+    Ok(bytes_of(alloc, number, abi.audit_value(), arguments)?)
 }
 
 /// A call of an architecture.
@@ -77,10 +98,7 @@ pub fn call_number(target: TargetArch, call: &str) -> Option<u32>
     ensures called { IfSome result (IsCall target call.now) }
     ensures uncalled { IfNone result ((n : ℕ) → IsCall target call.now n → ⊥) }
 {
-    match read_number(call) {
-        Some(number) => u32::try_from(number).ok(),
-        None => u32::try_from(SyscallTable::new(target).get_syscall_nr(call)?).ok(),
-    }
+    number_in(Abi::Native(target), call)
 }
 
 /// The number that a text of decimal digits writes, or of hexadecimal ones after `0x`, if 64 bits hold it. Numbers that begin with a
@@ -95,6 +113,24 @@ pub fn read_number(text: &str) -> Option<u64>
         None if text.len() > 1 && text.as_bytes()[0] == b'0' => None,
         None => read_digits(text, 10),
     }
+}
+
+// The number of whosever call, by its name or number.
+fn number_in(abi: Abi, call: &str) -> Option<u32>
+    ensures called { IfSome result (IsCallOn abi call.now) }
+    ensures uncalled { IfNone result ((n : ℕ) → IsCallOn abi call.now n → ⊥) }
+{
+    match read_number(call) {
+        Some(number) => u32::try_from(number).ok(),
+        None => abi.call_number(call),
+    }
+}
+
+// The number of a record's call, if it is one of these.
+pub(crate) fn number_on(abi: Abi, call: &[u8; 64]) -> Option<u32>
+    ensures { result ≡ number_on abi call.now }
+{
+    abi.is_of(call).then_some(word_at(call, 0))
 }
 
 // The number of a record's call, if the record is of the architecture.

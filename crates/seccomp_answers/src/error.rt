@@ -4,12 +4,12 @@ ghost use Rattle.seccomp_answers.specs.Errors.{IsAtPath, IsOfSecond};
 
 use crate::program::fault::ProgramFault;
 use seccomp_faults::{Fault, is_of_profile};
-use seccomp_profiles::CompileError;
+use seccomp_profiles::{Abi, CompileError};
 use seccomp_stack::StackError;
 use seccomp_text::readable::{TextKind, readable};
 use seccomp_tree::FilterError;
+use seccompiler::BackendError;
 use seccompiler::json::JsonFrontendError;
-use seccompiler::{BackendError, TargetArch};
 use std::alloc::{AllocError, AllocFailed, Global};
 
 /// Why there is no answer.
@@ -23,7 +23,7 @@ pub enum AnswerError {
     /// No filter is asked for, and the policy doesn't have one but these, by their names.
     Unchosen(String),
     /// The architecture has no call of this name or number.
-    UnknownCall(String, TargetArch),
+    UnknownCall(String, Abi),
     /// The first one of what is read has this fault, or a value of an option.
     Fault(String),
     /// The second one of what is read has this fault.
@@ -109,7 +109,8 @@ impl AnswerError {
             AnswerError::Program(fault) => fault.told(alloc),
             AnswerError::Profile(error) => error.to_string(alloc),
             AnswerError::NoFilter(name) => format!(in alloc; "No filter has this name: {name}."),
-            AnswerError::UnknownCall(call, arch) => {
+            AnswerError::UnknownCall(call, abi) => {
+                let arch = name_of(*abi);
                 format!(in alloc; "No call of {arch} has this name or number: {call}.")
             }
             AnswerError::Unchosen(names) if names.is_empty() => {
@@ -260,5 +261,14 @@ impl<T: Drop> From<AllocFailed<T>> for AnswerError {
 
     fn from(_failed: AllocFailed<T>) -> AnswerError {
         AnswerError::OutOfMemory
+    }
+}
+
+// How calls are called of which one is missing.
+fn name_of(abi: Abi) -> &'static str {
+    match abi {
+        Abi::Native(target) => target.name(),
+        Abi::I386 => "x86",
+        Abi::X32 => "x32",
     }
 }

@@ -6,9 +6,10 @@ ghost use Rattle.seccomp_compare.specs.Machine.{IsChecked};
 ghost use Rattle.seccomp_answers.specs.Check.{IsRefusal};
 ghost use Rattle.seccomp_answers.specs.Causes.{IsRefusedProfile, IsUndecided, IsUnexplainedFilter};
 ghost use Rattle.seccomp_answers.specs.Chosen.{text_of};
-ghost use Rattle.seccomp_answers.specs.Explain.{Explains, IsExplainedBy, IsOfPolicy, IsOfProfile, IsReturned};
+ghost use Rattle.seccomp_answers.specs.Explain.{Explains, IsExplainedBy, IsExplainedOn, IsOfPolicy, IsOfProfile, IsReturned};
+ghost use Rattle.seccomp_profiles.specs.Abis.{machine_of};
 
-use crate::calls::number_for;
+use crate::calls::number_on;
 use crate::chosen::{chosen_name, refuse_name};
 use crate::error::AnswerError;
 use crate::kind::{Reading, Subject, subject_of};
@@ -18,7 +19,7 @@ use crate::program::program_of;
 use seccomp_compare::machine;
 use seccomp_entries::{Lowered, Reason, explain, lowered_policy};
 use seccomp_faults::check;
-use seccomp_profiles::{Container, lowered_profile, profile_of};
+use seccomp_profiles::{Abi, Container, lowered_on, places_on, profile_of};
 use seccompiler::bpf::BPF_MAX_LEN;
 use seccompiler::machine::Outcome;
 use seccompiler::{BpfProgramRef, JsonCompiler, JsonFilterMap, JsonFrontendError, TargetArch};
@@ -65,11 +66,14 @@ pub struct Explanation {
     pub default: Option<u32>,
     /// The entries that decide, of which the reasons have the indices; none of a program.
     pub entries: Vec<seccomp_entries::Entry>,
+    /// By places of these, those of a profile's entries that they are of, for the calls of 32-bit programs; else empty.
+    pub places: Vec<usize>,
     /// What is decided on each record, in order.
     pub records: Vec<Explained>,
 }
 
-/// What is decided on these records, and why, by what is given in these bytes.
+/// What is decided on these records, and why, by what is given in these bytes. A record of whosever calls is of those of `abi`;
+/// a policy decides those of the machine itself.
 ///
 /// # Errors
 ///
@@ -77,29 +81,30 @@ pub struct Explanation {
 /// `Program` with the first fault of a program. `OutOfMemory` if memory runs out.
 pub fn explanation_of(
     alloc: Global,
-    target: TargetArch,
+    abi: Abi,
     reading: &Reading,
     asked: Option<&str>,
     given: &[u8],
     records: &[[u8; 64]],
 ) -> Result<Explanation, AnswerError>
-    ensures explained { IfOk result (Explains target reading.now (text_of asked.entry) given.now records.now) }
-    ensures cause { IfErr result (IsUndecided target reading.now (text_of asked.entry) given.now) }
+    ensures explained { IfOk result (Explains abi reading.now (text_of asked.entry) given.now records.now) }
+    ensures cause { IfErr result (IsUndecided (machine_of abi) reading.now (text_of asked.entry) given.now) }
 {
     match subject_of(alloc, reading, given)? {
-        Subject::Policy => explain_policy(alloc, target, asked, given, records),
+        Subject::Policy => explain_policy(alloc, abi.machine(), asked, given, records),
         Subject::Profile(container) => {
             refuse_name(alloc, asked)?;
-            explain_profile(alloc, target, container, given, records)
+            explain_profile(alloc, abi, container, given, records)
         }
         Subject::Program => {
             refuse_name(alloc, asked)?;
             let program = program_of(alloc, given)?;
-            let records = returned(alloc, target, &program, records)?;
+            let records = returned(alloc, abi, &program, records)?;
             Ok(Explanation {
                 name: None,
                 default: None,
                 entries: Vec::new(alloc),
+                places: Vec::new(alloc),
                 records,
             })
         }
@@ -139,6 +144,7 @@ pub fn explain_policy(
         name: Some(name),
         default: None,
         entries: lowered.entries,
+        places: Vec::new(alloc),
         records,
     })
 }
@@ -185,26 +191,54 @@ fn are_short(
 /// Those of [`compiled_of`](crate::profile::compiled_of), but for names of calls, and for a program that is too large.
 pub fn explain_profile(
     alloc: Global,
-    target: TargetArch,
+    abi: Abi,
     container: &Container,
     text: &[u8],
     records: &[[u8; 64]],
 ) -> Result<Explanation, AnswerError>
-    ensures explained { IfOk result (IsOfProfile target container.now text.now records.now) }
-    ensures cause { IfErr result (IsRefusedProfile target container.now false text.now) }
+    ensures explained { IfOk result (IsOfProfile abi container.now text.now records.now) }
+    ensures cause { IfErr result (IsRefusedProfile (machine_of abi) container.now false text.now) }
 {
     let profile = match profile_of(alloc, text) {
         Ok(profile) => profile,
         Err(error) => return Err(unread(alloc, text, error)),
     };
-    let lowered = lowered_profile(alloc, target, container, &profile)?;
-    let records = explain_each(alloc, &lowered, records)?;
+    let lowered = lowered_on(alloc, abi, container, &profile)?;
+    let records = explain_seen(alloc, abi, &lowered, records)?;
     Ok(Explanation {
         name: None,
         default: Some(profile.default.into()),
         entries: lowered.entries,
+        places: places_on(alloc, abi, &profile)?,
         records,
     })
+}
+
+// What entries decide on each of these records, as they are seen on the machine.
+fn explain_seen(
+    alloc: Global,
+    abi: Abi,
+    lowered: &Lowered,
+    records: &[[u8; 64]],
+) -> Result<Vec<Explained>, AllocError>
+    ensures { IfOk result (λ all. AllZip (IsExplainedOn abi lowered.now) records.now all.items) }
+{
+    let mut all = Vec::with_capacity(alloc, records.len())?;
+    for call in records {
+        all.push(explain_one(abi, lowered, call))?;
+    }
+    Ok(all)
+}
+
+// What they decide on a record.
+fn explain_one(abi: Abi, lowered: &Lowered, call: &[u8; 64]) -> Explained
+    ensures { IsExplainedOn abi lowered.now call.now result }
+{
+    let seccomp_entries::Explained { word, reason } = explain(lowered, &abi.seen(call));
+    Explained {
+        word,
+        why: Why::Entries(reason),
+    }
 }
 
 // What entries decide on each of these records.
@@ -230,17 +264,17 @@ fn explain_each(
 /// a kernel does.
 pub fn returned(
     alloc: Global,
-    target: TargetArch,
+    abi: Abi,
     program: BpfProgramRef<'_>,
     records: &[[u8; 64]],
 ) -> Result<Vec<Explained>, AllocError>
     requires { IsChecked program.now }
-    ensures { IfOk result (λ all. AllZip (IsReturned target program.now) records.now all.items) }
+    ensures { IfOk result (λ all. AllZip (IsReturned abi program.now) records.now all.items) }
 {
     let mut all = Vec::new(alloc);
     for call in records {
         let Outcome { word, steps } = machine::run(program, call);
-        let number = number_for(target, call);
+        let number = number_on(abi, call);
         let why = Why::Program { number, steps };
         all.push(Explained { word, why })?;
     }

@@ -88,6 +88,7 @@ pub fn stack_explanation(
         name: None,
         default: None,
         entries: Vec::new(alloc),
+        places: Vec::new(alloc),
         records,
     })
 }

@@ -1,18 +1,18 @@
 // What is written of what is decided on records.
 
-use crate::json::{Object, call_name, or_null, push_item, written};
+use crate::calls::name_on;
+use crate::json::{Object, OrNull, or_null, push_item, written};
 use crate::lines::{push_word, word_value};
 use crate::log::Caller;
 use crate::text::Text;
 use seccomp_answers::explain::{Explained, Explanation, Why};
-use seccomp_answers::findings::parts::name_of;
 use seccomp_answers::layers::Layer;
 use seccomp_entries::{Entry, Reason};
+use seccomp_profiles::Abi;
 use seccomp_text::readable::TextKind;
-use seccompiler::TargetArch;
 use std::alloc::{AllocError, Global};
 
-/// The lines of what is decided on records of an architecture, one for each, after who made the call; as JSON their list.
+/// The lines of what is decided on records of these calls, one for each, after who made the call; as JSON their list.
 ///
 /// A line has the action by its name in a policy: `allow`, `log`, `trap`, `kill_thread`, `kill_process` and `user_notif`, a space and
 /// the low 16 bits in decimal after `errno` and `trace`, and the name of an errno that has one in brackets; a value that is none of
@@ -20,7 +20,7 @@ use std::alloc::{AllocError, Global};
 /// layer that decides, and its filter if that is asked for; and the call by its name and number.
 pub fn explained_text(
     alloc: Global,
-    target: TargetArch,
+    abi: Abi,
     json: bool,
     layers: &[Layer<'_>],
     explanation: &Explanation,
@@ -31,17 +31,17 @@ pub fn explained_text(
         let (written, process) = callers.next().copied().unwrap_or_default();
         let program = program_name(alloc, written)?;
         let caller = (program.as_str(), process);
-        let reason = parts_of(explanation, *explained);
+        let reason = parts_of(abi, explanation, *explained);
         let path = path_of(alloc, layers, explanation, reason)?;
         if json {
             push_item(
                 &mut text,
-                value_of(alloc, target, path.as_str(), caller, *explained, reason),
+                value_of(alloc, abi, path.as_str(), caller, *explained, reason),
             );
         } else {
             push_line(
                 &mut text,
-                target,
+                abi,
                 path.as_str(),
                 caller,
                 explained.word,
@@ -62,6 +62,7 @@ enum Kind {
     Default,
     Program,
     X32,
+    Unlisted,
     AboveAll,
     Layer,
 }
@@ -77,6 +78,7 @@ impl Kind {
             Kind::Default => ("no-entry", "defaultAction of "),
             Kind::Program => ("program", ""),
             Kind::X32 => ("no-entry", "libseccomp, for x32: "),
+            Kind::Unlisted => ("no-entry", "libseccomp, since architectures lacks it: "),
             Kind::AboveAll => ("no-entry", "runc, above all calls that are named: "),
             Kind::Layer => ("layer", ""),
         }
@@ -97,7 +99,7 @@ struct Told {
 }
 
 // What is said of a reason.
-fn parts_of(explanation: &Explanation, explained: Explained) -> Told {
+fn parts_of(abi: Abi, explanation: &Explanation, explained: Explained) -> Told {
     let mut told = Told {
         kind: Kind::AnotherArchitecture,
         number: None,
@@ -127,8 +129,12 @@ fn parts_of(explanation: &Explanation, explained: Explained) -> Told {
             told.kind = match explanation.default {
                 None => Kind::NoEntry,
                 Some(word) if word == explained.word => Kind::Default,
-                // The thread is killed, since the number is one of x32; else it is runc's answer.
-                Some(_) if explained.word == 0 => Kind::X32,
+                // The thread is killed, since the number is one of x32, or the profile doesn't list the architecture; else it is
+                // runc's answer.
+                Some(_) if explained.word == 0 => match abi {
+                    Abi::Native(_) => Kind::X32,
+                    Abi::I386 | Abi::X32 => Kind::Unlisted,
+                },
                 Some(_) => Kind::AboveAll,
             };
             told.number = Some(number);
@@ -142,19 +148,29 @@ fn parts_of(explanation: &Explanation, explained: Explained) -> Told {
             told.number = Some(number);
             told.entries = count_for(entries, number);
             if let Some(entry) = entries.get(nearest.entry) {
-                told.entry = Some(entry.place);
-                told.condition = Some(entry.alternative.unwrap_or(nearest.condition));
+                let place = place_in(explanation, entry);
+                told.entry = Some(place);
+                // An entry of `socketcall` or `ipc` has other conditions than the text's.
+                if place == entry.place {
+                    told.condition = Some(entry.alternative.unwrap_or(nearest.condition));
+                }
             }
         }
         Reason::Entry { number, index } => {
             told.kind = Kind::Entry;
             told.number = Some(number);
             if let Some(entry) = entries.get(index) {
-                told.entry = Some(entry.place);
+                told.entry = Some(place_in(explanation, entry));
             }
         }
     }
     told
+}
+
+// The place of the text's entry that an entry is of.
+fn place_in(explanation: &Explanation, entry: &Entry) -> usize {
+    let own = explanation.places.get(entry.place);
+    own.copied().unwrap_or(entry.place)
 }
 
 // How many entries of the text are for the calls of a number: one of which each condition has an entry of its own is one.
@@ -206,14 +222,7 @@ fn path_of(
 }
 
 // Adds the line of a decision, whose reason has this path, after who made the call.
-fn push_line(
-    text: &mut Text,
-    target: TargetArch,
-    path: &str,
-    caller: (&str, &str),
-    word: u32,
-    told: Told,
-) {
+fn push_line(text: &mut Text, abi: Abi, path: &str, caller: (&str, &str), word: u32, told: Told) {
     push_caller(text, caller);
     push_word(text, word);
     text.push_str(": ");
@@ -222,8 +231,8 @@ fn push_line(
         text.push_readable(path, TextKind::Name);
         text.push_str(" of ");
     }
-    push_decided(text, target, told.number);
-    if told.condition.is_some() {
+    push_decided(text, abi, told.number);
+    if let Kind::NoMatch = told.kind {
         text.push_str(" does not hold");
         if told.entries > 1 {
             text.push_str(", the nearest of ");
@@ -235,11 +244,11 @@ fn push_line(
 }
 
 // Adds the call that is decided, of which there is a number if it is of the architecture.
-fn push_decided(text: &mut Text, target: TargetArch, number: Option<u32>) {
+fn push_decided(text: &mut Text, abi: Abi, number: Option<u32>) {
     let Some(number) = number else {
         return text.push_str("another architecture");
     };
-    if let Some(name) = name_of(target, number) {
+    if let Some(name) = name_on(abi, number) {
         text.push_str(name);
         text.push_str(" (");
         text.push_display(&number);
@@ -281,7 +290,7 @@ fn program_name(alloc: Global, written: &str) -> Result<String, AllocError> {
 // A decision as an object.
 fn value_of(
     alloc: Global,
-    target: TargetArch,
+    abi: Abi,
     path: &str,
     caller: (&str, &str),
     explained: Explained,
@@ -301,7 +310,10 @@ fn value_of(
     };
     let mut object = Object::new(alloc);
     object.field("action", word_value(alloc, word));
-    object.field("call", call_name(target, number));
+    object.field(
+        "call",
+        OrNull(number.and_then(|number| name_on(abi, number))),
+    );
     object.field("number", number);
     object.field("reason", kind.words().0);
     object.field("path", or_null(path));

@@ -1,4 +1,5 @@
 -- The names that proofs cite of what stands below, passed on from one place.
+pub use Rattle.seccomptool.specs.Words.{IsRecordOn, machine_of}
 pub use Rattle.seccomptool.specs.Words.{AllZip, Allow, Answer, AnswerError, AskedArguments, Bor, Calls, Command, Container, Explains}
 pub use Rattle.seccomptool.specs.Words.{Failure, Filter, FilterError, IsCheckOf, IsDiff, IsFilterOf, IsLeastUnfit, IsProfileCheckOf}
 pub use Rattle.seccomptool.specs.Words.{IsProgramFor, IsRecordOf, IsRefusal, IsRefusalIn, IsRefusedAs, IsRefusedProfile, IsSideOf}

@@ -3,9 +3,10 @@ use Rattle.std.specs.List.{AllZip}
 use Rattle.std.specs.Prelude.{[], ⊤, ◌∷◌, ◌≡◌, Bool, List, Option, String, Vec, false, true, ℕ}
 use Rattle.std.specs.declared.alloc.Global.{Global}
 use Rattle.seccomptool.specs.Words.{AnswerError, AreUncompiledIn, AreUncompiledInSome, Call, Compile}
+use Rattle.seccomptool.specs.Words.{IsUncalledOf, machine_of}
 use Rattle.seccomptool.specs.Words.{Container, Diff, Explain, Fault, Filter, FilterError, HasUnknown, IsFilterOf, IsLayer, IsOfKind}
 use Rattle.seccomptool.specs.Words.{IsOfLayers, IsRefusal, IsRefusedAs, IsRefusedBeside, IsRefusedPolicy, IsRefusedProfile}
-use Rattle.seccomptool.specs.Words.{IsRefusedProgram, IsSideOf, IsTooLarge, IsTreeTooLarge, IsUncalled, IsUnchosen, IsUndecided, IsUndiffed}
+use Rattle.seccomptool.specs.Words.{IsRefusedProgram, IsSideOf, IsTooLarge, IsTreeTooLarge, IsUnchosen, IsUndecided, IsUndiffed}
 use Rattle.seccomptool.specs.Words.{Layer, Layout, Linear, One, OutOfMemory, Profile, Show, Side, Stack, Subject}
 use Rattle.seccomptool.specs.Words.{TargetArch, Tree, from_filter, from_stack, sock_filter, text_of}
 use Rattle.seccomp_tree.specs.declared.error.FilterError.TheVariants as filter
@@ -80,10 +81,10 @@ pub data IsUncompared (asked : Diff) (old_given new_given : List ℕ) (e : Answe
 
 -- Why `explain` explains nothing: one call is asked about, and is none of the architecture; or by the only one of what is given, or by all.
 pub data IsUnexplained (asked : Explain) (layers : List Layer) (e : AnswerError) : Type 0 where
-  uncalled : (call : Call) → asked.calls ≡ One call → IsUncalled asked.arch call.name.now e → IsUnexplained asked layers e
+  uncalled : (call : Call) → asked.calls ≡ One call → IsUncalledOf asked.abi call.name.now e → IsUnexplained asked layers e
   undecided : (subject : Layer) → layers ≡ subject ∷ []
-      → IsUndecided asked.arch asked.reading (text_of subject.filter) subject.text.items e → IsUnexplained asked layers e
-  of_layers : IsOfLayers asked.arch asked.reading layers e → IsUnexplained asked layers e
+      → IsUndecided (machine_of asked.abi) asked.reading (text_of subject.filter) subject.text.items e → IsUnexplained asked layers e
+  of_layers : IsOfLayers (machine_of asked.abi) asked.reading layers e → IsUnexplained asked layers e
 
 -- Why `stack` writes nothing: by the layers; or the program of all would be too long.
 pub data IsUnstacked (asked : Stack) (layers : List Layer) (e : AnswerError) : Type 0 where

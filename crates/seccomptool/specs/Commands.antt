@@ -4,7 +4,7 @@ use Rattle.std.specs.List.{AllZip}
 use Rattle.std.specs.Prelude.{[], ⊤, ◌%◌, ◌++◌, ◌/◌, ◌<◌, ◌↔◌, ◌∷◌, ◌≡◌, ◌≢◌, Bool, IsTrue, List, None, Option, Some, Vec, false, length}
 use Rattle.std.specs.Prelude.{true, ℕ}
 use Rattle.std.specs.declared.alloc.Global.{Global}
-use Rattle.seccomptool.specs.Words.{AnswerError, AreKnownCalls, ArePrograms}
+use Rattle.seccomptool.specs.Words.{Abi, AnswerError, AreKnownCalls, ArePrograms, IsRecordOn, machine_of}
 use Rattle.seccomptool.specs.Words.{Call, Calls, Command, Compile, Container, Different, Explain, Explains, Filter, IsCheckOf}
 use Rattle.seccomptool.specs.Words.{IsCompiledIn, IsCompiledProfile, IsDiff, IsFilterOf, IsLayer, IsProfileCheckOf, IsProgramOf, IsRecordOf}
 use Rattle.seccomptool.specs.Words.{IsRefusedProfile, IsRefusedProgram, IsSideOf, IsStackExplained, IsTakenAs, IsWrittenAs, Layer}
@@ -104,14 +104,14 @@ abbrev pub records_in : List ℕ → List (List ℕ)
 records_in bytes = first_chunks 64 (length bytes / 64) bytes
 
 -- P holds of the records that are asked about: that of a call, those of these bytes, or those of calls that lines are about.
-abbrev pub OnRecordsOf : Calls → TargetArch → (bytes : List ℕ) → (List (List ℕ) → Type 0) → Type 0
-OnRecordsOf (One call) arch bytes P =
-    (record_of : List ℕ) × IsRecordOf arch call.name.now call.arguments record_of × P (records_in record_of)
-OnRecordsOf (Records path) arch bytes P = P (records_in bytes)
-OnRecordsOf (Log path) arch bytes P = (records : List (List ℕ)) × P records
+abbrev pub OnRecordsOf : Calls → Abi → (bytes : List ℕ) → (List (List ℕ) → Type 0) → Type 0
+OnRecordsOf (One call) abi bytes P =
+    (record_of : List ℕ) × IsRecordOn abi call.name.now call.arguments record_of × P (records_in record_of)
+OnRecordsOf (Records path) abi bytes P = P (records_in bytes)
+OnRecordsOf (Log path) abi bytes P = (records : List (List ℕ)) × P records
 
 abbrev pub OnRecords : Explain → (bytes : List ℕ) → (List (List ℕ) → Type 0) → Type 0
-OnRecords asked bytes P = OnRecordsOf asked.calls asked.arch bytes P
+OnRecords asked bytes P = OnRecordsOf asked.calls asked.abi bytes P
 
 -- The architecture that is asked about, or each.
 abbrev pub IsAskedAbout : (each : Bool) → (asked of : TargetArch) → Type 0
@@ -149,8 +149,8 @@ pub record IsStacked (asked : Stack) (layers : List Layer) (written : List ℕ) 
 -- The one of what is given decides so on the records, and why; or, if there are several, all of them do together.
 abbrev pub ExplainsIn : Explain → List Layer → (records : List (List ℕ)) → Explanation → Type 0
 ExplainsIn asked (subject ∷ []) records e =
-    Explains asked.arch asked.reading (text_of subject.filter) subject.text.items records e
-ExplainsIn asked layers records e = IsStackExplained asked.arch asked.reading layers records e
+    Explains asked.abi asked.reading (text_of subject.filter) subject.text.items records e
+ExplainsIn asked layers records e = IsStackExplained (machine_of asked.abi) asked.reading layers records e
 
 abbrev pub IsExplainedIn : Explain → List Layer → (records : List (List ℕ)) → Type 0
 IsExplainedIn asked layers records = (e : Explanation) × ExplainsIn asked layers records e

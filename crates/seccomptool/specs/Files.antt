@@ -4,12 +4,13 @@ use Rattle.std.specs.List.{AllZip}
 use Rattle.std.specs.Prelude.{[], ⊤, ◌++◌, ◌==◌, ◌||◌, ◌∷◌, ◌≡◌, ◌≢◌, All, Bool, IfSome, List, None, Option, Some, codes, false}
 use Rattle.std.specs.Prelude.{if◌then◌else◌, is_none, length, map, option_map, take, true, unwrap_or, ℕ}
 use Rattle.std.specs.Str.{bytes_eq}
-use Rattle.seccomptool.specs.Words.{Calls, Command, Into, Log}
+use Rattle.seccomptool.specs.Words.{Abi, Calls, Command, Into, Log}
 use Rattle.seccomptool.specs.Words.{Named, One, Otherwise, Records, Start, TargetArch}
 use Rattle.seccomptool.specs.Words.{first_value, matched_of, one_text, raw_values}
 use Rattle.seccomptool.specs.Words.{text_of}
 use Rattle.clap.specs.declared.parser.matches.Found.{Found}
 use Rattle.seccompiler.specs.declared.backend.TargetArch.TheVariants.{x86_64, aarch64, riscv64}
+use Rattle.seccomp_profiles.specs.declared.types.Abi.TheVariants.{I386, Native, X32}
 use Rattle.seccomp_views.specs.declared.check.format.CheckFormat.{CheckFormat}
 use Rattle.seccomp_views.specs.declared.check.format.CheckFormat.TheVariants.{Json}
 use Rattle.seccomp_views.specs.declared.program.ProgramFormat.{ProgramFormat}
@@ -105,6 +106,15 @@ arch_named (Some name) =
 abbrev pub arch_in : Found → TargetArch
 arch_in found = arch_named (first_value found (codes "arch"))
 
+-- Whose calls are asked about: those of i386, of x32, or of the architecture itself.
+abbrev pub abi_named : Option (List ℕ) → TargetArch → Abi
+abi_named None arch = Native arch
+abi_named (Some name) arch =
+    if bytes_eq name (codes "x86") then I386 else if bytes_eq name (codes "x32") then X32 else Native arch
+
+abbrev pub abi_in : Found → Abi
+abi_in found = abi_named (first_value found (codes "arch")) (arch_in found)
+
 -- The path of the file that is written; none of standard output.
 abbrev pub output_named : Option (List ℕ) → Option (List ℕ)
 output_named None = None
@@ -184,7 +194,7 @@ IsAskedBy paths found (Compile asked) =
     (asked.arch ≡ arch_in found) × IsSubject paths found asked.subject × (text_of asked.output ≡ output_in found)
 IsAskedBy paths found (Show asked) = (asked.arch ≡ arch_in found) × IsSubject paths found asked.subject
 IsAskedBy paths found (Explain asked) =
-    (asked.arch ≡ arch_in found) × AllZip (IsNamedBy paths) (all_values found (codes "after")) asked.before.items
+    (asked.abi ≡ abi_in found) × AllZip (IsNamedBy paths) (all_values found (codes "after")) asked.before.items
     × IsSubject paths found asked.subject
     × AreCalls (first_value found (codes "CALL")) (first_value found (codes "log")) (path_given found (codes "records")) asked.calls
 IsAskedBy paths found (Diff asked) =

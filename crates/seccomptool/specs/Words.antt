@@ -1,6 +1,6 @@
 -- The names that the definitions, the contracts and the proofs cite of what stands below, passed on from one place.
 pub use Rattle.clap.specs.Words.{first_value, found_of, kind_of, matched_of, one_text, raw_values}
-pub use Rattle.seccomp_answers.specs.Calls.{AreKnownCalls, IsCall, IsRecordOf, IsUncalled, IsUnknownCall}
+pub use Rattle.seccomp_answers.specs.Calls.{AreKnownCalls, IsCall, IsRecordOf, IsRecordOn, IsUncalled, IsUncalledOf, IsUnknownCall}
 pub use Rattle.seccomp_answers.specs.Causes.{AreUncompiledIn, AreUncompiledInSome, IsOfKind, IsOfLayers, IsRefusedAs, IsRefusedBeside}
 pub use Rattle.seccomp_answers.specs.Causes.{IsRefusedPolicy, IsRefusedProfile, IsUnchosen, IsUndecided, IsUndiffed, IsUnfitting}
 pub use Rattle.seccomp_answers.specs.Causes.{IsUnpicked, IsUnread, named, of_kind, of_name, refused, too_large, unknown, unread}
@@ -29,7 +29,9 @@ pub use Rattle.seccomp_learn.specs.declared.observation.Kept.{Kept}
 pub use Rattle.seccomp_learn.specs.declared.observation.Observation.{Observation}
 pub use Rattle.seccomp_learn.specs.declared.trace.Trace.{Trace}
 pub use Rattle.seccomp_profiles.specs.CompiledProfile.{HasUnknown, IsCompiledProfile}
+pub use Rattle.seccomp_profiles.specs.Abis.{machine_of}
 pub use Rattle.seccomp_profiles.specs.Types.{Container}
+pub use Rattle.seccomp_profiles.specs.declared.types.Abi.{Abi}
 pub use Rattle.seccomp_stack.specs.Joined.{IsRefusal}
 pub use Rattle.seccomp_tree.specs.Layouts.{IsCompiledIn, IsRefusalIn, IsTreeTooLarge}
 pub use Rattle.seccomp_tree.specs.declared.error.FilterError.{FilterError}

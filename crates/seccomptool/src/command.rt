@@ -8,6 +8,7 @@ use crate::learn::{AskedArguments, Start};
 use seccomp_answers::diff::Scope;
 use seccomp_answers::findings::Terms;
 use seccomp_answers::kind::Reading;
+use seccomp_profiles::Abi;
 use seccomp_tree::Layout;
 use seccomp_views::check::format::CheckFormat;
 use seccomp_views::program::ProgramFormat;
@@ -97,7 +98,8 @@ pub struct Show<'a> {
 /// Prints what is decided for calls, and why.
 #[derive(Drop)]
 pub struct Explain<'a> {
-    pub arch: TargetArch,
+    /// Whose calls are explained.
+    pub abi: Abi,
     pub json: bool,
     /// What holds too and was installed before the subject, in this order.
     pub before: Vec<Named<'a>>,

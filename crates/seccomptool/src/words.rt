@@ -16,7 +16,7 @@ use crate::words::files::{
 };
 use crate::words::program::program;
 use crate::words::values::{
-    allowed_in, arch_in, call_in, check_format_in, is_json, kept_in, layout_in, number_in,
+    abi_in, allowed_in, arch_in, call_in, check_format_in, is_json, kept_in, layout_in, number_in,
     program_format_in, reading_in, scope_in, start_in, terms_in,
 };
 use clap::ArgMatches;
@@ -289,7 +289,7 @@ fn explain_for<'a, O: Outside>(
     ensures { IfOk result (λ asked. IsAskedBy (O.there out.now) (found_of found.now) (command.Explain asked)) }
 {
     Ok(Explain {
-        arch: arch_in(found),
+        abi: abi_in(found),
         json: is_json(found),
         before: all_named_in(wrong.alloc(), out, found, "after")?,
         subject: subject_in(out, found, wrong),

@@ -1,5 +1,6 @@
 -- For `call_number`, `known_calls` and `call_made`: texts that are calls, and the calls of a text.
-use Rattle.std.proofs.Common.{◌≡◌, ◌≢◌, ℕ, ◌<◌, ◌^◌, List, [], ◌∷◌, ◌++◌, All, Contains, None, Result, Ok, Err, IfSome, IfNone}
+use Rattle.std.proofs.Common.{◌≡◌, ◌≢◌, ℕ, ◌<◌, ◌^◌, List, [], ◌∷◌, ◌++◌, All, Contains, None, Option, Result, Ok, Err, IfSome}
+use Rattle.std.proofs.Common.{IfNone, Some, pos}
 use Rattle.std.proofs.Common.{codes, sym, subst, ◌∙◌, ◌+◌, ap, arith, get_or, inl, inr, length, take}
 use Rattle.std.proofs.lemmas.List.{take_more}
 use Rattle.std.proofs.lemmas.List.Elements.{All-push, All-weaker, Contains-append_left, Contains-push, Contains-push_cases}
@@ -7,10 +8,11 @@ use Rattle.std.specs.Result.{OkIff, result_ok}
 use Rattle.std.specs.Str.Parse.{IsNumeral, digits_value}
 use Rattle.seccompiler.specs.declared.backend.TargetArch.{TargetArch}
 use Rattle.seccompiler.specs.Architecture.{table_of}
-use Rattle.seccompiler.specs.SyscallTable.{number_of}
+use Rattle.seccomp_profiles.specs.Abis.{number_for}
+use Rattle.seccomp_profiles.specs.declared.types.Abi.{Abi}
 use Rattle.seccomp_answers.specs.Findings.{LacksName, name_of}
 use Rattle.seccomp_answers.specs.Numbers.{IsNumber, decimal, hexadecimal}
-use Rattle.seccomp_answers.specs.Calls.{AreKnownCalls, IsCall, IsKnownCall, numbered, named}
+use Rattle.seccomp_answers.specs.Calls.{AreKnownCalls, IsCall, IsCallOn, IsKnownCall, numbered, named}
 use Rattle.seccomp_answers.specs.declared.calls.KnownCall.{KnownCall}
 
 -- ---- numbers
@@ -29,14 +31,14 @@ one_number text n m (hexadecimal digits same a) (hexadecimal others too b) = let
 
 -- ---- calls
 
-module _ {E : Type 0} (target : TargetArch) (call : List ℕ) (number : ℕ) (is : IsNumber call number) where
+module _ {E : Type 0} (abi : Abi) (call : List ℕ) (number : ℕ) (is : IsNumber call number) where
   -- A number that 32 bits hold is a call's.
-  pub numbered_call : (r : Result ℕ E) → OkIff r (number < 2 ^ 32) number → IfSome (result_ok r) (IsCall target call)
+  pub numbered_call : (r : Result ℕ E) → OkIff r (number < 2 ^ 32) number → IfSome (result_ok r) (IsCallOn abi call)
   numbered_call (Ok n) h = numbered (subst (IsNumber call) (sym h.1) is) (omega (arith, h))
   numbered_call (Err e) h = tt
 
   -- Another one is none.
-  pub numbered_none : (r : Result ℕ E) → OkIff r (number < 2 ^ 32) number → IfNone (result_ok r) ((n : ℕ) → IsCall target call n → ⊥)
+  pub numbered_none : (r : Result ℕ E) → OkIff r (number < 2 ^ 32) number → IfNone (result_ok r) ((n : ℕ) → IsCallOn abi call n → ⊥)
   numbered_none (Ok n) h = tt
   numbered_none (Err e) h = λ n asked. elim asked [
     | numbered other fits ↦ h (omega (arith, one_number call n number other is))
@@ -44,11 +46,10 @@ module _ {E : Type 0} (target : TargetArch) (call : List ℕ) (number : ℕ) (is
   ]
 
 -- A text that is neither a number nor a name is no call.
-pub no_call : (target table : TargetArch) (call : List ℕ) → ((n : ℕ) → IsNumber call n → ⊥) → table ≡ target
-    → None ≡ number_of (table_of table) call → (n : ℕ) → IsCall target call n → ⊥
-no_call target table call none same lacks n (numbered is fits) = none n is
-no_call target table call none same lacks n (named unwritten found) = let e = lacks ∙ ap (λ t. number_of (table_of t) call) same ∙ found in
-    cc
+pub no_call : (abi : Abi) (call : List ℕ) → ((n : ℕ) → IsNumber call n → ⊥) → (o : Option ℕ)
+    → IfNone o ((n : ℕ) → number_for abi call ≡ Some (pos n) → ⊥) → IfNone o ((n : ℕ) → IsCallOn abi call n → ⊥)
+no_call abi call none (Some n) lacks = tt
+no_call abi call none None lacks = λ n asked. elim asked [ numbered is fits ↦ none n is | named unwritten found ↦ lacks n found ]
 
 -- A text is one call of an architecture.
 one_call : (target : TargetArch) (text : List ℕ) (n m : ℕ) → IsCall target text n → IsCall target text m → n ≡ m

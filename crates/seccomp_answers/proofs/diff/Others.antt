@@ -1,14 +1,13 @@
 -- For `diff_pair`: where nothing is found on other architectures, the relation holds on every call of them.
-use Rattle.std.proofs.Common.{◌≡◌, ℕ, ◌+◌, ◌-◌, ◌^◌, ◌<◌, List, [], ◌∷◌, All, ap, subst, inl, inr, arith}
+use Rattle.std.proofs.Common.{◌≡◌, ℕ, ◌+◌, ◌-◌, ◌^◌, ◌<◌, List, [], ◌∷◌, inl, inr, arith}
 use Rattle.std.proofs.lemmas.Bool.{cases_lt}
-use Rattle.std.proofs.lemmas.List.Elements.{All-cons, All-head, All-nil, All-tail}
+use Rattle.std.proofs.lemmas.List.Elements.{All-head, All-tail}
 use Rattle.seccompiler.specs.declared.backend.TargetArch.{TargetArch}
 use Rattle.seccomp_compare.specs.declared.Relation.{Relation}
 use Rattle.seccompiler.specs.Architecture.{audit_word}
 use Rattle.seccompiler.specs.Machine.{IsRecord, word_at}
 use Rattle.seccomp_answers.specs.Findings.{AreFoundOn, IsFound, verdict_of}
 use Rattle.seccomp_answers.specs.Diff.{HoldsElsewhere, other_parts}
-use Rattle.seccomp_answers.specs.declared.findings.Answer.{Answer}
 use Rattle.seccomp_answers.specs.declared.findings.Answer.TheVariants as answer
 use Rattle.seccomp_answers.specs.declared.findings.Finding.{Finding}
 use Rattle.seccomp_answers.specs.declared.findings.Part.{Part}

@@ -2,7 +2,6 @@
 use Rattle.std.proofs.Common.{◌≡◌, ℕ, List, refl, subst, arith}
 use Rattle.seccompiler.specs.declared.bpf.sock_filter.{sock_filter}
 use Rattle.seccompiler.specs.Machine.{IsRecord}
-use Rattle.seccompiler.specs.Machine as of_seven
 use Rattle.seccomp_compare.specs.declared.Relation.{Relation}
 use Rattle.seccomp_compare.specs.declared.Relation.TheVariants.{Alike, AtMostAsPermissive}
 use Rattle.seccomp_compare.specs.Compare.{Related}

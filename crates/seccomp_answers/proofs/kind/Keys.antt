@@ -1,5 +1,5 @@
 -- For `has_key` and `has_text`: whether bytes stand in a text, and whether a value is an object with a text under a name.
-use Rattle.std.proofs.Common.{◌≡◌, ◌∙◌, ℕ, Bool, true, List, Option, None, Some, arith, codes, refl, subst, sym}
+use Rattle.std.proofs.Common.{◌≡◌, ◌∙◌, ℕ, Bool, true, List, Option, None, Some, arith, refl, subst, sym}
 use Rattle.std.specs.Option.{is_some}
 use Rattle.memchr.specs.Find.{FindsNeedle}
 use Rattle.serde_json.specs.Data.{Data, string}

@@ -10,6 +10,7 @@ use crate::command::Learn;
 use seccomp_answers::calls::call_number;
 use seccomp_answers::error::AnswerError;
 use seccomp_learn::{Kept, Observation, Symbolic, Trace, asked_kept, usual_kept};
+use seccomp_profiles::Abi;
 use seccomp_text::readable::TextKind;
 use seccomp_views::notes::note;
 use seccomp_views::text::Text;
@@ -59,7 +60,10 @@ fn push_call(
     ensures cause { IfErr result (IsUncalled arch call.now.call.now) }
 {
     let Some(number) = call_number(arch, call.call) else {
-        return Err(AnswerError::UnknownCall(String::from_str(alloc, call.call)?, arch));
+        return Err(AnswerError::UnknownCall(
+            String::from_str(alloc, call.call)?,
+            Abi::Native(arch),
+        ));
     };
     for index in 0..6u8 {
         push_argument(observed, number, call, index, wanted)?;

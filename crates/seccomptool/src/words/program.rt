@@ -125,6 +125,9 @@ fn argument_of<'a>(alloc: Global, word: &'a str) -> Arg<'a> {
 // What an option of a command takes; anything if there is none.
 fn values_of<'a>(command: &str, option: &str, codes: &'a [&'a str]) -> &'a [&'a str] {
     match (option, command) {
+        ("arch", "explain") => &[
+            "x86_64", "aarch64", "riscv64", "amd64", "arm64", "x86", "x32",
+        ],
         ("arch", _) => &["x86_64", "aarch64", "riscv64", "amd64", "arm64"],
         ("layout", _) => &["linear", "tree"],
         ("runtime", _) => &["crun", "runc"],

@@ -17,7 +17,7 @@ use seccomp_answers::findings::Terms;
 use seccomp_answers::kind::Reading;
 use seccomp_compare::Relation;
 use seccomp_names::{capabilities, capability};
-use seccomp_profiles::{Container, Runtime, kernel_of};
+use seccomp_profiles::{Abi, Container, Runtime, kernel_of};
 use seccomp_tree::Layout;
 use seccomp_views::check::format::CheckFormat;
 use seccomp_views::program::ProgramFormat;
@@ -60,6 +60,17 @@ pub(super) fn arch_in(found: &ArgMatches<'_>) -> TargetArch
         Some("aarch64" | "arm64") => TargetArch::aarch64,
         Some("riscv64") => TargetArch::riscv64,
         _ => TargetArch::x86_64,
+    }
+}
+
+// Whose calls are asked about.
+pub(super) fn abi_in(found: &ArgMatches<'_>) -> Abi
+    ensures { result ≡ spec.abi_in (found_of found.now) }
+{
+    match found.get_str("arch") {
+        Some("x86") => Abi::I386,
+        Some("x32") => Abi::X32,
+        _ => Abi::Native(arch_in(found)),
     }
 }
 

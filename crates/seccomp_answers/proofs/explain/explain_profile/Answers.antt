@@ -1,5 +1,6 @@
 use Rattle.std.proofs.Common.{ap, false, rules}
 use Rattle.seccomp_entries.specs.Entries.{Lowered}
+use Rattle.seccomp_profiles.specs.Abis.{machine_of}
 use Rattle.seccomp_answers.proofs.explain.explain_profile.Goals as goal
 
 pub returns-clause-explained : goal.returns-clause-explained
@@ -15,4 +16,4 @@ returns-clause-explained c = record {
 }
 
 pub returns-in-Err-clause-cause : goal.returns-in-Err-clause-cause
-returns-in-Err-clause-cause c = c.unread.ensures c.args.target c.args.container.now false c.in-Err.ensures.fault
+returns-in-Err-clause-cause c = c.unread.ensures (machine_of c.args.abi) c.args.container.now false c.in-Err.ensures.fault

@@ -1,4 +1,4 @@
-use Rattle.std.proofs.Common.{◌≡◌, ◌∷◌, [], ◌++◌, String, Global, rules, string_bytes, string_cmp, sym, ap, ◌∙◌, subst}
+use Rattle.std.proofs.Common.{◌∷◌, [], ◌++◌, String, Global, rules, string_bytes, string_cmp, sym, ap, ◌∙◌, subst}
 use Rattle.std.proofs.Common.{append_assoc, append-nil}
 use Rattle.std.specs.BTreeMap.{get_by_text}
 use Rattle.std.specs.List.{AllZip}

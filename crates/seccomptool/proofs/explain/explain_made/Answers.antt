@@ -1,4 +1,4 @@
-use Rattle.seccomptool.proofs.Common.{◌%◌, ◌∙◌, ◌≡◌, Calls, IsRecordOf, IsTrue, List, Log, One, Option, Records, Vec, ap}
+use Rattle.seccomptool.proofs.Common.{◌%◌, ◌∙◌, ◌≡◌, Calls, IsRecordOn, IsTrue, List, Log, One, Option, Records, Vec, ap}
 use Rattle.seccomptool.proofs.Common.{err_from_is_err_and, length, nat_lt, refl, subst, sym, ℕ}
 use Rattle.std.proofs.Common.{Bor, Global}
 use Rattle.std.proofs.lemmas.Bool.{false≢true, lt-ltb, ltb-true}
@@ -23,13 +23,13 @@ returns-clause-made c =
     let cut : c.as_chunks.result.0.now ≡ records_in items = c.as_chunks.ensures.front ∙ ap records_in c.deref.ensures.value in
     let explained : IsExplainedIn asked layers (records_in items) =
     (e, subst (λ (rs : List (List ℕ)). ExplainsIn asked layers rs e) cut own) in
-    let On = λ (calls : Calls). OnRecordsOf calls asked.arch bytes (IsExplainedIn asked layers) in
+    let On = λ (calls : Calls). OnRecordsOf calls asked.abi bytes (IsExplainedIn asked layers) in
     let on : On asked.calls = elim c.match-asked.branch [
       | in-One+in_ok-record-in-One w ↦
           let call = w.in-One.call in
           subst On (sym w.in-One.is) (
             items,
-            subst (λ (parts : Parts). IsRecordOf asked.arch call.name.now call.arguments parts.0.items) (sym w.records-is)
+            subst (λ (parts : Parts). IsRecordOn asked.abi call.name.now call.arguments parts.0.items) (sym w.records-is)
                 w.in_ok-record-in-One.ensures.recorded,
             explained,
           )

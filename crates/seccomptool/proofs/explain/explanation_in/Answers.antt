@@ -1,4 +1,4 @@
-use Rattle.seccomptool.proofs.Common.{Explains, IfErr-weaker, IfOk-weaker, IsUndecided, Layer, List, subst, sym, text_of, ℕ}
+use Rattle.seccomptool.proofs.Common.{Explains, IfErr-weaker, IfOk-weaker, IsUndecided, Layer, List, machine_of, subst, sym, text_of, ℕ}
 use Rattle.seccomptool.specs.Causes.{IsUnexplained, of_layers, undecided}
 use Rattle.seccomptool.specs.Commands.{ExplainsIn}
 use Rattle.seccomptool.proofs.Layers.{one_layer}
@@ -11,7 +11,7 @@ returns-in-len1-clause-explained c =
     let one = one_layer c.args.layers.now subject c.in-len1.len_at_least c.in-len1.len_below c.subject-item.is in
     IfOk-weaker c.explanation_of.result _ (ExplainsIn asked c.args.layers.now c.args.records.now)
     (λ e is. subst (λ (ls : List Layer). ExplainsIn asked ls c.args.records.now e) (sym one)
-    (subst (λ (given : List ℕ). Explains asked.arch asked.reading (text_of subject.filter) given c.args.records.now e)
+    (subst (λ (given : List ℕ). Explains asked.abi asked.reading (text_of subject.filter) given c.args.records.now e)
     c.deref.ensures.value is)) c.explanation_of.ensures.explained
 
 pub returns-in-len1-clause-cause : goal.returns-in-len1-clause-cause
@@ -21,7 +21,8 @@ returns-in-len1-clause-cause c =
     let one = one_layer c.args.layers.now subject c.in-len1.len_at_least c.in-len1.len_below c.subject-item.is in
     IfErr-weaker c.explanation_of.result _ (IsUnexplained asked c.args.layers.now)
     (λ e is. undecided subject one
-    (subst (λ (given : List ℕ). IsUndecided asked.arch asked.reading (text_of subject.filter) given e) c.deref.ensures.value is))
+    (subst (λ (given : List ℕ).
+    IsUndecided (machine_of asked.abi) asked.reading (text_of subject.filter) given e) c.deref.ensures.value is))
     c.explanation_of.ensures.cause
 
 pub returns-clause-cause : goal.returns-clause-cause

@@ -1,8 +1,7 @@
 """What tools/check-program runs on large profiles: their answers, and how the work grows with them.
 
-Work is counted in instructions by valgrind's callgrind: twice the profile may take at most MOST times as many, and MOST_CHECK
-for `check`, which still compares some entries of one call, and warnings, with all others. Where valgrind isn't there, it is the
-least processor time of some runs, which other processes disturb, so the limit is higher.
+Work is counted in instructions by valgrind's callgrind: twice the profile may take at most MOST times as many. Where valgrind isn't
+there, it is the least processor time of some runs, which other processes disturb, so the limit is higher.
 """
 
 import json
@@ -14,7 +13,6 @@ import subprocess
 from model import numbers_on
 
 MOST = 2.2
-MOST_CHECK = 2.5
 MOST_TIME = 3.5
 RUNS = 3
 SECONDS = 600
@@ -41,6 +39,12 @@ def conditioned(number):
     """Returns a profile of so many entries, of which no two neighbours have one action: each of one value of an argument."""
     return profile(*({"names": [CALLS[k % len(CALLS)]], "action": ACTIONS[(k + k // len(CALLS)) % 2],
                       "args": [{"index": 0, "value": k, "op": "SCMP_CMP_EQ"}]} for k in range(number)))
+
+
+def valued(number):
+    """Returns a profile of so many entries of one call, each of one value of an argument."""
+    return profile(*({"names": [CALLS[0]], "action": ACTIONS[k % 2], "args": [{"index": 0, "value": k, "op": "SCMP_CMP_EQ"}]}
+                     for k in range(number)))
 
 
 def named(number):
@@ -95,7 +99,7 @@ ANSWERS = [
 ]
 
 # Profiles whose size is doubled, from this one, and policies that are rejected.
-GROWING = [(alternating, 1000), (conditioned, 1000), (named, 10000), (long, 200000), (wrong, 10000)]
+GROWING = [(alternating, 1000), (conditioned, 1000), (valued, 1000), (named, 10000), (long, 200000), (wrong, 10000)]
 COMMANDS = ("compile -o program.bpf FILE", "check FILE", f"explain FILE {FIRST}")
 
 
@@ -147,8 +151,7 @@ def check_growth(results, tool, folder, make, number):
         file.write_text(make(size))
     for words in COMMANDS:
         once, twice = (work_of(words_of(tool, words, file), room) for file in files)
-        most = MOST_CHECK if words.startswith("check") else MOST
-        most = most if shutil.which("valgrind") else MOST_TIME
+        most = MOST if shutil.which("valgrind") else MOST_TIME
         results.tell(f"{words} of {make.__name__} twice {number}", twice <= most * once, (f"{once} and {twice}",))
 
 

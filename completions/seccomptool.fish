@@ -22,7 +22,7 @@ set -g __seccomptool_rows '|check|=check|Print what is wrong with a policy or a 
     'check|--kernel|<>|The kernel version for a profile, such as 6.1; without it, newer than any' \
     'check|--runtime|crun runc|The runtime of a profile\'s container [default: crun]' \
     'check|--deny-warnings||End with exit status 1 if there is a warning' \
-    'check|--allow|fake-success errno-too-large endless-retry trace-without-tracer allows-by-default denies-everything high-half-ignored value-outside-mask always-holds never-holds high-half-evades flag-evades condition-evaded pointer-compared signed-compared kills-exit clone-by-clone3 no-execve no-restart sibling-allowed crate-differs unreachable-entry redundant-entry undecided-entry no-effect open-order refused-by-libseccomp libseccomp-miscompiles runtimes-differ unknown-key|Don\'t print the warnings of this code' \
+    'check|--allow|fake-success errno-too-large endless-retry trace-without-tracer allows-by-default denies-everything high-half-ignored value-outside-mask always-holds never-holds high-half-evades flag-evades condition-evaded pointer-compared signed-compared kills-exit clone-by-clone3 no-execve no-restart sibling-allowed crate-differs unreachable-entry redundant-entry undecided-entry abi-evades no-effect open-order refused-by-libseccomp libseccomp-miscompiles runtimes-differ unknown-key|Don\'t print the warnings of this code' \
     'check|--format|text gcc json|How errors and warnings are written: for people, in lines as gcc\'s, or as JSON' \
     'check|--json||Write the answer as one JSON object' \
     'check|--list||Print what each warning code means, and check nothing' \
@@ -66,8 +66,8 @@ set -g __seccomptool_rows '|check|=check|Print what is wrong with a policy or a 
     'show|-h||Print help' \
     'show|--help||Print help' \
     'show|#1|<files> -|' \
-    'explain|-a|x86_64 aarch64 riscv64 amd64 arm64|The architecture [default: x86_64]' \
-    'explain|--arch|x86_64 aarch64 riscv64 amd64 arm64|The architecture [default: x86_64]' \
+    'explain|-a|x86_64 aarch64 riscv64 amd64 arm64 x86 x32|The architecture [default: x86_64]' \
+    'explain|--arch|x86_64 aarch64 riscv64 amd64 arm64 x86 x32|The architecture [default: x86_64]' \
     'explain|--oci||Read each text as a profile of a container runtime, whatever it contains' \
     'explain|--cap|<>|Capabilities of a profile\'s container, such as CAP_SYS_ADMIN,CAP_BPF; all; docker-default; podman-default' \
     'explain|--kernel|<>|The kernel version for a profile, such as 6.1; without it, newer than any' \

@@ -110,7 +110,7 @@ impl AnswerError {
             AnswerError::Profile(error) => error.to_string(alloc),
             AnswerError::NoFilter(name) => format!(in alloc; "No filter has this name: {name}."),
             AnswerError::UnknownCall(call, abi) => {
-                let arch = name_of(*abi);
+                let arch = abi.name();
                 format!(in alloc; "No call of {arch} has this name or number: {call}.")
             }
             AnswerError::Unchosen(names) if names.is_empty() => {
@@ -261,14 +261,5 @@ impl<T: Drop> From<AllocFailed<T>> for AnswerError {
 
     fn from(_failed: AllocFailed<T>) -> AnswerError {
         AnswerError::OutOfMemory
-    }
-}
-
-// How calls are called of which one is missing.
-fn name_of(abi: Abi) -> &'static str {
-    match abi {
-        Abi::Native(target) => target.name(),
-        Abi::I386 => "x86",
-        Abi::X32 => "x32",
     }
 }

@@ -100,6 +100,36 @@ impl Abi {
     {
         number_of(self, name)
     }
+
+    /// What these are called: by an architecture's name, `x86` or `x32`.
+    pub fn name(self) -> &'static str {
+        match self {
+            Abi::Native(arch) => arch.name(),
+            Abi::I386 => "x86",
+            Abi::X32 => "x32",
+        }
+    }
+
+    /// The name of the call of this number, if it has one. It takes no memory.
+    pub fn name_of(self, number: u32) -> Option<&'static str> {
+        match self {
+            Abi::Native(arch) => name_in(arch, number),
+            Abi::I386 => CallTable::I386.name_of(number),
+            Abi::X32 => CallTable::X32.name_of(number.checked_sub(X32_BIT)?),
+        }
+    }
+}
+
+// The first name of a number, in byte order.
+fn name_in(arch: TargetArch, number: u32) -> Option<&'static str> {
+    let table = SyscallTable::new(arch);
+    let numbers = table.numbers();
+    for place in 0..numbers.len() {
+        if numbers[place] == i64::from(number) {
+            return Some(table.name(place));
+        }
+    }
+    None
 }
 
 // The record with another architecture.

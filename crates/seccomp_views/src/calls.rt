@@ -4,18 +4,7 @@ use crate::json::{Object, push_item, written};
 use crate::text::Text;
 use seccomp_answers::calls::{KnownCall, read_number};
 use seccomp_answers::findings::parts::name_of;
-use seccomp_names::CallTable;
-use seccomp_profiles::Abi;
 use std::alloc::{AllocError, Global};
-
-/// The name of the number of whosever call, if it has one.
-pub fn name_on(abi: Abi, number: u32) -> Option<&'static str> {
-    match abi {
-        Abi::Native(target) => name_of(target, number),
-        Abi::I386 => CallTable::I386.name_of(number),
-        Abi::X32 => CallTable::X32.name_of(number % 0x4000_0000),
-    }
-}
 
 /// The lines of calls: the architecture, the call's name, as it is given if it is no number, and its number. As JSON their list.
 pub fn calls_text(

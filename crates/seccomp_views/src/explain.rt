@@ -1,6 +1,5 @@
 // What is written of what is decided on records.
 
-use crate::calls::name_on;
 use crate::json::{Object, OrNull, or_null, push_item, written};
 use crate::lines::{push_word, word_value};
 use crate::log::Caller;
@@ -108,35 +107,28 @@ fn parts_of(abi: Abi, explanation: &Explanation, explained: Explained) -> Told {
         entries: 0,
         layer: None,
     };
-    let reason = match explained.why {
-        Why::Entries(reason) => reason,
+    match explained.why {
+        Why::Entries(reason) => tell_of(&mut told, abi, explanation, explained.word, reason),
         Why::Program { number, .. } => {
             told.kind = Kind::Program;
             told.number = number;
-            return told;
         }
         Why::Layer { number, place, .. } => {
             told.kind = Kind::Layer;
             told.number = number;
             told.layer = place;
-            return told;
         }
-    };
+    }
+    told
+}
+
+// Adds what is said of a reason of entries.
+fn tell_of(told: &mut Told, abi: Abi, explanation: &Explanation, word: u32, reason: Reason) {
     let entries = explanation.entries.as_slice();
     match reason {
         Reason::AnotherArchitecture => {}
         Reason::NoEntry { number } => {
-            told.kind = match explanation.default {
-                None => Kind::NoEntry,
-                Some(word) if word == explained.word => Kind::Default,
-                // The thread is killed, since the number is one of x32, or the profile doesn't list the architecture; else it is
-                // runc's answer.
-                Some(_) if explained.word == 0 => match abi {
-                    Abi::Native(_) => Kind::X32,
-                    Abi::I386 | Abi::X32 => Kind::Unlisted,
-                },
-                Some(_) => Kind::AboveAll,
-            };
+            told.kind = kind_without(abi, explanation.default, word);
             told.number = Some(number);
         }
         Reason::NoMatch {
@@ -164,7 +156,18 @@ fn parts_of(abi: Abi, explanation: &Explanation, explained: Explained) -> Told {
             }
         }
     }
-    told
+}
+
+// Which reason it is that no entry is for a call. If the thread is killed, the number is one of x32, or the profile doesn't list the
+// architecture; else it is runc's answer.
+fn kind_without(abi: Abi, default: Option<u32>, word: u32) -> Kind {
+    match (default, abi) {
+        (None, _) => Kind::NoEntry,
+        (Some(default), _) if default == word => Kind::Default,
+        (Some(_), Abi::Native(_)) if word == 0 => Kind::X32,
+        (Some(_), _) if word == 0 => Kind::Unlisted,
+        (Some(_), _) => Kind::AboveAll,
+    }
 }
 
 // The place of the text's entry that an entry is of.
@@ -248,7 +251,7 @@ fn push_decided(text: &mut Text, abi: Abi, number: Option<u32>) {
     let Some(number) = number else {
         return text.push_str("another architecture");
     };
-    if let Some(name) = name_on(abi, number) {
+    if let Some(name) = abi.name_of(number) {
         text.push_str(name);
         text.push_str(" (");
         text.push_display(&number);
@@ -312,7 +315,7 @@ fn value_of(
     object.field("action", word_value(alloc, word));
     object.field(
         "call",
-        OrNull(number.and_then(|number| name_on(abi, number))),
+        OrNull(number.and_then(|number| abi.name_of(number))),
     );
     object.field("number", number);
     object.field("reason", kind.words().0);

@@ -291,15 +291,20 @@ pub(crate) fn push_example(text: &mut Text, target: TargetArch, pointer: bool, c
         text.push_str(" ");
         text.push_display(&number);
     }
+    push_arguments(text, call);
+    if pointer {
+        text.push_str(" at ");
+        push_hexadecimal(text, number_at(call, 8));
+    }
+}
+
+/// Adds the arguments of a call in brackets.
+pub(crate) fn push_arguments(text: &mut Text, call: &[u8; 64]) {
     for index in 0..6usize {
         text.push_str(if index == 0 { "(" } else { ", " });
         push_hexadecimal(text, number_at(call, 16 + 8 * index));
     }
     text.push_str(")");
-    if pointer {
-        text.push_str(" at ");
-        push_hexadecimal(text, number_at(call, 8));
-    }
 }
 
 // The 64-bit number of bytes `k` to `k + 7`.

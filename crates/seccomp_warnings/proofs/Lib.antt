@@ -2,6 +2,7 @@
 -- warnings are about, for `walk`. Of profiles: of what is doubtful, of the actions that have a part, and of warnings.
 pub mod ConstantConditions
 pub mod Doubted
+pub mod EvadedOn
 pub mod Listed
 pub mod PartActions
 pub mod Said

@@ -9,8 +9,8 @@ use Rattle.seccomp_warnings.specs.ProfileWarnings.{AreTold, IsOfPart, IsTrueOf, 
 use Rattle.seccomp_warnings.specs.Warnings.{IsGiven, subjects_in, warnings_about}
 use Rattle.seccomp_warnings.specs.declared.profile.parts.Origin.{Origin}
 use Rattle.seccomp_warnings.specs.declared.profile.warnings.ProfileWarning.{ProfileWarning}
-use Rattle.seccomp_warnings.specs.declared.profile.warnings.ProfileWarning.TheVariants.{Clashing, Doubtful, Evaded, Flags, OfEntries}
-use Rattle.seccomp_warnings.specs.declared.profile.warnings.ProfileWarning.TheVariants.{UnknownArchitecture, UnknownKey}
+use Rattle.seccomp_warnings.specs.declared.profile.warnings.ProfileWarning.TheVariants.{AbiEvaded, Clashing, Doubtful, Evaded, Flags}
+use Rattle.seccomp_warnings.specs.declared.profile.warnings.ProfileWarning.TheVariants.{Lacked, OfEntries, UnknownArchitecture, UnknownKey}
 use Rattle.std.specs.List.{flat_map}
 use Rattle.seccomp_warnings.specs.Parts.{Part}
 use Rattle.seccomp_warnings.specs.declared.code.Code.{Code}
@@ -44,6 +44,8 @@ module _ (allowed : List Code) where
     told_one parts (UnknownKey key) (k, q, within, is, never) alone = absurd never
     told_one parts (UnknownArchitecture place) (k, q, within, is, never) alone = absurd never
     told_one parts (Evaded v origin) (k, q, within, is, never) alone = absurd never
+    told_one parts (AbiEvaded v) (k, q, within, is, never) alone = absurd never
+    told_one parts (Lacked named) (k, q, within, is, never) alone = absurd never
 
     pub told_are : (told : List ProfileWarning) → AreTold allowed l.target_arch p.default (effective_in l.entries) told
         → All (IsTrueOf allowed p l) told

@@ -1,4 +1,5 @@
 -- The definitions that the contracts cite: which warnings a part has, and which a profile.
+pub mod AbiEvasions
 pub mod ActionWarnings
 pub mod AnyArgument
 pub mod Beside

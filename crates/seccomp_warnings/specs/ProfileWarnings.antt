@@ -1,20 +1,23 @@
 -- The warnings of a profile: those of its own, and those of its parts.
-use Rattle.std.specs.Prelude.{◌≡◌, ◌≢◌, ◌<◌, All, Any, Contains, IsSomeAnd, List, [], ◌∷◌, Option, None, Some, length, map, slice_get, ⊤}
+use Rattle.std.specs.Prelude.{◌≡◌, ◌≢◌, ◌<◌, ◌++◌, All, Any, Contains, IsSomeAnd, List, [], ◌∷◌, Option, None, Some, length, map, slice_get}
+use Rattle.std.specs.Prelude.{⊤}
 use Rattle.seccomp_entries.specs.declared.entry.Action.{Action}
 use Rattle.seccomp_entries.specs.Entries.{Entry, Lowered}
 use Rattle.seccompiler.specs.declared.backend.TargetArch.{TargetArch}
 use Rattle.seccomp_profiles.specs.Lowered.{DecidesAs, IsLoweredProfile}
 use Rattle.seccomp_profiles.specs.Types.{Container, Profile}
+use Rattle.seccomp_warnings.specs.AbiEvasions.{AreAbiEvasions}
 use Rattle.seccomp_warnings.specs.Doubts.{IsDoubtIn}
 use Rattle.seccomp_warnings.specs.ProfileParts.{AreParts, effective_in, origin_of}
+use Rattle.seccomp_warnings.specs.declared.profile.abi.AbiEvasion.{AbiEvasion}
 use Rattle.seccomp_warnings.specs.declared.profile.clash.Effect.{Effect}
-use Rattle.seccomp_warnings.specs.declared.profile.clash.Effect.TheVariants.{Miscompiled, Rejected}
+use Rattle.seccomp_warnings.specs.declared.profile.clash.Effect.TheVariants.{Lost, Miscompiled, Rejected, Unheard}
 use Rattle.seccomp_warnings.specs.declared.profile.doubts.Doubt.{Doubt}
 use Rattle.seccomp_warnings.specs.declared.profile.doubts.Doubt.TheVariants as doubt
 use Rattle.seccomp_warnings.specs.declared.profile.parts.Origin.{Origin}
 use Rattle.seccomp_warnings.specs.declared.profile.warnings.ProfileWarning.{ProfileWarning}
-use Rattle.seccomp_warnings.specs.declared.profile.warnings.ProfileWarning.TheVariants.{Clashing, Doubtful, Evaded, Flags, OfEntries}
-use Rattle.seccomp_warnings.specs.declared.profile.warnings.ProfileWarning.TheVariants.{UnknownArchitecture, UnknownKey}
+use Rattle.seccomp_warnings.specs.declared.profile.warnings.ProfileWarning.TheVariants.{AbiEvaded, Clashing, Doubtful, Evaded, Flags}
+use Rattle.seccomp_warnings.specs.declared.profile.warnings.ProfileWarning.TheVariants.{Lacked, OfEntries, UnknownArchitecture, UnknownKey}
 use Rattle.seccomp_warnings.specs.Evasions.{IsEvasion}
 use Rattle.seccomp_warnings.specs.Parts.{Part}
 use Rattle.seccomp_warnings.specs.Warnings.{AreWarned}
@@ -36,17 +39,21 @@ doubt_code doubt.LargeDefaultErrno = code.RefusedByLibseccomp
 doubt_code other = code.RuntimesDiffer
 
 abbrev pub effect_code : Effect → Code
-effect_code Miscompiled = code.LibseccompMiscompiles
-effect_code Rejected = code.RefusedByLibseccomp
+effect_code (Miscompiled beside) = code.LibseccompMiscompiles
+effect_code (Rejected beside) = code.RefusedByLibseccomp
+effect_code (Lost abi) = code.LibseccompMiscompiles
+effect_code Unheard = code.RuntimesDiffer
 
 abbrev pub code_of : ProfileWarning → Code
 code_of (Doubtful d) = doubt_code d
 code_of (Clashing c) = effect_code c.effect
 code_of Flags = code.RuntimesDiffer
+code_of (Lacked named) = code.RuntimesDiffer
 code_of (UnknownKey key) = code.UnknownKey
 code_of (UnknownArchitecture place) = code.RefusedByLibseccomp
 code_of (OfEntries w origin) = w.code
 code_of (Evaded v origin) = v.code
+code_of (AbiEvaded v) = code.AbiEvades
 
 -- ---- what is told of parts
 
@@ -82,25 +89,33 @@ pub record AreTold (allowed : List Code) (arch : TargetArch) (default : Action) 
 
 -- ---- warnings
 
--- It is so of a profile that has this form. Of what libseccomp does nothing is said: it is found by trying.
+-- It is so of a profile that has this form. Of what libseccomp does and has nothing is said: it is found by trying. What 32-bit programs
+-- may do stands in AbiEvasions.
 abbrev pub IsWarning : Profile → Lowered → ProfileWarning → Type 0
 IsWarning p l (Doubtful d) = IsDoubtIn p l d
 IsWarning p l (Clashing c) = ⊤
+IsWarning p l (Lacked named) = ⊤
 IsWarning p l Flags = p.flags ≢ []
 IsWarning p l (UnknownKey place) = place < length p.unknown_keys
 IsWarning p l (UnknownArchitecture place) = p.unknown_architecture ≡ Some place
 IsWarning p l (OfEntries w origin) =
     (allowed : List Code) × AreTold allowed l.target_arch p.default (effective_in l.entries) (OfEntries w origin ∷ [])
+IsWarning p l (AbiEvaded v) = ⊥
 IsWarning p l (Evaded v origin) = IsEvasion l v × IsSomeAnd (slice_get l.entries v.comparison.entry) (λ e. origin ≡ origin_of e)
 
 -- It is so, and its code isn't allowed.
 abbrev pub IsTrueOf : (allowed : List Code) → Profile → Lowered → ProfileWarning → Type 0
 IsTrueOf allowed p l w = IsWarning p l w × (Contains allowed (code_of w) → ⊥)
 
--- In one form, which decides as it does, each warning of a profile is so of it, and its code isn't allowed.
+-- In one form, which decides as it does, each warning of a profile is so of it, and its code isn't allowed; and so each evasion by 32-bit
+-- programs.
 pub record AreProfileWarnings (arch : TargetArch) (container : Container) (allowed : List Code) (p : Profile) (all : List ProfileWarning)
     : Type 0 where
   pub lowered : Lowered
   pub is_lowered : IsLoweredProfile arch container p lowered
   pub decides : DecidesAs arch container p lowered
-  pub are : All (IsTrueOf allowed p lowered) all
+  pub others : List ProfileWarning
+  pub on_abis : List AbiEvasion
+  pub are_all : all ≡ others ++ map AbiEvaded on_abis
+  pub are : All (IsTrueOf allowed p lowered) others
+  pub are_on_abis : AreAbiEvasions allowed container p lowered on_abis

@@ -239,7 +239,7 @@ fn flag_bits(condition: &SeccompCondition, flag: &Flag) -> u64 {
 }
 
 // The number that the condition compares with; of an order the greatest below its border.
-fn edge_of(condition: &SeccompCondition) -> u64 {
+pub(crate) fn edge_of(condition: &SeccompCondition) -> u64 {
     let value = part_of(condition.arg_len(), condition.value());
     match condition.operator() {
         SeccompCmpOp::Ge | SeccompCmpOp::Lt => value.saturating_sub(1),
@@ -249,7 +249,7 @@ fn edge_of(condition: &SeccompCondition) -> u64 {
 }
 
 // Whether conditions with the operator hold above that number, and not for it.
-fn is_above(operator: SeccompCmpOp) -> bool {
+pub(crate) fn is_above(operator: SeccompCmpOp) -> bool {
     matches!(
         operator,
         SeccompCmpOp::Ge | SeccompCmpOp::Gt | SeccompCmpOp::Ne
@@ -276,7 +276,11 @@ fn likely(condition: &SeccompCondition) -> u64 {
 }
 
 // The call of this number that likely meets the conditions.
-fn likely_call(arch: TargetArch, number: u32, conditions: &[SeccompCondition]) -> [u8; 64] {
+pub(crate) fn likely_call(
+    arch: TargetArch,
+    number: u32,
+    conditions: &[SeccompCondition],
+) -> [u8; 64] {
     let mut call = blank_call(arch, number);
     for condition in conditions {
         call = with_argument(&call, condition.arg_index(), likely(condition));
@@ -285,7 +289,7 @@ fn likely_call(arch: TargetArch, number: u32, conditions: &[SeccompCondition]) -
 }
 
 // The call of this number whose arguments are 0.
-fn blank_call(arch: TargetArch, number: u32) -> [u8; 64] {
+pub(crate) fn blank_call(arch: TargetArch, number: u32) -> [u8; 64] {
     let mut call = [0; 64];
     put(&mut call, 0, &number.to_le_bytes());
     put(&mut call, 4, &arch.get_audit_value().to_le_bytes());
@@ -293,7 +297,7 @@ fn blank_call(arch: TargetArch, number: u32) -> [u8; 64] {
 }
 
 // The same call with this argument. None has an index above 5.
-fn with_argument(call: &[u8; 64], index: u8, argument: u64) -> [u8; 64] {
+pub(crate) fn with_argument(call: &[u8; 64], index: u8, argument: u64) -> [u8; 64] {
     let mut other = *call;
     if index <= 5 {
         let at = 16 + 8 * usize::from(index);
@@ -303,7 +307,7 @@ fn with_argument(call: &[u8; 64], index: u8, argument: u64) -> [u8; 64] {
 }
 
 // Replaces the bytes from this one on.
-fn put(call: &mut [u8; 64], at: usize, bytes: &[u8])
+pub(crate) fn put(call: &mut [u8; 64], at: usize, bytes: &[u8])
     requires { at + length bytes.now ≤ 64 }
 {
     call[at..at + bytes.len()].copy_from_slice(bytes);

@@ -19,7 +19,7 @@ use std::alloc::{AllocError, Global};
 use std::collections::BTreeMap;
 
 // The places of entries, by their drawers.
-type Files = BTreeMap<Drawer, Vec<usize>>;
+pub(crate) type Files = BTreeMap<Drawer, Vec<usize>>;
 
 /// A condition, and two calls of which one is denied and the other let through, although they differ in what changes nothing of
 /// what is denied, or the same can be done by the other.
@@ -121,14 +121,14 @@ fn evasion_by(lowered: &Lowered, files: &Files, entry: usize, pair: &Pair) -> Op
 }
 
 // Whether the record is of a call of this number on the architecture.
-fn is_call_of(arch: TargetArch, number: u32, call: &[u8; 64]) -> bool
+pub(crate) fn is_call_of(arch: TargetArch, number: u32, call: &[u8; 64]) -> bool
     ensures { IsTrue result → spec.IsCallOf arch number call.now }
 {
     word_at(call, 4) == arch.get_audit_value() && word_at(call, 0) == number
 }
 
 // Whether the call is let through.
-fn is_let_through(lowered: &Lowered, files: &Files, call: &[u8; 64]) -> bool
+pub(crate) fn is_let_through(lowered: &Lowered, files: &Files, call: &[u8; 64]) -> bool
     requires { AreFiled lowered.now.entries (length lowered.now.entries) files.now }
     ensures through { IsTrue result → LetsThrough lowered.now call.now }
     ensures denied { IsFalse result → DeniesCall lowered.now call.now }

@@ -38,7 +38,7 @@ pub use crate::code::Code;
 pub use crate::evasion::{Evasion, evasions_of};
 pub use crate::part::Part;
 pub use crate::profile::{
-    Clash, Doubt, Effect, Origin, ProfileWarning, code_of, profile_warnings_of,
+    AbiEvasion, Clash, Doubt, Effect, LACKED, Origin, ProfileWarning, code_of, profile_warnings_of,
 };
 pub use crate::sibling::sibling_of;
 pub use crate::text::CodeRow;

@@ -1,7 +1,10 @@
 //! The warnings of a profile: what is doubtful about it, what libseccomp does to its entries, its evasions, and the warnings of its parts.
 
+pub mod abi;
+mod added;
 mod clash;
 pub mod doubts;
+mod lost;
 mod miscompiled;
 pub mod parts;
 mod rejected;
@@ -9,6 +12,8 @@ mod told;
 mod tries;
 pub mod warnings;
 
+pub use abi::AbiEvasion;
+pub use added::LACKED;
 pub use clash::{Clash, Effect};
 pub use doubts::Doubt;
 pub use parts::{Origin, parts_of};

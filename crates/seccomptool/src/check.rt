@@ -24,6 +24,9 @@ use seccomp_views::text::Text;
 use seccomp_warnings::Code;
 use std::alloc::{AllocError, Global};
 
+// What becomes of the calls of 32-bit programs.
+const ON_ABIS: &str = "decided by the entries of their names, as explain -a x86 and -a x32 print";
+
 pub(crate) fn check_made(
     alloc: Global,
     asked: &Check<'_>,
@@ -88,8 +91,8 @@ fn accepted(
         Subject::Profile(container) => {
             let checked = profile_checked(alloc, arch, container, &asked.allowed, given)?;
             let (listed, compiled) = (asked.reading.listed, &checked.compiled);
-            let (notes, others) = (&mut lines.notes, "not looked at");
-            push_profile_notes(notes, arch, lines.file, listed, compiled, others);
+            let notes = &mut lines.notes;
+            push_profile_notes(notes, arch, lines.file, listed, compiled, ON_ABIS);
             push_profile_warnings(lines, arch, &checked);
             Ok(verdict_where(denied, checked.warnings.len()))
         }

@@ -8,14 +8,61 @@ from cases import compat_decisions
 from cases.compat_decisions import AUDITED, X32_BIT
 from model import record_of
 
-from .compiled_profiles import entry, profile, when
-from cases.forms import TOOL, Case, named, rejects, writes
+from .compiled_profiles import counted, entry, profile, when
+from .profile_checks import SAID_OF_PROFILE, line, of_others, warned
+from cases.forms import INPUT, TOOL, Case, named, rejects, writes
 
 BOTH = {"architectures": ["SCMP_ARCH_X86_64", "SCMP_ARCH_X86", "SCMP_ARCH_X32"]}
 SUBMAPPED = {"archMap": [{"architecture": "SCMP_ARCH_X86_64", "subArchitectures": ["SCMP_ARCH_X86", "SCMP_ARCH_X32"]}]}
 NO_VSOCK = profile(entry("socket", args=[when(0, "NE", 40)]), entry("semop shmget"), entry("read"), **BOTH)
 EITHER = profile(entry("bind", args=[when(0, "EQ", 7), when(0, "EQ", 8)]), entry("connect", args=[when(0, "EQ", 7), when(1, "EQ", 8)]), **BOTH)
 DENIED = "errno 1 (EPERM): "
+
+ALLOWS_ALL = {**BOTH, "default": "SCMP_ACT_ALLOW"}
+
+
+def denied(name, *given):
+    """Returns an entry of a profile that denies calls of a name on conditions."""
+    return entry(name, "SCMP_ACT_ERRNO", args=[when(*it) for it in given])
+
+
+# A profile, and where it denies a call of x86_64, that call, and the one that is let through to 32-bit programs, and to which.
+EVADED = [
+    (NO_VSOCK, [("syscalls[0].args[0]", ("socket", 40), ("socketcall", 1), "x86")]),
+    (EITHER, [("syscalls[0].args[0]", ("bind", 9), ("socketcall", 2), "x86"),
+              ("syscalls[1].args[0]", ("connect", 8, 8), ("socketcall", 3, 8), "x86")]),
+    # Of a list of denied calls one that denies some; 5 is less than 0x100000005, and its low half isn't less than 5.
+    (profile(denied("close", (0, "LT", 0x100000005)), **ALLOWS_ALL), [("syscalls[0]", ("close", 5), ("close", 5), "x86")]),
+    (profile(denied("close", (0, "LT", 0x100000005)), default="SCMP_ACT_ALLOW", architectures=["SCMP_ARCH_X86_64", "SCMP_ARCH_X32"]),
+     [("syscalls[0]", ("close", 5), ("close", 5), "x32")]),
+]
+
+# Profiles that have none: all that they deny is denied to 32-bit programs, or these may make no calls.
+UNEVADED = [
+    profile(denied("socket"), denied("shmget"), denied("close", (0, "GT", 5)), **ALLOWS_ALL),
+    profile(entry("socket", args=[when(0, "NE", 40)]), architectures=["SCMP_ARCH_X86_64"]),
+    profile(entry("socket", args=[when(0, "NE", 40)])),
+    profile(entry("socket", args=[when(0, "NE", 40)]), architectures=["SCMP_ARCH_X86_64", "SCMP_ARCH_X32"]),
+    profile(entry("read close"), **BOTH),
+]
+
+
+def told_of(place, first, second, abi):
+    """Returns the line of a call that is denied at a place, and of the one that is let through."""
+    made = [f"{name}({', '.join(f'0x{it:x}' for it in (*given, *[0] * (6 - len(given))))})" for name, *given in (first, second)]
+    where = f"{place} ({first[0]})" if place.endswith("]") and ".args" not in place else place
+    return line(where, "abi-evades", f"{made[0]} is denied, and let through is {made[1]} of {abi}, {SAID_OF_PROFILE['abi-evades']}")
+
+
+BESIDES = " ".join(f"--allow {it}" for it in ("kills-exit", "high-half-evades", "allows-by-default", "condition-evaded"))
+
+CHECKED = [
+    *[case for given, told in EVADED for case in warned(given, *(told_of(*it) for it in told), words="--allow allows-by-default")],
+    # One that no entry is for.
+    *[it._replace(errors=INPUT + counted(1) + "\n" + it.errors)
+      for it in warned(profile(entry("ipc read"), **BOTH), told_of("defaultAction", ("shmget",), ("ipc", 23), "x86"))],
+    *[Case(f"check --oci --deny-warnings {BESIDES}", 0, "", of_others(given, ""), json.dumps(given)) for given in UNEVADED],
+]
 
 # A profile, an architecture, a call with its arguments, and the line.
 ROWS = [
@@ -46,6 +93,7 @@ ROWS = [
 ]
 
 CASES = [
+    *CHECKED,
     *[writes(f"explain -a {abi} --oci - {call}", json.dumps(given), f"{line}\n") for given, abi, call, line in ROWS],
     # Of a program the record's own call has a name.
     Case("compile -q --oci reads-profile.json | ./seccomptool explain -a x86 - read", 0, "kill_process: read (3)\n", ""),

@@ -1,12 +1,15 @@
 // What is said of the warnings of a profile.
 
 use crate::check::format::{Lines, Place, said_of_calls};
-use crate::lines::push_example;
+use crate::lines::{push_arguments, push_example};
 use crate::text::Text;
 use seccomp_answers::check::CheckedProfile;
 use seccomp_answers::findings::parts::name_of;
+use seccomp_names::CallTable;
+use seccomp_profiles::Abi;
 use seccomp_warnings::{
-    Clash, Code, Comparison, Doubt, Effect, Origin, ProfileWarning, Subject, code_of,
+    AbiEvasion, Clash, Code, Comparison, Doubt, Effect, LACKED, Origin, ProfileWarning, Subject,
+    code_of,
 };
 use seccompiler::TargetArch;
 use seccompiler::record::word_at;
@@ -21,6 +24,10 @@ type Spot<'a> = (
     Part<'a>,
     Option<&'static str>,
 );
+
+// What is said if an entry asks a supervisor, and none listens.
+const NO_LISTENER: &str =
+    "without \"listenerPath\" runc starts no container, and under crun these calls fail with ENOSYS, or no container starts if it is empty; write where the supervisor listens";
 
 // A part of a profile or of an entry.
 #[derive(Clone, Copy)]
@@ -99,38 +106,11 @@ fn spot_of<'a>(
     checked: &'a CheckedProfile,
     warning: &ProfileWarning,
 ) -> Spot<'a> {
-    let (default, action) = (Part::Under("defaultAction"), Part::Under("action"));
     match warning {
-        ProfileWarning::Doubtful(doubt) => match *doubt {
-            Doubt::LargeDefaultErrno | Doubt::NotifiesByDefault => (None, (0, 0), default, None),
-            Doubt::EqualsDefault { place }
-            | Doubt::LargeErrno { place }
-            | Doubt::NoListener { place } => (Some(place), (0, 0), action, None),
-            Doubt::NotifiesWrite { place } => (Some(place), (0, 1), action, None),
-            Doubt::Behind { second, number, .. } => {
-                let call = name_of(target, number);
-                (Some(second), (1, number as usize), Part::Whole, call)
-            }
-            Doubt::ManyConditions { place } => (Some(place), (2, 0), Part::Under("args"), None),
-            Doubt::OpenOrder {
-                first,
-                second,
-                call,
-            } => {
-                let call = name_of(target, word_at(&call, 0));
-                (Some(second), (3, first), Part::Whole, call)
-            }
-        },
-        ProfileWarning::Clashing(clash) => {
-            let call = name_of(target, clash.number);
-            (
-                Some(clash.place),
-                (4, clash.number as usize),
-                Part::Whole,
-                call,
-            )
-        }
+        ProfileWarning::Doubtful(doubt) => spot_of_doubt(target, *doubt),
+        ProfileWarning::Clashing(clash) => spot_of_clash(target, clash),
         ProfileWarning::Flags => (None, (2, 0), Part::Under("flags"), None),
+        ProfileWarning::Lacked(_) => (None, (5, 0), Part::Under("syscalls"), None),
         ProfileWarning::UnknownKey(place) => {
             let part = match checked.compiled.profile.unknown_keys.get(*place) {
                 Some(key) => Part::Key(key.as_str()),
@@ -146,7 +126,53 @@ fn spot_of<'a>(
             let subject = Subject::Condition(evasion.comparison);
             spot_in(target, Some(*origin), subject)
         }
+        ProfileWarning::AbiEvaded(evasion) => spot_in(target, evasion.origin, Subject::Entry(0)),
     }
+}
+
+// What a doubt is about.
+fn spot_of_doubt(target: TargetArch, doubt: Doubt) -> Spot<'static> {
+    let (default, action) = (Part::Under("defaultAction"), Part::Under("action"));
+    match doubt {
+        Doubt::LargeDefaultErrno | Doubt::NotifiesByDefault => (None, (0, 0), default, None),
+        Doubt::EqualsDefault { place }
+        | Doubt::LargeErrno { place }
+        | Doubt::NoListener { place } => (Some(place), (0, 0), action, None),
+        Doubt::NotifiesWrite { place } => (Some(place), (0, 1), action, None),
+        Doubt::Behind { second, number, .. } => {
+            let call = name_of(target, number);
+            (Some(second), (1, number as usize), Part::Whole, call)
+        }
+        Doubt::ManyConditions { place } => (Some(place), (2, 0), Part::Under("args"), None),
+        Doubt::OpenOrder {
+            first,
+            second,
+            call,
+        } => {
+            let call = name_of(target, word_at(&call, 0));
+            (Some(second), (3, first), Part::Whole, call)
+        }
+    }
+}
+
+// What it is about that libseccomp does to an entry.
+fn spot_of_clash(target: TargetArch, clash: &Clash) -> Spot<'static> {
+    let call = match clash.abi {
+        Abi::I386 => CallTable::I386.name_of(clash.number),
+        _ => name_of(target, clash.number),
+    };
+    let rank = match clash.effect {
+        Effect::Unheard => return (Some(clash.place), (0, 0), Part::Under("action"), None),
+        Effect::Miscompiled { .. } | Effect::Rejected { .. } => 4,
+        Effect::Lost(Abi::I386) => 6,
+        Effect::Lost(_) => 5,
+    };
+    (
+        Some(clash.place),
+        (rank, clash.number as usize),
+        Part::Whole,
+        call,
+    )
 }
 
 // What a warning of a filter is about: the default action, or a rule that is from here.
@@ -177,6 +203,25 @@ fn spot_in(target: TargetArch, origin: Option<Origin>, subject: Subject) -> Spot
     }
 }
 
+// The call that is denied, the one that is let through to 32-bit programs, and what to do.
+fn said_on_abi(
+    alloc: Global,
+    target: TargetArch,
+    evasion: &AbiEvasion,
+) -> Result<String, AllocError> {
+    let AbiEvasion { abi, passed, .. } = evasion;
+    let mut text = Text::new(alloc);
+    push_example(&mut text, target, false, &evasion.denied);
+    text.push_str(" is denied, and let through is ");
+    text.push_str(abi.name_of(word_at(passed, 0)).unwrap_or("a call"));
+    push_arguments(&mut text, passed);
+    text.push_str(" of ");
+    text.push_str(abi.name());
+    text.push_str(", ");
+    text.push_str(Code::AbiEvades.said_of_profile());
+    text.finish_string()
+}
+
 // What is doubtful or so, and what to write instead.
 fn said_of(
     alloc: Global,
@@ -198,26 +243,12 @@ fn said_of(
             );
             said.finish_string()
         }
-        ProfileWarning::Clashing(Clash { effect, beside, .. }) => match effect {
-            Effect::Rejected => {
-                format!(in alloc;
-                    "syscalls[{beside}] has these args and maybe more, and another action, so no container starts; leave the call out of one of them"
-                )
-            }
-            Effect::Miscompiled => {
-                format!(in alloc;
-                    "syscalls[{beside}] compares the same argument, and libseccomp may make another program or come to no end; write SCMP_CMP_EQ alone, or run the command by jail --oci"
-                )
-            }
-        },
+        ProfileWarning::Clashing(clash) => said_of_effect(alloc, clash.effect),
         ProfileWarning::Doubtful(Doubt::NotifiesByDefault) => String::from_str(
             alloc,
             "runc starts no container with SCMP_ACT_NOTIFY as the default action; list the calls that the supervisor decides",
         ),
-        ProfileWarning::Doubtful(Doubt::NoListener { .. }) => String::from_str(
-            alloc,
-            "without \"listenerPath\" runc starts no container, and under crun these calls fail with ENOSYS, or no container starts if it is empty; write where the supervisor listens",
-        ),
+        ProfileWarning::Doubtful(Doubt::NoListener { .. }) => String::from_str(alloc, NO_LISTENER),
         ProfileWarning::Doubtful(Doubt::NotifiesWrite { .. }) => String::from_str(
             alloc,
             "runc starts no container with SCMP_ACT_NOTIFY for write; leave the call out here",
@@ -225,14 +256,68 @@ fn said_of(
         ProfileWarning::Evaded(evasion, _) => {
             said_of_calls(alloc, target, evasion, evasion.code.said_of_profile())
         }
+        ProfileWarning::AbiEvaded(evasion) => said_on_abi(alloc, target, evasion),
         ProfileWarning::Flags => String::from_str(
             alloc,
             "crun sets them, except SECCOMP_FILTER_FLAG_TSYNC beside SCMP_ACT_NOTIFY, with which it starts no container, and runc 1.1 starts none with any; leave them out for runc",
         ),
+        ProfileWarning::Lacked(named) => said_of_lacked(alloc, named),
         ProfileWarning::UnknownArchitecture(_) => String::from_str(
             alloc,
             "the OCI runtime specification has no such architecture, so runc starts no container; correct it, also its letter case, or leave it out",
         ),
         other => String::from_str(alloc, code_of(other).said_of_profile()),
     }
+}
+
+// What libseccomp does to an entry, and what to write instead.
+fn said_of_effect(alloc: Global, effect: Effect) -> Result<String, AllocError> {
+    match effect {
+        Effect::Rejected { beside } => {
+            format!(in alloc;
+                "syscalls[{beside}] has these args and maybe more, and another action, so no container starts; leave the call out of one of them"
+            )
+        }
+        Effect::Miscompiled { beside } => {
+            format!(in alloc;
+                "syscalls[{beside}] compares the same argument, and libseccomp may make another program or come to no end; write SCMP_CMP_EQ alone, or run the command by jail --oci"
+            )
+        }
+        Effect::Unheard => String::from_str(alloc, NO_LISTENER),
+        Effect::Lost(abi) => said_of_lost(alloc, abi),
+    }
+}
+
+// That all entries are lost by a call that these haven't.
+fn said_of_lost(alloc: Global, abi: Abi) -> Result<String, AllocError> {
+    let (own, all, but) = match abi {
+        Abi::I386 => ("i386", "i386", ", or leave out SCMP_ARCH_X86"),
+        Abi::X32 => ("x32", "x86_64 and x32", ", or leave out SCMP_ARCH_X32"),
+        Abi::Native(TargetArch::x86_64) => {
+            ("x86_64", "x86_64 and x32", ", or leave out SCMP_ARCH_X32")
+        }
+        Abi::Native(TargetArch::aarch64) => ("aarch64", "aarch64", ""),
+        Abi::Native(TargetArch::riscv64) => ("riscv64", "riscv64", ""),
+    };
+    format!(in alloc;
+        "{own} hasn't this call, and so libseccomp loses all entries for {all}; write one without args for a call that {own} has{but}"
+    )
+}
+
+// Which of the names libseccomp hasn't.
+fn said_of_lacked(alloc: Global, named: &[bool; 8]) -> Result<String, AllocError> {
+    let mut said = Text::new(alloc);
+    said.push_str("libseccomp 2.5.4 hasn't ");
+    let mut is_first = true;
+    for (name, is_named) in LACKED.iter().zip(named) {
+        if *is_named {
+            if !is_first {
+                said.push_str(", ");
+            }
+            said.push_str(name);
+            is_first = false;
+        }
+    }
+    said.push_str(", so with it the default action is taken there; use a newer libseccomp");
+    said.finish_string()
 }

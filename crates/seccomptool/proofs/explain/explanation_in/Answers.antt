@@ -1,3 +1,5 @@
+use Rattle.std.proofs.Common.{◌≡◌, rules}
+use Rattle.seccomptool.specs.Words.{IsOfLayers}
 use Rattle.seccomptool.proofs.Common.{Explains, IfErr-weaker, IfOk-weaker, IsUndecided, Layer, List, machine_of, subst, sym, text_of, ℕ}
 use Rattle.seccomptool.specs.Causes.{IsUnexplained, of_layers, undecided}
 use Rattle.seccomptool.specs.Commands.{ExplainsIn}
@@ -27,5 +29,7 @@ returns-in-len1-clause-cause c =
 
 pub returns-clause-cause : goal.returns-clause-cause
 returns-clause-cause c =
-    IfErr-weaker c.stack_explanation.result _ (IsUnexplained c.args.asked.now c.args.layers.now) (λ e is. of_layers is)
-    c.stack_explanation.ensures.cause
+    let asked = c.args.asked.now in
+    let machine : c.machine.result ≡ machine_of asked.abi = search rules in
+    IfErr-weaker c.stack_explanation.result _ (IsUnexplained asked c.args.layers.now)
+    (λ e is. of_layers (subst (λ arch. IsOfLayers arch asked.reading c.args.layers.now e) machine is)) c.stack_explanation.ensures.cause
